@@ -1,0 +1,22 @@
+//! What is seen of a block after a clock: 88 values, in the order in which a trace writes them.
+
+/// The state of a block after one clock, as a trace shows it (choice of this profile).
+///
+/// In a `u32` or a `u8` of pins or flags bit i stands for pin or flag i.
+#[derive(Clone, Copy, Debug, PartialEq, Eq)]
+pub struct Sample {
+    /// The output level of each of the 32 pins.
+    pub level: u32,
+    /// The direction of each of the 32 pins: 1 is out.
+    pub direction: u32,
+    /// The eight IRQ flags.
+    pub flags: u8,
+    /// The level of each machine's TX FIFO: 0 to 8 words.
+    pub tx: [u8; 4],
+    /// The level of each machine's RX FIFO: 0 to 8 words.
+    pub rx: [u8; 4],
+    /// The last word that the system read from each machine, 0 where it has read none.
+    pub got: [u32; 4],
+    /// Each machine's sticky flags: 1 TXOVER, 2 RXUNDER, 4 TXSTALL, 8 RXSTALL.
+    pub sticky: [u8; 4],
+}
