@@ -1,2 +1,4 @@
 pub mod Ranges
 pub mod Word
+pub mod Text
+pub mod Relocation

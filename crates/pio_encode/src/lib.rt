@@ -4,7 +4,9 @@
 mod act;
 mod name;
 mod op;
+mod operand_text;
 mod reading;
+mod relocation;
 mod rule;
 mod word;
 
@@ -15,5 +17,6 @@ pub use act::{
 pub use name::Name;
 pub use op::Op;
 pub use reading::decode;
+pub use relocation::relocate;
 pub use rule::SideRule;
 pub use word::{encode, op_fits};
