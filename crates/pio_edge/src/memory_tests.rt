@@ -7,22 +7,21 @@ struct SinkRow {
     shows: &'static str,
     room: usize,
     fails: &'static [(u64, usize)],
-    pieces: &'static [&'static [u8]],
-    // Whether each put, and then finish, passes.
-    passes: &'static [bool],
+    // Whether each of the two puts, and then finish, passes.
+    passes: [bool; 3],
     bytes: &'static [u8],
     faults: u64,
 }
 
+// Each row puts these two.
 static PIECES: [&[u8]; 2] = [b"abc", b"de"];
 
-static SINK_ROWS: [SinkRow; 10] = [
+static SINK_ROWS: [SinkRow; 9] = [
     SinkRow {
         shows: "the room is filled to its end",
         room: 5,
         fails: &[],
-        pieces: &PIECES,
-        passes: &[true, true, true],
+        passes: [true, true, true],
         bytes: b"abcde",
         faults: 0,
     },
@@ -30,8 +29,7 @@ static SINK_ROWS: [SinkRow; 10] = [
         shows: "a put past the room takes nothing",
         room: 4,
         fails: &[],
-        pieces: &PIECES,
-        passes: &[true, false, true],
+        passes: [true, false, true],
         bytes: b"abc",
         faults: 1,
     },
@@ -39,8 +37,7 @@ static SINK_ROWS: [SinkRow; 10] = [
         shows: "a listed put takes nothing",
         room: 5,
         fails: &[(1, 0)],
-        pieces: &PIECES,
-        passes: &[false, true, true],
+        passes: [false, true, true],
         bytes: b"de",
         faults: 1,
     },
@@ -48,8 +45,7 @@ static SINK_ROWS: [SinkRow; 10] = [
         shows: "a listed put takes some bytes",
         room: 5,
         fails: &[(2, 1)],
-        pieces: &PIECES,
-        passes: &[true, false, true],
+        passes: [true, false, true],
         bytes: b"abcd",
         faults: 1,
     },
@@ -57,8 +53,7 @@ static SINK_ROWS: [SinkRow; 10] = [
         shows: "a listed put that takes its whole piece fails all the same",
         room: 5,
         fails: &[(1, 9)],
-        pieces: &PIECES,
-        passes: &[false, true, true],
+        passes: [false, true, true],
         bytes: b"abcde",
         faults: 1,
     },
@@ -66,8 +61,7 @@ static SINK_ROWS: [SinkRow; 10] = [
         shows: "a listed put takes no more than the room, and the next is past it",
         room: 2,
         fails: &[(1, 9)],
-        pieces: &PIECES,
-        passes: &[false, false, true],
+        passes: [false, false, true],
         bytes: b"ab",
         faults: 2,
     },
@@ -75,8 +69,7 @@ static SINK_ROWS: [SinkRow; 10] = [
         shows: "a listed finish appends nothing",
         room: 9,
         fails: &[(3, 4)],
-        pieces: &PIECES,
-        passes: &[true, true, false],
+        passes: [true, true, false],
         bytes: b"abcde",
         faults: 1,
     },
@@ -84,54 +77,45 @@ static SINK_ROWS: [SinkRow; 10] = [
         shows: "the first of two entries counts",
         room: 9,
         fails: &[(1, 1), (1, 2)],
-        pieces: &PIECES,
-        passes: &[false, true, true],
+        passes: [false, true, true],
         bytes: b"ade",
         faults: 1,
-    },
-    SinkRow {
-        shows: "an empty piece fits where there is no room",
-        room: 0,
-        fails: &[],
-        pieces: &[b""],
-        passes: &[true, true],
-        bytes: b"",
-        faults: 0,
     },
     SinkRow {
         shows: "every call is listed",
         room: 9,
         fails: &[(1, 0), (2, 2), (3, 0)],
-        pieces: &PIECES,
-        passes: &[false, false, false],
+        passes: [false, false, false],
         bytes: b"de",
         faults: 3,
     },
 ];
 
-// Puts the pieces, whether or not they pass, and says of each call whether it did.
-fn put_each<S: Sink>(
-    alloc: Global,
-    sink: &mut S,
-    pieces: &[&[u8]],
-) -> Result<Vec<bool>, std::alloc::AllocError> {
-    let mut passed = Vec::new(alloc);
-    for piece in pieces {
-        passed.push(sink.put(piece).is_ok())?;
-    }
-    passed.push(sink.finish().is_ok())?;
-    Ok(passed)
+// Puts both pieces, whether or not they pass, and says of each call whether it did.
+fn put_both<S: Sink>(sink: &mut S) -> [bool; 3] {
+    let first = sink.put(PIECES[0]).is_ok();
+    let second = sink.put(PIECES[1]).is_ok();
+    [first, second, sink.finish().is_ok()]
 }
 
 #[test]
 fn a_sink_in_memory_fails_where_it_is_listed_or_full(rt: HostRuntime) -> Result<(), Fail> {
     for row in &SINK_ROWS {
         let mut sink = MemSink::with_room(rt.alloc(), row.room, row.fails)?;
-        let passed = put_each(rt.alloc(), &mut sink, row.pieces)?;
-        assert_eq!(rt; passed.as_slice(), row.passes, "{}", row.shows);
+        let passed = put_both(&mut sink);
+        assert_eq!(rt; passed, row.passes, "{}", row.shows);
         assert_eq!(rt; sink.bytes(), row.bytes, "{}", row.shows);
         assert_eq!(rt; sink.faults(), row.faults, "{}", row.shows);
     }
+    Ok(())
+}
+
+#[test]
+fn an_empty_piece_fits_where_there_is_no_room(rt: HostRuntime) -> Result<(), Fail> {
+    let mut sink = MemSink::with_room(rt.alloc(), 0, &[])?;
+    assert!(rt; sink.put(b"").is_ok());
+    assert!(rt; sink.put(b"a").is_err());
+    assert_eq!(rt; sink.faults(), 1);
     Ok(())
 }
 
@@ -149,12 +133,10 @@ fn put_all_stops_at_the_first_failure(rt: HostRuntime) -> Result<(), Fail> {
 }
 
 #[test]
-fn a_sure_sink_counts_bytes(rt: HostRuntime) -> Result<(), Fail> {
+fn a_sure_sink_counts_bytes(rt: HostRuntime) {
     let mut sink = SureSink::new();
-    let passed = put_each(rt.alloc(), &mut sink, &PIECES)?;
-    assert_eq!(rt; passed.as_slice(), [true, true, true].as_slice());
+    assert_eq!(rt; put_both(&mut sink), [true, true, true]);
     assert_eq!(rt; sink.count(), 5);
-    Ok(())
 }
 
 struct FetchRow {
