@@ -4,8 +4,8 @@ ghost use Rattle.std.specs.Io.KnownBytes.{Appends, Keeps};
 ghost use Rattle.pio_edge.specs.Edge.{PutCounts};
 ghost use Rattle.pio_edge.specs.Count.{call_faults};
 
+use crate::answer::answer;
 use crate::sink::{Sink, SinkFailed};
-use crate::written::counted;
 use std::io::Write;
 
 /// Hands on each piece as it is put. It tells nothing of what the writer took.
@@ -46,8 +46,8 @@ impl<W: Write + Drop> Sink for ErrSink<W> {
         ensures appends { OnOk result (Appends (W.contents self.old.writer)
             (W.contents self.new.writer) piece.now) }
     {
-        let written = self.writer.write_all(piece);
-        counted(written, &mut self.faults)
+        let passed = self.writer.write_all(piece).is_ok();
+        answer(passed, &mut self.faults)
     }
 
     fn finish(&mut self) -> Result<(), SinkFailed>
@@ -56,7 +56,7 @@ impl<W: Write + Drop> Sink for ErrSink<W> {
         ensures counted { self.new.faults ≡ call_faults self.old.faults result }
         ensures keeps { Keeps (W.contents self.old.writer) (W.contents self.new.writer) }
     {
-        let flushed = self.writer.flush();
-        counted(flushed, &mut self.faults)
+        let passed = self.writer.flush().is_ok();
+        answer(passed, &mut self.faults)
     }
 }

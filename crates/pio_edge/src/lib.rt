@@ -1,6 +1,7 @@
 //! The edge to the outside: files that are fetched whole, and places that take bytes, with counted faults.
 #![tactic(auto)]
 
+mod answer;
 mod err_sink;
 mod file_shelf;
 mod held;
@@ -11,7 +12,6 @@ mod puts;
 mod shelf;
 mod sink;
 mod sure_sink;
-mod written;
 
 pub use err_sink::ErrSink;
 pub use file_shelf::FileShelf;

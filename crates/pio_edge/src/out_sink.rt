@@ -5,16 +5,17 @@ ghost use Rattle.std.specs.Io.KnownBytes.{Appends, Keeps};
 ghost use Rattle.pio_edge.specs.Edge.{PutCounts};
 ghost use Rattle.pio_edge.specs.Count.{call_faults};
 
+use crate::answer::answer;
 use crate::sink::{Sink, SinkFailed};
-use crate::written::counted;
 use std::alloc::{AllocError, Global};
 use std::io::{BufWriter, Write};
 
-// Of this many bytes at least half are in each block where no piece is longer than that half.
+// The buffer leaves before a piece that it has no room for, so half of this is the least block.
 const BUFFER: usize = 131_072;
 
-/// Hands on what is put in blocks of 64 KiB or more, as long as no piece is longer than 64 KiB; `finish` hands on the
-/// rest. It tells nothing of what the writer took.
+/// Hands on what is put in blocks of 64 KiB or more, where no piece is longer than 64 KiB.
+///
+/// `finish` hands on the rest. It tells nothing of what the writer took.
 ///
 /// A fault is a write or a flush that fails, or a write that takes nothing.
 #[derive(Drop)]
@@ -55,8 +56,8 @@ impl<W: Write + Drop> Sink for OutSink<W> {
         ensures appends { OnOk result (Appends (writer_contents W.contents self.old.writer)
             (writer_contents W.contents self.new.writer) piece.now) }
     {
-        let written = self.writer.write_all(piece);
-        counted(written, &mut self.faults)
+        let passed = self.writer.write_all(piece).is_ok();
+        answer(passed, &mut self.faults)
     }
 
     fn finish(&mut self) -> Result<(), SinkFailed>
@@ -68,7 +69,7 @@ impl<W: Write + Drop> Sink for OutSink<W> {
         ensures keeps { Keeps (writer_contents W.contents self.old.writer)
             (writer_contents W.contents self.new.writer) }
     {
-        let flushed = self.writer.flush();
-        counted(flushed, &mut self.faults)
+        let passed = self.writer.flush().is_ok();
+        answer(passed, &mut self.faults)
     }
 }

@@ -56,6 +56,28 @@ fn files_are_fetched_up_to_cap(rt: HostRuntime) -> Result<(), Fail> {
 }
 
 #[test]
+fn a_file_of_many_blocks_is_fetched_in_order(rt: HostRuntime) -> Result<(), Fail> {
+    let path = format!(in rt.alloc(); "/tmp/pio_edge_blocks_{}", process::id(rt.process()))?;
+    let mut written = Vec::new(rt.alloc());
+    for number in 0..5_000u16 {
+        written.extend_from_slice(&number.to_be_bytes())?;
+    }
+    fs::write(&rt, path.as_str(), written.as_slice())?;
+    let mut shelf = FileShelf::new(&rt);
+    for cap in [4_096, 9_999, 10_000, 10_001] {
+        match shelf.fetch(rt.alloc(), path.as_str(), cap) {
+            Ok(bytes) => {
+                assert_eq!(rt; bytes.len(), cap.min(10_000));
+                assert!(rt; written.starts_with(&bytes), "at {cap}");
+            }
+            Err(_) => assert!(rt; false, "at {cap}"),
+        }
+    }
+    fs::remove_file(&rt, path.as_str())?;
+    Ok(())
+}
+
+#[test]
 fn an_absent_file_is_a_fault(rt: HostRuntime) {
     let mut shelf = FileShelf::new(&rt);
     for (path, count) in [("/tmp/pio_edge/absent", 1), ("", 2), ("/tmp\0", 3)] {
