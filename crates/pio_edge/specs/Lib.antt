@@ -3,3 +3,4 @@ pub mod Puts
 pub mod Count
 pub mod Stock
 pub mod Bucket
+pub mod Held

@@ -1,24 +1,14 @@
-//! A shelf in memory, whose fetches fail as its maker lists: it stands in for real files in tests and proofs.
-ghost use Rattle.std.specs.Prelude.{◌≡◌, ◌≤◌, ◌↔◌, ◌==◌, Some, IfOk, IfSome, OnOk, OnErr, IsTrue, take, map, string_bytes, vec_len};
-ghost use Rattle.std.specs.List.{list_any};
-ghost use Rattle.std.specs.Option.{option_map};
-ghost use Rattle.std.specs.Ordering.{nat_cmp};
-ghost use Rattle.std.specs.Cmp.Lexicographic.{slice_cmp};
-ghost use Rattle.std.specs.FinMap.{empty, insert, get, from_entries};
+//! A shelf in memory, whose fetches fail as its maker lists. It stands in for real files in tests.
+ghost use Rattle.std.specs.Prelude.{◌≡◌, ◌≤◌, ◌↔◌, Some, IfOk, OnOk, OnErr, IsTrue, take, vec_len};
+ghost use Rattle.std.specs.FinMap.{empty, insert};
 ghost use Rattle.pio_edge.specs.Edge.{IsFetched, FetchCounts};
-ghost use Rattle.pio_edge.specs.Stock.{found_at, fetch_fails, after_fetch};
+ghost use Rattle.pio_edge.specs.Stock.{fetch_fails, after_fetch};
 
+use crate::held::{Held, found};
 use crate::shelf::{Fetch, Shelf};
 use std::alloc::{AllocError, Global};
 use std::collections::VecDeque;
 use std::marker::Model;
-
-// A name and the bytes under it.
-#[derive(Drop)]
-struct Held {
-    name: String,
-    bytes: Vec<u8>,
-}
 
 /// Files in memory, with a list of the fetches that fail, numbered from 1.
 #[derive(Drop)]
@@ -31,16 +21,15 @@ pub struct MemShelf {
 }
 
 impl Model for MemShelf {
-    ghost use Rattle.std.specs.Prelude.{map, string_bytes};
-    ghost use Rattle.std.specs.FinMap.{from_entries};
     ghost use Rattle.pio_edge.specs.Stock.{Stock, stock_code};
+    ghost use Rattle.pio_edge.specs.Held.{files_of};
 
     ghost Value = { Stock };
 
     ghost coded = { stock_code };
 
     ghost view = { λ s. record {
-      files = from_entries (map (λ h. (string_bytes h.name, h.bytes.items)) s.held.items);
+      files = files_of s.held.items;
       fails = s.fails.items;
       calls = s.calls;
       faults = s.faults;
@@ -50,7 +39,8 @@ impl Model for MemShelf {
 impl MemShelf {
     /// An empty shelf. `fails` has the numbers, from 1 on, of the fetches that are to fail.
     pub fn new(alloc: Global, fails: &[u64]) -> Result<Self, AllocError>
-        ensures { IfOk result (λ s. s ≡ record { files = empty; fails = fails.now; calls = 0; faults = 0 }) }
+        ensures { IfOk result (λ s.
+            s ≡ record { files = empty; fails = fails.now; calls = 0; faults = 0 }) }
     {
         Ok(MemShelf {
             held: VecDeque::new(alloc),
@@ -60,11 +50,12 @@ impl MemShelf {
         })
     }
 
-    /// Puts the bytes under the name, in place of those that were there. An error is want of memory.
+    /// Puts the bytes under the name, in place of those that were there, which stay in memory unseen.
     ///
-    /// What was held before stays in memory, unseen.
+    /// An error is want of memory.
     pub fn hold(&mut self, name: &str, bytes: &[u8]) -> Result<(), AllocError>
-        ensures ok { OnOk result (self.new ≡ record self.old { files = insert self.old.files name.now bytes.now }) }
+        ensures ok { OnOk result (self.new ≡
+            record self.old { files = insert self.old.files name.now bytes.now }) }
         ensures err { OnErr result (self.new ≡ self.old) }
     {
         let alloc = *self.held.allocator();
@@ -108,36 +99,6 @@ impl Shelf for MemShelf {
             Err(AllocError) => Err(Fetch::Memory),
         }
     }
-}
-
-// What the call finds: nothing where it is listed.
-fn found<'a>(held: &'a VecDeque<Held>, name: &str, fails: &[u64], call: u64) -> Option<&'a [u8]>
-    ensures found { option_map (λ b. b.now) result ≡ found_at fails.now call (get (from_entries {R = slice_cmp nat_cmp} (map (λ h. (string_bytes h.name, h.bytes.items)) held.now.items)) name.now) }
-    ensures held { IfSome result (λ b. get (from_entries {R = slice_cmp nat_cmp} (map (λ h. (string_bytes h.name, h.bytes.items)) held.now.items)) name.now ≡ Some b.now) }
-{
-    if is_listed(fails, call) {
-        return None;
-    }
-    look_up(held, name)
-}
-
-// Whether a call is listed.
-fn is_listed(fails: &[u64], call: u64) -> bool
-    ensures { result ≡ list_any (λ n. n == call) fails.now }
-{
-    fails.iter().any(|n| *n == call)
-}
-
-// The bytes that are held under the name.
-fn look_up<'a>(held: &'a VecDeque<Held>, name: &str) -> Option<&'a [u8]>
-    ensures { option_map (λ b. b.now) result ≡ get (from_entries {R = slice_cmp nat_cmp} (map (λ h. (string_bytes h.name, h.bytes.items)) held.now.items)) name.now }
-{
-    for entry in held {
-        if name == entry.name.as_str() {
-            return Some(&entry.bytes);
-        }
-    }
-    None
 }
 
 // The first `cap` bytes, or all where there are fewer.

@@ -3,6 +3,7 @@ ghost use Rattle.std.specs.Prelude.{◌≡◌, ◌+◌, ◌≤◌, [], ◌++◌,
 ghost use Rattle.pio_edge.specs.Edge.{Takes, PutCounts};
 ghost use Rattle.pio_edge.specs.Bucket.{put_passes, finish_passes, after_put, after_finish, count_at};
 
+use crate::answer::answer;
 use crate::sink::{Sink, SinkFailed};
 use std::alloc::{AllocError, Global};
 use std::marker::Model;
@@ -42,7 +43,8 @@ impl MemSink {
     /// A call that `fails` lists fails, and takes as many first bytes of its piece as the number beside it and the
     /// room left both allow (`finish` none). Of two entries with one number the first counts.
     pub fn with_room(alloc: Global, room: usize, fails: &[(u64, usize)]) -> Result<Self, AllocError>
-        ensures { IfOk result (λ s. s ≡ record { bytes = []; room = room; fails = fails.now; calls = 0; faults = 0 }) }
+        ensures { IfOk result (λ s.
+            s ≡ record { bytes = []; room = room; fails = fails.now; calls = 0; faults = 0 }) }
     {
         Ok(MemSink {
             bytes: Vec::with_capacity(alloc, room)?,
@@ -85,11 +87,7 @@ impl Sink for MemSink {
         let left = self.room - self.bytes.len();
         let count = count_of(listed, left, piece.len());
         append(&mut self.bytes, &piece[..count]);
-        if listed.is_none() && piece.len() <= left {
-            return Ok(());
-        }
-        self.faults = self.faults.saturating_add(1);
-        Err(SinkFailed)
+        answer(listed.is_none() && piece.len() <= left, &mut self.faults)
     }
 
     fn finish(&mut self) -> Result<(), SinkFailed>
@@ -100,11 +98,8 @@ impl Sink for MemSink {
         ensures after { self.new ≡ after_finish self.old }
     {
         self.calls = self.calls.saturating_add(1);
-        if listed_at(&self.fails, self.calls).is_none() {
-            return Ok(());
-        }
-        self.faults = self.faults.saturating_add(1);
-        Err(SinkFailed)
+        let passed = listed_at(&self.fails, self.calls).is_none();
+        answer(passed, &mut self.faults)
     }
 }
 

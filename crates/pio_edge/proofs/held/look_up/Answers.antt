@@ -6,7 +6,7 @@ use Rattle.std.specs.Cmp.Lexicographic.{slice_cmp}
 use Rattle.std.specs.FinMap.{find, get-from_entries}
 use Rattle.std.proofs.lemmas.Cmp.{nat_list_cmp_total}
 use Rattle.pio_edge.proofs.Lookup.{find-here, find-later}
-use Rattle.pio_edge.proofs.memory_shelf.look_up.Goals as goal
+use Rattle.pio_edge.proofs.held.look_up.Goals as goal
 
 pub loop-entry-init : goal.loop-entry-init
 loop-entry-init c =

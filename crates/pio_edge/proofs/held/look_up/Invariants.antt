@@ -3,7 +3,7 @@ use Rattle.std.specs.Ordering.{nat_cmp}
 use Rattle.std.specs.Cmp.Lexicographic.{slice_cmp}
 use Rattle.std.specs.FinMap.{get, find, from_entries}
 use Rattle.std.specs.VecDeque.Iter.{deque_iter_rest}
-use Rattle.pio_edge.proofs.memory_shelf.look_up.Given as goal
+use Rattle.pio_edge.proofs.held.look_up.Given as goal
 
 abbrev pub invariant-loop-entry : goal.invariant-loop-entry
 invariant-loop-entry l =
