@@ -162,9 +162,14 @@ has_text (Irq clear wait index) = not (clear && wait) && is_flag index
 has_text Nothing = false
 has_text _ = true
 
--- a word as a number: four lower-case hexadecimal digits
+-- four bits of a word as a lower-case hexadecimal digit
+abbrev pub hexadecimal_digit : ℕ → ℕ → List ℕ
+hexadecimal_digit w low = digit_glyph false (bits w low 4) ∷ []
+
+-- a word as a number: `.word 0x` and four digits
 unfoldable pub word_text : ℕ → List ℕ
-word_text w = codes ".word 0x" ++ (digit_glyph false (bits w 12 4) ∷ digit_glyph false (bits w 8 4) ∷ digit_glyph false (bits w 4 4) ∷ digit_glyph false (bits w 0 4) ∷ [])
+word_text w =
+    codes ".word 0x" ++ hexadecimal_digit w 12 ++ hexadecimal_digit w 8 ++ hexadecimal_digit w 4 ++ hexadecimal_digit w 0
 
 -- a word's text under a side-set rule: its reading's, where that can be written and its word is this very one
 unfoldable pub spelled : ℕ → SideRule → List ℕ

@@ -2,12 +2,15 @@
 #![tactic(auto)]
 
 mod act;
+mod instruction_text;
 mod name;
+mod numerals;
 mod op;
 mod operand_text;
 mod reading;
 mod relocation;
 mod rule;
+mod spelling;
 mod word;
 
 pub use act::{
@@ -19,4 +22,5 @@ pub use op::Op;
 pub use reading::decode;
 pub use relocation::relocate;
 pub use rule::SideRule;
+pub use spelling::spell;
 pub use word::{encode, op_fits};

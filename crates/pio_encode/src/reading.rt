@@ -1,6 +1,6 @@
 //! The meaning of a word, field by field (RP2040 Datasheet, section 3.4).
 ghost use Rattle.std.specs.Prelude.{◌≡◌, ℕ, ◌+◌, ◌==◌, ◌<◌, ◌≤◌, ◌^◌, IfSome, IsTrue};
-ghost use Rattle.pio_encode.specs.Ranges.{IsInRange, delay_bits};
+ghost use Rattle.pio_encode.specs.Ranges.{Fits, IsInRange, IsInstruction, SideFits, delay_bits};
 ghost use Rattle.pio_encode.specs.Word as spec;
 
 use crate::act::{
@@ -15,9 +15,11 @@ use crate::rule::SideRule;
 pub fn decode(word: u16, rule: &SideRule) -> Op
     ensures value { result ≡ spec.reading_of word rule.now }
     ensures act { IsInRange result.act }
+    ensures fits { IsInstruction result.act → Fits result rule.now }
     ensures delay { result.delay < 32 }
     ensures delay_in_bits { result.delay < 2 ^ delay_bits rule.now }
-    ensures side { IfSome result.side (λ v. v < 2 ^ rule.now.bits) }
+    ensures side { IfSome result.side (λ v. v < 32) }
+    ensures side_in_bits { IfSome result.side (λ v. v < 2 ^ rule.now.bits) }
 {
     let shared = bits(word, 8, 5);
     Op {
@@ -260,7 +262,9 @@ fn set_at(word: u16) -> Act
 fn side_of(rule: &SideRule, shared: u8) -> Option<u8>
     requires { shared < 32 }
     ensures value { result ≡ spec.side_of rule.now shared }
-    ensures range { IfSome result (λ v. v < 2 ^ rule.now.bits) }
+    ensures fits { SideFits rule.now result }
+    ensures range { IfSome result (λ v. v < 32) }
+    ensures range_in_bits { IfSome result (λ v. v < 2 ^ rule.now.bits) }
 {
     let is_there = if rule.opt {
         shared >> 4 == 1
@@ -286,7 +290,7 @@ fn delay_of(rule: &SideRule, shared: u8) -> u8
 }
 
 /// `number` bits of a word from bit `low` on.
-fn bits(word: u16, low: u16, number: u16) -> u8
+pub(crate) fn bits(word: u16, low: u16, number: u16) -> u8
     requires place { low < 16 }
     requires size { number ≤ 5 }
     ensures value { result ≡ spec.bits word low number }
