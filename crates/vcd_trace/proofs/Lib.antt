@@ -1,0 +1,4 @@
+pub mod ChangesLaws
+pub mod Digits
+pub mod Puts
+pub mod TextLaws
