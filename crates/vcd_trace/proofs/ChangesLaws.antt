@@ -1,10 +1,10 @@
 -- The text of the changes, and that of a dump, by its groups.
-use Rattle.std.proofs.Common.{◌≡◌, ℕ, ◌+◌, ◌/◌, ◌%◌, Bool, true, false, cond, eqb, List, [], ◌∷◌, ◌++◌, zero, suc, length, refl, sym, ap, ◌∙◌, append_assoc, arith}
+use Rattle.std.proofs.Common.{◌≡◌, ℕ, ◌+◌, ◌/◌, Bool, true, false, cond, eqb, List, [], ◌∷◌, ◌++◌, zero, suc, length, refl, sym, ap, ◌∙◌, append_assoc, arith}
 use Rattle.std.specs.Prelude.{replicate, codes}
 use Rattle.std.proofs.lemmas.List.{length-replicate}
 use Rattle.block_core.specs.declared.sample.Sample.{Sample}
 use Rattle.block_core.specs.Sample.{bits_of, values_of}
-use Rattle.vcd_trace.specs.VcdText.{variables, widths, value_line, bit_line, vector_line, value_lines, change_lines, changes_text, dump_text}
+use Rattle.vcd_trace.specs.VcdText.{variables, widths, bit_line, vector_line, value_lines, change_lines, changes_text, dump_text}
 use Rattle.vcd_trace.specs.Groups.{bit_lines, bit_changes, vector_lines, vector_changes, vectors_of, values_text}
 use Rattle.vcd_trace.proofs.TextLaws.{change_lines-append, value_lines-append}
 

@@ -1,5 +1,5 @@
 -- Binary digits written from the last to the first.
-use Rattle.std.proofs.Common.{◌≡◌, ℕ, ◌+◌, ◌-◌, ◌/◌, ◌%◌, ◌^◌, ◌<◌, ◌≤◌, Bool, true, false, cond, eqb, List, [], ◌∷◌, ◌++◌, zero, suc, refl, sym, ap, ◌∙◌, arith, eq-eqb, subst}
+use Rattle.std.proofs.Common.{◌≡◌, ℕ, ◌+◌, ◌/◌, ◌%◌, ◌^◌, ◌<◌, ◌≤◌, Bool, true, false, cond, eqb, List, [], ◌∷◌, ◌++◌, zero, suc, refl, ap, ◌∙◌, arith, eq-eqb, subst}
 use Rattle.std.specs.Fmt.{digits, digits_onto, digit_glyph}
 use borrow.Author.Tests.{ne_eqb}
 use Rattle.std.proofs.Math.Pow.{shr_lt}

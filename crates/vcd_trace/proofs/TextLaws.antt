@@ -1,5 +1,5 @@
 -- Laws of the lines of values and changes.
-use Rattle.std.proofs.Common.{◌≡◌, ℕ, ◌+◌, ◌-◌, ◌/◌, ◌%◌, ◌≤◌, ◌<◌, Bool, true, false, cond, eqb, List, [], ◌∷◌, ◌++◌, zero, suc, length, drop, get_or, refl, sym, ap, ◌∙◌, append_assoc, arith, eq-eqb, subst}
+use Rattle.std.proofs.Common.{◌≡◌, ℕ, ◌+◌, ◌-◌, ◌/◌, ◌%◌, ◌<◌, cond, eqb, List, [], ◌∷◌, ◌++◌, suc, length, drop, get_or, refl, sym, ap, ◌∙◌, append_assoc, arith, eq-eqb, subst}
 use borrow.Author.Tests.{ne_eqb}
 use Rattle.std.proofs.Common.{Option}
 use Rattle.pio_edge.specs.Edge.{with_bytes, TakesPrefix}

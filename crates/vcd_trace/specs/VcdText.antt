@@ -1,5 +1,5 @@
 -- What the value-change text of a list of samples is (IEEE 1364-2005, section 18.2), for the 88 variables of this profile.
-use Rattle.std.specs.Prelude.{ℕ, ◌+◌, ◌==◌, false, List, [], ◌∷◌, ◌++◌, length, zero, suc, codes, decimal, map, if◌then◌else◌}
+use Rattle.std.specs.Prelude.{ℕ, ◌+◌, ◌==◌, Bool, true, false, List, [], ◌∷◌, ◌++◌, length, zero, suc, codes, decimal, map, if◌then◌else◌}
 use Rattle.std.specs.Fmt.{digits}
 use Rattle.block_core.specs.declared.sample.Sample.{Sample}
 use Rattle.block_core.specs.Sample.{values_of, same_sample}
@@ -9,10 +9,14 @@ pub record Variable : Type 0 where
   pub name : List ℕ
   pub width : ℕ
 
+-- the variable of a letter and a number, and its width
+abbrev pub variable : ℕ → ℕ → ℕ → Variable
+variable letter width number = record { name = letter ∷ decimal number; width = width }
+
 -- so many variables of one letter and one width, numbered on from a number
 abbrev pub numbered : ℕ → ℕ → ℕ → ℕ → List Variable
 numbered letter width from zero = []
-numbered letter width from (suc more) = record { name = letter ∷ decimal from; width = width } ∷ numbered letter width (from + 1) more
+numbered letter width from (suc more) = variable letter width from ∷ numbered letter width (from + 1) more
 
 -- levels p, directions d, flags f, TX levels t, RX levels r, words read w, sticky flags s, in the order of a sample's values (choice of this profile)
 unfoldable pub variables : List Variable
@@ -95,3 +99,8 @@ closing_text (s ∷ rest) = clock_line (length (s ∷ rest))
 -- the whole text of the samples from clock 0 on
 abbrev pub vcd_text : List Sample → List ℕ
 vcd_text told = open_text told ++ closing_text told
+
+-- the text after these samples, with the clock that closes it where their end was told
+abbrev pub text_of : List Sample → Bool → List ℕ
+text_of told true = vcd_text told
+text_of told false = open_text told

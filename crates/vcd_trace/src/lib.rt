@@ -3,8 +3,11 @@
 
 mod changes;
 mod dump;
+mod header;
 mod line;
 mod trace;
 mod variable;
+mod vcd;
 
 pub use trace::{Trace, TraceFailed};
+pub use vcd::VcdTrace;

@@ -1,4 +1,4 @@
-use Rattle.std.proofs.Common.{◌≡◌, ℕ, ◌+◌, ◌-◌, ◌/◌, ◌%◌, [], ap, ◌∙◌, arith, rules}
+use Rattle.std.proofs.Common.{◌≡◌, ◌+◌, ◌-◌, ◌/◌, ◌%◌, ap, ◌∙◌, arith}
 use Rattle.vcd_trace.specs.VcdText.{bit_line}
 use Rattle.vcd_trace.specs.Groups.{bit_changes}
 use Rattle.vcd_trace.proofs.TextLaws.{bit_changes-same, bit_changes-none, bit_changes-turn, going_done, going_changed, going_stayed, going_failed}

@@ -1,6 +1,5 @@
-use Rattle.std.proofs.Common.{◌≡◌, ℕ, ◌+◌, ◌<◌, length, drop, get_or, ap, ◌∙◌, arith, rules}
+use Rattle.std.proofs.Common.{◌+◌, ◌<◌, length, get_or, ap, ◌∙◌, arith}
 use Rattle.vcd_trace.specs.VcdText.{vector_line}
-use Rattle.vcd_trace.specs.Groups.{vector_changes}
 use Rattle.vcd_trace.proofs.TextLaws.{vector_changes-turn, going_changed, going_stayed, going_failed}
 use Rattle.vcd_trace.proofs.changes.put_changed_vectors.Goals as goal
 use Rattle.vcd_trace.proofs.changes.put_changed_vectors.Goals.{then-before-place+in-Ok, else-before-place}

@@ -1,4 +1,4 @@
-use Rattle.std.proofs.Common.{◌≡◌, ◌∙◌, ◌++◌, sym, refl, ap}
+use Rattle.std.proofs.Common.{◌≡◌, ◌++◌, refl}
 use Rattle.vcd_trace.specs.Groups.{bit_changes, vector_changes, vectors_of}
 use Rattle.vcd_trace.proofs.ChangesLaws.{changes-groups}
 use Rattle.vcd_trace.proofs.Puts.{going_begins, going_on, takes_failed, takes_last}

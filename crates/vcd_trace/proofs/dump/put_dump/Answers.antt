@@ -1,6 +1,5 @@
-use Rattle.std.proofs.Common.{◌≡◌, ◌∙◌, ◌++◌, sym, refl, append_assoc}
+use Rattle.std.proofs.Common.{refl}
 use Rattle.std.specs.Prelude.{codes}
-use Rattle.vcd_trace.specs.VcdText.{dump_text}
 use Rattle.vcd_trace.specs.Groups.{values_text}
 use Rattle.vcd_trace.proofs.ChangesLaws.{dump-parts}
 use Rattle.vcd_trace.proofs.Puts.{going_begins, going_on, takes_failed, takes_last}

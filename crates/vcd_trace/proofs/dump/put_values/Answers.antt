@@ -1,4 +1,4 @@
-use Rattle.std.proofs.Common.{◌≡◌, ◌∙◌, ◌++◌, sym, refl, ap}
+use Rattle.std.proofs.Common.{◌∙◌, ◌++◌, sym, refl, ap}
 use Rattle.vcd_trace.specs.Groups.{bit_lines, vector_lines, vectors_of}
 use Rattle.vcd_trace.proofs.ChangesLaws.{values-text}
 use Rattle.vcd_trace.proofs.Puts.{going_begins, going_on, takes_failed, takes_last}

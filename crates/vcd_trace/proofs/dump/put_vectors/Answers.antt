@@ -1,6 +1,4 @@
-use Rattle.std.proofs.Common.{◌≡◌, ℕ, ◌+◌, ◌<◌, length, drop, get_or, ap, ◌∙◌, arith, rules}
-use Rattle.vcd_trace.specs.VcdText.{vector_line}
-use Rattle.vcd_trace.specs.Groups.{vector_lines}
+use Rattle.std.proofs.Common.{◌<◌, length, ◌∙◌, arith}
 use Rattle.vcd_trace.proofs.TextLaws.{vector_lines-turn}
 use Rattle.vcd_trace.proofs.Puts.{going_on, going_stops}
 use Rattle.vcd_trace.proofs.dump.put_vectors.Goals as goal

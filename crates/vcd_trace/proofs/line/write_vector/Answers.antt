@@ -1,7 +1,6 @@
-use Rattle.std.proofs.Common.{◌≡◌, ℕ, ◌+◌, ◌<◌, ◌≤◌, ◌^◌, drop, ◌-◌, ◌*◌, length, ◌/◌, ◌%◌, false, List, [], ◌∷◌, ◌++◌, slice_set, arith, rules, ap, sym, ◌∙◌, refl, length-drop}
+use Rattle.std.proofs.Common.{◌≡◌, ℕ, ◌+◌, ◌<◌, ◌≤◌, ◌^◌, drop, ◌-◌, length, ◌/◌, ◌%◌, List, [], ◌∷◌, slice_set, arith, ap, sym, ◌∙◌, refl, length-drop}
 use Rattle.std.proofs.lemmas.List.{drop-set-add}
-use Rattle.std.specs.Fmt.{digits}
-use Rattle.std.proofs.lemmas.Grind.{common_steps, drop-set_at}
+use Rattle.std.proofs.lemmas.Grind.{drop-set_at}
 use Rattle.std.proofs.Math.ListN.{length-set}
 use Rattle.vcd_trace.proofs.Digits.{binary_onto, binary_onto-all, binary_onto-last, binary_onto-step, half_fits, has_bit}
 use Rattle.vcd_trace.proofs.line.write_vector.Goals as goal

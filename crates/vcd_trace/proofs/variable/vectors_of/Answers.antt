@@ -1,5 +1,4 @@
 use Rattle.std.proofs.Common.{rules, ◌≡◌, ℕ, List, [], ◌∷◌, ◌++◌, length, slice_index_or, ap, ◌∙◌, refl, arith}
-use Rattle.vcd_trace.specs.Groups.{vectors_of}
 use Rattle.vcd_trace.proofs.variable.vectors_of.Goals as goal
 
 -- the four elements of a list
