@@ -1,1 +1,6 @@
 pub mod Edge
+pub mod Puts
+pub mod Count
+pub mod Stock
+pub mod Bucket
+pub mod Held

@@ -1,0 +1,109 @@
+//! A shelf in memory, whose fetches fail as its maker lists. It stands in for real files in tests.
+ghost use Rattle.std.specs.Prelude.{◌≡◌, ◌≤◌, ◌↔◌, Some, IfOk, OnOk, OnErr, IsTrue, take, vec_len};
+ghost use Rattle.std.specs.FinMap.{empty, insert};
+ghost use Rattle.pio_edge.specs.Edge.{IsFetched, FetchCounts};
+ghost use Rattle.pio_edge.specs.Stock.{fetch_fails, after_fetch};
+
+use crate::held::{Held, found};
+use crate::shelf::{Fetch, Shelf};
+use std::alloc::{AllocError, Global};
+use std::collections::VecDeque;
+use std::marker::Model;
+
+/// Files in memory, with a list of the fetches that fail, numbered from 1.
+#[derive(Drop)]
+pub struct MemShelf {
+    // The newest stands in front, and hides what was held under its name before.
+    held: VecDeque<Held>,
+    fails: Vec<u64>,
+    calls: u64,
+    faults: u64,
+}
+
+impl Model for MemShelf {
+    ghost use Rattle.pio_edge.specs.Stock.{Stock, stock_code};
+    ghost use Rattle.pio_edge.specs.Held.{files_of};
+
+    ghost Value = { Stock };
+
+    ghost coded = { stock_code };
+
+    ghost view = { λ s. record {
+      files = files_of s.held.items;
+      fails = s.fails.items;
+      calls = s.calls;
+      faults = s.faults;
+    } };
+}
+
+impl MemShelf {
+    /// An empty shelf. `fails` has the numbers, from 1 on, of the fetches that are to fail.
+    pub fn new(alloc: Global, fails: &[u64]) -> Result<Self, AllocError>
+        ensures { IfOk result (λ s.
+            s ≡ record { files = empty; fails = fails.now; calls = 0; faults = 0 }) }
+    {
+        Ok(MemShelf {
+            held: VecDeque::new(alloc),
+            fails: fails.to_vec(alloc)?,
+            calls: 0,
+            faults: 0,
+        })
+    }
+
+    /// Puts the bytes under the name, in place of those that were there, which stay in memory unseen.
+    ///
+    /// An error is want of memory.
+    pub fn hold(&mut self, name: &str, bytes: &[u8]) -> Result<(), AllocError>
+        ensures ok { OnOk result (self.new ≡
+            record self.old { files = insert self.old.files name.now bytes.now }) }
+        ensures err { OnErr result (self.new ≡ self.old) }
+    {
+        let alloc = *self.held.allocator();
+        let held = Held {
+            name: String::from_str(alloc, name)?,
+            bytes: bytes.to_vec(alloc)?,
+        };
+        self.held.push_front(held)?;
+        Ok(())
+    }
+
+    /// How many fetches failed, up to `u64::MAX`.
+    pub fn faults(&self) -> u64
+        ensures { result ≡ self.now.faults }
+    {
+        self.faults
+    }
+}
+
+impl Shelf for MemShelf {
+    ghost holds = { λ s. Some s.files };
+
+    ghost faults = { λ s. s.faults };
+
+    fn fetch(&mut self, alloc: Global, name: &str, cap: usize) -> Result<Vec<u8>, Fetch>
+        ensures capped { IfOk result (λ bytes. vec_len bytes ≤ cap) }
+        ensures bytes { IfOk result (λ bytes. IsFetched (Some self.old.files) name.now cap bytes.items) }
+        ensures same { Some self.new.files ≡ Some self.old.files }
+        ensures cause { FetchCounts self.old.faults self.new.faults result }
+        // Failed exactly at a listed fetch and at an absent name.
+        ensures failed { (result ≡ Err Fetch.Failed) ↔ IsTrue (fetch_fails self.old name.now) }
+        ensures after { self.new ≡ after_fetch self.old name.now }
+    {
+        self.calls = self.calls.saturating_add(1);
+        let Some(all) = found(&self.held, name, &self.fails, self.calls) else {
+            self.faults = self.faults.saturating_add(1);
+            return Err(Fetch::Failed);
+        };
+        match first_bytes(alloc, all, cap) {
+            Ok(bytes) => Ok(bytes),
+            Err(AllocError) => Err(Fetch::Memory),
+        }
+    }
+}
+
+// The first `cap` bytes, or all where there are fewer.
+fn first_bytes(alloc: Global, all: &[u8], cap: usize) -> Result<Vec<u8>, AllocError>
+    ensures { IfOk result (λ bytes. bytes.items ≡ take cap all.now) }
+{
+    all[..cap.min(all.len())].to_vec(alloc)
+}
