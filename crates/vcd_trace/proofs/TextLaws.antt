@@ -3,7 +3,8 @@ use Rattle.std.proofs.Common.{◌≡◌, ℕ, ◌+◌, ◌-◌, ◌/◌, ◌%◌
 use borrow.Author.Tests.{ne_eqb}
 use Rattle.std.proofs.Common.{Option}
 use Rattle.pio_edge.specs.Edge.{with_bytes, TakesPrefix}
-use Rattle.vcd_trace.proofs.Puts.{Going, going_on, going_stops, going_ends, with_bytes-nil}
+use Rattle.pio_edge.specs.Puts.{Going}
+use Rattle.pio_edge.proofs.PutLaws.{going_on, going_stops, going_ends, with_bytes-nil}
 use Rattle.std.specs.Prelude.{replicate}
 use Rattle.std.proofs.Math.Seq.{drop-cons}
 use Rattle.block_core.specs.Sample.{bits_of}

@@ -10,7 +10,7 @@ use Rattle.block_core.specs.Sample.{same_numbers, same_sample}
 use Rattle.vcd_trace.specs.Told.{IsNext, last_of, held_to, told_at}
 use Rattle.vcd_trace.specs.VcdText.{header_text, clock_line, dump_text, step_text, steps_text, open_text, closing_text, vcd_text, changes_text}
 use Rattle.vcd_trace.specs.Standing.{last_sample, Standing, added_text, ended_text}
-use Rattle.vcd_trace.proofs.Puts.{with_bytes-append, takes_prefix-append_r}
+use Rattle.pio_edge.proofs.PutLaws.{with_bytes-append, takes_prefix-append_r}
 
 and_true : (a b : Bool) → a ≡ true → b ≡ true → (a && b) ≡ true
 and_true true b h k = k

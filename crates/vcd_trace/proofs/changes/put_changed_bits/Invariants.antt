@@ -1,6 +1,6 @@
 use Rattle.std.proofs.Common.{◌≡◌, ◌+◌, ◌-◌}
 use Rattle.vcd_trace.specs.Groups.{bit_changes}
-use Rattle.vcd_trace.proofs.Puts.{Going}
+use Rattle.pio_edge.specs.Puts.{Going}
 use Rattle.vcd_trace.proofs.changes.put_changed_bits.Given as goal
 
 -- the bits from this one on are still to be put

@@ -1,6 +1,6 @@
 use Rattle.std.proofs.Common.{◌≡◌, ◌+◌, drop}
 use Rattle.vcd_trace.specs.Groups.{vector_changes}
-use Rattle.vcd_trace.proofs.Puts.{Going}
+use Rattle.pio_edge.specs.Puts.{Going}
 use Rattle.vcd_trace.proofs.changes.put_changed_vectors.Given as goal
 
 -- the values from this one on are still to be put

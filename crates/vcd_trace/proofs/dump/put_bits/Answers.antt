@@ -1,7 +1,7 @@
 use Rattle.std.proofs.Common.{◌≡◌, ◌+◌, ◌-◌, ap, ◌∙◌, arith}
 use Rattle.vcd_trace.specs.Groups.{bit_lines}
 use Rattle.vcd_trace.proofs.TextLaws.{bit_lines-turn, bit_lines-none, going_done}
-use Rattle.vcd_trace.proofs.Puts.{going_on, going_stops}
+use Rattle.pio_edge.proofs.PutLaws.{going_on, going_stops}
 use Rattle.vcd_trace.proofs.dump.put_bits.Goals as goal
 
 pub returns-in-Err-clause-bytes : goal.returns-in-Err-clause-bytes

@@ -1,6 +1,6 @@
 use Rattle.std.proofs.Common.{◌<◌, length, ◌∙◌, arith}
 use Rattle.vcd_trace.proofs.TextLaws.{vector_lines-turn}
-use Rattle.vcd_trace.proofs.Puts.{going_on, going_stops}
+use Rattle.pio_edge.proofs.PutLaws.{going_on, going_stops}
 use Rattle.vcd_trace.proofs.dump.put_vectors.Goals as goal
 
 pub returns-in-Err-clause-bytes : goal.returns-in-Err-clause-bytes

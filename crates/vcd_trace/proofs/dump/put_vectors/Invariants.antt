@@ -1,6 +1,6 @@
 use Rattle.std.proofs.Common.{◌≡◌, ◌+◌, drop}
 use Rattle.vcd_trace.specs.Groups.{vector_lines}
-use Rattle.vcd_trace.proofs.Puts.{Going}
+use Rattle.pio_edge.specs.Puts.{Going}
 use Rattle.vcd_trace.proofs.dump.put_vectors.Given as goal
 
 -- the values from this one on are still to be put

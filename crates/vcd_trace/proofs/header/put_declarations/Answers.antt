@@ -1,7 +1,7 @@
 use Rattle.std.proofs.Common.{◌∙◌, arith, rules}
 use Rattle.vcd_trace.specs.declared.header.TheConstants.{GROUPS}
 use Rattle.vcd_trace.proofs.HeaderLaws.{groups_text-all, groups_text-none, groups_text-turn, count_from-all, count_from-turn}
-use Rattle.vcd_trace.proofs.Puts.{going_begins, going_on, going_stops}
+use Rattle.pio_edge.proofs.PutLaws.{going_begins, going_on, going_stops}
 use Rattle.vcd_trace.proofs.TextLaws.{going_done}
 use Rattle.vcd_trace.proofs.header.put_declarations.Goals as goal
 

@@ -1,7 +1,7 @@
 use Rattle.std.proofs.Common.{◌≡◌, ◌+◌}
 use Rattle.vcd_trace.specs.VcdText.{declarations, variables}
 use Rattle.vcd_trace.proofs.HeaderLaws.{groups_text, count_from}
-use Rattle.vcd_trace.proofs.Puts.{Going}
+use Rattle.pio_edge.specs.Puts.{Going}
 use Rattle.vcd_trace.proofs.header.put_declarations.Given as goal
 
 -- the declarations of the groups from this one on are still to be put

@@ -1,6 +1,6 @@
 use Rattle.std.proofs.Common.{◌∙◌}
 use Rattle.vcd_trace.proofs.HeaderLaws.{numbered-turn}
-use Rattle.vcd_trace.proofs.Puts.{going_on, going_stops}
+use Rattle.pio_edge.proofs.PutLaws.{going_on, going_stops}
 use Rattle.vcd_trace.proofs.header.put_group.Goals as goal
 
 pub returns-in-Err-clause-bytes : goal.returns-in-Err-clause-bytes

@@ -1,6 +1,6 @@
 use Rattle.std.proofs.Common.{◌≡◌, ◌+◌, ◌-◌}
 use Rattle.vcd_trace.specs.VcdText.{declarations, numbered}
-use Rattle.vcd_trace.proofs.Puts.{Going}
+use Rattle.pio_edge.specs.Puts.{Going}
 use Rattle.vcd_trace.proofs.header.put_group.Given as goal
 
 -- the declarations from this one on are still to be put

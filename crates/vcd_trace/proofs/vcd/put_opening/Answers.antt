@@ -1,4 +1,4 @@
-use Rattle.vcd_trace.proofs.Puts.{takes_on, takes_off}
+use Rattle.pio_edge.proofs.PutLaws.{takes_on, takes_off}
 use Rattle.vcd_trace.proofs.vcd.put_opening.Goals as goal
 use Rattle.vcd_trace.specs.VcdText.{header_text, clock_line}
 
