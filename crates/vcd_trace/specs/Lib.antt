@@ -1,1 +1,4 @@
 pub mod Told
+pub mod VcdText
+pub mod Standing
+pub mod Groups

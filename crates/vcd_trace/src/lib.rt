@@ -1,6 +1,13 @@
 //! Traces of a block: who is told of its samples, and the value-change text (IEEE 1364-2005, section 18).
 #![tactic(auto)]
 
+mod changes;
+mod dump;
+mod header;
+mod line;
 mod trace;
+mod variable;
+mod vcd;
 
 pub use trace::{Trace, TraceFailed};
+pub use vcd::VcdTrace;

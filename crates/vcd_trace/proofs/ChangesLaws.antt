@@ -1,0 +1,98 @@
+-- The text of the changes, and that of a dump, by its groups.
+use Rattle.std.proofs.Common.{◌≡◌, ℕ, ◌+◌, ◌/◌, Bool, true, false, cond, eqb, List, [], ◌∷◌, ◌++◌, zero, suc, length, refl, sym, ap, ◌∙◌, append_assoc, arith}
+use Rattle.std.specs.Prelude.{replicate, codes}
+use Rattle.std.proofs.lemmas.List.{length-replicate}
+use Rattle.block_core.specs.declared.sample.Sample.{Sample}
+use Rattle.block_core.specs.Sample.{bits_of, values_of}
+use Rattle.vcd_trace.specs.VcdText.{variables, widths, bit_line, vector_line, value_lines, change_lines, changes_text, dump_text}
+use Rattle.vcd_trace.specs.Groups.{bit_lines, bit_changes, vector_lines, vector_changes, vectors_of, values_text}
+use Rattle.vcd_trace.proofs.TextLaws.{change_lines-append, value_lines-append}
+
+pub length-bits_of : (k n : ℕ) → length (bits_of k n) ≡ k
+unfolding bits_of
+length-bits_of zero n = refl
+length-bits_of (suc k) n = ap suc (length-bits_of k (n / 2))
+
+-- all widths are above 1, or 0
+abbrev all_vectors : List ℕ → Bool
+all_vectors [] = true
+all_vectors (w ∷ ws) = cond (eqb w 1) false (all_vectors ws)
+
+vector_from : (t : Bool) (a b : List ℕ) (more : Bool) → cond t false more ≡ true → (cond t a b ≡ b) × (more ≡ true)
+vector_from true a b more h = cc
+vector_from false a b more h = (refl, h)
+
+pub change_lines-vectors : (id : ℕ) (ws before now : List ℕ) → all_vectors ws ≡ true → length before ≡ length ws → length now ≡ length ws → change_lines id ws before now ≡ vector_changes id before now
+change_lines-vectors id [] [] [] h e f = refl
+change_lines-vectors id [] (a ∷ before) now h e f = absurd (omega arith)
+change_lines-vectors id [] [] (b ∷ now) h e f = absurd (omega arith)
+change_lines-vectors id (w ∷ ws) [] now h e f = absurd (omega arith)
+change_lines-vectors id (w ∷ ws) (a ∷ before) [] h e f = absurd (omega arith)
+change_lines-vectors id (w ∷ ws) (a ∷ before) (b ∷ now) h e f =
+    let t = vector_from (eqb w 1) (bit_line id b) (vector_line id b) (all_vectors ws) h in
+    ap (λ line. cond (eqb a b) [] line ++ change_lines (id + 1) ws before now) t.0
+    ∙ ap (λ later. cond (eqb a b) [] (vector_line id b) ++ later) (change_lines-vectors (id + 1) ws before now t.1 (omega arith) (omega arith))
+
+pub value_lines-vectors : (id : ℕ) (ws now : List ℕ) → all_vectors ws ≡ true → length now ≡ length ws → value_lines id ws now ≡ vector_lines id now
+value_lines-vectors id [] [] h f = refl
+value_lines-vectors id [] (b ∷ now) h f = absurd (omega arith)
+value_lines-vectors id (w ∷ ws) [] h f = absurd (omega arith)
+value_lines-vectors id (w ∷ ws) (b ∷ now) h f =
+    let t = vector_from (eqb w 1) (bit_line id b) (vector_line id b) (all_vectors ws) h in
+    ap (λ line. line ++ value_lines (id + 1) ws now) t.0
+    ∙ ap (λ later. vector_line id b ++ later) (value_lines-vectors (id + 1) ws now t.1 (omega arith))
+
+-- the widths of the variables of more than one bit
+abbrev vector_widths : List ℕ
+vector_widths = 4 ∷ 4 ∷ 4 ∷ 4 ∷ 4 ∷ 4 ∷ 4 ∷ 4 ∷ 32 ∷ 32 ∷ 32 ∷ 32 ∷ 4 ∷ 4 ∷ 4 ∷ 4 ∷ []
+
+widths-groups : widths ≡ replicate 32 1 ++ (replicate 32 1 ++ (replicate 8 1 ++ vector_widths))
+unfolding widths variables
+widths-groups = refl
+
+values-groups : (s : Sample) → values_of s ≡ bits_of 32 s.level ++ (bits_of 32 s.direction ++ (bits_of 8 s.flags ++ vectors_of s))
+values-groups s = simp append_assoc
+
+-- one group of changed bits, then the others
+bits_then : (id count before now : ℕ) (ws a b : List ℕ) → change_lines id (replicate count 1 ++ ws) (bits_of count before ++ a) (bits_of count now ++ b) ≡ bit_changes id count before now ++ change_lines (id + count) ws a b
+unfolding bit_changes
+bits_then id count before now ws a b =
+    change_lines-append id (replicate count 1) ws (bits_of count before) a (bits_of count now) b (length-bits_of count before ∙ sym (length-replicate count 1)) (length-bits_of count now ∙ sym (length-replicate count 1))
+    ∙ ap (λ n. change_lines id (replicate count 1) (bits_of count before) (bits_of count now) ++ change_lines (id + n) ws a b) (length-replicate count 1)
+
+pub changes-groups : (a b : Sample) → length (vectors_of a) ≡ 16 → length (vectors_of b) ≡ 16 → changes_text a b ≡ bit_changes 33 32 a.level b.level ++ (bit_changes 65 32 a.direction b.direction ++ (bit_changes 97 8 a.flags b.flags ++ vector_changes 105 (vectors_of a) (vectors_of b)))
+unfolding changes_text
+changes-groups a b h k =
+    ap (λ ws. change_lines 33 ws (values_of a) (values_of b)) widths-groups
+    ∙ ap (λ v. change_lines 33 (replicate 32 1 ++ (replicate 32 1 ++ (replicate 8 1 ++ vector_widths))) v (values_of b)) (values-groups a)
+    ∙ ap (λ v. change_lines 33 (replicate 32 1 ++ (replicate 32 1 ++ (replicate 8 1 ++ vector_widths))) (bits_of 32 a.level ++ (bits_of 32 a.direction ++ (bits_of 8 a.flags ++ vectors_of a))) v) (values-groups b)
+    ∙ bits_then 33 32 a.level b.level (replicate 32 1 ++ (replicate 8 1 ++ vector_widths)) (bits_of 32 a.direction ++ (bits_of 8 a.flags ++ vectors_of a)) (bits_of 32 b.direction ++ (bits_of 8 b.flags ++ vectors_of b))
+    ∙ ap (λ x. bit_changes 33 32 a.level b.level ++ x)
+      (bits_then 65 32 a.direction b.direction (replicate 8 1 ++ vector_widths) (bits_of 8 a.flags ++ vectors_of a) (bits_of 8 b.flags ++ vectors_of b)
+      ∙ ap (λ x. bit_changes 65 32 a.direction b.direction ++ x)
+        (bits_then 97 8 a.flags b.flags vector_widths (vectors_of a) (vectors_of b)
+        ∙ ap (λ x. bit_changes 97 8 a.flags b.flags ++ x) (change_lines-vectors 105 vector_widths (vectors_of a) (vectors_of b) refl h k)))
+
+-- one group of bits, then the others
+lines_then : (id count now : ℕ) (ws b : List ℕ) → value_lines id (replicate count 1 ++ ws) (bits_of count now ++ b) ≡ bit_lines id count now ++ value_lines (id + count) ws b
+unfolding bit_lines
+lines_then id count now ws b =
+    value_lines-append id (replicate count 1) ws (bits_of count now) b (length-bits_of count now ∙ sym (length-replicate count 1))
+    ∙ ap (λ n. value_lines id (replicate count 1) (bits_of count now) ++ value_lines (id + n) ws b) (length-replicate count 1)
+
+pub values-text : (s : Sample) → length (vectors_of s) ≡ 16 → values_text s ≡ bit_lines 33 32 s.level ++ (bit_lines 65 32 s.direction ++ (bit_lines 97 8 s.flags ++ vector_lines 105 (vectors_of s)))
+unfolding values_text
+values-text s h =
+    ap (λ ws. value_lines 33 ws (values_of s)) widths-groups
+    ∙ ap (λ v. value_lines 33 (replicate 32 1 ++ (replicate 32 1 ++ (replicate 8 1 ++ vector_widths))) v) (values-groups s)
+    ∙ lines_then 33 32 s.level (replicate 32 1 ++ (replicate 8 1 ++ vector_widths)) (bits_of 32 s.direction ++ (bits_of 8 s.flags ++ vectors_of s))
+    ∙ ap (λ x. bit_lines 33 32 s.level ++ x)
+      (lines_then 65 32 s.direction (replicate 8 1 ++ vector_widths) (bits_of 8 s.flags ++ vectors_of s)
+      ∙ ap (λ x. bit_lines 65 32 s.direction ++ x)
+        (lines_then 97 8 s.flags vector_widths (vectors_of s)
+        ∙ ap (λ x. bit_lines 97 8 s.flags ++ x) (value_lines-vectors 105 vector_widths (vectors_of s) refl h)))
+
+-- the dump's first line, its values, its last line
+pub dump-parts : (s : Sample) → dump_text s ≡ codes "$dumpvars\n" ++ (values_text s ++ codes "$end\n")
+unfolding dump_text values_text
+dump-parts s = append_assoc (codes "$dumpvars\n") (value_lines 33 widths (values_of s)) (codes "$end\n")

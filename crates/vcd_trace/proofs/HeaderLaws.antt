@@ -1,0 +1,81 @@
+-- Laws of the declarations.
+use Rattle.std.proofs.Common.{◌≡◌, ℕ, ◌+◌, ◌-◌, ◌≤◌, ◌<◌, List, [], ◌∷◌, ◌++◌, zero, suc, length, drop, get_or, refl, sym, ap, ◌∙◌, append_assoc, length-append, arith}
+use Rattle.std.specs.Prelude.{codes}
+use Rattle.std.proofs.Math.Seq.{drop-cons}
+use Rattle.std.proofs.Math.ListN.{drop_of_length-le}
+use Rattle.vcd_trace.specs.declared.header.TheConstants.{GROUPS}
+use Rattle.vcd_trace.specs.declared.header.Group.{Group}
+use Rattle.vcd_trace.specs.VcdText.{Variable, variable, numbered, variables, declaration, declarations, header_text}
+
+pub length-numbered : (letter width from count : ℕ) → length (numbered letter width from count) ≡ count
+length-numbered letter width from zero = refl
+length-numbered letter width from (suc more) = ap suc (length-numbered letter width (from + 1) more)
+
+-- variables in two rows have the declarations of the one, then of the other
+pub declarations-append : (id : ℕ) (xs ys : List Variable) → declarations id (xs ++ ys) ≡ declarations id xs ++ declarations (id + length xs) ys
+declarations-append id [] ys = ap (λ i. declarations i ys) (let e : id ≡ id + 0 = omega arith in e)
+declarations-append id (x ∷ xs) ys =
+    ap (λ t. declaration id x ++ t) (declarations-append (id + 1) xs ys ∙ ap (λ i. declarations (id + 1) xs ++ declarations i ys) (let e : id + 1 + length xs ≡ id + suc (length xs) = omega arith in e))
+    ∙ sym (append_assoc (declaration id x) (declarations (id + 1) xs) (declarations (id + suc (length xs)) ys))
+
+-- the variables of a group from one on: its declaration, then those behind it
+pub numbered-turn : (first letter width count number : ℕ) → number < count → declarations (first + number) (numbered letter width number (count - number)) ≡ declaration (first + number) (variable letter width number) ++ declarations (first + (number + 1)) (numbered letter width (number + 1) (count - (number + 1)))
+numbered-turn first letter width count number h =
+    ap (λ k. declarations (first + number) (numbered letter width number k)) (let e : count - number ≡ suc (count - (number + 1)) = omega arith in e)
+    ∙ ap (λ i. declaration (first + number) (variable letter width number) ++ declarations i (numbered letter width (number + 1) (count - (number + 1)))) (let e : first + number + 1 ≡ first + (number + 1) = omega arith in e)
+
+-- the variables of these groups
+abbrev variables_of : List Group → List Variable
+variables_of [] = []
+variables_of (g ∷ rest) = numbered g.letter g.width 0 g.count ++ variables_of rest
+
+-- the declarations of the groups from one on
+unfoldable pub groups_text : ℕ → List Group → ℕ → List ℕ
+groups_text id groups i = declarations id (variables_of (drop i groups))
+
+-- how many variables the groups from one on have
+unfoldable pub count_from : List Group → ℕ → ℕ
+count_from groups i = length (variables_of (drop i groups))
+
+abbrev pub no_group : Group
+no_group = record { letter = 0; width = 0; count = 0 }
+
+pub groups_text-all : groups_text 33 GROUPS 0 ≡ declarations 33 variables
+unfolding groups_text variables
+groups_text-all = refl
+
+pub count_from-all : count_from GROUPS 0 ≡ 88
+unfolding count_from
+count_from-all = refl
+
+pub groups_text-none : (id i : ℕ) (groups : List Group) → length groups ≤ i → groups_text id groups i ≡ []
+unfolding groups_text
+groups_text-none id i groups h = ap (λ x. declarations id (variables_of x)) (drop_of_length-le groups h)
+
+drop_group : (groups : List Group) (i : ℕ) → i < length groups → drop i groups ≡ get_or groups i no_group ∷ drop (i + 1) groups
+drop_group groups i h = drop-cons groups i no_group h ∙ ap (λ j. get_or groups i no_group ∷ drop j groups) (let e : suc i ≡ i + 1 = omega arith in e)
+
+-- the declarations of a group, then those of the groups behind it
+pub groups_text-turn : (id i : ℕ) (groups : List Group) → i < length groups → groups_text id groups i ≡ declarations id (numbered (get_or groups i no_group).letter (get_or groups i no_group).width 0 (get_or groups i no_group).count) ++ groups_text (id + (get_or groups i no_group).count) groups (i + 1)
+unfolding groups_text
+groups_text-turn id i groups h =
+    let g : Group = get_or groups i no_group in
+    ap (λ x. declarations id (variables_of x)) (drop_group groups i h)
+    ∙ declarations-append id (numbered g.letter g.width 0 g.count) (variables_of (drop (i + 1) groups))
+    ∙ ap (λ n. declarations id (numbered g.letter g.width 0 g.count) ++ declarations (id + n) (variables_of (drop (i + 1) groups))) (length-numbered g.letter g.width 0 g.count)
+
+pub count_from-turn : (i : ℕ) (groups : List Group) → i < length groups → count_from groups i ≡ (get_or groups i no_group).count + count_from groups (i + 1)
+unfolding count_from
+count_from-turn i groups h =
+    let g : Group = get_or groups i no_group in
+    ap (λ x. length (variables_of x)) (drop_group groups i h)
+    ∙ length-append (numbered g.letter g.width 0 g.count) (variables_of (drop (i + 1) groups))
+    ∙ ap (λ n. n + length (variables_of (drop (i + 1) groups))) (length-numbered g.letter g.width 0 g.count)
+
+-- the declaration commands one by one
+pub header-parts : header_text ≡ codes "$timescale 1 ns $end\n" ++ (codes "$scope module pio $end\n" ++ (declarations 33 variables ++ (codes "$upscope $end\n" ++ codes "$enddefinitions $end\n")))
+unfolding header_text
+header-parts =
+    append_assoc (codes "$timescale 1 ns $end\n" ++ codes "$scope module pio $end\n" ++ declarations 33 variables) (codes "$upscope $end\n") (codes "$enddefinitions $end\n")
+    ∙ append_assoc (codes "$timescale 1 ns $end\n" ++ codes "$scope module pio $end\n") (declarations 33 variables) (codes "$upscope $end\n" ++ codes "$enddefinitions $end\n")
+    ∙ append_assoc (codes "$timescale 1 ns $end\n") (codes "$scope module pio $end\n") (declarations 33 variables ++ (codes "$upscope $end\n" ++ codes "$enddefinitions $end\n"))

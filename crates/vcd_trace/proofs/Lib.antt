@@ -1,0 +1,6 @@
+pub mod ChangesLaws
+pub mod Digits
+pub mod HeaderLaws
+pub mod Puts
+pub mod TextLaws
+pub mod ToldLaws

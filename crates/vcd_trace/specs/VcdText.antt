@@ -1,0 +1,106 @@
+-- What the value-change text of a list of samples is (IEEE 1364-2005, section 18.2), for the 88 variables of this profile.
+use Rattle.std.specs.Prelude.{ℕ, ◌+◌, ◌==◌, Bool, true, false, List, [], ◌∷◌, ◌++◌, length, zero, suc, codes, decimal, map, if◌then◌else◌}
+use Rattle.std.specs.Fmt.{digits}
+use Rattle.block_core.specs.declared.sample.Sample.{Sample}
+use Rattle.block_core.specs.Sample.{values_of, same_sample}
+
+-- a variable of the text: its name, and its width in bits
+pub record Variable : Type 0 where
+  pub name : List ℕ
+  pub width : ℕ
+
+-- the variable of a letter and a number, and its width
+abbrev pub variable : ℕ → ℕ → ℕ → Variable
+variable letter width number = record { name = letter ∷ decimal number; width = width }
+
+-- so many variables of one letter and one width, numbered on from a number
+abbrev pub numbered : ℕ → ℕ → ℕ → ℕ → List Variable
+numbered letter width from zero = []
+numbered letter width from (suc more) = variable letter width from ∷ numbered letter width (from + 1) more
+
+-- levels p, directions d, flags f, TX levels t, RX levels r, words read w, sticky flags s, in the order of a sample's values (choice of this profile)
+unfoldable pub variables : List Variable
+variables = numbered 112 1 0 32 ++ numbered 100 1 0 32 ++ numbered 102 1 0 8 ++ numbered 116 4 0 4 ++ numbered 114 4 0 4 ++ numbered 119 32 0 4 ++ numbered 115 4 0 4
+
+-- the widths of the variables in order
+unfoldable pub widths : List ℕ
+widths = map (λ v. v.width) variables
+
+-- the identifier of the first variable, the first printable character but the blank (IEEE 1364-2005, section 18.2.1); those behind it count on
+abbrev pub first_identifier : ℕ
+first_identifier = 33
+
+-- `$var wire W ID NAME $end` (IEEE 1364-2005, section 18.2.3.7)
+abbrev pub declaration : ℕ → Variable → List ℕ
+declaration id v = codes "$var wire " ++ decimal v.width ++ 32 ∷ id ∷ 32 ∷ (v.name ++ codes " $end\n")
+
+-- the declarations of variables whose identifiers count on from one
+abbrev pub declarations : ℕ → List Variable → List ℕ
+declarations id [] = []
+declarations id (v ∷ rest) = declaration id v ++ declarations (id + 1) rest
+
+-- the declaration commands: time scale, scope, variables
+unfoldable pub header_text : List ℕ
+header_text = codes "$timescale 1 ns $end\n" ++ codes "$scope module pio $end\n" ++ declarations first_identifier variables ++ codes "$upscope $end\n" ++ codes "$enddefinitions $end\n"
+
+-- `#` and a clock (IEEE 1364-2005, section 18.2.2)
+abbrev pub clock_line : ℕ → List ℕ
+clock_line clock = 35 ∷ (decimal clock ++ 10 ∷ [])
+
+-- a value of one bit: its digit and the identifier
+abbrev pub bit_line : ℕ → ℕ → List ℕ
+bit_line id value = (48 + value) ∷ id ∷ 10 ∷ []
+
+-- a value of more bits: `b`, its binary digits without leading zeros, a blank and the identifier
+abbrev pub vector_line : ℕ → ℕ → List ℕ
+vector_line id value = 98 ∷ (digits 2 false value ++ 32 ∷ id ∷ 10 ∷ [])
+
+-- the line of a value of this width
+abbrev pub value_line : ℕ → ℕ → ℕ → List ℕ
+value_line width id value = if width == 1 then bit_line id value else vector_line id value
+
+-- the lines of values with these widths, whose identifiers count on from one
+abbrev pub value_lines : ℕ → List ℕ → List ℕ → List ℕ
+value_lines id (w ∷ ws) (v ∷ vs) = value_line w id v ++ value_lines (id + 1) ws vs
+value_lines id _ _ = []
+
+-- the lines of those values that are not what they were
+abbrev pub change_lines : ℕ → List ℕ → List ℕ → List ℕ → List ℕ
+change_lines id (w ∷ ws) (was ∷ before) (is ∷ now) = (if was == is then [] else value_line w id is) ++ change_lines (id + 1) ws before now
+change_lines id _ _ _ = []
+
+-- `$dumpvars`, all values of a sample, `$end` (IEEE 1364-2005, section 18.2.3.3)
+unfoldable pub dump_text : Sample → List ℕ
+dump_text s = codes "$dumpvars\n" ++ value_lines first_identifier widths (values_of s) ++ codes "$end\n"
+
+-- the values that a clock changes, in order
+unfoldable pub changes_text : Sample → Sample → List ℕ
+changes_text before now = change_lines first_identifier widths (values_of before) (values_of now)
+
+-- what a clock adds to the text: nothing where its sample is that of the clock before
+abbrev pub step_text : ℕ → Sample → Sample → List ℕ
+step_text clock before now = if same_sample before now then [] else clock_line clock ++ changes_text before now
+
+-- what these samples add from this clock on, behind the sample of the clock before
+abbrev pub steps_text : ℕ → Sample → List Sample → List ℕ
+steps_text clock before [] = []
+steps_text clock before (now ∷ rest) = step_text clock before now ++ steps_text (clock + 1) now rest
+
+-- the text of the samples from clock 0 on, without the clock that closes it
+abbrev pub open_text : List Sample → List ℕ
+open_text [] = header_text ++ clock_line 0
+open_text (s ∷ rest) = header_text ++ clock_line 0 ++ dump_text s ++ steps_text 1 s rest
+
+-- the clock that closes the text: the one behind the last sample, where there is a sample
+abbrev pub closing_text : List Sample → List ℕ
+closing_text [] = []
+closing_text (s ∷ rest) = clock_line (length (s ∷ rest))
+
+-- the whole text of the samples from clock 0 on
+abbrev pub vcd_text : List Sample → List ℕ
+vcd_text told = open_text told ++ closing_text told
+
+-- the text after these samples, with the clock that closes it where their end was told
+abbrev pub text_of : List Sample → Bool → List ℕ
+text_of told true = vcd_text told
+text_of told false = open_text told

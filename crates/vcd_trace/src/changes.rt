@@ -1,0 +1,71 @@
+//! The values that a clock changes, in the order of their identifiers.
+ghost use Rattle.std.specs.Prelude.{◌≡◌, ℕ, ◌+◌, ◌≤◌};
+ghost use Rattle.pio_edge.specs.Edge.{Takes, PutCounts};
+ghost use Rattle.vcd_trace.specs.VcdText.{changes_text};
+ghost use Rattle.vcd_trace.specs.Groups.{bit_changes, vector_changes};
+
+use crate::line::{put_bit, put_vector};
+use crate::variable::{DIRECTION, FLAG, LEVEL, VECTOR, vectors_of};
+use block_core::Sample;
+use pio_edge::{Sink, SinkFailed};
+
+/// Puts the lines of the values that are not what they were.
+pub(crate) fn put_changes<S: Sink>(sink: &mut S, before: &Sample, now: &Sample) -> Result<(), SinkFailed>
+    ensures bytes { Takes (S.taken sink.old) (changes_text before.now now.now) (S.taken sink.new) result }
+    ensures cause { PutCounts (S.faults sink.old) (S.faults sink.new) result }
+{
+    let (vectors_before, vectors_now) = (vectors_of(before), vectors_of(now));
+    put_changed_bits(sink, LEVEL, 32, before.level, now.level)?;
+    put_changed_bits(sink, DIRECTION, 32, before.direction, now.direction)?;
+    put_changed_bits(sink, FLAG, 8, u32::from(before.flags), u32::from(now.flags))?;
+    put_changed_vectors(sink, VECTOR, &vectors_before, &vectors_now)
+}
+
+// The low `count` bits, from bit 0 on.
+fn put_changed_bits<S: Sink>(
+    sink: &mut S,
+    first: u8,
+    count: u8,
+    mut before: u32,
+    mut now: u32,
+) -> Result<(), SinkFailed>
+    requires { first + count ≤ 256 }
+    ensures bytes { Takes (S.taken sink.old) (bit_changes first count before now) (S.taken sink.new) result }
+    ensures cause { PutCounts (S.faults sink.old) (S.faults sink.new) result }
+{
+    for step in 0..count {
+        if before == now {
+            return Ok(());
+        }
+        if before % 2 != now % 2 {
+            match put_bit(sink, first + step, (now % 2) as u8) {
+                Ok(()) => {}
+                Err(failed) => return Err(failed),
+            }
+        }
+        before /= 2;
+        now /= 2;
+    }
+    Ok(())
+}
+
+fn put_changed_vectors<S: Sink>(
+    sink: &mut S,
+    first: u8,
+    before: &[u32; 16],
+    now: &[u32; 16],
+) -> Result<(), SinkFailed>
+    requires { first + 16 ≤ 256 }
+    ensures bytes { Takes (S.taken sink.old) (vector_changes first before.now now.now) (S.taken sink.new) result }
+    ensures cause { PutCounts (S.faults sink.old) (S.faults sink.new) result }
+{
+    for place in 0..16 {
+        if before[place] != now[place] {
+            match put_vector(sink, first + place as u8, now[place]) {
+                Ok(()) => {}
+                Err(failed) => return Err(failed),
+            }
+        }
+    }
+    Ok(())
+}

@@ -1,0 +1,66 @@
+//! All values of a sample, in the order of their identifiers.
+ghost use Rattle.std.specs.Prelude.{◌≡◌, ℕ, ◌+◌, ◌≤◌};
+ghost use Rattle.pio_edge.specs.Edge.{Takes, PutCounts};
+ghost use Rattle.vcd_trace.specs.VcdText.{dump_text};
+ghost use Rattle.vcd_trace.specs.Groups.{bit_lines, vector_lines, values_text};
+
+use crate::line::{put_bit, put_vector};
+use crate::variable::{DIRECTION, FLAG, LEVEL, VECTOR, vectors_of};
+use block_core::Sample;
+use pio_edge::{Sink, SinkFailed};
+
+/// Puts the values that a trace begins with.
+pub(crate) fn put_dump<S: Sink>(sink: &mut S, sample: &Sample) -> Result<(), SinkFailed>
+    ensures bytes { Takes (S.taken sink.old) (dump_text sample.now) (S.taken sink.new) result }
+    ensures cause { PutCounts (S.faults sink.old) (S.faults sink.new) result }
+{
+    sink.put(b"$dumpvars\n")?;
+    put_values(sink, sample)?;
+    sink.put(b"$end\n")
+}
+
+fn put_values<S: Sink>(sink: &mut S, sample: &Sample) -> Result<(), SinkFailed>
+    ensures bytes { Takes (S.taken sink.old) (values_text sample.now) (S.taken sink.new) result }
+    ensures cause { PutCounts (S.faults sink.old) (S.faults sink.new) result }
+{
+    let vectors = vectors_of(sample);
+    put_bits(sink, LEVEL, 32, sample.level)?;
+    put_bits(sink, DIRECTION, 32, sample.direction)?;
+    put_bits(sink, FLAG, 8, u32::from(sample.flags))?;
+    put_vectors(sink, VECTOR, &vectors)
+}
+
+// The low `count` bits, from bit 0 on.
+fn put_bits<S: Sink>(
+    sink: &mut S,
+    first: u8,
+    count: u8,
+    mut now: u32,
+) -> Result<(), SinkFailed>
+    requires { first + count ≤ 256 }
+    ensures bytes { Takes (S.taken sink.old) (bit_lines first count now) (S.taken sink.new) result }
+    ensures cause { PutCounts (S.faults sink.old) (S.faults sink.new) result }
+{
+    for step in 0..count {
+        match put_bit(sink, first + step, (now % 2) as u8) {
+            Ok(()) => {}
+            Err(failed) => return Err(failed),
+        }
+        now /= 2;
+    }
+    Ok(())
+}
+
+fn put_vectors<S: Sink>(sink: &mut S, first: u8, now: &[u32; 16]) -> Result<(), SinkFailed>
+    requires { first + 16 ≤ 256 }
+    ensures bytes { Takes (S.taken sink.old) (vector_lines first now.now) (S.taken sink.new) result }
+    ensures cause { PutCounts (S.faults sink.old) (S.faults sink.new) result }
+{
+    for place in 0..16 {
+        match put_vector(sink, first + place as u8, now[place]) {
+            Ok(()) => {}
+            Err(failed) => return Err(failed),
+        }
+    }
+    Ok(())
+}

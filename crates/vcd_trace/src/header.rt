@@ -1,0 +1,95 @@
+//! The declarations that a trace begins with (IEEE 1364-2005, section 18.2.3).
+ghost use Rattle.std.specs.Prelude.{◌≡◌, ℕ, ◌+◌, ◌≤◌, ◌<◌, ◌∷◌, decimal};
+ghost use Rattle.pio_edge.specs.Edge.{Takes, PutCounts};
+ghost use Rattle.vcd_trace.specs.VcdText.{header_text, declaration, declarations, numbered, variables, variable};
+
+use crate::variable::LEVEL;
+use arrayvec::ArrayString;
+use itoa::Buffer;
+use pio_edge::{Sink, SinkFailed};
+
+/// Variables that differ in their number alone.
+#[derive(Clone, Copy)]
+struct Group {
+    letter: u8,
+    width: u8,
+    count: u8,
+}
+
+const GROUPS: [Group; 7] = [
+    Group { letter: b'p', width: 1, count: 32 },
+    Group { letter: b'd', width: 1, count: 32 },
+    Group { letter: b'f', width: 1, count: 8 },
+    Group { letter: b't', width: 4, count: 4 },
+    Group { letter: b'r', width: 4, count: 4 },
+    Group { letter: b'w', width: 32, count: 4 },
+    Group { letter: b's', width: 4, count: 4 },
+];
+
+/// Puts the declarations, each line as one piece.
+pub(crate) fn put_header<S: Sink>(sink: &mut S) -> Result<(), SinkFailed>
+    ensures bytes { Takes (S.taken sink.old) header_text (S.taken sink.new) result }
+    ensures cause { PutCounts (S.faults sink.old) (S.faults sink.new) result }
+{
+    sink.put(b"$timescale 1 ns $end\n")?;
+    sink.put(b"$scope module pio $end\n")?;
+    put_declarations(sink)?;
+    sink.put(b"$upscope $end\n")?;
+    sink.put(b"$enddefinitions $end\n")
+}
+
+fn put_declarations<S: Sink>(sink: &mut S) -> Result<(), SinkFailed>
+    ensures bytes { Takes (S.taken sink.old) (declarations LEVEL variables) (S.taken sink.new) result }
+    ensures cause { PutCounts (S.faults sink.old) (S.faults sink.new) result }
+{
+    let mut id = LEVEL;
+    for group in &GROUPS {
+        match put_group(sink, id, *group) {
+            Ok(()) => {}
+            Err(failed) => return Err(failed),
+        }
+        id += group.count;
+    }
+    Ok(())
+}
+
+fn put_group<S: Sink>(sink: &mut S, first: u8, group: Group) -> Result<(), SinkFailed>
+    requires ids { first + group.count ≤ 128 }
+    requires letter { group.letter < 128 }
+    ensures bytes { Takes (S.taken sink.old)
+        (declarations first (numbered group.letter group.width 0 group.count)) (S.taken sink.new) result }
+    ensures cause { PutCounts (S.faults sink.old) (S.faults sink.new) result }
+{
+    for number in 0..group.count {
+        match put_declaration(sink, first + number, group.letter, group.width, number) {
+            Ok(()) => {}
+            Err(failed) => return Err(failed),
+        }
+    }
+    Ok(())
+}
+
+fn put_declaration<S: Sink>(
+    sink: &mut S,
+    id: u8,
+    letter: u8,
+    width: u8,
+    number: u8,
+) -> Result<(), SinkFailed>
+    requires id { id < 128 }
+    requires letter { letter < 128 }
+    ensures bytes { Takes (S.taken sink.old) (declaration id (variable letter width number)) (S.taken sink.new) result }
+    ensures cause { PutCounts (S.faults sink.old) (S.faults sink.new) result }
+{
+    let mut digits = Buffer::new();
+    let mut line = ArrayString::<32>::new();
+    line.push_str("$var wire ");
+    line.push_str(digits.format(width));
+    line.push(' ');
+    line.push(char::from(id));
+    line.push(' ');
+    line.push(char::from(letter));
+    line.push_str(digits.format(number));
+    line.push_str(" $end\n");
+    sink.put(line.as_str().as_bytes())
+}

@@ -1,0 +1,128 @@
+//! The value-change trace (IEEE 1364-2005, section 18), line by line into a sink that was lent.
+ghost use Rattle.std.specs.Prelude.{◌≡◌, false, []};
+ghost use Rattle.pio_edge.specs.Edge.{Takes, PutCounts, TakesPrefix};
+ghost use Rattle.vcd_trace.specs.VcdText.{open_text, step_text, text_of};
+ghost use Rattle.vcd_trace.specs.Standing.{Standing, added_text};
+
+use crate::changes::put_changes;
+use crate::dump::put_dump;
+use crate::header::put_header;
+use crate::line::put_clock;
+use crate::trace::{Trace, TraceFailed};
+use block_core::Sample;
+use pio_edge::{Sink, SinkFailed};
+
+/// A trace as value-change text, of one unit a clock. Each line is one piece; its faults are its sink's.
+#[derive(Drop)]
+pub struct VcdTrace<'a, S: Sink> {
+    sink: &'a mut S,
+    last: Option<Sample>,
+    failed: bool,
+}
+
+impl<'a, S: Sink> VcdTrace<'a, S> {
+    /// A trace into this sink, of which nothing was told.
+    pub fn new(sink: &'a mut S) -> Self
+        ensures lent { result.sink.ghost_name ≡ sink.entry.ghost_name }
+        ensures same { result.sink.now ≡ sink.old }
+        ensures whole { result.failed ≡ false }
+    {
+        VcdTrace {
+            sink,
+            last: None,
+            failed: false,
+        }
+    }
+}
+
+impl<'a, S: Sink> Trace for VcdTrace<'a, S> {
+    ghost name = { λ h. h.sink.ghost_name };
+
+    ghost faults = { λ h. S.faults h.sink.now };
+
+    ghost has_failed = { λ h. h.failed };
+
+    ghost ready = { λ h b. S.taken h.sink.now ≡ b };
+
+    ghost stands = { λ h b l z. Standing b l z (S.taken h.sink.now) h.last };
+
+    ghost broken = { λ h b l z. TakesPrefix b (text_of l z) (S.taken h.sink.now) };
+
+    fn begin(&mut self) -> Result<(), TraceFailed> {
+        self.last = None;
+        match put_opening(self.sink) {
+            Ok(()) => Ok(()),
+            Err(SinkFailed) => {
+                self.failed = true;
+                Err(TraceFailed)
+            }
+        }
+    }
+
+    fn sample(&mut self, clock: u64, sample: &Sample) -> Result<(), TraceFailed> {
+        match put_sample(self.sink, clock, self.last, sample) {
+            Ok(()) => {
+                self.last = Some(*sample);
+                Ok(())
+            }
+            Err(SinkFailed) => {
+                self.failed = true;
+                Err(TraceFailed)
+            }
+        }
+    }
+
+    fn end(&mut self, clock: u64) -> Result<(), TraceFailed> {
+        if self.last.is_none() {
+            return Ok(());
+        }
+        match put_clock(self.sink, clock) {
+            Ok(()) => Ok(()),
+            Err(SinkFailed) => {
+                self.failed = true;
+                Err(TraceFailed)
+            }
+        }
+    }
+
+    fn failed(&self) -> bool {
+        self.failed
+    }
+}
+
+// The text before the first sample.
+fn put_opening<S: Sink>(sink: &mut S) -> Result<(), SinkFailed>
+    ensures bytes { Takes (S.taken sink.old) (open_text []) (S.taken sink.new) result }
+    ensures cause { PutCounts (S.faults sink.old) (S.faults sink.new) result }
+{
+    put_header(sink)?;
+    put_clock(sink, 0)
+}
+
+// What a sample adds behind the one that was told last.
+fn put_sample<S: Sink>(
+    sink: &mut S,
+    clock: u64,
+    last: Option<Sample>,
+    sample: &Sample,
+) -> Result<(), SinkFailed>
+    ensures bytes { Takes (S.taken sink.old) (added_text clock last sample.now) (S.taken sink.new) result }
+    ensures cause { PutCounts (S.faults sink.old) (S.faults sink.new) result }
+{
+    match last {
+        None => put_dump(sink, sample),
+        Some(before) => put_step(sink, clock, &before, sample),
+    }
+}
+
+// What a clock adds behind the one before it.
+fn put_step<S: Sink>(sink: &mut S, clock: u64, before: &Sample, now: &Sample) -> Result<(), SinkFailed>
+    ensures bytes { Takes (S.taken sink.old) (step_text clock before.now now.now) (S.taken sink.new) result }
+    ensures cause { PutCounts (S.faults sink.old) (S.faults sink.new) result }
+{
+    if *before == *now {
+        return Ok(());
+    }
+    put_clock(sink, clock)?;
+    put_changes(sink, before, now)
+}
