@@ -3,6 +3,7 @@
 
 mod act;
 mod instruction_text;
+mod laws;
 mod name;
 mod numerals;
 mod op;
@@ -17,6 +18,7 @@ pub use act::{
     Act, Condition, InSource, MovDestination, MovOperation, MovSource, OutDestination,
     SetDestination, WaitSource,
 };
+pub use laws::{read_back, word_range};
 pub use name::Name;
 pub use op::Op;
 pub use reading::decode;
