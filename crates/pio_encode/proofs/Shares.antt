@@ -1,13 +1,12 @@
 -- How side-set and delay share five bits.
-use Rattle.std.proofs.Common.{◌≡◌, ℕ, ◌+◌, ◌-◌, ◌*◌, ◌^◌, ◌<◌, ◌≤◌, Bool, true, false, if◌then◌else◌, arith}
+use Rattle.std.proofs.Common.{◌≡◌, ℕ, ◌+◌, ◌*◌, ◌^◌, ◌<◌, ◌≤◌, Bool, true, false, if◌then◌else◌, arith}
 use Rattle.std.proofs.lemmas.Nat.{pow-add}
 use Rattle.std.proofs.Math.Nat.{mul-le-mul_right, pow-le-pow_right}
 
--- a delay has at most five bits
-pub delay_below : (taken delay : ℕ) → delay < 2 ^ (5 - taken) → delay < 32
-delay_below taken delay d =
-    let five : 5 - taken ≤ 5 = omega arith in
-    let top : 2 ^ (5 - taken) ≤ 2 ^ 5 = pow-le-pow_right {n = 2} (omega arith) five in
+-- a number of few bits is below a higher power
+pub below_power : (low high n : ℕ) → low ≤ high → n < 2 ^ low → n < 2 ^ high
+below_power low high n l h =
+    let top : 2 ^ low ≤ 2 ^ high = pow-le-pow_right {n = 2} (omega arith) l in
     omega arith
 
 -- a value of some high bits leaves the low bits free

@@ -1,4 +1,5 @@
 pub mod Ranges
 pub mod Word
-pub mod Text
 pub mod Relocation
+pub mod Text
+pub mod Spelling

@@ -1,6 +1,5 @@
--- What text a word has: an instruction in pioasm's spelling, or the word's number.
-use Rattle.std.specs.Prelude.{ℕ, ◌/◌, ◌%◌, ◌^◌, ◌==◌, ◌&&◌, not, if◌then◌else◌, Bool, true, false, Option, Some, None, List, [], ◌∷◌, ◌++◌, codes, decimal}
-use Rattle.std.specs.Fmt.{digit_glyph}
+-- How pioasm spells an instruction (SDK manual, chapter on pioasm): its operands, its side-set, its delay.
+use Rattle.std.specs.Prelude.{ℕ, ◌/◌, ◌%◌, ◌^◌, ◌==◌, if◌then◌else◌, Bool, true, false, Option, Some, None, List, [], ◌++◌, codes, decimal}
 use Rattle.pio_encode.specs.declared.act.Act.{Act}
 use Rattle.pio_encode.specs.declared.act.Act.TheVariants.{Jmp, Wait, In, Out, Push, Pull, Mov, Irq, Set, Nothing}
 use Rattle.pio_encode.specs.declared.act.Condition.{Condition}
@@ -20,8 +19,7 @@ use Rattle.pio_encode.specs.declared.act.MovSource.TheVariants as mov_source
 use Rattle.pio_encode.specs.declared.act.SetDestination.{SetDestination}
 use Rattle.pio_encode.specs.declared.act.SetDestination.TheVariants as set_destination
 use Rattle.pio_encode.specs.declared.op.Op.{Op}
-use Rattle.pio_encode.specs.declared.rule.SideRule.{SideRule}
-use Rattle.pio_encode.specs.Word.{bit, bits, reading_of, word_of}
+use Rattle.pio_encode.specs.Word.{bit}
 
 -- a JMP's condition with its comma (RP2040 Datasheet, section 3.4.2)
 abbrev pub condition_text : Condition → List ℕ
@@ -144,35 +142,3 @@ delay_text delay = if delay == 0 then [] else codes " [" ++ decimal delay ++ cod
 -- an instruction's text
 unfoldable pub op_text : Op → List ℕ
 op_text op = act_text op.act ++ side_text op.side ++ delay_text op.delay
-
--- the index's bit 3 is clear: pioasm has flags 0 to 7 alone
-abbrev pub is_flag : ℕ → Bool
-is_flag index = index / 2 ^ 3 % 2 == 0
-
--- a WAIT's index can be written
-abbrev pub has_index_text : WaitSource → ℕ → Bool
-has_index_text wait_source.Gpio index = true
-has_index_text wait_source.Pin index = true
-has_index_text wait_source.Irq index = is_flag index
-
--- pioasm can write it: no flag above 7, and not both `clear` and `wait`
-abbrev pub has_text : Act → Bool
-has_text (Wait polarity source index) = has_index_text source index
-has_text (Irq clear wait index) = not (clear && wait) && is_flag index
-has_text Nothing = false
-has_text _ = true
-
--- four bits of a word as a lower-case hexadecimal digit
-abbrev pub hexadecimal_digit : ℕ → ℕ → List ℕ
-hexadecimal_digit w low = digit_glyph false (bits w low 4) ∷ []
-
--- a word as a number: `.word 0x` and four digits
-unfoldable pub word_text : ℕ → List ℕ
-word_text w =
-    codes ".word 0x" ++ hexadecimal_digit w 12 ++ hexadecimal_digit w 8 ++ hexadecimal_digit w 4 ++ hexadecimal_digit w 0
-
--- a word's text under a side-set rule: its reading's, where that can be written and its word is this very one
-unfoldable pub spelled : ℕ → SideRule → List ℕ
-spelled w rule =
-    let op = reading_of w rule in
-    if has_text op.act && word_of op rule == w then op_text op else word_text w

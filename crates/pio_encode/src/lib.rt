@@ -3,6 +3,7 @@
 
 mod act;
 mod instruction_text;
+mod laws;
 mod name;
 mod numerals;
 mod op;
@@ -17,6 +18,7 @@ pub use act::{
     Act, Condition, InSource, MovDestination, MovOperation, MovSource, OutDestination,
     SetDestination, WaitSource,
 };
+pub use laws::{read_back, word_range};
 pub use name::Name;
 pub use op::Op;
 pub use reading::decode;
@@ -24,3 +26,6 @@ pub use relocation::relocate;
 pub use rule::SideRule;
 pub use spelling::spell;
 pub use word::{encode, op_fits};
+
+#[cfg(test)]
+mod tests;

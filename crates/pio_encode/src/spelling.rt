@@ -2,7 +2,8 @@
 ghost use Rattle.std.specs.Prelude.{◌≡◌, ℕ, ◌+◌, ◌<◌, ◌≤◌, ◌++◌, IfSome, IsTrue};
 ghost use Rattle.arrayvec.specs.ArrayString.{array_string_len};
 ghost use Rattle.pio_encode.specs.Ranges.{IsInRange};
-ghost use Rattle.pio_encode.specs.Text as spec;
+ghost use Rattle.pio_encode.specs.Spelling as spec;
+ghost use Rattle.pio_encode.specs.Text as text_spec;
 
 use crate::act::{Act, WaitSource};
 use crate::instruction_text::act_text;
@@ -15,9 +16,10 @@ use arrayvec::ArrayString;
 
 /// The text of a word under a side-set rule: the instruction that pioasm assembles to exactly this word, or
 /// `.word 0xhhhh` where there is none. At most 32 bytes.
-#[tactic(auto, unfolding(crate::specs::Text::spelled))]
+#[tactic(auto, unfolding(crate::specs::Spelling::spelled))]
 pub fn spell(word: u16, rule: &SideRule) -> ArrayString<48>
-    ensures { result.bytes ≡ spec.spelled word rule.now }
+    ensures value { result.bytes ≡ spec.spelled word rule.now }
+    ensures meaning { spec.IsTextOf word rule.now result.bytes }
 {
     let op = decode(word, rule);
     if has_text(op.act) && encode(&op, rule) == word {
@@ -56,7 +58,7 @@ fn op_text(op: &Op) -> ArrayString<48>
     requires act { IsInRange op.now.act }
     requires side { IfSome op.now.side (λ v. v < 32) }
     requires delay { op.now.delay < 32 }
-    ensures { result.bytes ≡ spec.op_text op.now }
+    ensures { result.bytes ≡ text_spec.op_text op.now }
 {
     let mut text = act_text(op.act);
     push_side(&mut text, op.side);
@@ -68,7 +70,7 @@ fn op_text(op: &Op) -> ArrayString<48>
 fn push_side(text: &mut ArrayString<48>, side: Option<u8>)
     requires side { IfSome side (λ v. v < 32) }
     requires room { array_string_len text.old ≤ 20 }
-    ensures bytes { text.new.bytes ≡ text.old.bytes ++ spec.side_text side }
+    ensures bytes { text.new.bytes ≡ text.old.bytes ++ text_spec.side_text side }
     ensures len { array_string_len text.new ≤ array_string_len text.old + 8 }
 {
     if let Some(value) = side {
@@ -81,7 +83,7 @@ fn push_side(text: &mut ArrayString<48>, side: Option<u8>)
 fn push_delay(text: &mut ArrayString<48>, delay: u8)
     requires delay { delay < 32 }
     requires room { array_string_len text.old ≤ 28 }
-    ensures { text.new.bytes ≡ text.old.bytes ++ spec.delay_text delay }
+    ensures { text.new.bytes ≡ text.old.bytes ++ text_spec.delay_text delay }
 {
     if delay != 0 {
         text.push_str(" [");
@@ -91,7 +93,7 @@ fn push_delay(text: &mut ArrayString<48>, delay: u8)
 }
 
 /// A word as a number: four lower-case hexadecimal digits.
-#[tactic(auto, unfolding(crate::specs::Text::word_text))]
+#[tactic(auto, unfolding(crate::specs::Spelling::word_text))]
 fn word_text(word: u16) -> ArrayString<48>
     ensures { result.bytes ≡ spec.word_text word }
 {
