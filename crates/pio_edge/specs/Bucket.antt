@@ -3,7 +3,7 @@ use Rattle.std.specs.Prelude.{ℕ, ◌-◌, ◌==◌, min, Bool, ◌&&◌, Optio
 use Rattle.std.specs.Option.{option_map, is_none}
 use Rattle.pio_edge.specs.Count.{one_more}
 
--- the bytes taken, how many it can hold, the calls that fail and what each takes, and how many calls and faults there were
+-- the bytes taken, how many it can hold, the calls that fail with what each takes, the calls and faults so far
 pub record Bucket : Type 0 where
   pub bytes : List ℕ
   pub room : ℕ
@@ -23,12 +23,13 @@ room_left b = b.room - length b.bytes
 abbrev pub put_passes : Bucket → ℕ → Bool
 put_passes b size = is_none (listed b) && not (nat_lt (room_left b) size)
 
--- how many first bytes of so many are taken, by what is listed and the room left
+-- how many first bytes of so many are taken: all or none where nothing is listed,
+-- else as many as the list and the room left both allow
 abbrev pub count_at : Option ℕ → ℕ → ℕ → ℕ
 count_at None left size = if nat_lt left size then 0 else size
 count_at (Some most) left size = min size (min most left)
 
--- how many first bytes of so many a put takes: all or none where it isn't listed, else as many as the list and the room allow
+-- how many first bytes of so many a put takes
 abbrev pub put_count : Bucket → ℕ → ℕ
 put_count b size = count_at (listed b) (room_left b) size
 

@@ -14,10 +14,19 @@ pub record Stock : Type 0 where
   pub calls : ℕ
   pub faults : ℕ
 
+-- files are stored as their entries
+abbrev pub files_code : Coded Files
+files_code = code (coded_list coded_ℕ) (coded_list coded_ℕ)
+
 -- a stock is stored as the tuple of its fields
 abbrev pub stock_code : Coded Stock
 stock_code =
-    code_by (Files × (List ℕ × (ℕ × ℕ))) (coded× (code (coded_list coded_ℕ) (coded_list coded_ℕ)) (coded× (coded_list coded_ℕ) (coded× coded_ℕ coded_ℕ))) (λ s. (s.files, (s.fails, (s.calls, s.faults)))) (λ p. record { files = p.0; fails = p.1.0; calls = p.1.1.0; faults = p.1.1.1 }) (λ _. refl)
+    code_by
+    (Files × (List ℕ × (ℕ × ℕ)))
+    (coded× files_code (coded× (coded_list coded_ℕ) (coded× coded_ℕ coded_ℕ)))
+    (λ s. (s.files, (s.fails, (s.calls, s.faults))))
+    (λ p. record { files = p.0; fails = p.1.0; calls = p.1.1.0; faults = p.1.1.1 })
+    (λ _. refl)
 
 -- what a call finds of what is held: nothing where its number is listed
 abbrev pub found_at : List ℕ → ℕ → Option (List ℕ) → Option (List ℕ)

@@ -22,7 +22,8 @@ pub(crate) fn found<'a>(
     fails: &[u64],
     call: u64,
 ) -> Option<&'a [u8]>
-    ensures found { option_map (λ b. b.now) result ≡ found_at fails.now call (get (files_of held.now.items) name.now) }
+    ensures found { option_map (λ b. b.now) result ≡
+        found_at fails.now call (get (files_of held.now.items) name.now) }
     ensures held { IfSome result (λ b. get (files_of held.now.items) name.now ≡ Some b.now) }
 {
     if is_listed(fails, call) {

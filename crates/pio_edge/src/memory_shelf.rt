@@ -50,9 +50,9 @@ impl MemShelf {
         })
     }
 
-    /// Puts the bytes under the name, in place of those that were there, which stay in memory unseen.
+    /// Puts the bytes under the name, in place of those that were there.
     ///
-    /// An error is want of memory.
+    /// An error is want of memory. Bytes that were replaced stay in memory, unseen.
     pub fn hold(&mut self, name: &str, bytes: &[u8]) -> Result<(), AllocError>
         ensures ok { OnOk result (self.new ≡
             record self.old { files = insert self.old.files name.now bytes.now }) }
@@ -82,7 +82,8 @@ impl Shelf for MemShelf {
 
     fn fetch(&mut self, alloc: Global, name: &str, cap: usize) -> Result<Vec<u8>, Fetch>
         ensures capped { IfOk result (λ bytes. vec_len bytes ≤ cap) }
-        ensures bytes { IfOk result (λ bytes. IsFetched (Some self.old.files) name.now cap bytes.items) }
+        ensures bytes { IfOk result (λ bytes.
+            IsFetched (Some self.old.files) name.now cap bytes.items) }
         ensures same { Some self.new.files ≡ Some self.old.files }
         ensures cause { FetchCounts self.old.faults self.new.faults result }
         // Failed exactly at a listed fetch and at an absent name.

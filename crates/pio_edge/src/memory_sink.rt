@@ -40,8 +40,9 @@ impl Model for MemSink {
 impl MemSink {
     /// An empty sink for `room` bytes.
     ///
-    /// A call that `fails` lists fails, and takes as many first bytes of its piece as the number beside it and the
-    /// room left both allow (`finish` none). Of two entries with one number the first counts.
+    /// A call that `fails` lists fails. It takes as many first bytes of its piece as the number beside
+    /// it and the room left both allow; `finish` takes none. Of two entries with one number the first
+    /// counts.
     pub fn with_room(alloc: Global, room: usize, fails: &[(u64, usize)]) -> Result<Self, AllocError>
         ensures { IfOk result (λ s.
             s ≡ record { bytes = []; room = room; fails = fails.now; calls = 0; faults = 0 }) }
