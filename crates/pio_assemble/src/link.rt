@@ -1,0 +1,1 @@
+//! What statements mean: the labels, and the words over them.
