@@ -1,5 +1,5 @@
 -- A word and its reading, field by field: the instruction table of the RP2040 Datasheet, section 3.4.
-use Rattle.std.specs.Prelude.{ℕ, ◌+◌, ◌-◌, ◌*◌, ◌/◌, ◌%◌, ◌^◌, ◌==◌, if◌then◌else◌, Bool, true, false, Option, Some, None}
+use Rattle.std.specs.Prelude.{ℕ, ◌+◌, ◌*◌, ◌/◌, ◌%◌, ◌^◌, ◌==◌, nat_lt, if◌then◌else◌, Bool, true, false, Option, Some, None}
 use Rattle.pio_encode.specs.declared.act.Act.{Act}
 use Rattle.pio_encode.specs.declared.act.Act.TheVariants.{Jmp, Wait, In, Out, Push, Pull, Mov, Irq, Set, Nothing}
 use Rattle.pio_encode.specs.declared.act.Condition.{Condition}
@@ -101,29 +101,46 @@ set_destination_number set_destination.X = 1
 set_destination_number set_destination.Y = 2
 set_destination_number set_destination.Pindirs = 4
 
--- bits 15 to 13 at their place, and bits 7 to 0; a count of 32 is written as 0 (sections 3.4.2 to 3.4.10)
-unfoldable pub fields_of : Act → ℕ
-fields_of (Jmp condition address) = condition_number condition * 2 ^ 5 + address
-fields_of (Wait polarity source index) = 1 * 2 ^ 13 + bit polarity * 2 ^ 7 + wait_source_number source * 2 ^ 5 + index
-fields_of (In source count) = 2 * 2 ^ 13 + in_source_number source * 2 ^ 5 + count % 32
-fields_of (Out destination count) = 3 * 2 ^ 13 + out_destination_number destination * 2 ^ 5 + count % 32
-fields_of (Push if_full block) = 4 * 2 ^ 13 + bit if_full * 2 ^ 6 + bit block * 2 ^ 5
-fields_of (Pull if_empty block) = 4 * 2 ^ 13 + 1 * 2 ^ 7 + bit if_empty * 2 ^ 6 + bit block * 2 ^ 5
-fields_of (Mov destination operation source) = 5 * 2 ^ 13 + mov_destination_number destination * 2 ^ 5 + mov_operation_number operation * 2 ^ 3 + mov_source_number source
-fields_of (Irq clear wait index) = 6 * 2 ^ 13 + bit clear * 2 ^ 6 + bit wait * 2 ^ 5 + index
-fields_of (Set destination value) = 7 * 2 ^ 13 + set_destination_number destination * 2 ^ 5 + value
-fields_of Nothing = 0
+-- the kind: bits 15 to 13; PUSH and PULL share one (section 3.4.1)
+unfoldable pub kind_of : Act → ℕ
+kind_of (Jmp condition address) = 0
+kind_of (Wait polarity source index) = 1
+kind_of (In source count) = 2
+kind_of (Out destination count) = 3
+kind_of (Push if_full block) = 4
+kind_of (Pull if_empty block) = 4
+kind_of (Mov destination operation source) = 5
+kind_of (Irq clear wait index) = 6
+kind_of (Set destination value) = 7
+kind_of Nothing = 0
 
--- Bits 12 to 8 as a number: the side-set value stands above the delay, and under opt an enable bit above both
+-- the operands: bits 7 to 0; a count of 32 is written as 0 (sections 3.4.2 to 3.4.10)
+unfoldable pub operands_of : Act → ℕ
+operands_of (Jmp condition address) = condition_number condition * 2 ^ 5 + address
+operands_of (Wait polarity source index) = bit polarity * 2 ^ 7 + wait_source_number source * 2 ^ 5 + index
+operands_of (In source count) = in_source_number source * 2 ^ 5 + count % 32
+operands_of (Out destination count) = out_destination_number destination * 2 ^ 5 + count % 32
+operands_of (Push if_full block) = bit if_full * 2 ^ 6 + bit block * 2 ^ 5
+operands_of (Pull if_empty block) = 1 * 2 ^ 7 + bit if_empty * 2 ^ 6 + bit block * 2 ^ 5
+operands_of (Mov destination operation source) =
+    mov_destination_number destination * 2 ^ 5 + mov_operation_number operation * 2 ^ 3 + mov_source_number source
+operands_of (Irq clear wait index) = bit clear * 2 ^ 6 + bit wait * 2 ^ 5 + index
+operands_of (Set destination value) = set_destination_number destination * 2 ^ 5 + value
+operands_of Nothing = 0
+
+-- the enable bit, the topmost of bits 12 to 8 under opt
+abbrev pub enable_bit : SideRule → ℕ
+enable_bit rule = if rule.opt then 2 ^ 4 else 0
+
+-- Bits 12 to 8 as a number: the side-set value stands above the delay, and under opt the enable bit above both
 -- (RP2040 Datasheet, section 3.5.1).
 unfoldable pub side_and_delay : SideRule → Option ℕ → ℕ → ℕ
 side_and_delay rule None delay = delay
-side_and_delay rule (Some value) delay =
-    if rule.opt then 16 + value * 2 ^ (4 - rule.bits) + delay else value * 2 ^ (5 - rule.bits) + delay
+side_and_delay rule (Some value) delay = enable_bit rule + value * 2 ^ delay_bits rule + delay
 
 -- the word of an instruction that fits
 unfoldable pub word_of : Op → SideRule → ℕ
-word_of op rule = fields_of op.act + side_and_delay rule op.side op.delay * 2 ^ 8
+word_of op rule = kind_of op.act * 2 ^ 13 + side_and_delay rule op.side op.delay * 2 ^ 8 + operands_of op.act
 
 -- the condition with this number
 abbrev pub condition_at : ℕ → Condition
@@ -240,13 +257,13 @@ act_of w =
     if kind == 5 then mov_at w else
     if kind == 6 then irq_at w else set_at w
 
--- The side-set value in bits 12 to 8. Under opt it is there where the enable bit is set; else it is there where
--- the rule has bits.
+-- bits 12 to 8 hold a side-set value: under opt where the enable bit is set, else where the rule has bits
+abbrev pub has_side : SideRule → ℕ → Bool
+has_side rule field = if rule.opt then field / 2 ^ 4 == 1 else nat_lt 0 rule.bits
+
+-- the side-set value in bits 12 to 8: it stands above the delay
 unfoldable pub side_of : SideRule → ℕ → Option ℕ
-side_of rule field =
-    if rule.opt
-    then (if field / 16 == 1 then Some (field / 2 ^ (4 - rule.bits) % 2 ^ rule.bits) else None)
-    else (if rule.bits == 0 then None else Some (field / 2 ^ (5 - rule.bits)))
+side_of rule field = if has_side rule field then Some (field / 2 ^ delay_bits rule % 2 ^ rule.bits) else None
 
 -- the delay in bits 12 to 8
 unfoldable pub delay_of : SideRule → ℕ → ℕ

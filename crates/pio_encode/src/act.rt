@@ -1,4 +1,6 @@
-//! The nine instructions and their operands (RP2040 Datasheet, section 3.4).
+//! The nine instructions and their operands; an operand's number is that of its field (RP2040 Datasheet, section 3.4).
+ghost use Rattle.std.specs.Prelude.{◌≡◌, ◌<◌};
+ghost use Rattle.pio_encode.specs.Word as spec;
 
 /// When a JMP is taken.
 #[derive(Clone, Copy, Debug, PartialEq, Eq)]
@@ -21,6 +23,16 @@ pub enum Condition {
     OsrNotEmpty,
 }
 
+impl Condition {
+    /// Bits 7 to 5 of a JMP.
+    pub(crate) fn number(self) -> u8
+        ensures value { result ≡ spec.condition_number self }
+        ensures range { result < 8 }
+    {
+        self as u8
+    }
+}
+
 /// What a WAIT looks at.
 #[derive(Clone, Copy, Debug, PartialEq, Eq)]
 pub enum WaitSource {
@@ -32,6 +44,16 @@ pub enum WaitSource {
     Irq,
 }
 
+impl WaitSource {
+    /// Bits 6 to 5 of a WAIT.
+    pub(crate) fn number(self) -> u8
+        ensures value { result ≡ spec.wait_source_number self }
+        ensures range { result < 4 }
+    {
+        self as u8
+    }
+}
+
 /// Where an IN takes its bits from.
 #[derive(Clone, Copy, Debug, PartialEq, Eq)]
 pub enum InSource {
@@ -39,8 +61,18 @@ pub enum InSource {
     X,
     Y,
     Null,
-    Isr,
-    Osr,
+    Isr = 6,
+    Osr = 7,
+}
+
+impl InSource {
+    /// Bits 7 to 5 of an IN.
+    pub(crate) fn number(self) -> u8
+        ensures value { result ≡ spec.in_source_number self }
+        ensures range { result < 8 }
+    {
+        self as u8
+    }
 }
 
 /// Where an OUT puts its bits.
@@ -56,16 +88,36 @@ pub enum OutDestination {
     Exec,
 }
 
+impl OutDestination {
+    /// Bits 7 to 5 of an OUT.
+    pub(crate) fn number(self) -> u8
+        ensures value { result ≡ spec.out_destination_number self }
+        ensures range { result < 8 }
+    {
+        self as u8
+    }
+}
+
 /// Where a MOV puts its word.
 #[derive(Clone, Copy, Debug, PartialEq, Eq)]
 pub enum MovDestination {
     Pins,
     X,
     Y,
-    Exec,
-    Pc,
-    Isr,
-    Osr,
+    Exec = 4,
+    Pc = 5,
+    Isr = 6,
+    Osr = 7,
+}
+
+impl MovDestination {
+    /// Bits 7 to 5 of a MOV.
+    pub(crate) fn number(self) -> u8
+        ensures value { result ≡ spec.mov_destination_number self }
+        ensures range { result < 8 }
+    {
+        self as u8
+    }
 }
 
 /// What a MOV does to the word on its way.
@@ -79,6 +131,16 @@ pub enum MovOperation {
     Reverse,
 }
 
+impl MovOperation {
+    /// Bits 4 to 3 of a MOV.
+    pub(crate) fn number(self) -> u8
+        ensures value { result ≡ spec.mov_operation_number self }
+        ensures range { result < 4 }
+    {
+        self as u8
+    }
+}
+
 /// Where a MOV takes its word from.
 #[derive(Clone, Copy, Debug, PartialEq, Eq)]
 pub enum MovSource {
@@ -86,9 +148,19 @@ pub enum MovSource {
     X,
     Y,
     Null,
-    Status,
-    Isr,
-    Osr,
+    Status = 5,
+    Isr = 6,
+    Osr = 7,
+}
+
+impl MovSource {
+    /// Bits 2 to 0 of a MOV.
+    pub(crate) fn number(self) -> u8
+        ensures value { result ≡ spec.mov_source_number self }
+        ensures range { result < 8 }
+    {
+        self as u8
+    }
 }
 
 /// What a SET sets.
@@ -97,7 +169,17 @@ pub enum SetDestination {
     Pins,
     X,
     Y,
-    Pindirs,
+    Pindirs = 4,
+}
+
+impl SetDestination {
+    /// Bits 7 to 5 of a SET.
+    pub(crate) fn number(self) -> u8
+        ensures value { result ≡ spec.set_destination_number self }
+        ensures range { result < 8 }
+    {
+        self as u8
+    }
 }
 
 /// What an instruction does, apart from its side-set and its delay.

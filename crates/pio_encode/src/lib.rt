@@ -4,7 +4,9 @@
 mod act;
 mod name;
 mod op;
+mod reading;
 mod rule;
+mod word;
 
 pub use act::{
     Act, Condition, InSource, MovDestination, MovOperation, MovSource, OutDestination,
@@ -12,4 +14,6 @@ pub use act::{
 };
 pub use name::Name;
 pub use op::Op;
+pub use reading::decode;
 pub use rule::SideRule;
+pub use word::{encode, op_fits};

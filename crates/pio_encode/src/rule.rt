@@ -12,3 +12,16 @@ pub struct SideRule {
     pub pindirs: bool,
     pub ghost fits: { bits + (if opt then 1 else 0) ≤ 5 },
 }
+
+impl SideRule {
+    ghost use Rattle.std.specs.Prelude.{◌≡◌, ◌+◌, if◌then◌else◌};
+    ghost use Rattle.pio_encode.specs.Ranges as spec;
+
+    /// How many of bits 12 to 8 carry the delay.
+    pub(crate) fn delay_bits(&self) -> u8
+        ensures value { result ≡ spec.delay_bits self.now }
+        ensures rest { result + (self.now.bits + (if self.now.opt then 1 else 0)) ≡ 5 }
+    {
+        5 - self.bits - u8::from(self.opt)
+    }
+}
