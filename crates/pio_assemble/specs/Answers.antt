@@ -1,5 +1,5 @@
 -- How what a function returns stands to what the definitions compute; want of memory is free.
-use Rattle.std.specs.Prelude.{◌≡◌, ℕ, List, Option, Some, None, Result, Ok, Err}
+use Rattle.std.specs.Prelude.{◌≡◌, Option, Some, None, Result, Ok, Err}
 use Rattle.pio_assemble.specs.declared.fault.SourceFault.{SourceFault}
 use Rattle.pio_assemble.specs.declared.fault.SourceFault.TheVariants.{Memory, Found}
 use Rattle.pio_assemble.specs.declared.fault.SourceKind.TheVariants.{Syntax}

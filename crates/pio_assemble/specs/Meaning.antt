@@ -1,12 +1,11 @@
 -- What the statements of a program mean: its symbols, its words and itself.
-use Rattle.std.specs.Prelude.{◌≡◌, ℕ, ◌+◌, ◌-◌, ◌≤◌, ◌&&◌, not, nat_lt, nat_le, Bool, true, false, List, [], ◌∷◌, length, count_by, Option, Some, None, option_map, option_and_then, ℤ, pos, negsuc, if◌then◌else◌, IsTrue}
+use Rattle.std.specs.Prelude.{ℕ, ◌+◌, ◌-◌, ◌&&◌, not, nat_lt, nat_le, Bool, true, false, List, [], ◌∷◌, ◌++◌, length, count_by, Option, Some, None, ℤ, pos, negsuc, if◌then◌else◌}
 use Rattle.std.specs.List.{list_any, find}
 use Rattle.std.proofs.Common.{lit≤}
 use Rattle.std.specs.Str.{bytes_eq}
 use Rattle.pio_encode.specs.declared.act.Act.{Act}
 use Rattle.pio_encode.specs.declared.act.Act.TheVariants as act
 use Rattle.pio_encode.specs.declared.act.Condition.TheVariants.{Always}
-use Rattle.pio_encode.specs.declared.op.Op.{Op}
 use Rattle.pio_encode.specs.declared.rule.SideRule.{SideRule}
 use Rattle.pio_encode.specs.Word.{word_of}
 use Rattle.pio_assemble.specs.declared.statement.Statement.{Statement}
@@ -56,18 +55,22 @@ plain_rule = record { bits = 0; opt = false; pindirs = false; fits = lit≤ tt }
 abbrev pub plain_word : Act → ℕ → ℕ
 plain_word act delay = word_of (record { side = None; delay = delay; act = act }) plain_rule
 
--- the words of the instructions in order; none where a jump goes nowhere
+-- the word of a statement, if it makes one; none where it is a jump to nowhere, or begins another program
+unfoldable pub words_at : List Symbol → Statement → Option (List ℕ)
+words_at symbols (Program name) = None
+words_at symbols (Label name) = Some []
+words_at symbols (Jump target delay) = do
+  address ← address_of symbols target
+  Some (plain_word (act.Jmp Always address) delay ∷ [])
+words_at symbols (Set destination value delay) = Some (plain_word (act.Set destination value) delay ∷ [])
+
+-- the words of the instructions in order
 unfoldable pub words_of : List Symbol → List Statement → Option (List ℕ)
 words_of symbols [] = Some []
-words_of symbols (Program name ∷ rest) = None
-words_of symbols (Label name ∷ rest) = words_of symbols rest
-words_of symbols (Jump target delay ∷ rest) = do
-  address ← address_of symbols target
+words_of symbols (statement ∷ rest) = do
+  first ← words_at symbols statement
   words ← words_of symbols rest
-  Some (plain_word (act.Jmp Always address) delay ∷ words)
-words_of symbols (Set destination value delay ∷ rest) = do
-  words ← words_of symbols rest
-  Some (plain_word (act.Set destination value) delay ∷ words)
+  Some (first ++ words)
 
 -- how many words the statements make
 abbrev pub word_count : List Statement → ℕ

@@ -63,23 +63,37 @@ pub record Refusal : Type 0 where
   pub line : ℕ
   pub kind : SourceKind
 
--- the statement of a line, none where it is blank
+-- the statement that tokens are, none where the line is blank
 abbrev pub said_by : List Token → Option (List Statement)
 said_by [] = Some []
 said_by (token ∷ tokens) = option_map (λ s. s ∷ []) (statement_of (token ∷ tokens))
+
+-- the statement of a line's bytes
+unfoldable pub line_statement : List ℕ → Option (List Statement)
+line_statement line = do
+  tokens ← tokens_of line
+  said_by tokens
 
 -- the statements of lines
 unfoldable pub statements_of : List (List ℕ) → Option (List Statement)
 statements_of [] = Some []
 statements_of (line ∷ lines) = do
-  tokens ← tokens_of line
-  first ← said_by tokens
+  first ← line_statement line
   rest ← statements_of lines
   Some (first ++ rest)
 
+-- the lines of a text, which its newlines part
+abbrev pub lines_of : List ℕ → List (List ℕ)
+lines_of text = slice_split (λ b. b == 10) text
+
+-- the lines that are left
+abbrev pub lines_left : Option (List ℕ) → List (List ℕ)
+lines_left None = []
+lines_left (Some text) = lines_of text
+
 -- the statements of a source
 unfoldable pub source_statements : List ℕ → Option (List Statement)
-source_statements bytes = statements_of (slice_split (λ b. b == 10) bytes)
+source_statements bytes = statements_of (lines_of bytes)
 
 -- the program of a source; none where it isn't in the form
 unfoldable pub program_of_source : List ℕ → Option Assembled

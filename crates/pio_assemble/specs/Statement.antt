@@ -1,5 +1,5 @@
 -- What the tokens of a line say: the statements of the form.
-use Rattle.std.specs.Prelude.{◌≡◌, ℕ, ◌+◌, ◌-◌, ◌*◌, ◌==◌, ◌&&◌, ◌||◌, not, nat_lt, Bool, true, false, List, [], ◌∷◌, Option, Some, None, option_map, option_and_then, map, codes, if◌then◌else◌}
+use Rattle.std.specs.Prelude.{ℕ, ◌+◌, ◌-◌, ◌*◌, ◌==◌, ◌&&◌, ◌||◌, not, nat_lt, Bool, false, List, [], ◌∷◌, length, Option, Some, None, option_and_then, map, codes, if◌then◌else◌}
 use Rattle.std.specs.List.{list_all, list_any}
 use Rattle.std.specs.Str.{bytes_eq}
 use Rattle.std.specs.Char.{is_ascii_alphabetic, is_ascii_digit, to_ascii_lowercase}
@@ -32,20 +32,36 @@ is_keyword word = list_any (λ keyword. bytes_eq (map to_ascii_lowercase keyword
 abbrev pub is_letter : ℕ → Bool
 is_letter b = is_ascii_alphabetic b || b == 95
 
--- a letter or `_`, then letters, digits and `_`, and no keyword
+-- a letter, a digit or `_`
+abbrev pub is_name_byte : ℕ → Bool
+is_name_byte b = is_letter b || is_ascii_digit b
+
+-- the first byte is a letter or `_`
+abbrev pub begins_name : List ℕ → Bool
+begins_name [] = false
+begins_name (b ∷ bs) = is_letter b
+
+-- a letter or `_`, then letters, digits and `_`
+abbrev pub is_identifier : List ℕ → Bool
+is_identifier word = begins_name word && list_all is_name_byte word
+
+-- an identifier that is no keyword
 unfoldable pub is_name : List ℕ → Bool
-is_name [] = false
-is_name (b ∷ bs) = (is_letter b && list_all (λ c. is_letter c || is_ascii_digit c) bs) && not (is_keyword (b ∷ bs))
+is_name word = is_identifier word && not (is_keyword word)
+
+-- a word that is a name
+abbrev pub name_of : List ℕ → Option (List ℕ)
+name_of word = if is_name word then Some word else None
 
 -- the value of decimal digits, behind digits of value n
 unfoldable pub decimal : ℕ → List ℕ → ℕ
 decimal n [] = n
 decimal n (d ∷ ds) = decimal (10 * n + (d - 48)) ds
 
--- decimal digits of a value below 32
+-- the value of decimal digits, of which there is at least one, where it is below 32
 unfoldable pub small_of : List ℕ → Option ℕ
-small_of [] = None
-small_of (d ∷ ds) = if list_all is_ascii_digit (d ∷ ds) && nat_lt (decimal 0 (d ∷ ds)) 32 then Some (decimal 0 (d ∷ ds)) else None
+small_of word =
+    if (not (length word == 0) && list_all is_ascii_digit word) && nat_lt (decimal 0 word) 32 then Some (decimal 0 word) else None
 
 -- the delay behind an instruction: `[ NUMBER ]`, or nothing for none
 unfoldable pub delay_of : List Token → Option ℕ
@@ -61,7 +77,10 @@ destination_of word =
 
 -- `jmp NAME`, with its delay
 unfoldable pub jump_of : List ℕ → List Token → Option Statement
-jump_of target rest = if is_name target then option_map (λ delay. Jump target delay) (delay_of rest) else None
+jump_of word rest = do
+  target ← name_of word
+  delay ← delay_of rest
+  Some (Jump target delay)
 
 -- `set pins, NUMBER` or `set pindirs, NUMBER`, with its delay
 unfoldable pub set_of : List ℕ → List Token → Option Statement
@@ -74,14 +93,22 @@ set_of word _ = None
 
 -- `.program NAME`
 unfoldable pub program_of : List ℕ → List Token → Option Statement
-program_of name [] = if is_name name then Some (Program name) else None
-program_of name (token ∷ rest) = None
+program_of word [] = do
+  name ← name_of word
+  Some (Program name)
+program_of word (token ∷ rest) = None
 
--- what a line says that isn't blank; none where it is no statement of the form
-unfoldable pub statement_of : List Token → Option Statement
-statement_of (Word name ∷ Colon ∷ []) = if is_name name then Some (Label name) else None
-statement_of (Word word ∷ Word operand ∷ rest) =
+-- what two words and the tokens behind them say
+abbrev pub operation_of : List ℕ → List ℕ → List Token → Option Statement
+operation_of word operand rest =
     if bytes_eq word (codes ".program") then program_of operand rest else
     if bytes_eq word (codes "jmp") then jump_of operand rest else
     if bytes_eq word (codes "set") then set_of operand rest else None
+
+-- what a line says that isn't blank; none where it is no statement of the form
+unfoldable pub statement_of : List Token → Option Statement
+statement_of (Word word ∷ Colon ∷ []) = do
+  name ← name_of word
+  Some (Label name)
+statement_of (Word word ∷ Word operand ∷ rest) = operation_of word operand rest
 statement_of _ = None

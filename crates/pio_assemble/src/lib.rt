@@ -3,6 +3,7 @@
 
 mod fault;
 mod link;
+mod name;
 mod number;
 mod program;
 mod source;

@@ -39,3 +39,24 @@ impl Small {
         self.value
     }
 }
+
+/// The number that a word is, if it is decimal digits of a value below 32.
+#[tactic(auto, unfolding(crate::specs::Statement::small_of))]
+pub fn number(word: &[u8]) -> Option<Small>
+    ensures { result ≡ small_of word.now }
+{
+    if word.is_empty() {
+        return None;
+    }
+    let mut value = 0u16;
+    for byte in word {
+        if !byte.is_ascii_digit() {
+            return None;
+        }
+        value = 10 * value + u16::from(*byte - b'0');
+        if value > 31 {
+            return None;
+        }
+    }
+    Some(Small::new(value as u8))
+}
