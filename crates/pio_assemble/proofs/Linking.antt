@@ -1,0 +1,214 @@
+-- The loops over a program's statements and labels.
+use Rattle.std.proofs.Common.{◌≡◌, ℕ, ◌+◌, ◌<◌, ◌≤◌, Bool, true, false, cond, if◌then◌else◌, ◌-◌, ◌&&◌, not, leb, List, [], ◌∷◌, ◌++◌, length, get_or, drop, Option, Some, None, refl, sym, ap, subst, ◌∙◌, append_assoc, length-append, arith}
+use Rattle.std.specs.List.{list_any}
+use Rattle.std.specs.Str.{bytes_eq}
+use Rattle.std.proofs.lemmas.List.{at_drop_more, at_drop_all, append-nil}
+use Rattle.std.proofs.lemmas.Bool.{le-leb}
+use Rattle.std.proofs.Math.Bridge.{le_prop}
+use Rattle.std.proofs.lemmas.List.Sums.{sum_by-cons}
+use Rattle.pio_encode.specs.declared.act.Act.{Act}
+use Rattle.pio_encode.specs.declared.act.Act.TheVariants as act
+use Rattle.pio_encode.specs.declared.act.Condition.TheVariants.{Always}
+use Rattle.pio_encode.specs.declared.act.SetDestination.{SetDestination}
+use Rattle.pio_encode.specs.declared.rule.SideRule.{SideRule}
+use Rattle.pio_encode.specs.Word.{word_of, side_and_delay}
+use Rattle.pio_assemble.specs.declared.statement.Statement.{Statement}
+use Rattle.pio_assemble.specs.declared.statement.Statement.TheVariants.{Program, Label, Jump, Set}
+use Rattle.pio_assemble.specs.declared.symbols.Symbol.{Symbol}
+use Rattle.pio_assemble.specs.Statement.{◌>>=◌}
+use Rattle.pio_assemble.specs.Meaning.{symbols_of, linked, plain_rule, is_instruction, word_count, symbols_from, are_distinct, label_symbol, address_of, plain_word, words_at, words_of}
+use Rattle.pio_assemble.proofs.Scan.{with_front}
+
+-- ---- symbols with names of their own
+
+distinct_cons : (s : Symbol) (rest : List Symbol) → are_distinct (s ∷ rest) ≡ (not (list_any (λ other. bytes_eq s.name other.name) rest) && are_distinct rest)
+unfolding are_distinct
+distinct_cons s rest = refl
+
+distinct_at : (symbols : List Symbol) (i : ℕ) (s : Symbol) → i < length symbols → s ≡ get_or symbols i s → are_distinct (drop i symbols) ≡ are_distinct symbols → (not (list_any (λ other. bytes_eq s.name other.name) (drop (i + 1) symbols)) && are_distinct (drop (i + 1) symbols)) ≡ are_distinct symbols
+distinct_at symbols i s lt e same =
+    sym (at_drop_more are_distinct symbols i s lt ∙ ap (λ (x : Symbol). are_distinct (x ∷ drop (i + 1) symbols)) (sym e) ∙ distinct_cons s (drop (i + 1) symbols)) ∙ same
+
+pub distinct_more : (symbols : List Symbol) (i : ℕ) (s : Symbol) → i < length symbols → s ≡ get_or symbols i s → list_any (λ other. bytes_eq s.name other.name) (drop (i + 1) symbols) ≡ false → are_distinct (drop i symbols) ≡ are_distinct symbols → are_distinct (drop (i + 1) symbols) ≡ are_distinct symbols
+distinct_more symbols i s lt e none same =
+    sym (ap (λ (b : Bool). not b && are_distinct (drop (i + 1) symbols)) none) ∙ distinct_at symbols i s lt e same
+
+pub not_distinct : (symbols : List Symbol) (i : ℕ) (s : Symbol) → i < length symbols → s ≡ get_or symbols i s → list_any (λ other. bytes_eq s.name other.name) (drop (i + 1) symbols) ≡ true → are_distinct (drop i symbols) ≡ are_distinct symbols → false ≡ are_distinct symbols
+not_distinct symbols i s lt e some same =
+    sym (ap (λ (b : Bool). not b && are_distinct (drop (i + 1) symbols)) some) ∙ distinct_at symbols i s lt e same
+
+pub distinct_all : (symbols : List Symbol) (i : ℕ) → length symbols ≤ i → are_distinct (drop i symbols) ≡ are_distinct symbols → true ≡ are_distinct symbols
+unfolding are_distinct
+distinct_all symbols i le same = sym (at_drop_all are_distinct symbols i le) ∙ same
+
+-- ---- words
+
+-- without side-set a word has no part of its rule
+pub plain_under : (act : Act) (delay : ℕ) (rule : SideRule) → word_of (record { side = None; delay = delay; act = act }) rule ≡ plain_word act delay
+unfolding word_of side_and_delay
+plain_under act delay rule = refl
+
+words_cons : (symbols : List Symbol) (s : Statement) (rest : List Statement) → words_of symbols (s ∷ rest) ≡ (words_at symbols s >>= λ first. words_of symbols rest >>= λ words. Some (first ++ words))
+unfolding words_of
+words_cons symbols s rest = refl
+
+words_at_place : (symbols : List Symbol) (body : List Statement) (i : ℕ) (s : Statement) → i < length body → s ≡ get_or body i s → words_of symbols (drop i body) ≡ (words_at symbols s >>= λ first. words_of symbols (drop (i + 1) body) >>= λ words. Some (first ++ words))
+words_at_place symbols body i s lt e =
+    at_drop_more (words_of symbols) body i s lt ∙ ap (λ (x : Statement). words_of symbols (x ∷ drop (i + 1) body)) (sym e) ∙ words_cons symbols s (drop (i + 1) body)
+
+-- the words so far, and those of the rest; as many as there are instructions
+pub record Placing (symbols : List Symbol) (body : List Statement) (words : List ℕ) (i : ℕ) : Type 0 where
+  pub whole : with_front words (words_of symbols (drop i body)) ≡ words_of symbols body
+  pub count : length words + word_count (drop i body) ≡ word_count body
+
+regroup_words : (words first : List ℕ) (rest : Option (List ℕ)) → with_front (words ++ first) rest ≡ with_front words (rest >>= λ more. Some (first ++ more))
+regroup_words words first None = refl
+regroup_words words first (Some more) = ap (λ (xs : List ℕ). Some xs) (append_assoc words first more)
+
+count_cons : (s : Statement) (rest : List Statement) → word_count (s ∷ rest) ≡ word_count (s ∷ []) + word_count rest
+count_cons s rest = let f : Statement → ℕ = λ x. cond (is_instruction x) 1 0 in omega (arith, sum_by-cons f s rest, sum_by-cons f s [])
+
+count_at : (body : List Statement) (i : ℕ) (s : Statement) → i < length body → s ≡ get_or body i s → word_count (drop i body) ≡ word_count (s ∷ []) + word_count (drop (i + 1) body)
+count_at body i s lt e = at_drop_more word_count body i s lt ∙ ap (λ (x : Statement). word_count (x ∷ drop (i + 1) body)) (sym e) ∙ count_cons s (drop (i + 1) body)
+
+pub placing_none : (symbols : List Symbol) (body : List Statement) → Placing symbols body [] 0
+placing_none symbols body = record { whole = no_front (words_of symbols body); count = omega arith } where
+  no_front : (o : Option (List ℕ)) → with_front [] o ≡ o
+  no_front None = refl
+  no_front (Some ws) = refl
+
+pub placing_more : (symbols : List Symbol) (body : List Statement) (words first : List ℕ) (i : ℕ) (s : Statement) → i < length body → s ≡ get_or body i s → words_at symbols s ≡ Some first → length first ≡ word_count (s ∷ []) → Placing symbols body words i → Placing symbols body (words ++ first) (i + 1)
+placing_more symbols body words first i s lt e at len p = record {
+  whole = regroup_words words first (words_of symbols (drop (i + 1) body))
+      ∙ ap (λ (o : Option (List ℕ)). with_front words (o >>= λ f. words_of symbols (drop (i + 1) body) >>= λ more. Some (f ++ more))) (sym at)
+      ∙ ap (λ (o : Option (List ℕ)). with_front words o) (sym (words_at_place symbols body i s lt e)) ∙ p.whole;
+  count = omega (arith, length-append words first, count_at body i s lt e, p.count, len);
+}
+
+pub placing_stops : (symbols : List Symbol) (body : List Statement) (words : List ℕ) (i : ℕ) (s : Statement) → i < length body → s ≡ get_or body i s → words_at symbols s ≡ None → Placing symbols body words i → words_of symbols body ≡ None
+placing_stops symbols body words i s lt e at p =
+    sym p.whole ∙ ap (λ (o : Option (List ℕ)). with_front words o) (words_at_place symbols body i s lt e)
+    ∙ ap (λ (o : Option (List ℕ)). with_front words (o >>= λ f. words_of symbols (drop (i + 1) body) >>= λ more. Some (f ++ more))) at
+
+pub placing_all : (symbols : List Symbol) (body : List Statement) (words : List ℕ) (i : ℕ) → length body ≤ i → Placing symbols body words i → (words_of symbols body ≡ Some words) × (length words ≡ word_count body)
+unfolding words_of
+placing_all symbols body words i le p = (
+  sym p.whole ∙ ap (λ (o : Option (List ℕ)). with_front words o) (at_drop_all (words_of symbols) body i le) ∙ ap (λ (ws : List ℕ). Some ws) (append-nil words),
+  omega (arith, p.count, at_drop_all word_count body i le),
+)
+
+-- ---- labels
+
+labels_cons : (n : ℕ) (s : Statement) (rest : List Statement) → symbols_from n (s ∷ rest) ≡ symbols_from n (s ∷ []) ++ symbols_from (n + word_count (s ∷ [])) rest
+unfolding symbols_from
+labels_cons n (Program name) rest = ap (λ k. symbols_from k rest) (omega arith)
+labels_cons n (Label name) rest = ap (λ k. label_symbol name n ∷ symbols_from k rest) (omega arith)
+labels_cons n (Jump target delay) rest = refl
+labels_cons n (Set destination value delay) rest = refl
+
+-- the labels so far, and those of the rest
+pub record Naming (body : List Statement) (labels : List Symbol) (n i : ℕ) : Type 0 where
+  pub whole : labels ++ symbols_from n (drop i body) ≡ symbols_from 0 body
+  pub count : n + word_count (drop i body) ≡ word_count body
+
+pub naming_none : (body : List Statement) → Naming body [] 0 0
+naming_none body = record { whole = refl; count = omega arith }
+
+pub naming_more : (body : List Statement) (labels more : List Symbol) (n m i : ℕ) (s : Statement) → i < length body → s ≡ get_or body i s → more ≡ symbols_from n (s ∷ []) → m ≡ n + word_count (s ∷ []) → Naming body labels n i → Naming body (labels ++ more) m (i + 1)
+naming_more body labels more n m i s lt e new count p = record {
+  whole = append_assoc labels more (symbols_from m (drop (i + 1) body))
+      ∙ ap (λ (xs : List Symbol). labels ++ xs)
+      (ap (λ (xs : List Symbol). xs ++ symbols_from m (drop (i + 1) body)) new
+      ∙ ap (λ (k : ℕ). symbols_from n (s ∷ []) ++ symbols_from k (drop (i + 1) body)) count
+      ∙ sym (at_drop_more (symbols_from n) body i s lt ∙ ap (λ (x : Statement). symbols_from n (x ∷ drop (i + 1) body)) (sym e) ∙ labels_cons n s (drop (i + 1) body)))
+      ∙ p.whole;
+  count = omega (arith, count_at body i s lt e, p.count, count);
+}
+
+-- what a statement leaves that makes no symbol, and its count
+naming_plain : (body : List Statement) (labels : List Symbol) (n m i : ℕ) (s : Statement) → i < length body → s ≡ get_or body i s → [] ≡ symbols_from n (s ∷ []) → m ≡ n + word_count (s ∷ []) → Naming body labels n i → Naming body labels m (i + 1)
+naming_plain body labels n m i s lt e none count p =
+    subst (λ (xs : List Symbol). Naming body xs m (i + 1)) (append-nil labels) (naming_more body labels [] n m i s lt e none count p)
+
+pub naming_program : (body : List Statement) (labels : List Symbol) (n i : ℕ) (s : Statement) (name : List ℕ) → i < length body → s ≡ get_or body i s → s ≡ Program name → Naming body labels n i → Naming body labels n (i + 1)
+unfolding symbols_from
+naming_program body labels n i s name lt e is p =
+    naming_plain body labels n n i s lt e (ap (λ (x : Statement). symbols_from n (x ∷ [])) (sym is)) (sym (ap (λ (x : Statement). n + word_count (x ∷ [])) is ∙ omega arith)) p
+
+pub naming_label : (body : List Statement) (labels : List Symbol) (n i : ℕ) (s : Statement) (name : List ℕ) → i < length body → s ≡ get_or body i s → s ≡ Label name → Naming body labels n i → Naming body (labels ++ label_symbol name n ∷ []) n (i + 1)
+unfolding symbols_from
+naming_label body labels n i s name lt e is p =
+    naming_more body labels (label_symbol name n ∷ []) n n i s lt e (ap (λ (x : Statement). symbols_from n (x ∷ [])) (sym is)) (sym (ap (λ (x : Statement). n + word_count (x ∷ [])) is ∙ omega arith)) p
+
+no_label : (n : ℕ) (s : Statement) → is_instruction s ≡ true → [] ≡ symbols_from n (s ∷ [])
+unfolding symbols_from
+no_label n (Program name) is = absurd cc
+no_label n (Label name) is = absurd cc
+no_label n (Jump target delay) is = refl
+no_label n (Set destination value delay) is = refl
+
+pub one_word : (s : Statement) → is_instruction s ≡ true → word_count (s ∷ []) ≡ 1
+one_word (Program name) is = absurd cc
+one_word (Label name) is = absurd cc
+one_word (Jump target delay) is = refl
+one_word (Set destination value delay) is = refl
+
+pub naming_instruction : (body : List Statement) (labels : List Symbol) (n i : ℕ) (s : Statement) → i < length body → s ≡ get_or body i s → is_instruction s ≡ true → Naming body labels n i → Naming body labels (n + 1) (i + 1)
+naming_instruction body labels n i s lt e is p = naming_plain body labels n (n + 1) i s lt e (no_label n s is) (sym (ap (λ k. n + k) (one_word s is))) p
+
+-- one more instruction fits
+pub naming_fits : (body : List Statement) (labels : List Symbol) (n i : ℕ) (s : Statement) → i < length body → s ≡ get_or body i s → is_instruction s ≡ true → word_count body ≤ 32 → Naming body labels n i → n < 32
+naming_fits body labels n i s lt e is few p = let next = naming_instruction body labels n i s lt e is p in omega (arith, next.count)
+
+pub naming_all : (body : List Statement) (labels : List Symbol) (n i : ℕ) → length body ≤ i → Naming body labels n i → labels ≡ symbols_from 0 body
+unfolding symbols_from
+naming_all body labels n i le p =
+    sym (append-nil labels) ∙ ap (λ (xs : List Symbol). labels ++ xs) (sym (at_drop_all (symbols_from n) body i le)) ∙ p.whole
+
+-- ---- the word of each statement
+
+pub words_at_program : (symbols : List Symbol) (s : Statement) (name : List ℕ) → s ≡ Program name → words_at symbols s ≡ None
+unfolding words_at
+words_at_program symbols s name is = ap (words_at symbols) is
+
+pub words_at_nowhere : (symbols : List Symbol) (s : Statement) (target : List ℕ) (delay : ℕ) → s ≡ Jump target delay → address_of symbols target ≡ None → words_at symbols s ≡ None
+unfolding words_at
+words_at_nowhere symbols s target delay is none = ap (words_at symbols) is ∙ ap (λ (o : Option ℕ). o >>= λ address. Some (plain_word (act.Jmp Always address) delay ∷ [])) none
+
+pub placing_label : (symbols : List Symbol) (body : List Statement) (words : List ℕ) (i : ℕ) (s : Statement) (name : List ℕ) → i < length body → s ≡ get_or body i s → s ≡ Label name → Placing symbols body words i → Placing symbols body words (i + 1)
+unfolding words_at
+placing_label symbols body words i s name lt e is p =
+    subst (λ (ws : List ℕ). Placing symbols body ws (i + 1)) (append-nil words)
+    (placing_more symbols body words [] i s lt e (ap (words_at symbols) is) (sym (ap (λ (x : Statement). word_count (x ∷ [])) is)) p)
+
+pub placing_jump : (symbols : List Symbol) (body : List Statement) (words : List ℕ) (i : ℕ) (s : Statement) (target : List ℕ) (delay address word : ℕ) → i < length body → s ≡ get_or body i s → s ≡ Jump target delay → address_of symbols target ≡ Some address → word ≡ plain_word (act.Jmp Always address) delay → Placing symbols body words i → Placing symbols body (words ++ word ∷ []) (i + 1)
+unfolding words_at
+placing_jump symbols body words i s target delay address word lt e is found w p =
+    placing_more symbols body words (word ∷ []) i s lt e
+    (ap (words_at symbols) is ∙ ap (λ (o : Option ℕ). o >>= λ a. Some (plain_word (act.Jmp Always a) delay ∷ [])) found ∙ ap (λ (x : ℕ). Some (x ∷ [])) (sym w))
+    (sym (ap (λ (x : Statement). word_count (x ∷ [])) is)) p
+
+pub placing_set : (symbols : List Symbol) (body : List Statement) (words : List ℕ) (i : ℕ) (s : Statement) (destination : SetDestination) (value delay word : ℕ) → i < length body → s ≡ get_or body i s → s ≡ Set destination value delay → word ≡ plain_word (act.Set destination value) delay → Placing symbols body words i → Placing symbols body (words ++ word ∷ []) (i + 1)
+unfolding words_at
+placing_set symbols body words i s destination value delay word lt e is w p =
+    placing_more symbols body words (word ∷ []) i s lt e
+    (ap (words_at symbols) is ∙ ap (λ (x : ℕ). Some (x ∷ [])) (sym w))
+    (sym (ap (λ (x : Statement). word_count (x ∷ [])) is)) p
+
+-- one more word fits
+pub placing_fits : (symbols : List Symbol) (body : List Statement) (words : List ℕ) (i : ℕ) (s : Statement) → i < length body → s ≡ get_or body i s → is_instruction s ≡ true → word_count body ≤ 32 → Placing symbols body words i → length words < 32
+placing_fits symbols body words i s lt e is few p = omega (arith, p.count, count_at body i s lt e, one_word s is)
+
+-- ---- the program
+
+-- a rule has one proof that its bits fit
+plain_same : (fits : 0 + (if false then 1 else 0) ≤ 5) → plain_rule ≡ record { bits = 0; opt = false; pindirs = false; fits = fits }
+plain_same fits = ap (λ (h : 0 + (if false then 1 else 0) ≤ 5). record { bits = 0; opt = false; pindirs = false; fits = h }) (le_prop _ _)
+
+pub linked_is : (given name : List ℕ) (body : List Statement) (symbols : List Symbol) (words : List ℕ) (top : ℕ) (fits : 0 + (if false then 1 else 0) ≤ 5) → 1 ≤ word_count body → word_count body ≤ 32 → symbols_of body ≡ Some symbols → words_of symbols body ≡ Some words → name ≡ given → top ≡ length words - 1 →
+    linked given body ≡ Some (record { name = name; words = words; origin = None; side = record { bits = 0; opt = false; pindirs = false; fits = fits }; wrap_bottom = 0; wrap_top = top; symbols = symbols })
+unfolding linked
+linked_is given name body symbols words top fits some few s w same last =
+    let a : leb 1 (word_count body) ≡ true = le-leb 1 (word_count body) some in
+    let b : leb (word_count body) 32 ≡ true = le-leb (word_count body) 32 few in
+    rw (a, b, s, w, same, last, ← plain_same fits) refl

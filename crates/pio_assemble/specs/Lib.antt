@@ -1,0 +1,6 @@
+pub mod Program
+pub mod Tokens
+pub mod Statement
+pub mod Meaning
+pub mod Source
+pub mod Answers

@@ -1,0 +1,100 @@
+-- What the statements of a program mean: its symbols, its words and itself.
+use Rattle.std.specs.Prelude.{ℕ, ◌+◌, ◌-◌, ◌&&◌, not, nat_lt, nat_le, Bool, true, false, List, [], ◌∷◌, ◌++◌, length, count_by, Option, Some, None, ℤ, pos, negsuc, if◌then◌else◌}
+use Rattle.std.specs.List.{list_any, find}
+use Rattle.std.proofs.Common.{lit≤}
+use Rattle.std.specs.Str.{bytes_eq}
+use Rattle.pio_encode.specs.declared.act.Act.{Act}
+use Rattle.pio_encode.specs.declared.act.Act.TheVariants as act
+use Rattle.pio_encode.specs.declared.act.Condition.TheVariants.{Always}
+use Rattle.pio_encode.specs.declared.rule.SideRule.{SideRule}
+use Rattle.pio_encode.specs.Word.{word_of}
+use Rattle.pio_assemble.specs.declared.statement.Statement.{Statement}
+use Rattle.pio_assemble.specs.declared.statement.Statement.TheVariants.{Program, Label, Jump, Set}
+use Rattle.pio_assemble.specs.declared.symbols.Symbol.{Symbol}
+use Rattle.pio_assemble.specs.Program.{Assembled}
+use Rattle.pio_assemble.specs.Statement.{◌>>=◌}
+
+-- a statement that makes a word
+abbrev pub is_instruction : Statement → Bool
+is_instruction (Program name) = false
+is_instruction (Label name) = false
+is_instruction (Jump target delay) = true
+is_instruction (Set destination value delay) = true
+
+-- a label of this value
+abbrev pub label_symbol : List ℕ → ℕ → Symbol
+label_symbol name value = record { name = name; value = pos value; public = false; is_label = true }
+
+-- the labels in order, where n instructions stand before: a label's value is the number of instructions before it
+unfoldable pub symbols_from : ℕ → List Statement → List Symbol
+symbols_from n [] = []
+symbols_from n (Program name ∷ rest) = symbols_from n rest
+symbols_from n (Label name ∷ rest) = label_symbol name n ∷ symbols_from n rest
+symbols_from n (Jump target delay ∷ rest) = symbols_from (n + 1) rest
+symbols_from n (Set destination value delay ∷ rest) = symbols_from (n + 1) rest
+
+-- no two symbols have one name
+unfoldable pub are_distinct : List Symbol → Bool
+are_distinct [] = true
+are_distinct (s ∷ rest) = not (list_any (λ other. bytes_eq s.name other.name) rest) && are_distinct rest
+
+-- a value as an address of the instruction memory
+abbrev pub address_at : ℤ → Option ℕ
+address_at (pos n) = if nat_lt n 32 then Some n else None
+address_at (negsuc n) = None
+
+-- the address that a jump to this name goes to
+unfoldable pub address_of : List Symbol → List ℕ → Option ℕ
+address_of symbols name = find (λ s. bytes_eq s.name name) symbols >>= λ s. address_at s.value
+
+-- the rule of a program without side-set
+abbrev pub plain_rule : SideRule
+plain_rule = record { bits = 0; opt = false; pindirs = false; fits = lit≤ tt }
+
+-- the word of an act without side-set
+abbrev pub plain_word : Act → ℕ → ℕ
+plain_word act delay = word_of (record { side = None; delay = delay; act = act }) plain_rule
+
+-- the word of a statement, if it makes one; none where it is a jump to nowhere, or begins another program
+unfoldable pub words_at : List Symbol → Statement → Option (List ℕ)
+words_at symbols (Program name) = None
+words_at symbols (Label name) = Some []
+words_at symbols (Jump target delay) = do
+  address ← address_of symbols target
+  Some (plain_word (act.Jmp Always address) delay ∷ [])
+words_at symbols (Set destination value delay) = Some (plain_word (act.Set destination value) delay ∷ [])
+
+-- the words of the instructions in order
+unfoldable pub words_of : List Symbol → List Statement → Option (List ℕ)
+words_of symbols [] = Some []
+words_of symbols (statement ∷ rest) = do
+  first ← words_at symbols statement
+  words ← words_of symbols rest
+  Some (first ++ words)
+
+-- how many words the statements make
+abbrev pub word_count : List Statement → ℕ
+word_count body = count_by is_instruction body
+
+-- the program of this name and these words
+abbrev pub program_with : List ℕ → List Symbol → List ℕ → Assembled
+program_with name symbols words =
+    record { name = name; words = words; origin = None; side = plain_rule; wrap_bottom = 0; wrap_top = length words - 1; symbols = symbols }
+
+-- the symbols, where they are few enough and have names of their own
+unfoldable pub symbols_of : List Statement → Option (List Symbol)
+symbols_of body =
+    let symbols = symbols_from 0 body in
+    if nat_le (length symbols) 1024 && are_distinct symbols then Some symbols else None
+
+-- the program of these statements; none where they are no program
+unfoldable pub linked : List ℕ → List Statement → Option Assembled
+linked name body =
+    if nat_le 1 (word_count body) && nat_le (word_count body) 32
+    then (symbols_of body >>= λ symbols. words_of symbols body >>= λ words. Some (program_with name symbols words))
+    else None
+
+-- `.program` stands first
+unfoldable pub meaning_of : List Statement → Option Assembled
+meaning_of (Program name ∷ body) = linked name body
+meaning_of _ = None

@@ -1,0 +1,56 @@
+//! The symbols of a program: its labels and defines, in the order of the source.
+ghost use Rattle.std.specs.Prelude.{◌≡◌, option_copied};
+ghost use Rattle.std.specs.Str.{bytes_eq};
+ghost use Rattle.std.specs.List.{find};
+
+use pio_encode::Name;
+use std::marker::Model;
+
+/// A name with a value.
+#[derive(Debug, Drop)]
+pub struct Symbol {
+    pub name: Name,
+    pub value: i32,
+    /// Whether the source says `public`, so that a listing shows it.
+    pub public: bool,
+    /// Whether a label made it: its value is then an address in the program.
+    pub is_label: bool,
+}
+
+/// The symbols of a program in the order of the source, seen as their list.
+#[derive(Debug, Drop)]
+pub struct Symbols {
+    entries: Vec<Symbol>,
+}
+
+impl Model for Symbols {
+    ghost use Rattle.std.specs.Prelude.{List};
+    ghost use Rattle.pio_assemble.specs.declared.symbols.Symbol.{Symbol};
+
+    ghost Value = { List Symbol };
+
+    ghost view = { λ s. s.entries.items };
+}
+
+impl Symbols {
+    /// The symbols in this order. It takes no memory.
+    pub fn new(entries: Vec<Symbol>) -> Self
+        ensures { result ≡ entries.items }
+    {
+        Symbols { entries }
+    }
+
+    /// All of them.
+    pub fn as_slice(&self) -> &[Symbol]
+        ensures { result.now ≡ self.now }
+    {
+        self.entries.as_slice()
+    }
+
+    /// The first of this name.
+    pub fn get(&self, name: &[u8]) -> Option<&Symbol>
+        ensures { option_copied result ≡ find (λ s. bytes_eq s.name name.now) self.now }
+    {
+        self.as_slice().iter().find(|s| s.name.as_bytes() == name)
+    }
+}
