@@ -8,7 +8,7 @@ use Rattle.pio_edge.specs.Edge.{with_bytes, TakesPrefix}
 use Rattle.block_core.specs.declared.sample.Sample.{Sample}
 use Rattle.block_core.specs.Sample.{same_numbers, same_sample}
 use Rattle.vcd_trace.specs.Told.{IsNext, last_of, held_to, told_at}
-use Rattle.vcd_trace.specs.VcdText.{header_text, clock_line, dump_text, step_text, steps_text, open_text, closing_text, vcd_text, changes_text}
+use Rattle.vcd_trace.specs.VcdText.{header_text, clock_line, dump_text, step_text, steps_text, open_text, closing_text, vcd_text, changes_text, GoesOn}
 use Rattle.vcd_trace.specs.Standing.{last_sample, Standing, added_text, ended_text}
 use Rattle.pio_edge.proofs.PutLaws.{with_bytes-append, takes_prefix-append_r}
 
@@ -155,3 +155,19 @@ pub end_breaks : (b : Option (List ℕ)) (l : List Sample) (taken : Option (List
 end_breaks b l taken last clock taken' h n k =
     broken_more b taken taken' (open_text l) (ended_text clock last) (vcd_text (held_to clock l)) h.text k
       (vcd_text-held clock l n ∙ ap (λ x. open_text l ++ ended_text clock x) (sym h.remembered))
+
+-- an open text goes on as more samples are told
+open_text-append : (told later : List Sample) → GoesOn (open_text (told ++ later)) (open_text told)
+open_text-append [] [] = ([], sym (append-nil (open_text [])))
+open_text-append [] (s ∷ rest) = (dump_text s ++ steps_text 1 s rest, append_assoc (header_text ++ clock_line 0) (dump_text s) (steps_text 1 s rest))
+open_text-append (s ∷ rest) later =
+    let front = header_text ++ clock_line 0 ++ dump_text s in
+    let more = steps_text (1 + length rest) (last_of s rest) later in
+    (more, ap (λ t. front ++ t) (steps_text-append 1 s rest later) ∙ sym (append_assoc front (steps_text 1 s rest) more))
+
+-- and so does the whole text of them
+pub vcd_text-append : (told later : List Sample) → GoesOn (vcd_text (told ++ later)) (open_text told)
+vcd_text-append told later =
+    let more = open_text-append told later in
+    let closing = closing_text (told ++ later) in
+    (more.0 ++ closing, ap (λ t. t ++ closing) more.1 ∙ append_assoc (open_text told) more.0 closing)

@@ -3,11 +3,13 @@
 
 mod changes;
 mod dump;
+mod growth;
 mod header;
 mod line;
 mod trace;
 mod variable;
 mod vcd;
 
+pub use growth::text_grows;
 pub use trace::{Trace, TraceFailed};
 pub use vcd::VcdTrace;

@@ -1,0 +1,3 @@
+pub mod SampleLists
+pub mod Quiet
+pub mod Breaking

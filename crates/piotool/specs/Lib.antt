@@ -1,0 +1,7 @@
+pub mod Words
+pub mod Machine
+pub mod Run
+pub mod Judged
+pub mod Told
+pub mod Promise
+pub mod Complete

@@ -1,0 +1,52 @@
+-- How an end is told: its status and its line (choice of this profile).
+use Rattle.std.specs.Prelude.{◌≡◌, ℕ, ◌⊎◌, ◌++◌, Option, Some, None, List, codes, decimal}
+use Rattle.pio_edge.specs.Edge.{Rose, with_bytes, TakesPrefix}
+use Rattle.pio_assemble.specs.declared.fault.SourceKind.{SourceKind}
+use Rattle.pio_assemble.specs.declared.fault.SourceKind.TheVariants.{Syntax}
+use Rattle.piotool.specs.declared.fault.File.{File}
+use Rattle.piotool.specs.declared.fault.File.TheVariants as file
+use Rattle.piotool.specs.declared.fault.Fault.{Fault}
+use Rattle.piotool.specs.declared.fault.Fault.TheVariants as fault
+
+-- the status of an end
+abbrev pub status_of : Option Fault → ℕ
+status_of None = 0
+status_of (Some fault.Usage) = 2
+status_of (Some (fault.Shelf role)) = 4
+status_of (Some (fault.Source line kind)) = 1
+status_of (Some fault.Out) = 5
+status_of (Some fault.Memory) = 6
+
+-- the word for a file
+abbrev pub file_word : File → List ℕ
+file_word file.Source = codes "source"
+
+-- the code of a source's fault
+abbrev pub kind_code : SourceKind → List ℕ
+kind_code Syntax = codes "S1"
+
+-- the line of a file that wasn't fetched
+abbrev pub shelf_line : File → List ℕ
+shelf_line role = codes "piotool: shelf " ++ file_word role ++ codes "\n"
+
+-- the line of a source's fault
+abbrev pub source_line : ℕ → SourceKind → List ℕ
+source_line line kind = codes "piotool: source line " ++ decimal line ++ codes ": " ++ kind_code kind ++ codes "\n"
+
+-- the line of a fault
+unfoldable pub fault_line : Fault → List ℕ
+fault_line fault.Usage = codes "piotool: usage\n"
+fault_line (fault.Shelf role) = shelf_line role
+fault_line (fault.Source line kind) = source_line line kind
+fault_line fault.Out = codes "piotool: out\n"
+fault_line fault.Memory = codes "piotool: memory\n"
+
+-- the line was told, or a first part of it where the count rose
+abbrev pub TellsLine : Option (List ℕ) → Option (List ℕ) → ℕ → ℕ → List ℕ → Type 0
+TellsLine before after count_before count_after line =
+    (after ≡ with_bytes before line) ⊎ (TakesPrefix before line after × Rose count_before count_after)
+
+-- a fault is told by its line, and the end of a whole command by nothing
+abbrev pub TellsFault : Option (List ℕ) → Option (List ℕ) → ℕ → ℕ → Option Fault → Type 0
+TellsFault before after count_before count_after None = (after ≡ before) × (count_after ≡ count_before)
+TellsFault before after count_before count_after (Some fault) = TellsLine before after count_before count_after (fault_line fault)

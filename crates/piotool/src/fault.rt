@@ -1,0 +1,25 @@
+//! Everything that keeps a command from its text, with the line and the status that tell it.
+
+use pio_assemble::SourceKind;
+
+/// A file that a command reads.
+#[derive(Clone, Copy, Debug, PartialEq, Eq)]
+pub enum File {
+    /// The pioasm source.
+    Source,
+}
+
+/// Why a command didn't do all that was asked.
+#[derive(Debug, PartialEq, Eq, Drop)]
+pub enum Fault {
+    /// The words ask for nothing that there is.
+    Usage,
+    /// A file wasn't fetched.
+    Shelf(File),
+    /// The first fault of the source: its line, from 1 on and 0 where no place is told, and its kind.
+    Source(usize, SourceKind),
+    /// The output failed.
+    Out,
+    /// Memory ran out.
+    Memory,
+}

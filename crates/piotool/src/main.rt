@@ -1,0 +1,79 @@
+//! piotool: traces what a program of the RP2040's PIO does to its pins, clock by clock.
+//! Here real files, standard output and standard error are handed to the one call that does everything.
+#![tactic(auto)]
+
+mod block;
+mod fault;
+mod machine;
+mod run;
+mod simulation;
+mod source;
+#[cfg(test)]
+mod tests;
+mod told;
+mod top;
+mod words;
+
+ghost use Rattle.std.specs.Prelude.{◌≡◌};
+
+use fault::Fault;
+use pio_edge::{ErrSink, FileShelf, OutSink};
+use std::env;
+use std::io::{self, ErrorKind, Write};
+use std::marker::Brand;
+use std::process::ExitCode;
+use std::rt::{Env, Files};
+use std::sync::ledger::{Blank, Ledger};
+use step_count::Steps;
+use top::{Ended, end_with, piotool};
+
+fn main(rt: HostRuntime) -> ExitCode {
+    let end = counted::<Brand, HostRuntime, _>(&rt, rt.stderr(), Blank::new(1));
+    ExitCode::from(end.status)
+}
+
+/// The call over the real outside, which counts its steps in one ledger.
+fn counted<L: Ledger, R: Env + Files + Print + AllocGlobal, W: Write + Drop>(
+    rt: &R,
+    err: W,
+    blank: Blank,
+) -> Ended
+    requires name { blank.name ≡ L.name }
+    requires parts { blank.parts ≡ L.parts }
+    requires whole { blank.parts ≡ 1 }
+{
+    let mut steps = Steps::<L>::new(blank);
+    let mut err = ErrSink::new(err);
+    match words_of(rt) {
+        Ok(words) => over_outside(rt, &words, &mut err, &mut steps),
+        Err(fault) => end_with(&mut err, Some(fault)),
+    }
+}
+
+/// The words that the program was called with.
+fn words_of<R: Env + AllocGlobal>(rt: &R) -> Result<Vec<String>, Fault> {
+    let words = env::args(rt).map_err(fault_of)?;
+    words.collect(rt.alloc()).map_err(|_| Fault::Memory)
+}
+
+/// Words that are no texts ask for nothing.
+fn fault_of(error: io::Error) -> Fault {
+    match error.kind() {
+        ErrorKind::OutOfMemory => Fault::Memory,
+        _ => Fault::Usage,
+    }
+}
+
+/// The call with the files of the runtime and its standard output.
+fn over_outside<L: Ledger, R: Files + Print + AllocGlobal, W: Write + Drop>(
+    rt: &R,
+    words: &[String],
+    err: &mut ErrSink<W>,
+    steps: &mut Steps<L>,
+) -> Ended {
+    let mut shelf = FileShelf::new(rt);
+    match OutSink::new(rt.alloc(), io::writer(rt)) {
+        Ok(mut out) => piotool(rt.alloc(), words, &mut shelf, &mut out, err, steps),
+        Err(_) => end_with(err, Some(Fault::Memory)),
+    }
+}

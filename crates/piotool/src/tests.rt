@@ -1,0 +1,342 @@
+//! The whole program over a shelf and sinks in memory: worked runs, and each end with its line and its status.
+ghost use Rattle.std.specs.Prelude.{◌≡◌};
+
+use crate::top::piotool;
+use pio_edge::{MemShelf, MemSink};
+use std::alloc::{AllocError, Global};
+use std::marker::Brand;
+use std::sync::ledger::{Blank, Ledger};
+use std::test::Fail;
+use step_count::Steps;
+
+const SQUARE_WAVE: &str =
+    ".program squarewave\n    set pindirs, 1\nagain:\n    set pins, 1 [1]\n    set pins, 0\n    jmp again\n";
+
+/// What the output takes.
+enum Text {
+    Nothing,
+    /// So many first bytes of the whole.
+    Start(usize),
+    /// The header, the first sample with direction 0 as said, and these lines behind it.
+    Run(&'static str),
+    /// The header and `#0`.
+    NoClocks,
+}
+
+/// One call, and what it comes to.
+struct Row {
+    name: &'static str,
+    words: &'static [&'static str],
+    /// What the shelf holds under the name `s`.
+    source: Option<&'static str>,
+    /// The calls of the output that fail, with what they take.
+    out_fails: &'static [(u64, usize)],
+    /// The calls of the error output that fail, with what they take.
+    err_fails: &'static [(u64, usize)],
+    status: u8,
+    out: Text,
+    err: &'static str,
+}
+
+const RUN_8: &[&str] = &["piotool", "run", "--source", "s", "--clocks", "8"];
+
+const RUN_0: &[&str] = &["piotool", "run", "--source", "s", "--clocks", "0"];
+
+// The changes of the square wave, from the datasheet's example: up in clock 1, two clocks long, every four clocks.
+const EIGHT_CLOCKS: &str = "#1\n1!\n#3\n0!\n#5\n1!\n#7\n0!\n#8\n";
+
+static ROWS: [Row; 18] = [
+    Row {
+        name: "a square wave of eight clocks",
+        words: RUN_8,
+        source: Some(SQUARE_WAVE),
+        out_fails: &[],
+        err_fails: &[],
+        status: 0,
+        out: Text::Run(EIGHT_CLOCKS),
+        err: "",
+    },
+    Row {
+        name: "no clocks",
+        words: RUN_0,
+        source: Some(SQUARE_WAVE),
+        out_fails: &[],
+        err_fails: &[],
+        status: 0,
+        out: Text::NoClocks,
+        err: "",
+    },
+    Row {
+        name: "leading zeros, and one clock",
+        words: &["", "run", "--source", "s", "--clocks", "0000000000001"],
+        source: Some(SQUARE_WAVE),
+        out_fails: &[],
+        err_fails: &[],
+        status: 0,
+        out: Text::Run("#1\n"),
+        err: "",
+    },
+    Row {
+        name: "the third put fails with nothing taken",
+        words: RUN_8,
+        source: Some(SQUARE_WAVE),
+        out_fails: &[(3, 0)],
+        err_fails: &[],
+        status: 5,
+        out: Text::Start(44),
+        err: "piotool: out\n",
+    },
+    Row {
+        name: "the second put fails with four bytes taken",
+        words: RUN_8,
+        source: Some(SQUARE_WAVE),
+        out_fails: &[(2, 4)],
+        err_fails: &[],
+        status: 5,
+        out: Text::Start(25),
+        err: "piotool: out\n",
+    },
+    Row {
+        name: "the output's end isn't told",
+        words: RUN_8,
+        source: Some(SQUARE_WAVE),
+        out_fails: &[(193, 0)],
+        err_fails: &[],
+        status: 5,
+        out: Text::Run(EIGHT_CLOCKS),
+        err: "piotool: out\n",
+    },
+    Row {
+        name: "an instruction that isn't there yet",
+        words: RUN_8,
+        source: Some(".program p\nnop\n"),
+        out_fails: &[],
+        err_fails: &[],
+        status: 1,
+        out: Text::Nothing,
+        err: "piotool: source line 0: S1\n",
+    },
+    Row {
+        name: "an empty source",
+        words: RUN_8,
+        source: Some(""),
+        out_fails: &[],
+        err_fails: &[],
+        status: 1,
+        out: Text::Nothing,
+        err: "piotool: source line 0: S1\n",
+    },
+    Row {
+        name: "no source",
+        words: RUN_8,
+        source: None,
+        out_fails: &[],
+        err_fails: &[],
+        status: 4,
+        out: Text::Nothing,
+        err: "piotool: shelf source\n",
+    },
+    Row {
+        name: "an error output that fails",
+        words: RUN_8,
+        source: None,
+        out_fails: &[],
+        err_fails: &[(1, 9)],
+        status: 4,
+        out: Text::Nothing,
+        err: "piotool: ",
+    },
+    Row {
+        name: "no words",
+        words: &[],
+        source: None,
+        out_fails: &[],
+        err_fails: &[],
+        status: 2,
+        out: Text::Nothing,
+        err: "piotool: usage\n",
+    },
+    Row {
+        name: "help",
+        words: &["piotool", "--help"],
+        source: None,
+        out_fails: &[],
+        err_fails: &[],
+        status: 2,
+        out: Text::Nothing,
+        err: "piotool: usage\n",
+    },
+    Row {
+        name: "another order of the options",
+        words: &["piotool", "run", "--clocks", "8", "--source", "s"],
+        source: Some(SQUARE_WAVE),
+        out_fails: &[],
+        err_fails: &[],
+        status: 2,
+        out: Text::Nothing,
+        err: "piotool: usage\n",
+    },
+    Row {
+        name: "a word too many",
+        words: &["piotool", "run", "--source", "s", "--clocks", "8", "9"],
+        source: Some(SQUARE_WAVE),
+        out_fails: &[],
+        err_fails: &[],
+        status: 2,
+        out: Text::Nothing,
+        err: "piotool: usage\n",
+    },
+    Row {
+        name: "a clock too many",
+        words: &[
+            "piotool",
+            "run",
+            "--source",
+            "s",
+            "--clocks",
+            "1000000000001",
+        ],
+        source: Some(SQUARE_WAVE),
+        out_fails: &[],
+        err_fails: &[],
+        status: 2,
+        out: Text::Nothing,
+        err: "piotool: usage\n",
+    },
+    Row {
+        name: "a digit too many",
+        words: &[
+            "piotool",
+            "run",
+            "--source",
+            "s",
+            "--clocks",
+            "00000000000001",
+        ],
+        source: Some(SQUARE_WAVE),
+        out_fails: &[],
+        err_fails: &[],
+        status: 2,
+        out: Text::Nothing,
+        err: "piotool: usage\n",
+    },
+    Row {
+        name: "a sign",
+        words: &["piotool", "run", "--source", "s", "--clocks", "+8"],
+        source: Some(SQUARE_WAVE),
+        out_fails: &[],
+        err_fails: &[],
+        status: 2,
+        out: Text::Nothing,
+        err: "piotool: usage\n",
+    },
+    Row {
+        name: "no number",
+        words: &["piotool", "run", "--source", "s", "--clocks", ""],
+        source: Some(SQUARE_WAVE),
+        out_fails: &[],
+        err_fails: &[],
+        status: 2,
+        out: Text::Nothing,
+        err: "piotool: usage\n",
+    },
+];
+
+#[test]
+fn ends_as_worked_out(rt: HostRuntime) -> Result<(), Fail> {
+    let alloc = rt.alloc();
+    for row in &ROWS {
+        let name = row.name;
+        let (status, out, err) = seen_of::<Brand>(alloc, row, Blank::new(1))?;
+        let want = text_of(alloc, &row.out)?;
+        assert_eq!(rt; status, row.status, "{name}");
+        assert!(rt; out.bytes() == want.as_bytes(), "{name}");
+        assert!(rt; err.bytes() == row.err.as_bytes(), "{name}");
+    }
+    Ok(())
+}
+
+/// What a row's call leaves, with ample memory.
+fn seen_of<L: Ledger>(
+    alloc: Global,
+    row: &Row,
+    blank: Blank,
+) -> Result<(u8, MemSink, MemSink), AllocError>
+    requires name { blank.name ≡ L.name }
+    requires parts { blank.parts ≡ L.parts }
+    requires whole { blank.parts ≡ 1 }
+{
+    let mut words = Vec::new(alloc);
+    for word in row.words {
+        words.push(String::from_str(alloc, word)?)?;
+    }
+    let mut shelf = MemShelf::new(alloc, &[])?;
+    if let Some(source) = row.source {
+        shelf.hold("s", source.as_bytes())?;
+    }
+    let mut out = MemSink::with_room(alloc, 100_000, row.out_fails)?;
+    let mut err = MemSink::with_room(alloc, 1000, row.err_fails)?;
+    let mut steps = Steps::<L>::new(blank);
+    let end = piotool(alloc, &words, &mut shelf, &mut out, &mut err, &mut steps);
+    Ok((end.status, out, err))
+}
+
+fn text_of(alloc: Global, text: &Text) -> Result<String, AllocError> {
+    match text {
+        Text::Nothing => Ok(String::new(alloc)),
+        Text::Start(count) => start_of(alloc, *count),
+        Text::Run(rest) => run_text(alloc, rest),
+        Text::NoClocks => header(alloc),
+    }
+}
+
+fn start_of(alloc: Global, count: usize) -> Result<String, AllocError> {
+    let mut start = String::new(alloc);
+    for c in header(alloc)?.as_str().chars().take(count) {
+        start.push(c)?;
+    }
+    Ok(start)
+}
+
+/// The lines up to `#0`, from the table of names and widths.
+fn header(alloc: Global) -> Result<String, AllocError> {
+    let mut text = String::from_str(alloc, "$timescale 1 ns $end\n$scope module pio $end\n")?;
+    let mut id = b'!';
+    for (letter, width, count) in [
+        ('p', 1, 32),
+        ('d', 1, 32),
+        ('f', 1, 8),
+        ('t', 4, 4),
+        ('r', 4, 4),
+        ('w', 32, 4),
+        ('s', 4, 4),
+    ] {
+        for number in 0..count {
+            let place = char::from(id);
+            text.push_str(format!(in alloc;
+                "$var wire {width} {place} {letter}{number} $end\n"
+            )?.as_str())?;
+            id = id.wrapping_add(1);
+        }
+    }
+    text.push_str("$upscope $end\n$enddefinitions $end\n#0\n")?;
+    Ok(text)
+}
+
+/// A run whose first sample has pin 0 out and all else 0.
+fn run_text(alloc: Global, rest: &str) -> Result<String, AllocError> {
+    let mut text = header(alloc)?;
+    text.push_str("$dumpvars\n")?;
+    for id in b'!'..=b'x' {
+        let place = char::from(id);
+        let line = match id {
+            b'A' => format!(in alloc; "1{place}\n")?,
+            b'!'..=b'h' => format!(in alloc; "0{place}\n")?,
+            _ => format!(in alloc; "b0 {place}\n")?,
+        };
+        text.push_str(line.as_str())?;
+    }
+    text.push_str("$end\n")?;
+    text.push_str(rest)?;
+    Ok(text)
+}

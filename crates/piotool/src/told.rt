@@ -1,0 +1,98 @@
+//! How an end is told: its status, and its line on the standard error (choice of this profile).
+ghost use Rattle.std.specs.Prelude.{◌≡◌};
+ghost use Rattle.pio_edge.specs.Edge.{Takes, PutCounts};
+ghost use Rattle.piotool.specs.Told as spec;
+ghost use Rattle.piotool.specs.Told.{fault_line, file_word, kind_code};
+
+use crate::fault::{Fault, File};
+use itoa::Buffer;
+use pio_assemble::SourceKind;
+use pio_edge::{Sink, SinkFailed, put_all};
+
+/// The status with which a program ends.
+pub fn status_of(fault: &Option<Fault>) -> u8
+    ensures { result ≡ spec.status_of fault.now }
+{
+    match fault {
+        None => 0,
+        Some(Fault::Source(..)) => 1,
+        Some(Fault::Usage) => 2,
+        Some(Fault::Shelf(_)) => 4,
+        Some(Fault::Out) => 5,
+        Some(Fault::Memory) => 6,
+    }
+}
+
+/// Puts the line of a fault.
+#[tactic(auto, unfolding(crate::specs::Told::fault_line))]
+pub fn put_fault<E: Sink>(err: &mut E, fault: &Fault) -> Result<(), SinkFailed>
+    ensures bytes { Takes (E.taken err.old) (fault_line fault.now) (E.taken err.new) result }
+    ensures cause { PutCounts (E.faults err.old) (E.faults err.new) result }
+{
+    match fault {
+        Fault::Usage => put_text(err, "piotool: usage\n"),
+        Fault::Shelf(file) => put_shelf_fault(err, *file),
+        Fault::Source(line, kind) => put_source_fault(err, *line, kind),
+        Fault::Out => put_text(err, "piotool: out\n"),
+        Fault::Memory => put_text(err, "piotool: memory\n"),
+    }
+}
+
+/// Puts a text as one piece.
+fn put_text<E: Sink>(err: &mut E, text: &str) -> Result<(), SinkFailed>
+    ensures bytes { Takes (E.taken err.old) text.now (E.taken err.new) result }
+    ensures cause { PutCounts (E.faults err.old) (E.faults err.new) result }
+{
+    err.put(text.as_bytes())
+}
+
+/// Puts the line of a file that wasn't fetched.
+fn put_shelf_fault<E: Sink>(err: &mut E, file: File) -> Result<(), SinkFailed>
+    ensures bytes { Takes (E.taken err.old) (spec.shelf_line file) (E.taken err.new) result }
+    ensures cause { PutCounts (E.faults err.old) (E.faults err.new) result }
+{
+    put_all(
+        err,
+        &[
+            "piotool: shelf ".as_bytes(),
+            word_of(file).as_bytes(),
+            "\n".as_bytes(),
+        ],
+    )
+}
+
+/// Puts the line of a source's fault.
+fn put_source_fault<E: Sink>(err: &mut E, line: usize, kind: &SourceKind) -> Result<(), SinkFailed>
+    ensures bytes { Takes (E.taken err.old) (spec.source_line line kind.now) (E.taken err.new) result }
+    ensures cause { PutCounts (E.faults err.old) (E.faults err.new) result }
+{
+    let mut number = Buffer::new();
+    put_all(
+        err,
+        &[
+            "piotool: source line ".as_bytes(),
+            number.format(line).as_bytes(),
+            ": ".as_bytes(),
+            code_of(kind).as_bytes(),
+            "\n".as_bytes(),
+        ],
+    )
+}
+
+/// The word for a file.
+fn word_of(file: File) -> &'static str
+    ensures { result.now ≡ file_word file }
+{
+    match file {
+        File::Source => "source",
+    }
+}
+
+/// The code of a source's fault.
+fn code_of(kind: &SourceKind) -> &'static str
+    ensures { result.now ≡ kind_code kind.now }
+{
+    match kind {
+        SourceKind::Syntax => "S1",
+    }
+}
