@@ -146,18 +146,24 @@ fn reserved_words_do_nothing(rt: HostRuntime) {
 #[test]
 fn every_word_under_every_rule(rt: HostRuntime) {
     for bits in 0..=5u8 {
-        for opt in [false, true] {
-            if bits + u8::from(opt) <= 5 {
-                check_rule(
-                    &rt,
-                    &SideRule {
-                        bits,
-                        opt,
-                        pindirs: false,
-                    },
-                );
-            }
-        }
+        check_rule(
+            &rt,
+            &SideRule {
+                bits,
+                opt: false,
+                pindirs: false,
+            },
+        );
+    }
+    for bits in 0..=4u8 {
+        check_rule(
+            &rt,
+            &SideRule {
+                bits,
+                opt: true,
+                pindirs: false,
+            },
+        );
     }
 }
 
