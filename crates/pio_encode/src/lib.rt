@@ -2,6 +2,7 @@
 #![tactic(auto)]
 
 mod act;
+mod fields;
 mod instruction_text;
 mod laws;
 mod name;
