@@ -1,5 +1,5 @@
 //! The meaning of a word, field by field (RP2040 Datasheet, section 3.4).
-ghost use Rattle.std.specs.Prelude.{◌≡◌, ℕ, ◌+◌, ◌==◌, ◌<◌, ◌≤◌, ◌^◌, IfSome, IsTrue};
+ghost use Rattle.std.specs.Prelude.{◌≡◌, ◌<◌, ◌^◌, IfSome};
 ghost use Rattle.pio_encode.specs.Ranges.{Fits, IsInRange, IsInstruction, SideFits, delay_bits};
 ghost use Rattle.pio_encode.specs.Word as spec;
 

@@ -1,5 +1,5 @@
 //! The text of a word: an instruction in pioasm's spelling, or the word's number.
-ghost use Rattle.std.specs.Prelude.{◌≡◌, ℕ, ◌+◌, ◌<◌, ◌≤◌, ◌++◌, IfSome, IsTrue};
+ghost use Rattle.std.specs.Prelude.{◌≡◌, ◌+◌, ◌<◌, ◌≤◌, ◌++◌, IfSome};
 ghost use Rattle.arrayvec.specs.ArrayString.{array_string_len};
 ghost use Rattle.pio_encode.specs.Ranges.{IsInRange};
 ghost use Rattle.pio_encode.specs.Spelling as spec;
