@@ -5,3 +5,5 @@ pub mod ActBack
 pub mod SideBack
 pub mod RoundTrip
 pub mod Spelled
+pub mod Moved
+pub mod Rows

@@ -2,6 +2,7 @@
 #![tactic(auto)]
 
 mod act;
+mod fields;
 mod instruction_text;
 mod laws;
 mod name;
@@ -18,7 +19,7 @@ pub use act::{
     Act, Condition, InSource, MovDestination, MovOperation, MovSource, OutDestination,
     SetDestination, WaitSource,
 };
-pub use laws::{read_back, word_range};
+pub use laws::{moved_reading, read_back, word_range};
 pub use name::Name;
 pub use op::Op;
 pub use reading::decode;

@@ -1,11 +1,12 @@
 //! The meaning of a word, field by field (RP2040 Datasheet, section 3.4).
-ghost use Rattle.std.specs.Prelude.{◌≡◌, ℕ, ◌+◌, ◌==◌, ◌<◌, ◌≤◌, ◌^◌, IfSome, IsTrue};
+ghost use Rattle.std.specs.Prelude.{◌≡◌, ◌<◌, ◌^◌, IfSome};
 ghost use Rattle.pio_encode.specs.Ranges.{Fits, IsInRange, IsInstruction, SideFits, delay_bits};
 ghost use Rattle.pio_encode.specs.Word as spec;
 
-use crate::act::{
-    Act, Condition, InSource, MovDestination, MovOperation, MovSource, OutDestination,
-    SetDestination, WaitSource,
+use crate::act::{Act, InSource, SetDestination, WaitSource};
+use crate::fields::{
+    bit, bits, condition_at, count_at, mov_destination_at, mov_operation_at, mov_source_at,
+    out_destination_at,
 };
 use crate::op::Op;
 use crate::rule::SideRule;
@@ -53,22 +54,6 @@ fn act_of(word: u16) -> Act
     }
 }
 
-/// The condition with this number.
-fn condition_at(number: u8) -> Condition
-    ensures { result ≡ spec.condition_at number }
-{
-    match number {
-        0 => Condition::Always,
-        1 => Condition::XZero,
-        2 => Condition::XDecrement,
-        3 => Condition::YZero,
-        4 => Condition::YDecrement,
-        5 => Condition::XNotY,
-        6 => Condition::Pin,
-        _ => Condition::OsrNotEmpty,
-    }
-}
-
 /// A WAIT, or a reserved word.
 #[tactic(auto, unfolding(crate::specs::Word::wait_at))]
 fn wait_at(word: u16) -> Act
@@ -107,31 +92,6 @@ fn in_at(word: u16) -> Act
         source,
         count: count_at(bits(word, 0, 5)),
     }
-}
-
-/// The destination of an OUT with this number.
-fn out_destination_at(number: u8) -> OutDestination
-    ensures { result ≡ spec.out_destination_at number }
-{
-    match number {
-        0 => OutDestination::Pins,
-        1 => OutDestination::X,
-        2 => OutDestination::Y,
-        3 => OutDestination::Null,
-        4 => OutDestination::Pindirs,
-        5 => OutDestination::Pc,
-        6 => OutDestination::Isr,
-        _ => OutDestination::Exec,
-    }
-}
-
-/// A count's field: 0 is 32.
-fn count_at(field: u8) -> u8
-    requires { field < 32 }
-    ensures value { result ≡ spec.count_at field }
-    ensures range { (1 ≤ result) × (result ≤ 32) }
-{
-    if field == 0 { 32 } else { field }
 }
 
 /// A PUSH, a PULL or a reserved word.
@@ -175,50 +135,6 @@ fn mov_at(word: u16) -> Act
             }
         }
         _ => Act::Nothing,
-    }
-}
-
-/// The destination of a MOV with this number; 3 is reserved.
-fn mov_destination_at(number: u8) -> Option<MovDestination>
-    ensures { result ≡ spec.mov_destination_at number }
-{
-    match number {
-        0 => Some(MovDestination::Pins),
-        1 => Some(MovDestination::X),
-        2 => Some(MovDestination::Y),
-        4 => Some(MovDestination::Exec),
-        5 => Some(MovDestination::Pc),
-        6 => Some(MovDestination::Isr),
-        7 => Some(MovDestination::Osr),
-        _ => None,
-    }
-}
-
-/// The operation of a MOV with this number; 3 is reserved.
-fn mov_operation_at(number: u8) -> Option<MovOperation>
-    ensures { result ≡ spec.mov_operation_at number }
-{
-    match number {
-        0 => Some(MovOperation::Plain),
-        1 => Some(MovOperation::Invert),
-        2 => Some(MovOperation::Reverse),
-        _ => None,
-    }
-}
-
-/// The source of a MOV with this number; 4 is reserved.
-fn mov_source_at(number: u8) -> Option<MovSource>
-    ensures { result ≡ spec.mov_source_at number }
-{
-    match number {
-        0 => Some(MovSource::Pins),
-        1 => Some(MovSource::X),
-        2 => Some(MovSource::Y),
-        3 => Some(MovSource::Null),
-        5 => Some(MovSource::Status),
-        6 => Some(MovSource::Isr),
-        7 => Some(MovSource::Osr),
-        _ => None,
     }
 }
 
@@ -287,22 +203,4 @@ fn delay_of(rule: &SideRule, shared: u8) -> u8
     ensures range_in_bits { result < 2 ^ delay_bits rule.now }
 {
     shared % (1 << rule.delay_bits())
-}
-
-/// `number` bits of a word from bit `low` on.
-pub(crate) fn bits(word: u16, low: u16, number: u16) -> u8
-    requires place { low < 16 }
-    requires size { number ≤ 5 }
-    ensures value { result ≡ spec.bits word low number }
-    ensures range { result < 2 ^ number }
-{
-    ((word >> low) % (1 << number)) as u8
-}
-
-/// A bit of a word.
-fn bit(word: u16, place: u16) -> bool
-    requires { place < 16 }
-    ensures { result ≡ (spec.bits word place 1 == 1) }
-{
-    bits(word, place, 1) == 1
 }

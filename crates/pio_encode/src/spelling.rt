@@ -1,15 +1,16 @@
 //! The text of a word: an instruction in pioasm's spelling, or the word's number.
-ghost use Rattle.std.specs.Prelude.{◌≡◌, ℕ, ◌+◌, ◌<◌, ◌≤◌, ◌++◌, IfSome, IsTrue};
+ghost use Rattle.std.specs.Prelude.{◌≡◌, ◌+◌, ◌<◌, ◌≤◌, ◌++◌, IfSome};
 ghost use Rattle.arrayvec.specs.ArrayString.{array_string_len};
 ghost use Rattle.pio_encode.specs.Ranges.{IsInRange};
 ghost use Rattle.pio_encode.specs.Spelling as spec;
 ghost use Rattle.pio_encode.specs.Text as text_spec;
 
 use crate::act::{Act, WaitSource};
+use crate::fields::bits;
 use crate::instruction_text::act_text;
 use crate::numerals::{push_digit, push_number};
 use crate::op::Op;
-use crate::reading::{bits, decode};
+use crate::reading::decode;
 use crate::rule::SideRule;
 use crate::word::encode;
 use arrayvec::ArrayString;

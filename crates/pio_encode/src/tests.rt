@@ -120,10 +120,10 @@ const SIDE_TEXTS: [(u16, SideRule, &str); 12] = [
 
 #[test]
 fn spells_words(rt: HostRuntime) {
-    for (word, text) in TEXTS {
+    for &(word, text) in &TEXTS {
         assert_eq!(rt; spell(word, &PLAIN).as_str(), text, "of {word:04x}");
     }
-    for (word, rule, text) in SIDE_TEXTS {
+    for &(word, rule, text) in &SIDE_TEXTS {
         assert_eq!(rt;
             spell(word, &rule).as_str(),
             text,
@@ -135,7 +135,7 @@ fn spells_words(rt: HostRuntime) {
 #[test]
 fn reserved_words_do_nothing(rt: HostRuntime) {
     for word in RESERVED {
-        assert_eq!(rt; decode(word, &PLAIN).act, Act::Nothing, "of {word:04x}");
+        assert!(rt; decode(word, &PLAIN).act == Act::Nothing, "of {word:04x}");
         assert!(rt;
             spell(word, &PLAIN).as_str().starts_with(".word 0x"),
             "of {word:04x}"
@@ -146,18 +146,24 @@ fn reserved_words_do_nothing(rt: HostRuntime) {
 #[test]
 fn every_word_under_every_rule(rt: HostRuntime) {
     for bits in 0..=5u8 {
-        for opt in [false, true] {
-            if bits + u8::from(opt) <= 5 {
-                check_rule(
-                    &rt,
-                    &SideRule {
-                        bits,
-                        opt,
-                        pindirs: false,
-                    },
-                );
-            }
-        }
+        check_rule(
+            &rt,
+            &SideRule {
+                bits,
+                opt: false,
+                pindirs: false,
+            },
+        );
+    }
+    for bits in 0..=4u8 {
+        check_rule(
+            &rt,
+            &SideRule {
+                bits,
+                opt: true,
+                pindirs: false,
+            },
+        );
     }
 }
 

@@ -1,5 +1,5 @@
 //! The word of an instruction, field by field (RP2040 Datasheet, section 3.4).
-ghost use Rattle.std.specs.Prelude.{◌≡◌, ℕ, ◌+◌, ◌*◌, ◌<◌, ◌≤◌, ◌^◌, ◌↔◌, IsTrue};
+ghost use Rattle.std.specs.Prelude.{◌≡◌, ◌+◌, ◌*◌, ◌<◌, ◌≤◌, ◌^◌, ◌↔◌, IsTrue};
 ghost use Rattle.pio_encode.specs.Ranges.{Fits, IsInRange, IsInstruction, SideFits, delay_bits};
 ghost use Rattle.pio_encode.specs.Word as spec;
 

@@ -1,3 +1,4 @@
+-- Proved over the definitions.
 use Rattle.pio_encode.proofs.laws.read_back.Goals as goal
 use Rattle.pio_encode.proofs.RoundTrip as law
 

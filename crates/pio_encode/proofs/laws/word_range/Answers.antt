@@ -1,3 +1,4 @@
+-- Proved over the definitions.
 use Rattle.pio_encode.proofs.laws.word_range.Goals as goal
 use Rattle.pio_encode.proofs.RoundTrip as law
 
