@@ -1,6 +1,7 @@
 pub mod ChangesLaws
 pub mod Digits
 pub mod HeaderLaws
+pub mod ListLaws
 pub mod Puts
 pub mod TextLaws
 pub mod ToldLaws

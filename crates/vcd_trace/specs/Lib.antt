@@ -1,4 +1,5 @@
 pub mod Told
 pub mod VcdText
 pub mod Standing
+pub mod Listing
 pub mod Groups

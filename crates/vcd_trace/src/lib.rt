@@ -5,9 +5,11 @@ mod changes;
 mod dump;
 mod header;
 mod line;
+mod list;
 mod trace;
 mod variable;
 mod vcd;
 
+pub use list::ListTrace;
 pub use trace::{Trace, TraceFailed};
 pub use vcd::VcdTrace;
