@@ -24,7 +24,7 @@ same_numbers-self (x ∷ xs) = and_true (eqb x x) (same_numbers xs xs) (eq-eqb x
 pub same_sample-self : (s : Sample) → same_sample s s ≡ true
 same_sample-self s =
     and_true _ _ (eq-eqb s.level s.level refl) (and_true _ _ (eq-eqb s.direction s.direction refl) (and_true _ _ (eq-eqb s.flags s.flags refl)
-      (and_true _ _ (same_numbers-self s.tx) (and_true _ _ (same_numbers-self s.rx) (and_true _ _ (same_numbers-self s.got) (same_numbers-self s.sticky))))))
+    (and_true _ _ (same_numbers-self s.tx) (and_true _ _ (same_numbers-self s.rx) (and_true _ _ (same_numbers-self s.got) (same_numbers-self s.sticky))))))
 
 pointwise-same : (xs ys : List ℕ) → pointwise eqb xs ys ≡ same_numbers xs ys
 pointwise-same [] [] = refl
@@ -135,23 +135,23 @@ broken_more b taken taken' text more whole h k e = let P : List ℕ → Type 0 =
 pub sample_stands : (b : Option (List ℕ)) (l : List Sample) (taken : Option (List ℕ)) (last : Option Sample) (clock : ℕ) (t : Sample) (taken' : Option (List ℕ)) → Standing b l false taken last → IsNext l clock → taken' ≡ with_bytes taken (added_text clock last t) → Standing b (told_at clock t l) false taken' (Some t)
 sample_stands b l taken last clock t taken' h n k = record {
   text = taken_more b taken taken' (open_text l) (added_text clock (last_sample l) t) (open_text (told_at clock t l)) h.text
-    (k ∙ ap (λ x. with_bytes taken (added_text clock x t)) h.remembered) (open_text-told clock t l n);
+      (k ∙ ap (λ x. with_bytes taken (added_text clock x t)) h.remembered) (open_text-told clock t l n);
   remembered = sym (last_sample-push (held_to clock l) t);
 }
 
 pub sample_breaks : (b : Option (List ℕ)) (l : List Sample) (taken : Option (List ℕ)) (last : Option Sample) (clock : ℕ) (t : Sample) (taken' : Option (List ℕ)) → Standing b l false taken last → IsNext l clock → TakesPrefix taken (added_text clock last t) taken' → TakesPrefix b (open_text (told_at clock t l)) taken'
 sample_breaks b l taken last clock t taken' h n k =
     broken_more b taken taken' (open_text l) (added_text clock last t) (open_text (told_at clock t l)) h.text k
-      (open_text-told clock t l n ∙ ap (λ x. open_text l ++ added_text clock x t) (sym h.remembered))
+    (open_text-told clock t l n ∙ ap (λ x. open_text l ++ added_text clock x t) (sym h.remembered))
 
 pub end_stands : (b : Option (List ℕ)) (l : List Sample) (taken : Option (List ℕ)) (last : Option Sample) (clock : ℕ) (taken' : Option (List ℕ)) → Standing b l false taken last → IsNext l clock → taken' ≡ with_bytes taken (ended_text clock last) → Standing b (held_to clock l) true taken' last
 end_stands b l taken last clock taken' h n k = record {
   text = taken_more b taken taken' (open_text l) (ended_text clock (last_sample l)) (vcd_text (held_to clock l)) h.text
-    (k ∙ ap (λ x. with_bytes taken (ended_text clock x)) h.remembered) (vcd_text-held clock l n);
+      (k ∙ ap (λ x. with_bytes taken (ended_text clock x)) h.remembered) (vcd_text-held clock l n);
   remembered = h.remembered ∙ sym (last_sample-held clock l);
 }
 
 pub end_breaks : (b : Option (List ℕ)) (l : List Sample) (taken : Option (List ℕ)) (last : Option Sample) (clock : ℕ) (taken' : Option (List ℕ)) → Standing b l false taken last → IsNext l clock → TakesPrefix taken (ended_text clock last) taken' → TakesPrefix b (vcd_text (held_to clock l)) taken'
 end_breaks b l taken last clock taken' h n k =
     broken_more b taken taken' (open_text l) (ended_text clock last) (vcd_text (held_to clock l)) h.text k
-      (vcd_text-held clock l n ∙ ap (λ x. open_text l ++ ended_text clock x) (sym h.remembered))
+    (vcd_text-held clock l n ∙ ap (λ x. open_text l ++ ended_text clock x) (sym h.remembered))

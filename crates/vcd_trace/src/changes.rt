@@ -10,7 +10,11 @@ use block_core::Sample;
 use pio_edge::{Sink, SinkFailed};
 
 /// Puts the lines of the values that are not what they were.
-pub(crate) fn put_changes<S: Sink>(sink: &mut S, before: &Sample, now: &Sample) -> Result<(), SinkFailed>
+pub(crate) fn put_changes<S: Sink>(
+    sink: &mut S,
+    before: &Sample,
+    now: &Sample,
+) -> Result<(), SinkFailed>
     ensures bytes { Takes (S.taken sink.old) (changes_text before.now now.now) (S.taken sink.new) result }
     ensures cause { PutCounts (S.faults sink.old) (S.faults sink.new) result }
 {

@@ -31,12 +31,7 @@ fn put_values<S: Sink>(sink: &mut S, sample: &Sample) -> Result<(), SinkFailed>
 }
 
 // The low `count` bits, from bit 0 on.
-fn put_bits<S: Sink>(
-    sink: &mut S,
-    first: u8,
-    count: u8,
-    mut now: u32,
-) -> Result<(), SinkFailed>
+fn put_bits<S: Sink>(sink: &mut S, first: u8, count: u8, mut now: u32) -> Result<(), SinkFailed>
     requires { first + count ≤ 256 }
     ensures bytes { Takes (S.taken sink.old) (bit_lines first count now) (S.taken sink.new) result }
     ensures cause { PutCounts (S.faults sink.old) (S.faults sink.new) result }

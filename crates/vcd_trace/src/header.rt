@@ -17,13 +17,41 @@ struct Group {
 }
 
 const GROUPS: [Group; 7] = [
-    Group { letter: b'p', width: 1, count: 32 },
-    Group { letter: b'd', width: 1, count: 32 },
-    Group { letter: b'f', width: 1, count: 8 },
-    Group { letter: b't', width: 4, count: 4 },
-    Group { letter: b'r', width: 4, count: 4 },
-    Group { letter: b'w', width: 32, count: 4 },
-    Group { letter: b's', width: 4, count: 4 },
+    Group {
+        letter: b'p',
+        width: 1,
+        count: 32,
+    },
+    Group {
+        letter: b'd',
+        width: 1,
+        count: 32,
+    },
+    Group {
+        letter: b'f',
+        width: 1,
+        count: 8,
+    },
+    Group {
+        letter: b't',
+        width: 4,
+        count: 4,
+    },
+    Group {
+        letter: b'r',
+        width: 4,
+        count: 4,
+    },
+    Group {
+        letter: b'w',
+        width: 32,
+        count: 4,
+    },
+    Group {
+        letter: b's',
+        width: 4,
+        count: 4,
+    },
 ];
 
 /// Puts the declarations, each line as one piece.

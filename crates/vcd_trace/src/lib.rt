@@ -4,12 +4,20 @@
 mod changes;
 mod dump;
 mod header;
+mod laws;
 mod line;
 mod list;
 mod trace;
 mod variable;
 mod vcd;
 
+pub use laws::{
+    repeated_samples_add_nothing, same_values_have_no_lines, text_only_grows,
+    the_text_ends_with_its_length, there_are_88_variables,
+};
 pub use list::ListTrace;
 pub use trace::{Trace, TraceFailed};
 pub use vcd::VcdTrace;
+
+#[cfg(test)]
+mod tests;

@@ -26,9 +26,21 @@ pub(crate) fn vectors_of(sample: &Sample) -> [u32; 16]
     let [w0, w1, w2, w3] = sample.got;
     let [s0, s1, s2, s3] = sample.sticky;
     [
-        u32::from(t0), u32::from(t1), u32::from(t2), u32::from(t3),
-        u32::from(r0), u32::from(r1), u32::from(r2), u32::from(r3),
-        w0, w1, w2, w3,
-        u32::from(s0), u32::from(s1), u32::from(s2), u32::from(s3),
+        u32::from(t0),
+        u32::from(t1),
+        u32::from(t2),
+        u32::from(t3),
+        u32::from(r0),
+        u32::from(r1),
+        u32::from(r2),
+        u32::from(r3),
+        w0,
+        w1,
+        w2,
+        w3,
+        u32::from(s0),
+        u32::from(s1),
+        u32::from(s2),
+        u32::from(s3),
     ]
 }

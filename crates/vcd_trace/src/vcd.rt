@@ -116,7 +116,12 @@ fn put_sample<S: Sink>(
 }
 
 // What a clock adds behind the one before it.
-fn put_step<S: Sink>(sink: &mut S, clock: u64, before: &Sample, now: &Sample) -> Result<(), SinkFailed>
+fn put_step<S: Sink>(
+    sink: &mut S,
+    clock: u64,
+    before: &Sample,
+    now: &Sample,
+) -> Result<(), SinkFailed>
     ensures bytes { Takes (S.taken sink.old) (step_text clock before.now now.now) (S.taken sink.new) result }
     ensures cause { PutCounts (S.faults sink.old) (S.faults sink.new) result }
 {

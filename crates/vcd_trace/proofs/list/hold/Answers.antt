@@ -1,4 +1,4 @@
-use Rattle.std.proofs.Common.{◌≡◌, ℕ, ◌+◌, ◌-◌, ◌≤◌, List, [], ◌∷◌, ◌++◌, Some, suc, length, vec_len, sym, ap, ◌∙◌, append_assoc, arith, rules}
+use Rattle.std.proofs.Common.{◌≡◌, ◌+◌, ◌-◌, [], ◌∷◌, ◌++◌, Some, suc, length, vec_len, sym, ap, ◌∙◌, append_assoc, arith}
 use Rattle.std.specs.Prelude.{replicate, slice_get}
 use Rattle.vcd_trace.proofs.ListLaws.{held_to-last, replicate-push}
 use Rattle.vcd_trace.proofs.list.hold.Goals as goal
@@ -12,7 +12,7 @@ loop-preserved c =
     let n = l.counter - length told in
     record {
       items = c.push.ensures.items ∙ ap (λ x. x ++ last ∷ []) l.invariant.items ∙ append_assoc told (replicate n last) (last ∷ [])
-        ∙ ap (λ x. told ++ x) (replicate-push n last ∙ ap (λ k. replicate k last) (let e : suc n ≡ l.counter + 1 - length told = omega arith in e));
+          ∙ ap (λ x. told ++ x) (replicate-push n last ∙ ap (λ k. replicate k last) (let e : suc n ≡ l.counter + 1 - length told = omega arith in e));
       within = omega arith;
       capacity = omega arith;
     }
