@@ -48,7 +48,8 @@ fn put_bits<S: Sink>(sink: &mut S, first: u8, count: u8, mut now: u32) -> Result
 
 fn put_vectors<S: Sink>(sink: &mut S, first: u8, now: &[u32; 16]) -> Result<(), SinkFailed>
     requires { first + 16 ≤ 256 }
-    ensures bytes { Takes (S.taken sink.old) (vector_lines first now.now) (S.taken sink.new) result }
+    ensures bytes { Takes (S.taken sink.old) (vector_lines first now.now)
+        (S.taken sink.new) result }
     ensures cause { PutCounts (S.faults sink.old) (S.faults sink.new) result }
 {
     for place in 0..16 {

@@ -1,4 +1,5 @@
-//! Traces of a block: who is told of its samples, and the value-change text (IEEE 1364-2005, section 18).
+//! Traces of a block: who is told of its samples, and the value-change text (IEEE 1364-2005,
+//! section 18).
 #![tactic(auto)]
 
 mod changes;

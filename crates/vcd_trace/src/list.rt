@@ -1,5 +1,6 @@
 //! A trace in memory: the list of the samples, in a room that is reserved at once.
-ghost use Rattle.std.specs.Prelude.{◌≡◌, ◌+◌, ◌<◌, ◌≤◌, [], ◌∷◌, ◌++◌, true, false, Err, Ok, Some, is_ok, length, vec_len, vec_capacity, IfOk};
+ghost use Rattle.std.specs.Prelude.{◌≡◌, ◌<◌, ◌≤◌, [], ◌∷◌, ◌++◌, true, false, Some, is_ok};
+ghost use Rattle.std.specs.Prelude.{length, vec_len, vec_capacity, IfOk};
 ghost use Rattle.vcd_trace.specs.Told.{held_to, told_at};
 ghost use Rattle.pio_edge.specs.Edge.{PutCounts};
 ghost use Rattle.pio_edge.specs.Count.{one_more};
@@ -12,8 +13,8 @@ use std::marker::Model;
 
 /// The samples that it was told of, as a list with one for each clock from 0 on.
 ///
-/// It takes the memory for all that it can keep when it is made. A call fails, and leaves the list as it was, where
-/// after it the list would be longer.
+/// It takes the memory for all that it can keep when it is made. A call fails, and leaves the
+/// list as it was, exactly where after it the list would be longer.
 #[derive(Drop)]
 pub struct ListTrace {
     samples: Vec<Sample>,
@@ -41,7 +42,8 @@ impl Model for ListTrace {
 impl ListTrace {
     /// An empty trace that keeps `room` samples at most.
     pub fn with_room(alloc: Global, room: usize) -> Result<Self, AllocError>
-        ensures { IfOk result (λ t. t ≡ record { samples = []; room = room; failed = false; faults = 0 }) }
+        ensures { IfOk result (λ t.
+            t ≡ record { samples = []; room = room; failed = false; faults = 0 }) }
     {
         Ok(ListTrace {
             samples: Vec::with_capacity(alloc, room)?,
@@ -68,7 +70,8 @@ impl ListTrace {
     // Counts a call for which there is no room.
     fn fail(&mut self) -> Result<(), TraceFailed>
         ensures answer { is_ok result ≡ false }
-        ensures after { self.new ≡ record self.old { failed = true; faults = one_more self.old.faults } }
+        ensures after { self.new
+            ≡ record self.old { failed = true; faults = one_more self.old.faults } }
         ensures cause { PutCounts self.old.faults self.new.faults result }
     {
         self.failed = true;
@@ -101,8 +104,10 @@ impl Trace for ListTrace {
 
     fn sample(&mut self, clock: u64, sample: &Sample) -> Result<(), TraceFailed>
         requires { self.old.failed ≡ false }
-        ensures passes { is_ok result ≡ has_room self.old (told_at clock sample.now self.old.samples) }
-        ensures after { self.new ≡ after_call self.old (told_at clock sample.now self.old.samples) }
+        ensures passes { is_ok result
+            ≡ has_room self.old (told_at clock sample.now self.old.samples) }
+        ensures after { self.new
+            ≡ after_call self.old (told_at clock sample.now self.old.samples) }
         ensures cause { PutCounts self.old.faults self.new.faults result }
     {
         if held_len(&self.samples, clock) >= self.room {

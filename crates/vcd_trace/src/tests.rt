@@ -53,7 +53,7 @@ const HIGH: Sample = Sample {
     ..QUIET
 };
 
-// What is told, and the text that it has to have behind the declarations (IEEE 1364-2005, section 18.2).
+// What is told, and the text that it has to have behind the declarations.
 struct Row {
     shows: &'static str,
     told: &'static [(u64, Sample)],
@@ -135,7 +135,9 @@ static ROWS: [Row; 6] = [
         ],
         end: 12,
         dumped: &[(79, "b1"), (84, "b100"), (87, "b1000")],
-        changes: "#9\n1!\n1@\n1`\n1a\n1h\nb1000 l\nb11111111111111111111111111111111 q\nb101 t\nb0 x\n#10\n0!\n0@\n0`\n0a\n0h\nb0 l\nb0 p\nb0 q\nb0 t\nb0 u\n#12\n",
+        changes: "#9\n1!\n1@\n1`\n1a\n1h\nb1000 l\n\
+            b11111111111111111111111111111111 q\nb101 t\nb0 x\n\
+            #10\n0!\n0@\n0`\n0a\n0h\nb0 l\nb0 p\nb0 q\nb0 t\nb0 u\n#12\n",
     },
 ];
 
@@ -218,10 +220,10 @@ fn texts_of_samples(rt: HostRuntime) -> Result<(), Fail> {
     Ok(())
 }
 
-// The call of the sink that fails, how much of its piece is taken, and how many bytes there are then.
+// The sink's call that fails, how much of its piece is taken, and how many bytes there are then.
 static FAILURES: [(u64, usize, usize); 6] = [
     (1, 0, 0),
-    // The first declaration of a variable, behind `$timescale 1 ns $end` and `$scope module pio $end`.
+    // The first declaration of a variable, behind two lines.
     (3, 0, 44),
     (3, 4, 48),
     // `$upscope $end`, behind 88 declarations.

@@ -1,4 +1,5 @@
-//! The variables: their identifiers are consecutive printable characters (IEEE 1364-2005, section 18.2.1).
+//! The variables: their identifiers are consecutive printable characters (IEEE 1364-2005,
+//! section 18.2.1).
 ghost use Rattle.std.specs.Prelude.{◌≡◌, ◌++◌, length};
 ghost use Rattle.vcd_trace.specs.Groups.{vectors_of};
 

@@ -12,7 +12,8 @@ use crate::trace::{Trace, TraceFailed};
 use block_core::Sample;
 use pio_edge::{Sink, SinkFailed};
 
-/// A trace as value-change text, of one unit a clock. Each line is one piece; its faults are its sink's.
+/// A trace as value-change text, of one unit a clock. Each line is put as one piece, and its
+/// faults are its sink's.
 #[derive(Drop)]
 pub struct VcdTrace<'a, S: Sink> {
     sink: &'a mut S,
@@ -106,7 +107,8 @@ fn put_sample<S: Sink>(
     last: Option<Sample>,
     sample: &Sample,
 ) -> Result<(), SinkFailed>
-    ensures bytes { Takes (S.taken sink.old) (added_text clock last sample.now) (S.taken sink.new) result }
+    ensures bytes { Takes (S.taken sink.old) (added_text clock last sample.now)
+        (S.taken sink.new) result }
     ensures cause { PutCounts (S.faults sink.old) (S.faults sink.new) result }
 {
     match last {
@@ -122,7 +124,8 @@ fn put_step<S: Sink>(
     before: &Sample,
     now: &Sample,
 ) -> Result<(), SinkFailed>
-    ensures bytes { Takes (S.taken sink.old) (step_text clock before.now now.now) (S.taken sink.new) result }
+    ensures bytes { Takes (S.taken sink.old) (step_text clock before.now now.now)
+        (S.taken sink.new) result }
     ensures cause { PutCounts (S.faults sink.old) (S.faults sink.new) result }
 {
     if *before == *now {
