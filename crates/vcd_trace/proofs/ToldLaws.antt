@@ -1,8 +1,7 @@
 -- What samples that are told one by one add to the text.
-use Rattle.std.proofs.Common.{◌≡◌, ℕ, ◌+◌, ◌-◌, ◌≤◌, Bool, true, false, cond, eqb, List, [], ◌∷◌, ◌++◌, zero, suc, length, Option, Some, None, refl, sym, ap, ◌∙◌, append_assoc, append-nil, length-append, arith, eq-eqb, subst}
+use Rattle.std.proofs.Common.{◌≡◌, ℕ, ◌+◌, ◌-◌, ◌≤◌, Bool, true, false, cond, eqb, List, [], ◌∷◌, ◌++◌, zero, suc, length, Option, Some, refl, sym, ap, ◌∙◌, append_assoc, append-nil, length-append, arith, eq-eqb, subst}
 use Rattle.std.specs.Prelude.{replicate, ◌&&◌}
 use lib.Pointwise.{pointwise}
-use Rattle.std.specs.Option.{is_some}
 use Rattle.std.proofs.lemmas.List.{length-replicate}
 use Rattle.pio_edge.specs.Edge.{with_bytes, TakesPrefix}
 use Rattle.block_core.specs.declared.sample.Sample.{Sample}
@@ -47,11 +46,6 @@ derived_same-is a b =
 -- a clock whose sample differs adds its line and the changes
 pub step_text-changed : (clock : ℕ) (a b : Sample) → false ≡ derived_same a b → step_text clock a b ≡ clock_line clock ++ changes_text a b
 step_text-changed clock a b h = ap (λ t. cond t [] (clock_line clock ++ changes_text a b)) (sym (derived_same-is a b) ∙ sym h)
-
--- the end adds its clock behind a sample
-pub ended_text-some : (clock : ℕ) (last : Option Sample) → is_some last ≡ true → ended_text clock last ≡ clock_line clock
-ended_text-some clock None h = cc
-ended_text-some clock (Some s) h = refl
 
 last_of-replicate : (n : ℕ) (s : Sample) → last_of s (replicate n s) ≡ s
 last_of-replicate zero s = refl

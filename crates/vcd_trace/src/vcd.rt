@@ -2,7 +2,7 @@
 ghost use Rattle.std.specs.Prelude.{◌≡◌, false, []};
 ghost use Rattle.pio_edge.specs.Edge.{Takes, PutCounts, TakesPrefix};
 ghost use Rattle.vcd_trace.specs.VcdText.{open_text, step_text, text_of};
-ghost use Rattle.vcd_trace.specs.Standing.{Standing, added_text};
+ghost use Rattle.vcd_trace.specs.Standing.{Standing, added_text, ended_text};
 
 use crate::changes::put_changes;
 use crate::dump::put_dump;
@@ -74,10 +74,7 @@ impl<'a, S: Sink> Trace for VcdTrace<'a, S> {
     }
 
     fn end(&mut self, clock: u64) -> Result<(), TraceFailed> {
-        if self.last.is_none() {
-            return Ok(());
-        }
-        match put_clock(self.sink, clock) {
+        match put_end(self.sink, clock, self.last) {
             Ok(()) => Ok(()),
             Err(SinkFailed) => {
                 self.failed = true;
@@ -114,6 +111,17 @@ fn put_sample<S: Sink>(
     match last {
         None => put_dump(sink, sample),
         Some(before) => put_step(sink, clock, &before, sample),
+    }
+}
+
+// What the end adds behind the sample that was told last.
+fn put_end<S: Sink>(sink: &mut S, clock: u64, last: Option<Sample>) -> Result<(), SinkFailed>
+    ensures bytes { Takes (S.taken sink.old) (ended_text clock last) (S.taken sink.new) result }
+    ensures cause { PutCounts (S.faults sink.old) (S.faults sink.new) result }
+{
+    match last {
+        None => Ok(()),
+        Some(_) => put_clock(sink, clock),
     }
 }
 
