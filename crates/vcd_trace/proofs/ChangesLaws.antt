@@ -50,7 +50,7 @@ widths-groups : widths ≡ replicate 32 1 ++ (replicate 32 1 ++ (replicate 8 1 +
 unfolding widths variables
 widths-groups = refl
 
-values-groups : (s : Sample) → values_of s ≡ bits_of 32 s.level ++ (bits_of 32 s.direction ++ (bits_of 8 s.flags ++ vectors_of s))
+pub values-groups : (s : Sample) → values_of s ≡ bits_of 32 s.level ++ (bits_of 32 s.direction ++ (bits_of 8 s.flags ++ vectors_of s))
 values-groups s = simp append_assoc
 
 -- one group of changed bits, then the others

@@ -3,5 +3,6 @@ pub mod Digits
 pub mod HeaderLaws
 pub mod ListLaws
 pub mod Puts
+pub mod SilenceLaws
 pub mod TextLaws
 pub mod ToldLaws

@@ -9,13 +9,13 @@ use Rattle.block_core.specs.Sample.{same_numbers, same_sample}
 use Rattle.vcd_trace.specs.Told.{IsNext, last_of, held_to, told_at}
 use Rattle.vcd_trace.specs.VcdText.{header_text, clock_line, dump_text, step_text, steps_text, open_text, closing_text, vcd_text, changes_text}
 use Rattle.vcd_trace.specs.Standing.{last_sample, Standing, added_text, ended_text}
-use Rattle.pio_edge.proofs.PutLaws.{with_bytes-append, takes_prefix-append_r}
+use Rattle.pio_edge.proofs.PutLaws.{with_bytes-append, takes_prefix-append_r, takes_prefix-append_l}
 
-and_true : (a b : Bool) → a ≡ true → b ≡ true → (a && b) ≡ true
+pub and_true : (a b : Bool) → a ≡ true → b ≡ true → (a && b) ≡ true
 and_true true b h k = k
 and_true false b h k = cc
 
-same_numbers-self : (xs : List ℕ) → same_numbers xs xs ≡ true
+pub same_numbers-self : (xs : List ℕ) → same_numbers xs xs ≡ true
 same_numbers-self [] = refl
 same_numbers-self (x ∷ xs) = and_true (eqb x x) (same_numbers xs xs) (eq-eqb x x refl) (same_numbers-self xs)
 
@@ -101,6 +101,24 @@ open_text-push s rest t =
     let front : List ℕ = header_text ++ clock_line 0 ++ dump_text s in
     ap (λ x. front ++ x) (steps_text-append 1 s rest (t ∷ []) ∙ ap (λ x. steps_text 1 s rest ++ x) (append-nil (step_text (1 + length rest) (last_of s rest) t)))
     ∙ sym (append_assoc front (steps_text 1 s rest) (step_text (1 + length rest) (last_of s rest) t))
+
+-- more samples only add to the text
+open_text-append : (l more : List Sample) → (rest : List ℕ) × (open_text (l ++ more) ≡ open_text l ++ rest)
+open_text-append [] [] = ([], sym (append-nil (open_text [])))
+open_text-append [] (s ∷ more) = (dump_text s ++ steps_text 1 s more, append_assoc (header_text ++ clock_line 0) (dump_text s) (steps_text 1 s more))
+open_text-append (s ∷ rest) more =
+    let front : List ℕ = header_text ++ clock_line 0 ++ dump_text s in
+    let later : List ℕ = steps_text (1 + length rest) (last_of s rest) more in
+    (later, ap (λ x. front ++ x) (steps_text-append 1 s rest more) ∙ sym (append_assoc front (steps_text 1 s rest) later))
+
+-- a first part of the text of some samples is one of the whole text of these and more
+pub early_part : (b now : Option (List ℕ)) (l more : List Sample) → TakesPrefix b (open_text l) now → TakesPrefix b (vcd_text (l ++ more)) now
+early_part b now l more h =
+    let t = open_text-append l more in
+    let closing : List ℕ = closing_text (l ++ more) in
+    let whole : vcd_text (l ++ more) ≡ open_text l ++ (t.0 ++ closing) = ap (λ x. x ++ closing) t.1 ∙ append_assoc (open_text l) t.0 closing in
+    let P : List ℕ → Type 0 = λ w. TakesPrefix b w now in
+    subst P (sym whole) (takes_prefix-append_l b now (open_text l) (t.0 ++ closing) h)
 
 -- a sample adds its own part to the text
 pub open_text-told : (clock : ℕ) (t : Sample) (l : List Sample) → IsNext l clock → open_text (told_at clock t l) ≡ open_text l ++ added_text clock (last_sample l) t

@@ -2,4 +2,5 @@ pub mod Told
 pub mod VcdText
 pub mod Standing
 pub mod Listing
+pub mod Shows
 pub mod Groups

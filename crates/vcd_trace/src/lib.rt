@@ -13,8 +13,9 @@ mod variable;
 mod vcd;
 
 pub use laws::{
-    repeated_samples_add_nothing, same_values_have_no_lines, text_only_grows,
-    the_text_ends_with_its_length, there_are_88_variables,
+    different_samples_have_lines, failing_early_leaves_a_first_part, repeated_samples_add_nothing,
+    same_values_have_no_lines, text_only_grows, the_text_ends_with_its_length,
+    there_are_88_variables,
 };
 pub use list::ListTrace;
 pub use trace::{Trace, TraceFailed};

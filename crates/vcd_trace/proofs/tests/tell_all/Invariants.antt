@@ -1,4 +1,4 @@
-use Rattle.std.proofs.Common.{◌≡◌, ℕ, Option, List, true, false, take}
+use Rattle.std.proofs.Common.{◌≡◌, ℕ, Option, List, false, take}
 use Rattle.vcd_trace.proofs.tests.tell_all.Given as goal
 
 -- the samples before this clock were told
