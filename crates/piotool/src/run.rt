@@ -16,7 +16,7 @@ use pio_edge::{Shelf, Sink, SinkFailed};
 use std::alloc::Global;
 use std::sync::ledger::Ledger;
 use step_count::Steps;
-use vcd_trace::{TraceFailed, VcdTrace, text_grows};
+use vcd_trace::{TraceFailed, VcdTrace, failing_early_leaves_a_first_part};
 
 /// Writes the trace of so many clocks of the first program of a source. All memory is taken before the first piece
 /// is put.
@@ -111,7 +111,7 @@ fn trace_run<O: Sink, L: Ledger>(
     ensures same { trace.new.sink.ghost_name ≡ trace.old.sink.ghost_name }
     ensures steps { steps.new ≤ steps.old + clocks }
 {
-    text_grows();
+    failing_early_leaves_a_first_part();
     let mut block = Block::new(setup);
     match simulate(&mut block, clocks, trace, steps) {
         Ok(()) => Ok(()),

@@ -50,7 +50,7 @@ widths-groups : widths ≡ replicate 32 1 ++ (replicate 32 1 ++ (replicate 8 1 +
 unfolding widths variables
 widths-groups = refl
 
-values-groups : (s : Sample) → values_of s ≡ bits_of 32 s.level ++ (bits_of 32 s.direction ++ (bits_of 8 s.flags ++ vectors_of s))
+pub values-groups : (s : Sample) → values_of s ≡ bits_of 32 s.level ++ (bits_of 32 s.direction ++ (bits_of 8 s.flags ++ vectors_of s))
 values-groups s = simp append_assoc
 
 -- one group of changed bits, then the others
@@ -68,10 +68,10 @@ changes-groups a b h k =
     ∙ ap (λ v. change_lines 33 (replicate 32 1 ++ (replicate 32 1 ++ (replicate 8 1 ++ vector_widths))) (bits_of 32 a.level ++ (bits_of 32 a.direction ++ (bits_of 8 a.flags ++ vectors_of a))) v) (values-groups b)
     ∙ bits_then 33 32 a.level b.level (replicate 32 1 ++ (replicate 8 1 ++ vector_widths)) (bits_of 32 a.direction ++ (bits_of 8 a.flags ++ vectors_of a)) (bits_of 32 b.direction ++ (bits_of 8 b.flags ++ vectors_of b))
     ∙ ap (λ x. bit_changes 33 32 a.level b.level ++ x)
-      (bits_then 65 32 a.direction b.direction (replicate 8 1 ++ vector_widths) (bits_of 8 a.flags ++ vectors_of a) (bits_of 8 b.flags ++ vectors_of b)
-      ∙ ap (λ x. bit_changes 65 32 a.direction b.direction ++ x)
-        (bits_then 97 8 a.flags b.flags vector_widths (vectors_of a) (vectors_of b)
-        ∙ ap (λ x. bit_changes 97 8 a.flags b.flags ++ x) (change_lines-vectors 105 vector_widths (vectors_of a) (vectors_of b) refl h k)))
+    (bits_then 65 32 a.direction b.direction (replicate 8 1 ++ vector_widths) (bits_of 8 a.flags ++ vectors_of a) (bits_of 8 b.flags ++ vectors_of b)
+    ∙ ap (λ x. bit_changes 65 32 a.direction b.direction ++ x)
+    (bits_then 97 8 a.flags b.flags vector_widths (vectors_of a) (vectors_of b)
+    ∙ ap (λ x. bit_changes 97 8 a.flags b.flags ++ x) (change_lines-vectors 105 vector_widths (vectors_of a) (vectors_of b) refl h k)))
 
 -- one group of bits, then the others
 lines_then : (id count now : ℕ) (ws b : List ℕ) → value_lines id (replicate count 1 ++ ws) (bits_of count now ++ b) ≡ bit_lines id count now ++ value_lines (id + count) ws b
@@ -87,10 +87,10 @@ values-text s h =
     ∙ ap (λ v. value_lines 33 (replicate 32 1 ++ (replicate 32 1 ++ (replicate 8 1 ++ vector_widths))) v) (values-groups s)
     ∙ lines_then 33 32 s.level (replicate 32 1 ++ (replicate 8 1 ++ vector_widths)) (bits_of 32 s.direction ++ (bits_of 8 s.flags ++ vectors_of s))
     ∙ ap (λ x. bit_lines 33 32 s.level ++ x)
-      (lines_then 65 32 s.direction (replicate 8 1 ++ vector_widths) (bits_of 8 s.flags ++ vectors_of s)
-      ∙ ap (λ x. bit_lines 65 32 s.direction ++ x)
-        (lines_then 97 8 s.flags vector_widths (vectors_of s)
-        ∙ ap (λ x. bit_lines 97 8 s.flags ++ x) (value_lines-vectors 105 vector_widths (vectors_of s) refl h)))
+    (lines_then 65 32 s.direction (replicate 8 1 ++ vector_widths) (bits_of 8 s.flags ++ vectors_of s)
+    ∙ ap (λ x. bit_lines 65 32 s.direction ++ x)
+    (lines_then 97 8 s.flags vector_widths (vectors_of s)
+    ∙ ap (λ x. bit_lines 97 8 s.flags ++ x) (value_lines-vectors 105 vector_widths (vectors_of s) refl h)))
 
 -- the dump's first line, its values, its last line
 pub dump-parts : (s : Sample) → dump_text s ≡ codes "$dumpvars\n" ++ (values_text s ++ codes "$end\n")

@@ -1,6 +1,8 @@
 pub mod ChangesLaws
 pub mod Digits
 pub mod HeaderLaws
+pub mod ListLaws
 pub mod Puts
+pub mod SilenceLaws
 pub mod TextLaws
 pub mod ToldLaws

@@ -1,22 +1,21 @@
 -- What samples that are told one by one add to the text.
-use Rattle.std.proofs.Common.{◌≡◌, ℕ, ◌+◌, ◌-◌, ◌≤◌, Bool, true, false, cond, eqb, List, [], ◌∷◌, ◌++◌, zero, suc, length, Option, Some, None, refl, sym, ap, ◌∙◌, append_assoc, append-nil, length-append, arith, eq-eqb, subst}
+use Rattle.std.proofs.Common.{◌≡◌, ℕ, ◌+◌, ◌-◌, ◌≤◌, Bool, true, false, cond, eqb, List, [], ◌∷◌, ◌++◌, zero, suc, length, Option, Some, refl, sym, ap, ◌∙◌, append_assoc, append-nil, length-append, arith, eq-eqb, subst}
 use Rattle.std.specs.Prelude.{replicate, ◌&&◌}
 use lib.Pointwise.{pointwise}
-use Rattle.std.specs.Option.{is_some}
 use Rattle.std.proofs.lemmas.List.{length-replicate}
 use Rattle.pio_edge.specs.Edge.{with_bytes, TakesPrefix}
 use Rattle.block_core.specs.declared.sample.Sample.{Sample}
 use Rattle.block_core.specs.Sample.{same_numbers, same_sample}
 use Rattle.vcd_trace.specs.Told.{IsNext, last_of, held_to, told_at}
-use Rattle.vcd_trace.specs.VcdText.{header_text, clock_line, dump_text, step_text, steps_text, open_text, closing_text, vcd_text, changes_text, GoesOn}
+use Rattle.vcd_trace.specs.VcdText.{header_text, clock_line, dump_text, step_text, steps_text, open_text, closing_text, vcd_text, changes_text}
 use Rattle.vcd_trace.specs.Standing.{last_sample, Standing, added_text, ended_text}
-use Rattle.pio_edge.proofs.PutLaws.{with_bytes-append, takes_prefix-append_r}
+use Rattle.pio_edge.proofs.PutLaws.{with_bytes-append, takes_prefix-append_r, takes_prefix-append_l}
 
-and_true : (a b : Bool) → a ≡ true → b ≡ true → (a && b) ≡ true
+pub and_true : (a b : Bool) → a ≡ true → b ≡ true → (a && b) ≡ true
 and_true true b h k = k
 and_true false b h k = cc
 
-same_numbers-self : (xs : List ℕ) → same_numbers xs xs ≡ true
+pub same_numbers-self : (xs : List ℕ) → same_numbers xs xs ≡ true
 same_numbers-self [] = refl
 same_numbers-self (x ∷ xs) = and_true (eqb x x) (same_numbers xs xs) (eq-eqb x x refl) (same_numbers-self xs)
 
@@ -24,7 +23,7 @@ same_numbers-self (x ∷ xs) = and_true (eqb x x) (same_numbers xs xs) (eq-eqb x
 pub same_sample-self : (s : Sample) → same_sample s s ≡ true
 same_sample-self s =
     and_true _ _ (eq-eqb s.level s.level refl) (and_true _ _ (eq-eqb s.direction s.direction refl) (and_true _ _ (eq-eqb s.flags s.flags refl)
-      (and_true _ _ (same_numbers-self s.tx) (and_true _ _ (same_numbers-self s.rx) (and_true _ _ (same_numbers-self s.got) (same_numbers-self s.sticky))))))
+    (and_true _ _ (same_numbers-self s.tx) (and_true _ _ (same_numbers-self s.rx) (and_true _ _ (same_numbers-self s.got) (same_numbers-self s.sticky))))))
 
 pointwise-same : (xs ys : List ℕ) → pointwise eqb xs ys ≡ same_numbers xs ys
 pointwise-same [] [] = refl
@@ -47,11 +46,6 @@ derived_same-is a b =
 -- a clock whose sample differs adds its line and the changes
 pub step_text-changed : (clock : ℕ) (a b : Sample) → false ≡ derived_same a b → step_text clock a b ≡ clock_line clock ++ changes_text a b
 step_text-changed clock a b h = ap (λ t. cond t [] (clock_line clock ++ changes_text a b)) (sym (derived_same-is a b) ∙ sym h)
-
--- the end adds its clock behind a sample
-pub ended_text-some : (clock : ℕ) (last : Option Sample) → is_some last ≡ true → ended_text clock last ≡ clock_line clock
-ended_text-some clock None h = cc
-ended_text-some clock (Some s) h = refl
 
 last_of-replicate : (n : ℕ) (s : Sample) → last_of s (replicate n s) ≡ s
 last_of-replicate zero s = refl
@@ -108,6 +102,24 @@ open_text-push s rest t =
     ap (λ x. front ++ x) (steps_text-append 1 s rest (t ∷ []) ∙ ap (λ x. steps_text 1 s rest ++ x) (append-nil (step_text (1 + length rest) (last_of s rest) t)))
     ∙ sym (append_assoc front (steps_text 1 s rest) (step_text (1 + length rest) (last_of s rest) t))
 
+-- more samples only add to the text
+open_text-append : (l more : List Sample) → (rest : List ℕ) × (open_text (l ++ more) ≡ open_text l ++ rest)
+open_text-append [] [] = ([], sym (append-nil (open_text [])))
+open_text-append [] (s ∷ more) = (dump_text s ++ steps_text 1 s more, append_assoc (header_text ++ clock_line 0) (dump_text s) (steps_text 1 s more))
+open_text-append (s ∷ rest) more =
+    let front : List ℕ = header_text ++ clock_line 0 ++ dump_text s in
+    let later : List ℕ = steps_text (1 + length rest) (last_of s rest) more in
+    (later, ap (λ x. front ++ x) (steps_text-append 1 s rest more) ∙ sym (append_assoc front (steps_text 1 s rest) later))
+
+-- a first part of the text of some samples is one of the whole text of these and more
+pub early_part : (b now : Option (List ℕ)) (l more : List Sample) → TakesPrefix b (open_text l) now → TakesPrefix b (vcd_text (l ++ more)) now
+early_part b now l more h =
+    let t = open_text-append l more in
+    let closing : List ℕ = closing_text (l ++ more) in
+    let whole : vcd_text (l ++ more) ≡ open_text l ++ (t.0 ++ closing) = ap (λ x. x ++ closing) t.1 ∙ append_assoc (open_text l) t.0 closing in
+    let P : List ℕ → Type 0 = λ w. TakesPrefix b w now in
+    subst P (sym whole) (takes_prefix-append_l b now (open_text l) (t.0 ++ closing) h)
+
 -- a sample adds its own part to the text
 pub open_text-told : (clock : ℕ) (t : Sample) (l : List Sample) → IsNext l clock → open_text (told_at clock t l) ≡ open_text l ++ added_text clock (last_sample l) t
 open_text-told clock t [] h = append-nil (header_text ++ clock_line 0 ++ dump_text t)
@@ -135,39 +147,23 @@ broken_more b taken taken' text more whole h k e = let P : List ℕ → Type 0 =
 pub sample_stands : (b : Option (List ℕ)) (l : List Sample) (taken : Option (List ℕ)) (last : Option Sample) (clock : ℕ) (t : Sample) (taken' : Option (List ℕ)) → Standing b l false taken last → IsNext l clock → taken' ≡ with_bytes taken (added_text clock last t) → Standing b (told_at clock t l) false taken' (Some t)
 sample_stands b l taken last clock t taken' h n k = record {
   text = taken_more b taken taken' (open_text l) (added_text clock (last_sample l) t) (open_text (told_at clock t l)) h.text
-    (k ∙ ap (λ x. with_bytes taken (added_text clock x t)) h.remembered) (open_text-told clock t l n);
+      (k ∙ ap (λ x. with_bytes taken (added_text clock x t)) h.remembered) (open_text-told clock t l n);
   remembered = sym (last_sample-push (held_to clock l) t);
 }
 
 pub sample_breaks : (b : Option (List ℕ)) (l : List Sample) (taken : Option (List ℕ)) (last : Option Sample) (clock : ℕ) (t : Sample) (taken' : Option (List ℕ)) → Standing b l false taken last → IsNext l clock → TakesPrefix taken (added_text clock last t) taken' → TakesPrefix b (open_text (told_at clock t l)) taken'
 sample_breaks b l taken last clock t taken' h n k =
     broken_more b taken taken' (open_text l) (added_text clock last t) (open_text (told_at clock t l)) h.text k
-      (open_text-told clock t l n ∙ ap (λ x. open_text l ++ added_text clock x t) (sym h.remembered))
+    (open_text-told clock t l n ∙ ap (λ x. open_text l ++ added_text clock x t) (sym h.remembered))
 
 pub end_stands : (b : Option (List ℕ)) (l : List Sample) (taken : Option (List ℕ)) (last : Option Sample) (clock : ℕ) (taken' : Option (List ℕ)) → Standing b l false taken last → IsNext l clock → taken' ≡ with_bytes taken (ended_text clock last) → Standing b (held_to clock l) true taken' last
 end_stands b l taken last clock taken' h n k = record {
   text = taken_more b taken taken' (open_text l) (ended_text clock (last_sample l)) (vcd_text (held_to clock l)) h.text
-    (k ∙ ap (λ x. with_bytes taken (ended_text clock x)) h.remembered) (vcd_text-held clock l n);
+      (k ∙ ap (λ x. with_bytes taken (ended_text clock x)) h.remembered) (vcd_text-held clock l n);
   remembered = h.remembered ∙ sym (last_sample-held clock l);
 }
 
 pub end_breaks : (b : Option (List ℕ)) (l : List Sample) (taken : Option (List ℕ)) (last : Option Sample) (clock : ℕ) (taken' : Option (List ℕ)) → Standing b l false taken last → IsNext l clock → TakesPrefix taken (ended_text clock last) taken' → TakesPrefix b (vcd_text (held_to clock l)) taken'
 end_breaks b l taken last clock taken' h n k =
     broken_more b taken taken' (open_text l) (ended_text clock last) (vcd_text (held_to clock l)) h.text k
-      (vcd_text-held clock l n ∙ ap (λ x. open_text l ++ ended_text clock x) (sym h.remembered))
-
--- an open text goes on as more samples are told
-open_text-append : (told later : List Sample) → GoesOn (open_text (told ++ later)) (open_text told)
-open_text-append [] [] = ([], sym (append-nil (open_text [])))
-open_text-append [] (s ∷ rest) = (dump_text s ++ steps_text 1 s rest, append_assoc (header_text ++ clock_line 0) (dump_text s) (steps_text 1 s rest))
-open_text-append (s ∷ rest) later =
-    let front = header_text ++ clock_line 0 ++ dump_text s in
-    let more = steps_text (1 + length rest) (last_of s rest) later in
-    (more, ap (λ t. front ++ t) (steps_text-append 1 s rest later) ∙ sym (append_assoc front (steps_text 1 s rest) more))
-
--- and so does the whole text of them
-pub vcd_text-append : (told later : List Sample) → GoesOn (vcd_text (told ++ later)) (open_text told)
-vcd_text-append told later =
-    let more = open_text-append told later in
-    let closing = closing_text (told ++ later) in
-    (more.0 ++ closing, ap (λ t. t ++ closing) more.1 ∙ append_assoc (open_text told) more.0 closing)
+    (vcd_text-held clock l n ∙ ap (λ x. open_text l ++ ended_text clock x) (sym h.remembered))

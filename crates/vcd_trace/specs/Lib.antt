@@ -1,4 +1,6 @@
 pub mod Told
 pub mod VcdText
 pub mod Standing
+pub mod Listing
+pub mod Shows
 pub mod Groups

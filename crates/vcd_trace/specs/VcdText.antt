@@ -1,5 +1,5 @@
 -- What the value-change text of a list of samples is (IEEE 1364-2005, section 18.2), for the 88 variables of this profile.
-use Rattle.std.specs.Prelude.{◌≡◌, ℕ, ◌+◌, ◌==◌, Bool, true, false, List, [], ◌∷◌, ◌++◌, length, zero, suc, codes, decimal, map, if◌then◌else◌}
+use Rattle.std.specs.Prelude.{ℕ, ◌+◌, ◌==◌, Bool, true, false, List, [], ◌∷◌, ◌++◌, length, zero, suc, codes, decimal, map, if◌then◌else◌}
 use Rattle.std.specs.Fmt.{digits}
 use Rattle.block_core.specs.declared.sample.Sample.{Sample}
 use Rattle.block_core.specs.Sample.{values_of, same_sample}
@@ -104,11 +104,3 @@ vcd_text told = open_text told ++ closing_text told
 abbrev pub text_of : List Sample → Bool → List ℕ
 text_of told true = vcd_text told
 text_of told false = open_text told
-
--- one text goes on from another
-abbrev pub GoesOn : List ℕ → List ℕ → Type 0
-GoesOn text first = (rest : List ℕ) × (text ≡ first ++ rest)
-
--- the whole text of more samples goes on from the text of the first of them, still without its closing clock
-abbrev pub TextGrows : Type 0
-TextGrows = (told later : List Sample) → GoesOn (vcd_text (told ++ later)) (open_text told)

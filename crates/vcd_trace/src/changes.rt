@@ -10,8 +10,13 @@ use block_core::Sample;
 use pio_edge::{Sink, SinkFailed};
 
 /// Puts the lines of the values that are not what they were.
-pub(crate) fn put_changes<S: Sink>(sink: &mut S, before: &Sample, now: &Sample) -> Result<(), SinkFailed>
-    ensures bytes { Takes (S.taken sink.old) (changes_text before.now now.now) (S.taken sink.new) result }
+pub(crate) fn put_changes<S: Sink>(
+    sink: &mut S,
+    before: &Sample,
+    now: &Sample,
+) -> Result<(), SinkFailed>
+    ensures bytes { Takes (S.taken sink.old) (changes_text before.now now.now)
+        (S.taken sink.new) result }
     ensures cause { PutCounts (S.faults sink.old) (S.faults sink.new) result }
 {
     let (vectors_before, vectors_now) = (vectors_of(before), vectors_of(now));
@@ -30,7 +35,8 @@ fn put_changed_bits<S: Sink>(
     mut now: u32,
 ) -> Result<(), SinkFailed>
     requires { first + count ≤ 256 }
-    ensures bytes { Takes (S.taken sink.old) (bit_changes first count before now) (S.taken sink.new) result }
+    ensures bytes { Takes (S.taken sink.old) (bit_changes first count before now)
+        (S.taken sink.new) result }
     ensures cause { PutCounts (S.faults sink.old) (S.faults sink.new) result }
 {
     for step in 0..count {
@@ -56,7 +62,8 @@ fn put_changed_vectors<S: Sink>(
     now: &[u32; 16],
 ) -> Result<(), SinkFailed>
     requires { first + 16 ≤ 256 }
-    ensures bytes { Takes (S.taken sink.old) (vector_changes first before.now now.now) (S.taken sink.new) result }
+    ensures bytes { Takes (S.taken sink.old) (vector_changes first before.now now.now)
+        (S.taken sink.new) result }
     ensures cause { PutCounts (S.faults sink.old) (S.faults sink.new) result }
 {
     for place in 0..16 {

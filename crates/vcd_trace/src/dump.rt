@@ -31,12 +31,7 @@ fn put_values<S: Sink>(sink: &mut S, sample: &Sample) -> Result<(), SinkFailed>
 }
 
 // The low `count` bits, from bit 0 on.
-fn put_bits<S: Sink>(
-    sink: &mut S,
-    first: u8,
-    count: u8,
-    mut now: u32,
-) -> Result<(), SinkFailed>
+fn put_bits<S: Sink>(sink: &mut S, first: u8, count: u8, mut now: u32) -> Result<(), SinkFailed>
     requires { first + count ≤ 256 }
     ensures bytes { Takes (S.taken sink.old) (bit_lines first count now) (S.taken sink.new) result }
     ensures cause { PutCounts (S.faults sink.old) (S.faults sink.new) result }
@@ -53,7 +48,8 @@ fn put_bits<S: Sink>(
 
 fn put_vectors<S: Sink>(sink: &mut S, first: u8, now: &[u32; 16]) -> Result<(), SinkFailed>
     requires { first + 16 ≤ 256 }
-    ensures bytes { Takes (S.taken sink.old) (vector_lines first now.now) (S.taken sink.new) result }
+    ensures bytes { Takes (S.taken sink.old) (vector_lines first now.now)
+        (S.taken sink.new) result }
     ensures cause { PutCounts (S.faults sink.old) (S.faults sink.new) result }
 {
     for place in 0..16 {

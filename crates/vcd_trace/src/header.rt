@@ -1,7 +1,8 @@
 //! The declarations that a trace begins with (IEEE 1364-2005, section 18.2.3).
 ghost use Rattle.std.specs.Prelude.{◌≡◌, ℕ, ◌+◌, ◌≤◌, ◌<◌, ◌∷◌, decimal};
 ghost use Rattle.pio_edge.specs.Edge.{Takes, PutCounts};
-ghost use Rattle.vcd_trace.specs.VcdText.{header_text, declaration, declarations, numbered, variables, variable};
+ghost use Rattle.vcd_trace.specs.VcdText.{header_text, variables, variable, numbered};
+ghost use Rattle.vcd_trace.specs.VcdText.{declaration, declarations};
 
 use crate::variable::LEVEL;
 use arrayvec::ArrayString;
@@ -17,13 +18,41 @@ struct Group {
 }
 
 const GROUPS: [Group; 7] = [
-    Group { letter: b'p', width: 1, count: 32 },
-    Group { letter: b'd', width: 1, count: 32 },
-    Group { letter: b'f', width: 1, count: 8 },
-    Group { letter: b't', width: 4, count: 4 },
-    Group { letter: b'r', width: 4, count: 4 },
-    Group { letter: b'w', width: 32, count: 4 },
-    Group { letter: b's', width: 4, count: 4 },
+    Group {
+        letter: b'p',
+        width: 1,
+        count: 32,
+    },
+    Group {
+        letter: b'd',
+        width: 1,
+        count: 32,
+    },
+    Group {
+        letter: b'f',
+        width: 1,
+        count: 8,
+    },
+    Group {
+        letter: b't',
+        width: 4,
+        count: 4,
+    },
+    Group {
+        letter: b'r',
+        width: 4,
+        count: 4,
+    },
+    Group {
+        letter: b'w',
+        width: 32,
+        count: 4,
+    },
+    Group {
+        letter: b's',
+        width: 4,
+        count: 4,
+    },
 ];
 
 /// Puts the declarations, each line as one piece.
@@ -39,7 +68,8 @@ pub(crate) fn put_header<S: Sink>(sink: &mut S) -> Result<(), SinkFailed>
 }
 
 fn put_declarations<S: Sink>(sink: &mut S) -> Result<(), SinkFailed>
-    ensures bytes { Takes (S.taken sink.old) (declarations LEVEL variables) (S.taken sink.new) result }
+    ensures bytes { Takes (S.taken sink.old) (declarations LEVEL variables)
+        (S.taken sink.new) result }
     ensures cause { PutCounts (S.faults sink.old) (S.faults sink.new) result }
 {
     let mut id = LEVEL;
@@ -57,7 +87,8 @@ fn put_group<S: Sink>(sink: &mut S, first: u8, group: Group) -> Result<(), SinkF
     requires ids { first + group.count ≤ 128 }
     requires letter { group.letter < 128 }
     ensures bytes { Takes (S.taken sink.old)
-        (declarations first (numbered group.letter group.width 0 group.count)) (S.taken sink.new) result }
+        (declarations first (numbered group.letter group.width 0 group.count))
+        (S.taken sink.new) result }
     ensures cause { PutCounts (S.faults sink.old) (S.faults sink.new) result }
 {
     for number in 0..group.count {
@@ -78,7 +109,8 @@ fn put_declaration<S: Sink>(
 ) -> Result<(), SinkFailed>
     requires id { id < 128 }
     requires letter { letter < 128 }
-    ensures bytes { Takes (S.taken sink.old) (declaration id (variable letter width number)) (S.taken sink.new) result }
+    ensures bytes { Takes (S.taken sink.old) (declaration id (variable letter width number))
+        (S.taken sink.new) result }
     ensures cause { PutCounts (S.faults sink.old) (S.faults sink.new) result }
 {
     let mut digits = Buffer::new();

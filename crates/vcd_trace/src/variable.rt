@@ -1,4 +1,5 @@
-//! The variables: their identifiers are consecutive printable characters (IEEE 1364-2005, section 18.2.1).
+//! The variables: their identifiers are consecutive printable characters (IEEE 1364-2005,
+//! section 18.2.1).
 ghost use Rattle.std.specs.Prelude.{◌≡◌, ◌++◌, length};
 ghost use Rattle.vcd_trace.specs.Groups.{vectors_of};
 
@@ -26,9 +27,21 @@ pub(crate) fn vectors_of(sample: &Sample) -> [u32; 16]
     let [w0, w1, w2, w3] = sample.got;
     let [s0, s1, s2, s3] = sample.sticky;
     [
-        u32::from(t0), u32::from(t1), u32::from(t2), u32::from(t3),
-        u32::from(r0), u32::from(r1), u32::from(r2), u32::from(r3),
-        w0, w1, w2, w3,
-        u32::from(s0), u32::from(s1), u32::from(s2), u32::from(s3),
+        u32::from(t0),
+        u32::from(t1),
+        u32::from(t2),
+        u32::from(t3),
+        u32::from(r0),
+        u32::from(r1),
+        u32::from(r2),
+        u32::from(r3),
+        w0,
+        w1,
+        w2,
+        w3,
+        u32::from(s0),
+        u32::from(s1),
+        u32::from(s2),
+        u32::from(s3),
     ]
 }

@@ -2,7 +2,7 @@
 ghost use Rattle.std.specs.Prelude.{◌≡◌, false, []};
 ghost use Rattle.pio_edge.specs.Edge.{Takes, PutCounts, TakesPrefix};
 ghost use Rattle.vcd_trace.specs.VcdText.{open_text, step_text, text_of};
-ghost use Rattle.vcd_trace.specs.Standing.{Standing, added_text};
+ghost use Rattle.vcd_trace.specs.Standing.{Standing, added_text, ended_text};
 
 use crate::changes::put_changes;
 use crate::dump::put_dump;
@@ -12,7 +12,8 @@ use crate::trace::{Trace, TraceFailed};
 use block_core::Sample;
 use pio_edge::{Sink, SinkFailed};
 
-/// A trace as value-change text, of one unit a clock. Each line is one piece; its faults are its sink's.
+/// A trace as value-change text, of one unit a clock. Each line is put as one piece, and its
+/// faults are its sink's.
 #[derive(Drop)]
 pub struct VcdTrace<'a, S: Sink> {
     sink: &'a mut S,
@@ -73,10 +74,7 @@ impl<'a, S: Sink> Trace for VcdTrace<'a, S> {
     }
 
     fn end(&mut self, clock: u64) -> Result<(), TraceFailed> {
-        if self.last.is_none() {
-            return Ok(());
-        }
-        match put_clock(self.sink, clock) {
+        match put_end(self.sink, clock, self.last) {
             Ok(()) => Ok(()),
             Err(SinkFailed) => {
                 self.failed = true;
@@ -106,7 +104,8 @@ fn put_sample<S: Sink>(
     last: Option<Sample>,
     sample: &Sample,
 ) -> Result<(), SinkFailed>
-    ensures bytes { Takes (S.taken sink.old) (added_text clock last sample.now) (S.taken sink.new) result }
+    ensures bytes { Takes (S.taken sink.old) (added_text clock last sample.now)
+        (S.taken sink.new) result }
     ensures cause { PutCounts (S.faults sink.old) (S.faults sink.new) result }
 {
     match last {
@@ -115,9 +114,26 @@ fn put_sample<S: Sink>(
     }
 }
 
+// What the end adds behind the sample that was told last.
+fn put_end<S: Sink>(sink: &mut S, clock: u64, last: Option<Sample>) -> Result<(), SinkFailed>
+    ensures bytes { Takes (S.taken sink.old) (ended_text clock last) (S.taken sink.new) result }
+    ensures cause { PutCounts (S.faults sink.old) (S.faults sink.new) result }
+{
+    match last {
+        None => Ok(()),
+        Some(_) => put_clock(sink, clock),
+    }
+}
+
 // What a clock adds behind the one before it.
-fn put_step<S: Sink>(sink: &mut S, clock: u64, before: &Sample, now: &Sample) -> Result<(), SinkFailed>
-    ensures bytes { Takes (S.taken sink.old) (step_text clock before.now now.now) (S.taken sink.new) result }
+fn put_step<S: Sink>(
+    sink: &mut S,
+    clock: u64,
+    before: &Sample,
+    now: &Sample,
+) -> Result<(), SinkFailed>
+    ensures bytes { Takes (S.taken sink.old) (step_text clock before.now now.now)
+        (S.taken sink.new) result }
     ensures cause { PutCounts (S.faults sink.old) (S.faults sink.new) result }
 {
     if *before == *now {

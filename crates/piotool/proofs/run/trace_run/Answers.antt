@@ -13,5 +13,5 @@ returns-in-Err-clause-ends g c =
     let before = g.O.Sink.taken c.args.trace.now.sink.now in
     let after = g.O.Sink.taken c.simulate.new.trace.sink.now in
     let broke = c.in-Err.ensures.err before refl in
-    let part = broken_run before after c.new-block.result.setup c.args.clocks c.text_grows.ensures broke in
+    let part = broken_run before after c.new-block.result.setup c.args.clocks c.failing_early_leaves_a_first_part.ensures broke in
     (refl, subst (λ (s : Setup). TakesPrefix before (vcd_text (samples s c.args.clocks)) after) c.new-block.ensures.setup part, c.in-Err.ensures.cause.failed)

@@ -24,11 +24,12 @@ loop-place-preserved g c =
     let turn = vector_changes-turn c.args.first i before now in_before in_now in
     let line = vector_line (c.args.first + i) (get_or now i 0) in
     elim c.if-before-place.branch [
-      then-before-place+in-Ok w ↦ record {
+      | then-before-place+in-Ok w ↦ record {
         going = going_changed _ _ _ _ _ line _ (get_or before i 0) (get_or now i 0) c.loop-place.invariant.going turn w.if-before-place.true (ap g.S.Sink.taken w.sink-is ∙ w.in-Ok.ensures.bytes);
         counts = ap g.S.Sink.faults w.sink-is ∙ w.in-Ok.ensures.cause.ok ∙ c.loop-place.invariant.counts;
       }
-    | else-before-place w ↦ record {
+      | else-before-place w ↦ record {
         going = going_stayed _ _ _ _ _ line _ (get_or before i 0) (get_or now i 0) c.loop-place.invariant.going turn w.if-before-place.false (ap g.S.Sink.taken w.sink-is);
         counts = ap g.S.Sink.faults w.sink-is ∙ c.loop-place.invariant.counts;
-      } ]
+      }
+    ]

@@ -22,4 +22,4 @@ returns-clause-bytes g c =
     let l = c.loop-step in
     let a = c.args in
     going_done _ _ _ (bit_lines (a.first + l.step) (a.count - l.step) l.now) l.invariant.going
-      (ap (λ k. bit_lines (a.first + l.step) k l.now) (let e : a.count - l.step ≡ 0 = omega arith in e) ∙ bit_lines-none (a.first + l.step) l.now)
+    (ap (λ k. bit_lines (a.first + l.step) k l.now) (let e : a.count - l.step ≡ 0 = omega arith in e) ∙ bit_lines-none (a.first + l.step) l.now)

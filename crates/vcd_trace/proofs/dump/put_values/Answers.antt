@@ -29,5 +29,5 @@ returns-clause-bytes g c =
     let g1 = going_on _ _ _ _ _ _ _ (going_begins _ _) (values-text s v.ensures.count) c.in_ok-put_bits.ensures.bytes in
     let g2 = going_on _ _ _ _ _ (bit_lines 65 32 s.direction) (bit_lines 97 8 s.flags ++ vector_lines 105 (vectors_of s)) g1 refl c.in_ok-put_bits-2.ensures.bytes in
     let g3 = going_on _ _ _ _ _ (bit_lines 97 8 c.from.result) (vector_lines 105 v.result) g2
-      (ap (λ n. bit_lines 97 8 n ++ vector_lines 105 (vectors_of s)) (sym c.from.ensures) ∙ ap (λ x. bit_lines 97 8 c.from.result ++ vector_lines 105 x) (sym v.ensures.values)) c.in_ok-put_bits-3.ensures.bytes in
+    (ap (λ n. bit_lines 97 8 n ++ vector_lines 105 (vectors_of s)) (sym c.from.ensures) ∙ ap (λ x. bit_lines 97 8 c.from.result ++ vector_lines 105 x) (sym v.ensures.values)) c.in_ok-put_bits-3.ensures.bytes in
     takes_last _ _ _ _ _ c.put_vectors.result g3 c.put_vectors.ensures.bytes

@@ -44,7 +44,7 @@ loop-rest-preserved c =
       size = length-set l.line (l.start - 1) (48 + l.rest % 2) ∙ l.invariant.size;
       fits = more;
       text = ap (binary_onto (l.start - 1 + 31) (l.rest / 2)) (put_before l.line l.start (48 + l.rest % 2) (omega arith) (omega arith))
-        ∙ sym (binary_onto-step (l.start - 1 + 31) (l.start + 31) l.rest (drop l.start l.line) (omega arith) c.if-rest-eq0.false) ∙ l.invariant.text;
+          ∙ sym (binary_onto-step (l.start - 1 + 31) (l.start + 31) l.rest (drop l.start l.line) (omega arith) c.if-rest-eq0.false) ∙ l.invariant.text;
     }
 
 pub returns-clause-text : goal.returns-clause-text
@@ -53,4 +53,4 @@ returns-clause-text c =
     let line = slice_set l.line (l.start - 1) (48 + l.rest % 2) in
     put_before line (l.start - 1) 98 (omega arith) (omega (arith, length-set l.line (l.start - 1) (48 + l.rest % 2)))
     ∙ ap (λ x. 98 ∷ x) (put_before l.line l.start (48 + l.rest % 2) (omega arith) (omega arith)
-      ∙ sym (binary_onto-last (l.start + 31) l.rest (drop l.start l.line) (omega arith) c.if-rest-eq0.true) ∙ l.invariant.text)
+    ∙ sym (binary_onto-last (l.start + 31) l.rest (drop l.start l.line) (omega arith) c.if-rest-eq0.true) ∙ l.invariant.text)

@@ -1,0 +1,5 @@
+use Rattle.vcd_trace.proofs.ToldLaws.{early_part}
+use Rattle.vcd_trace.proofs.laws.failing_early_leaves_a_first_part.Goals as goal
+
+pub returns : goal.returns
+returns c = early_part
