@@ -1,4 +1,4 @@
-use Rattle.std.proofs.Common.{List, map}
+use Rattle.std.proofs.Common.{map}
 use Rattle.pio_assemble.specs.Program.{assembled_of}
 use Rattle.pio_assemble.proofs.Form.{found_by, only_by}
 use Rattle.pio_assemble.proofs.source.assemble.Goals as goal
