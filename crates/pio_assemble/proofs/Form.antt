@@ -1,5 +1,5 @@
 -- The law of the reader: the source has exactly the program that the relation gives it.
-use Rattle.std.proofs.Common.{◌≡◌, ℕ, true, false, ◌&&◌, ltb, leb, List, [], ◌∷◌, length, Option, Some, None, Ok, refl, sym, ap, subst, ◌∙◌, inl, inr}
+use Rattle.std.proofs.Common.{Result, Err, ◌≡◌, ℕ, true, false, ◌&&◌, ltb, leb, List, [], ◌∷◌, length, Option, Some, None, Ok, refl, sym, ap, subst, ◌∙◌, inl, inr}
 use Rattle.std.proofs.lemmas.Bool.{and_parts, leb-true, le-leb, ltb-false, le-ltb}
 use Rattle.std.proofs.lemmas.Option.{cond_some}
 use Rattle.pio_assemble.specs.declared.statement.Statement.{Statement}
@@ -8,8 +8,11 @@ use Rattle.pio_assemble.specs.declared.symbols.Symbol.{Symbol}
 use Rattle.pio_assemble.specs.Program.{Assembled}
 use Rattle.pio_assemble.specs.Statement.{◌>>=◌}
 use Rattle.pio_assemble.specs.Meaning.{word_count, symbols_from, symbols_of, are_distinct, words_of, program_with, linked, meaning_of}
-use Rattle.pio_assemble.specs.Source.{Means, IsSource, source_statements, program_of_source, answer, reads_source}
+use Rattle.pio_assemble.specs.Source.{Means, IsSource, Refusal, source_statements, program_of_source, answer, reads_source}
 use Rattle.pio_assemble.proofs.Tokens.{then_some, some_is, chosen}
+use Rattle.std.specs.Result.{IfOk}
+use Rattle.pio_assemble.specs.declared.fault.SourceFault.{SourceFault}
+use Rattle.pio_assemble.specs.Answers.{Gives}
 use Rattle.pio_assemble.proofs.Lines.{source_sound, source_complete}
 
 linked_sound : (name : List ℕ) (body : List Statement) (p : Assembled) → linked name body ≡ Some p → Means name body p
@@ -76,3 +79,17 @@ form_complete bytes p h =
     let b : source_statements bytes ≡ Some (Program h.name ∷ h.body) = source_complete bytes (Program h.name) h.body h.says in
     let c : linked h.name h.body ≡ Some p = linked_complete h.name h.body p h.means in
     rw (a, b, c) refl
+
+-- ---- what a call gives
+
+answer_ok : (o : Option Assembled) (xs : List Assembled) → answer o ≡ Ok xs → (p : Assembled) × (xs ≡ p ∷ []) × (answer o ≡ Ok (p ∷ []))
+answer_ok None xs e = absurd cc
+answer_ok (Some p) xs e = (p, cc, refl)
+
+pub found_by : {X : Type 0} (view : X → List Assembled) (r : Result X SourceFault) (bytes : List ℕ) → Gives view r (reads_source bytes) → IfOk r (λ v. (p : Assembled) × (view v ≡ p ∷ []) × IsSource bytes p)
+found_by view (Ok v) bytes h =
+    let a = answer_ok (program_of_source bytes) (view v) h in (a.0, a.1, form_sound bytes a.0 a.2)
+found_by view (Err fault) bytes h = tt
+
+pub only_by : {X : Type 0} (view : X → List Assembled) (r : Result X SourceFault) (bytes : List ℕ) (p : Assembled) → IsSource bytes p → Gives view r (reads_source bytes) → Gives view r (Ok (p ∷ []))
+only_by view r bytes p h g = subst (λ (read : Result (List Assembled) Refusal). Gives view r read) (form_complete bytes p h) g

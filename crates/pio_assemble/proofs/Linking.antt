@@ -1,8 +1,12 @@
 -- The loops over a program's statements and labels.
-use Rattle.std.proofs.Common.{◌≡◌, ℕ, ◌+◌, ◌<◌, ◌≤◌, Bool, true, false, cond, if◌then◌else◌, ◌-◌, ◌&&◌, not, leb, List, [], ◌∷◌, ◌++◌, length, get_or, drop, Option, Some, None, refl, sym, ap, subst, ◌∙◌, append_assoc, length-append, arith}
+use Rattle.std.proofs.Common.{◌≡◌, ℕ, ◌+◌, ◌<◌, ◌≤◌, Bool, true, false, cond, if◌then◌else◌, ◌-◌, ◌&&◌, ◌||◌, not, leb, List, [], ◌∷◌, ◌++◌, length, get_or, take, drop, Option, Some, None, refl, sym, ap, subst, ◌∙◌, append_assoc, length-append, arith}
 use Rattle.std.specs.List.{list_any}
 use Rattle.std.specs.Str.{bytes_eq}
-use Rattle.std.proofs.lemmas.List.{at_drop_more, at_drop_all, append-nil}
+use Rattle.std.specs.Option.{is_some}
+use Rattle.std.proofs.lemmas.Bool.Decides.{same_from_decides}
+use Rattle.std.proofs.lemmas.Slice.Eq.{bytes_eq-Decides}
+use Rattle.std.proofs.lemmas.List.{at_drop_more, at_drop_all, append-nil, take_more}
+use Rattle.std.proofs.lemmas.List.Folds.{list_any_more}
 use Rattle.std.proofs.lemmas.Bool.{le-leb}
 use Rattle.std.proofs.Math.Bridge.{le_prop}
 use Rattle.std.proofs.lemmas.List.Sums.{sum_by-cons}
@@ -16,30 +20,55 @@ use Rattle.pio_assemble.specs.declared.statement.Statement.{Statement}
 use Rattle.pio_assemble.specs.declared.statement.Statement.TheVariants.{Program, Label, Jump, Set}
 use Rattle.pio_assemble.specs.declared.symbols.Symbol.{Symbol}
 use Rattle.pio_assemble.specs.Statement.{◌>>=◌}
-use Rattle.pio_assemble.specs.Meaning.{symbols_of, linked, plain_rule, is_instruction, word_count, symbols_from, are_distinct, label_symbol, address_of, plain_word, words_at, words_of}
+use Rattle.pio_assemble.specs.Meaning.{symbols_of, linked, plain_rule, is_instruction, word_count, symbols_from, are_new, are_distinct, label_symbol, address_of, plain_word, words_at, words_of}
 use Rattle.pio_assemble.proofs.Scan.{with_front}
 
 -- ---- symbols with names of their own
 
-distinct_cons : (s : Symbol) (rest : List Symbol) → are_distinct (s ∷ rest) ≡ (not (list_any (λ other. bytes_eq s.name other.name) rest) && are_distinct rest)
-unfolding are_distinct
-distinct_cons s rest = refl
+bytes_eq-sym : (a b : List ℕ) → bytes_eq a b ≡ bytes_eq b a
+bytes_eq-sym a b =
+    let there = bytes_eq-Decides a b in
+    let back = bytes_eq-Decides b a in
+    same_from_decides (bytes_eq a b) (bytes_eq b a) there ((λ e. sym (back.0 e)), (λ e. back.1 (sym e)))
 
-distinct_at : (symbols : List Symbol) (i : ℕ) (s : Symbol) → i < length symbols → s ≡ get_or symbols i s → are_distinct (drop i symbols) ≡ are_distinct symbols → (not (list_any (λ other. bytes_eq s.name other.name) (drop (i + 1) symbols)) && are_distinct (drop (i + 1) symbols)) ≡ are_distinct symbols
-distinct_at symbols i s lt e same =
-    sym (at_drop_more are_distinct symbols i s lt ∙ ap (λ (x : Symbol). are_distinct (x ∷ drop (i + 1) symbols)) (sym e) ∙ distinct_cons s (drop (i + 1) symbols)) ∙ same
+-- some symbol has the name
+abbrev pub is_named : List ℕ → List Symbol → Bool
+is_named name symbols = list_any (λ other. bytes_eq name other.name) symbols
 
-pub distinct_more : (symbols : List Symbol) (i : ℕ) (s : Symbol) → i < length symbols → s ≡ get_or symbols i s → list_any (λ other. bytes_eq s.name other.name) (drop (i + 1) symbols) ≡ false → are_distinct (drop i symbols) ≡ are_distinct symbols → are_distinct (drop (i + 1) symbols) ≡ are_distinct symbols
-distinct_more symbols i s lt e none same =
-    sym (ap (λ (b : Bool). not b && are_distinct (drop (i + 1) symbols)) none) ∙ distinct_at symbols i s lt e same
+some_or : (b : Bool) (old : Option (Unit {0})) → is_some (cond b (Some tt) old) ≡ (is_some old || b)
+some_or true None = refl
+some_or true (Some u) = refl
+some_or false None = refl
+some_or false (Some u) = refl
 
-pub not_distinct : (symbols : List Symbol) (i : ℕ) (s : Symbol) → i < length symbols → s ≡ get_or symbols i s → list_any (λ other. bytes_eq s.name other.name) (drop (i + 1) symbols) ≡ true → are_distinct (drop i symbols) ≡ are_distinct symbols → false ≡ are_distinct symbols
-not_distinct symbols i s lt e some same =
-    sym (ap (λ (b : Bool). not b && are_distinct (drop (i + 1) symbols)) some) ∙ distinct_at symbols i s lt e same
+-- the names that are known, with one more
+pub known_more : (symbols : List Symbol) (i : ℕ) (s : Symbol) (name : List ℕ) (old new : Option (Unit {0})) → i < length symbols → s ≡ get_or symbols i s → new ≡ cond (bytes_eq s.name name) (Some tt) old → is_some old ≡ is_named name (take i symbols) → is_some new ≡ is_named name (take (i + 1) symbols)
+known_more symbols i s name old new lt e update known =
+    ap is_some update ∙ some_or (bytes_eq s.name name) old
+    ∙ ap (λ (b : Bool). is_some old || b) (bytes_eq-sym s.name name ∙ ap (λ (x : Symbol). bytes_eq name x.name) e)
+    ∙ ap (λ (b : Bool). b || bytes_eq name (get_or symbols i s).name) known
+    ∙ sym (list_any_more (λ other. bytes_eq name other.name) symbols i s lt)
 
-pub distinct_all : (symbols : List Symbol) (i : ℕ) → length symbols ≤ i → are_distinct (drop i symbols) ≡ are_distinct symbols → true ≡ are_distinct symbols
-unfolding are_distinct
-distinct_all symbols i le same = sym (at_drop_all are_distinct symbols i le) ∙ same
+new_cons : (before : List Symbol) (s : Symbol) (rest : List Symbol) → are_new before (s ∷ rest) ≡ (not (is_named s.name before) && are_new (before ++ s ∷ []) rest)
+unfolding are_new
+new_cons before s rest = refl
+
+new_at : (symbols : List Symbol) (i : ℕ) (s : Symbol) → i < length symbols → s ≡ get_or symbols i s → are_new (take i symbols) (drop i symbols) ≡ are_distinct symbols → (not (is_named s.name (take i symbols)) && are_new (take i symbols ++ s ∷ []) (drop (i + 1) symbols)) ≡ are_distinct symbols
+new_at symbols i s lt e same =
+    sym (at_drop_more (are_new (take i symbols)) symbols i s lt ∙ ap (λ (x : Symbol). are_new (take i symbols) (x ∷ drop (i + 1) symbols)) (sym e) ∙ new_cons (take i symbols) s (drop (i + 1) symbols)) ∙ same
+
+pub new_more : (symbols : List Symbol) (i : ℕ) (s : Symbol) → i < length symbols → s ≡ get_or symbols i s → is_named s.name (take i symbols) ≡ false → are_new (take i symbols) (drop i symbols) ≡ are_distinct symbols → are_new (take (i + 1) symbols) (drop (i + 1) symbols) ≡ are_distinct symbols
+new_more symbols i s lt e none same =
+    ap (λ (xs : List Symbol). are_new xs (drop (i + 1) symbols)) (take_more symbols i s lt ∙ ap (λ (x : Symbol). take i symbols ++ x ∷ []) (sym e))
+    ∙ sym (ap (λ (b : Bool). not b && are_new (take i symbols ++ s ∷ []) (drop (i + 1) symbols)) none) ∙ new_at symbols i s lt e same
+
+pub not_new : (symbols : List Symbol) (i : ℕ) (s : Symbol) → i < length symbols → s ≡ get_or symbols i s → is_named s.name (take i symbols) ≡ true → are_new (take i symbols) (drop i symbols) ≡ are_distinct symbols → false ≡ are_distinct symbols
+not_new symbols i s lt e some same =
+    sym (ap (λ (b : Bool). not b && are_new (take i symbols ++ s ∷ []) (drop (i + 1) symbols)) some) ∙ new_at symbols i s lt e same
+
+pub new_all : (symbols : List Symbol) (i : ℕ) → length symbols ≤ i → are_new (take i symbols) (drop i symbols) ≡ are_distinct symbols → true ≡ are_distinct symbols
+unfolding are_new
+new_all symbols i le same = sym (at_drop_all (are_new (take i symbols)) symbols i le) ∙ same
 
 -- ---- words
 

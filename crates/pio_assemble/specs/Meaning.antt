@@ -33,10 +33,14 @@ symbols_from n (Label name ∷ rest) = label_symbol name n ∷ symbols_from n re
 symbols_from n (Jump target delay ∷ rest) = symbols_from (n + 1) rest
 symbols_from n (Set destination value delay ∷ rest) = symbols_from (n + 1) rest
 
+-- each symbol has a name that none before it has
+unfoldable pub are_new : List Symbol → List Symbol → Bool
+are_new before [] = true
+are_new before (s ∷ rest) = not (list_any (λ other. bytes_eq s.name other.name) before) && are_new (before ++ s ∷ []) rest
+
 -- no two symbols have one name
-unfoldable pub are_distinct : List Symbol → Bool
-are_distinct [] = true
-are_distinct (s ∷ rest) = not (list_any (λ other. bytes_eq s.name other.name) rest) && are_distinct rest
+abbrev pub are_distinct : List Symbol → Bool
+are_distinct symbols = are_new [] symbols
 
 -- a value as an address of the instruction memory
 abbrev pub address_at : ℤ → Option ℕ

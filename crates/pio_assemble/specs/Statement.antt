@@ -11,10 +11,11 @@ use Rattle.pio_assemble.specs.declared.statement.Statement.{Statement}
 use Rattle.pio_assemble.specs.declared.statement.Statement.TheVariants.{Program, Label, Jump, Set}
 
 infixl 10 ◌>>=◌
+-- a step behind another, as `?` goes
 abbrev pub ◌>>=◌ : {A B : Type 0} → Option A → (A → Option B) → Option B
 o >>= f = option_and_then f o
 
--- the words that are no names, in any case of letters (pioasm's keywords)
+-- the words that are no names, in any case of letters (pioasm's keywords; SDK manual, section 3.3)
 unfoldable pub keywords : List (List ℕ)
 keywords =
     codes "nop" ∷ codes "jmp" ∷ codes "wait" ∷ codes "in" ∷ codes "out" ∷ codes "push" ∷ codes "pull" ∷ codes "mov" ∷

@@ -2,6 +2,7 @@
 ghost use Rattle.std.specs.Prelude.{◌≡◌};
 ghost use Rattle.pio_assemble.specs.declared.fault.SourceFault.TheVariants.{Memory};
 ghost use Rattle.pio_assemble.specs.declared.fault.SourceKind.TheVariants.{Syntax};
+ghost use Rattle.pio_assemble.specs.Fault.{code_of};
 
 use std::alloc::{AllocError, AllocFailed};
 use std::fmt;
@@ -13,11 +14,20 @@ pub enum SourceKind {
     Syntax,
 }
 
+impl SourceKind {
+    /// Its code: `S1` for `Syntax`.
+    pub fn code(&self) -> &'static str
+        ensures { result.now ≡ code_of self.now }
+    {
+        match self {
+            SourceKind::Syntax => "S1",
+        }
+    }
+}
+
 impl fmt::Display for SourceKind {
     fn fmt<W: fmt::Write>(&self, f: &mut fmt::Formatter<W>) -> fmt::Result {
-        f.write_str(match self {
-            SourceKind::Syntax => "S1",
-        })
+        f.write_str(self.code())
     }
 }
 

@@ -15,3 +15,6 @@ pub use fault::{SourceFault, SourceKind};
 pub use program::Program;
 pub use source::{assemble, reading_is_the_form};
 pub use symbols::{Symbol, Symbols};
+
+#[cfg(test)]
+mod tests;

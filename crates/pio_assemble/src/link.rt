@@ -1,7 +1,5 @@
 //! What statements mean: the labels, and the words over them.
 ghost use Rattle.std.specs.Prelude.{◌≡◌, ◌≤◌, ◌<◌, length, IfOk, Some};
-ghost use Rattle.std.specs.Str.{bytes_eq};
-ghost use Rattle.std.specs.List.{list_any};
 ghost use Rattle.pio_encode.specs.Ranges.{IsInstruction, IsInRange};
 ghost use Rattle.pio_assemble.specs.Program.{assembled_of};
 ghost use Rattle.pio_assemble.specs.Meaning as spec;
@@ -15,6 +13,7 @@ use crate::{Program, SourceFault, Symbol, Symbols};
 use arrayvec::ArrayVec;
 use pio_encode::{Act, Condition, Name, Op, SetDestination, SideRule, encode};
 use std::alloc::{AllocError, Global};
+use std::collections::HashMap;
 
 /// The most words that a program has: those of the instruction memory.
 const MOST_WORDS: usize = 32;
@@ -74,7 +73,7 @@ fn symbols(alloc: Global, body: &[Statement]) -> Result<Vec<Symbol>, SourceFault
     ensures { Reads (λ v. v.items) result (spec.symbols_of body.now) }
 {
     let symbols = labels(alloc, body)?;
-    if symbols.len() > MOST_LABELS || !are_distinct(&symbols) {
+    if symbols.len() > MOST_LABELS || !are_distinct(alloc, &symbols)? {
         return Err(syntax());
     }
     Ok(symbols)
@@ -108,23 +107,17 @@ fn label(alloc: Global, name: &Name, value: u8) -> Result<Symbol, AllocError>
     })
 }
 
-fn are_distinct(symbols: &[Symbol]) -> bool
-    ensures { result ≡ spec.are_distinct symbols.now }
+/// Whether no two of them have one name.
+fn are_distinct(alloc: Global, symbols: &[Symbol]) -> Result<bool, AllocError>
+    ensures { IfOk result (λ distinct. distinct ≡ spec.are_distinct symbols.now) }
 {
-    for (i, symbol) in symbols.iter().enumerate() {
-        if has_name(&symbols[i + 1..], &symbol.name) {
-            return false;
+    let mut names = HashMap::new(alloc);
+    for symbol in symbols {
+        if names.insert(symbol.name.as_str(), ())?.is_some() {
+            return Ok(false);
         }
     }
-    true
-}
-
-fn has_name(symbols: &[Symbol], name: &Name) -> bool
-    ensures { result ≡ list_any (λ other. bytes_eq name.now other.name) symbols.now }
-{
-    symbols
-        .iter()
-        .any(|other| name.as_str() == other.name.as_str())
+    Ok(true)
 }
 
 /// The words of the instructions in order.

@@ -1,5 +1,5 @@
 //! From the bytes of a source to its programs.
-ghost use Rattle.std.specs.Prelude.{◌≡◌, ℕ, List, ◌∷◌, [], map, ◌↔◌, Ok, option_to_list, option_copied, length, ◌<◌, IfSome};
+ghost use Rattle.std.specs.Prelude.{◌≡◌, ℕ, List, ◌∷◌, [], map, ◌↔◌, Ok, option_to_list, option_copied, length, ◌<◌, IfSome, IfOk};
 ghost use Rattle.pio_assemble.specs.Program.{Assembled, assembled_of};
 ghost use Rattle.pio_assemble.specs.Source.{IsSource, reads_source, program_of_source, source_statements, line_statement, lines_of, lines_left};
 ghost use Rattle.pio_assemble.specs.Answers.{Reads, Gives};
@@ -17,6 +17,19 @@ const MOST_BYTES: usize = 262_144;
 /// The programs of a source, in its order: so far the one program of a source in the restricted form, else the
 /// fault `Syntax` at line 0.
 pub fn assemble(alloc: Global, source: &[u8]) -> Result<Vec<Program>, SourceFault>
+    // What is read is a source, and means this program.
+    ensures found { IfOk result
+        (λ v. (p : Assembled) × (map assembled_of v.items ≡ p ∷ []) × IsSource source.now p) }
+    // A source is read, unless memory runs out.
+    ensures only { (p : Assembled) → IsSource source.now p
+        → Gives (λ v. map assembled_of v.items) result (Ok (p ∷ [])) }
+    // Which programs, or which fault.
+    ensures exact { Gives (λ v. map assembled_of v.items) result (reads_source source.now) }
+{
+    programs(alloc, source)
+}
+
+fn programs(alloc: Global, source: &[u8]) -> Result<Vec<Program>, SourceFault>
     ensures { Gives (λ v. map assembled_of v.items) result (reads_source source.now) }
 {
     let program = program(alloc, source)?;
