@@ -2,7 +2,7 @@
 use Rattle.std.specs.Prelude.{◌≡◌, ℕ, ◌⊎◌, ◌++◌, Option, Some, None, List, codes, decimal}
 use Rattle.pio_edge.specs.Edge.{Rose, with_bytes, TakesPrefix}
 use Rattle.pio_assemble.specs.declared.fault.SourceKind.{SourceKind}
-use Rattle.pio_assemble.specs.declared.fault.SourceKind.TheVariants.{Syntax}
+use Rattle.pio_assemble.specs.Fault.{code_of}
 use Rattle.piotool.specs.declared.fault.File.{File}
 use Rattle.piotool.specs.declared.fault.File.TheVariants as file
 use Rattle.piotool.specs.declared.fault.Fault.{Fault}
@@ -21,17 +21,13 @@ status_of (Some fault.Memory) = 6
 abbrev pub file_word : File → List ℕ
 file_word file.Source = codes "source"
 
--- the code of a source's fault
-abbrev pub kind_code : SourceKind → List ℕ
-kind_code Syntax = codes "S1"
-
 -- the line of a file that wasn't fetched
 abbrev pub shelf_line : File → List ℕ
 shelf_line role = codes "piotool: shelf " ++ file_word role ++ codes "\n"
 
 -- the line of a source's fault
 abbrev pub source_line : ℕ → SourceKind → List ℕ
-source_line line kind = codes "piotool: source line " ++ decimal line ++ codes ": " ++ kind_code kind ++ codes "\n"
+source_line line kind = codes "piotool: source line " ++ decimal line ++ codes ": " ++ code_of kind ++ codes "\n"
 
 -- the line of a fault
 unfoldable pub fault_line : Fault → List ℕ

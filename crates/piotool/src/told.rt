@@ -2,7 +2,7 @@
 ghost use Rattle.std.specs.Prelude.{◌≡◌};
 ghost use Rattle.pio_edge.specs.Edge.{Takes, PutCounts};
 ghost use Rattle.piotool.specs.Told as spec;
-ghost use Rattle.piotool.specs.Told.{fault_line, file_word, kind_code};
+ghost use Rattle.piotool.specs.Told.{fault_line, file_word};
 
 use crate::fault::{Fault, File};
 use itoa::Buffer;
@@ -73,7 +73,7 @@ fn put_source_fault<E: Sink>(err: &mut E, line: usize, kind: &SourceKind) -> Res
             "piotool: source line ".as_bytes(),
             number.format(line).as_bytes(),
             ": ".as_bytes(),
-            code_of(kind).as_bytes(),
+            kind.code().as_bytes(),
             "\n".as_bytes(),
         ],
     )
@@ -85,14 +85,5 @@ fn word_of(file: File) -> &'static str
 {
     match file {
         File::Source => "source",
-    }
-}
-
-/// The code of a source's fault.
-fn code_of(kind: &SourceKind) -> &'static str
-    ensures { result.now ≡ kind_code kind.now }
-{
-    match kind {
-        SourceKind::Syntax => "S1",
     }
 }
