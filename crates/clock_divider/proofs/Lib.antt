@@ -1,0 +1,3 @@
+mod LeftLaws
+mod TickLaws
+mod Counts
