@@ -25,6 +25,7 @@ impl Model for Small {
 impl Small {
     pub const ZERO: Small = Small { value: 0 };
 
+    /// The number of this value.
     pub fn new(value: u8) -> Self
         requires { value < 32 }
         ensures { result ≡ value }
@@ -32,6 +33,7 @@ impl Small {
         Small { value }
     }
 
+    /// Its value, 0 to 31.
     pub fn get(self) -> u8
         ensures value { result ≡ self }
         ensures below { result < 32 }

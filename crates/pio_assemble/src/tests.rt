@@ -3,48 +3,50 @@ use std::alloc::{AllocError, Global};
 use std::process::Abort;
 use std::test::Fail;
 
-/// The words and label values of sources in the form, computed by hand from the RP2040 Datasheet, section 3.4.
+/// Sources in the form, with `|` for a newline, and their words and label values, worked out by hand from the
+/// RP2040 Datasheet, section 3.4.
+const IN_THE_FORM: [(&str, &[u16], &[i32]); 12] = [
+    (
+        ".program squarewave\nset pindirs, 1\nagain:\nset pins, 1 [1]\nset pins, 0\njmp again\n",
+        &[0xe081, 0xe101, 0xe000, 0x0001],
+        &[1],
+    ),
+    (".program p\nset pins, 0", &[0xe000], &[]),
+    (
+        "\n \t\r\n.program p\r\n\r\nset pins,31[31]\r\n",
+        &[0xff1f],
+        &[],
+    ),
+    (".program p|a:|jmp a [31]", &[0x1f00], &[0]),
+    (
+        ".program p|jmp end|set pins, 1|end:",
+        &[0x0002, 0xe001],
+        &[2],
+    ),
+    (
+        ".program p|b:|jmp a|a:|jmp b [007]|c:",
+        &[0x0001, 0x0700],
+        &[0, 1, 2],
+    ),
+    (".program _p9|_ :|jmp _", &[0x0000], &[0]),
+    (".program p|p:|jmp p", &[0x0000], &[0]),
+    (
+        ".program p|next:|program:|word:|jmp next",
+        &[0x0000],
+        &[0, 0, 0],
+    ),
+    (
+        ".program p|set pins, 0000000000000000000000000031",
+        &[0xe01f],
+        &[],
+    ),
+    (".program p|A:|a:|jmp A|jmp a", &[0x0000, 0x0000], &[0, 0]),
+    (" .program\tp |set\tpindirs ,5[ 3 ]", &[0xe385], &[]),
+];
+
 #[test]
 fn sources_in_the_form(rt: HostRuntime) -> Result<(), Fail> {
-    let rows: [(&str, &[u16], &[i32]); 12] = [
-        (
-            ".program squarewave\nset pindirs, 1\nagain:\nset pins, 1 [1]\nset pins, 0\njmp again\n",
-            &[0xe081, 0xe101, 0xe000, 0x0001],
-            &[1],
-        ),
-        (".program p\nset pins, 0", &[0xe000], &[]),
-        (
-            "\n \t\r\n.program p\r\n\r\nset pins,31[31]\r\n",
-            &[0xff1f],
-            &[],
-        ),
-        (".program p|a:|jmp a [31]", &[0x1f00], &[0]),
-        (
-            ".program p|jmp end|set pins, 1|end:",
-            &[0x0002, 0xe001],
-            &[2],
-        ),
-        (
-            ".program p|b:|jmp a|a:|jmp b [007]|c:",
-            &[0x0001, 0x0700],
-            &[0, 1, 2],
-        ),
-        (".program _p9|_ :|jmp _", &[0x0000], &[0]),
-        (".program p|p:|jmp p", &[0x0000], &[0]),
-        (
-            ".program p|next:|program:|word:|jmp next",
-            &[0x0000],
-            &[0, 0, 0],
-        ),
-        (
-            ".program p|set pins, 0000000000000000000000000031",
-            &[0xe01f],
-            &[],
-        ),
-        (".program p|A:|a:|jmp A|jmp a", &[0x0000, 0x0000], &[0, 0]),
-        (" .program\tp |set\tpindirs ,5[ 3 ]", &[0xe385], &[]),
-    ];
-    for (text, words, labels) in rows {
+    for (text, words, labels) in IN_THE_FORM {
         let source = with_newlines(rt.alloc(), text)?;
         let programs = assemble(rt.alloc(), source.as_slice()).ok().ok_or(text)?;
         assert_eq!(rt; programs.len(), 1, "{text}");
@@ -79,82 +81,83 @@ fn names_are_kept(rt: HostRuntime) -> Result<(), Fail> {
     Ok(())
 }
 
-/// Each rule of the form, broken once.
+/// Sources that break one rule of the form each, with `|` for a newline.
+const OUT_OF_THE_FORM: [&str; 70] = [
+    "",
+    "\n\n",
+    ".program p",
+    ".program p|a:",
+    "set pins, 1",
+    "set pins, 1|.program p|set pins, 1",
+    "a:|.program p|set pins, 1",
+    ".program p|set pins, 1|.program q",
+    ".program p|set pins, 1|.program p|set pins, 1",
+    ".program|set pins, 1",
+    ".program p q|set pins, 1",
+    ".program p set pins, 1",
+    ".program 9p|set pins, 1",
+    ".program .p|set pins, 1",
+    ".program x|set pins, 1",
+    ".program PINS|set pins, 1",
+    ".PROGRAM p|set pins, 1",
+    "program p|set pins, 1",
+    ". program p|set pins, 1",
+    ".program p|side_set:|set pins, 1",
+    ".program p|jmp:|jmp jmp",
+    ".program p|Opt:|jmp Opt",
+    ".program p|set pins 1",
+    ".program p|set pins,, 1",
+    ".program p|set, pins, 1",
+    ".program p|SET pins, 1",
+    ".program p|set Pins, 1",
+    ".program p|set x, 1",
+    ".program p|set pins, 32",
+    ".program p|set pins, 256",
+    ".program p|set pins, 1x",
+    ".program p|set pins, 0x1",
+    ".program p|set pins, -1",
+    ".program p|set pins, a",
+    ".program p|set pins,",
+    ".program p|set pins, 1 2",
+    ".program p|set pins, 1.5",
+    ".program p|set pins, 1 [32]",
+    ".program p|set pins, 1 []",
+    ".program p|set pins, 1 [1",
+    ".program p|set pins, 1 1]",
+    ".program p|set pins, 1 [1] [1]",
+    ".program p|set pins, 1 [1] 1",
+    ".program p|set pins, 1 [[1]]",
+    ".program p|set pins, 1 ; one",
+    ".program p|set pins, 1 // one",
+    ".program p|/* */ set pins, 1",
+    ".program p|set pins, 1 side 0",
+    ".program p|set pins, 1 set pins, 1",
+    ".program p|nop",
+    ".program p|.wrap|set pins, 1",
+    ".program p|jmp a",
+    ".program p|a:|jmp A",
+    ".program p|a:|jmp 0",
+    ".program p|a:|jmp a a",
+    ".program p|a:|jmp !x a",
+    ".program p|a:|jmp a,",
+    ".program p|a:|a:|jmp a",
+    ".program p|a: b:|jmp a",
+    ".program p|a: jmp a",
+    ".program p|a::|jmp a",
+    ".program p|a b:|jmp a",
+    ".program p|:|set pins, 1",
+    ".program p|public a:|jmp a",
+    ".program p|1a:|set pins, 1",
+    ".program p|a.b:|set pins, 1",
+    ".program p|a-b:|set pins, 1",
+    ".program p|set pins, 1|\0",
+    ".program p|set pins, 1\u{c}",
+    ".program p|é:|set pins, 1",
+];
+
 #[test]
 fn sources_out_of_the_form(rt: HostRuntime) -> Result<(), Fail> {
-    let rows = [
-        "",
-        "\n\n",
-        ".program p",
-        ".program p|a:",
-        "set pins, 1",
-        "set pins, 1|.program p|set pins, 1",
-        "a:|.program p|set pins, 1",
-        ".program p|set pins, 1|.program q",
-        ".program p|set pins, 1|.program p|set pins, 1",
-        ".program|set pins, 1",
-        ".program p q|set pins, 1",
-        ".program p set pins, 1",
-        ".program 9p|set pins, 1",
-        ".program .p|set pins, 1",
-        ".program x|set pins, 1",
-        ".program PINS|set pins, 1",
-        ".PROGRAM p|set pins, 1",
-        "program p|set pins, 1",
-        ". program p|set pins, 1",
-        ".program p|side_set:|set pins, 1",
-        ".program p|jmp:|jmp jmp",
-        ".program p|Opt:|jmp Opt",
-        ".program p|set pins 1",
-        ".program p|set pins,, 1",
-        ".program p|set, pins, 1",
-        ".program p|SET pins, 1",
-        ".program p|set Pins, 1",
-        ".program p|set x, 1",
-        ".program p|set pins, 32",
-        ".program p|set pins, 256",
-        ".program p|set pins, 1x",
-        ".program p|set pins, 0x1",
-        ".program p|set pins, -1",
-        ".program p|set pins, a",
-        ".program p|set pins,",
-        ".program p|set pins, 1 2",
-        ".program p|set pins, 1.5",
-        ".program p|set pins, 1 [32]",
-        ".program p|set pins, 1 []",
-        ".program p|set pins, 1 [1",
-        ".program p|set pins, 1 1]",
-        ".program p|set pins, 1 [1] [1]",
-        ".program p|set pins, 1 [1] 1",
-        ".program p|set pins, 1 [[1]]",
-        ".program p|set pins, 1 ; one",
-        ".program p|set pins, 1 // one",
-        ".program p|/* */ set pins, 1",
-        ".program p|set pins, 1 side 0",
-        ".program p|set pins, 1 set pins, 1",
-        ".program p|nop",
-        ".program p|.wrap|set pins, 1",
-        ".program p|jmp a",
-        ".program p|a:|jmp A",
-        ".program p|a:|jmp 0",
-        ".program p|a:|jmp a a",
-        ".program p|a:|jmp !x a",
-        ".program p|a:|jmp a,",
-        ".program p|a:|a:|jmp a",
-        ".program p|a: b:|jmp a",
-        ".program p|a: jmp a",
-        ".program p|a::|jmp a",
-        ".program p|a b:|jmp a",
-        ".program p|:|set pins, 1",
-        ".program p|public a:|jmp a",
-        ".program p|1a:|set pins, 1",
-        ".program p|a.b:|set pins, 1",
-        ".program p|a-b:|set pins, 1",
-        ".program p|set pins, 1|\0",
-        ".program p|set pins, 1\u{c}",
-        ".program p|é:|set pins, 1",
-    ];
-    for text in rows {
+    for text in OUT_OF_THE_FORM {
         let source = with_newlines(rt.alloc(), text)?;
         is_refused(&rt, rt.alloc(), source.as_slice(), text);
     }
