@@ -7,6 +7,7 @@ use Rattle.fifo_pair.proofs.Words.{queued-append, if_room-dropped, front-less_fr
 
 -- no FIFO gets longer than its room
 pub fits-settled : (take : Bool) (m s : Option ℕ) (read : Bool) (f : Fifos) → Fits f → (IsSome m → length f.rx < f.rx_room) → Fits (settled take m s read f)
+unfolding settled
 fits-settled take m s read f fits has_room = record {
   tx = length-let_in f.tx_room f.tx (less_front take f.tx) s (length-less_front take f.tx) fits.tx;
   rx = length-queued f.rx_room f.rx (less_front read f.rx) m (length-less_front read f.rx) fits.rx has_room;
@@ -22,6 +23,7 @@ kept_by taken o words =
 
 -- TX in one clock
 pub tx_kept : (e : Events) (f : Fifos) → f.tx ++ (if is_over e.system_word f then [] else option_to_list e.system_word) ≡ (if e.take then option_to_list (slice_get f.tx 0) else []) ++ (after_clock e f).tx
+unfolding settled
 tx_kept e f =
     ap (λ w. f.tx ++ w) (sym (if_room-dropped f.tx_room f.tx e.system_word))
     ∙ kept_by e.take (if_room f.tx_room f.tx e.system_word) f.tx
@@ -33,6 +35,7 @@ got_is false f = refl
 
 -- RX in one clock
 pub rx_kept : (e : Events) (f : Fifos) → f.rx ++ option_to_list e.machine_word ≡ option_to_list (got_word e.system_read f) ++ (after_clock e f).rx
+unfolding settled
 rx_kept e f =
     kept_by e.system_read e.machine_word f.rx ∙ ap (λ w. w ++ (after_clock e f).rx) (got_is e.system_read f)
 

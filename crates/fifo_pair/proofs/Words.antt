@@ -31,7 +31,7 @@ pub length-let_in : (room : ℕ) (words rest : List ℕ) (o : Option ℕ) → le
 length-let_in room words rest None shorter fits = omega arith
 length-let_in room words rest (Some word) shorter fits =
     (elim (nat_lt (length words) room) as (λ b. nat_lt (length words) room ≡ b → length (queued (if b then Some word else None) rest) ≤ room)
-        [ true ↦ (λ h. grind (arith, nat_tests, length-append rest (word ∷ []))) | false ↦ (λ h. omega arith) ]) refl
+    [ true ↦ (λ h. grind (arith, nat_tests, length-append rest (word ∷ []))) | false ↦ (λ h. omega arith) ]) refl
 
 -- where there is room for the word, if there is one
 pub length-queued : (room : ℕ) (words rest : List ℕ) (o : Option ℕ) → length rest ≤ length words → length words ≤ room → (IsSome o → length words < room) → length (queued o rest) ≤ room

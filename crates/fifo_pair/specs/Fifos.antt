@@ -1,7 +1,7 @@
 -- What the two FIFOs of a machine are, and what one clock does to them. All levels are read as at the clock's start.
 --   Fifos          the words of TX and of RX, and the room of each
 --   first_fifos    as they are at the start, by how they are joined
---   queued, less_front, if_room, is_dropped     one list and one word
+--   queued, less_front, if_room, is_full, is_dropped     one list and one word
 --   tx_after, rx_after, settled     TX, RX and both after a clock
 --   is_over, is_under, got_word     what the system is told of its accesses
 use Rattle.std.specs.Prelude.{ℕ, ◌≤◌, ◌==◌, Bool, false, not, ◌&&◌, Option, Some, None, List, [], ◌∷◌, ◌++◌, length, drop, slice_get, nat_lt, if◌then◌else◌}
@@ -57,16 +57,20 @@ abbrev pub rx_after : (machine_word : Option ℕ) (system_read : Bool) → Fifos
 rx_after machine_word system_read f = queued machine_word (less_front system_read f.rx)
 
 -- both after a clock
-abbrev pub settled : (take : Bool) (machine_word system_word : Option ℕ) (system_read : Bool) → Fifos → Fifos
+unfoldable pub settled : (take : Bool) (machine_word system_word : Option ℕ) (system_read : Bool) → Fifos → Fifos
 settled take machine_word system_word system_read f = record f {
   tx = tx_after take system_word f;
   rx = rx_after machine_word system_read f;
 }
 
+-- no room is left, as in a FIFO without room, which is full and empty
+abbrev pub is_full : ℕ → List ℕ → Bool
+is_full room words = not (nat_lt (length words) room)
+
 -- there is a word, and it isn't let in
 abbrev pub is_dropped : ℕ → List ℕ → Option ℕ → Bool
 is_dropped room words None = false
-is_dropped room words (Some _) = not (nat_lt (length words) room)
+is_dropped room words (Some _) = is_full room words
 
 -- the system writes to a full TX, so that its word is dropped (RP2040 Datasheet, 3.7, FDEBUG.TXOVER)
 abbrev pub is_over : (system_word : Option ℕ) → Fifos → Bool

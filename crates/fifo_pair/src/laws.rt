@@ -37,6 +37,7 @@ pub fn a_read_gets_a_word_or_underruns()
 {}
 
 /// A clock in which nothing happens changes nothing.
+#[tactic(auto, unfolding(crate::specs::Fifos::settled))]
 pub fn a_quiet_clock_changes_nothing()
     ensures { (f : Fifos) → settled false None None false f ≡ f }
 {}

@@ -17,3 +17,6 @@ pub use laws::{
 pub use pair::{Pair, Settled};
 pub use plain::PlainFifo;
 pub use ring::RingFifo;
+
+#[cfg(test)]
+mod tests;

@@ -1,13 +1,12 @@
 //! The two FIFOs of a state machine, and what one clock does to them (RP2040 Datasheet, 3.2.3 and 3.5.3).
-ghost use Rattle.std.specs.Prelude.{◌≡◌, ◌<◌, ◌≤◌, ◌&&◌, length, slice_get, nat_lt, not, IsTrue, IsSome, IfOk};
+ghost use Rattle.std.specs.Prelude.{◌≡◌, ◌<◌, ◌≤◌, ◌↔◌, ◌&&◌, length, slice_get, not, IsTrue, IsSome, IfOk};
 ghost use Rattle.fifo_pair.specs.Fifos as spec;
-ghost use Rattle.fifo_pair.specs.Fifos.{Fits, first_fifos, settled, is_over, is_under, got_word};
-
-use std::alloc::{AllocError, Global};
-use std::marker::Model;
+ghost use Rattle.fifo_pair.specs.Fifos.{Fits, first_fifos, settled, is_full, is_over, is_under, got_word};
 
 use crate::fifo::Fifo;
 use crate::settle::{settle_rx, settle_tx};
+use std::alloc::{AllocError, Global};
+use std::marker::Model;
 
 /// What the system is told of its accesses in a clock.
 #[derive(Clone, Copy, Debug, PartialEq, Eq)]
@@ -34,10 +33,10 @@ impl<F: Fifo> Model for Pair<F> {
     ghost Value = { Fifos };
 
     ghost view = { λ p. record {
-        tx = F.items p.tx;
-        rx = F.items p.rx;
-        tx_room = F.room p.tx;
-        rx_room = F.room p.rx;
+      tx = F.items p.tx;
+      rx = F.items p.rx;
+      tx_room = F.room p.tx;
+      rx_room = F.room p.rx;
     } };
 
     ghost invariant = { λ p. (length (F.items p.tx) ≤ F.room p.tx) × (length (F.items p.rx) ≤ F.room p.rx) };
@@ -74,14 +73,16 @@ impl<F: Fifo> Pair<F> {
 
     /// Whether TX has no room left, as one that is disabled has not.
     pub fn tx_full(&self) -> bool
-        ensures { result ≡ not (nat_lt (length self.now.tx) self.now.tx_room) }
+        ensures full { result ≡ is_full self.now.tx_room self.now.tx }
+        ensures capacity { IsTrue result ↔ (length self.now.tx ≡ self.now.tx_room) }
     {
         self.tx.level() >= self.tx.capacity()
     }
 
     /// Whether RX has no room left, as one that is disabled has not.
     pub fn rx_full(&self) -> bool
-        ensures { result ≡ not (nat_lt (length self.now.rx) self.now.rx_room) }
+        ensures full { result ≡ is_full self.now.rx_room self.now.rx }
+        ensures capacity { IsTrue result ↔ (length self.now.rx ≡ self.now.rx_room) }
     {
         self.rx.level() >= self.rx.capacity()
     }
@@ -95,6 +96,7 @@ impl<F: Fifo> Pair<F> {
 
     /// One clock. The machine takes the oldest word of TX or doesn't, and gives a word to RX or none; the system
     /// writes a word to TX or none, and reads RX or doesn't. A level is what it was at the clock's start.
+    #[tactic(auto, unfolding(crate::specs::Fifos::settled))]
     pub fn settle(
         &mut self,
         take: bool,

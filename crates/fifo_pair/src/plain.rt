@@ -2,12 +2,10 @@
 ghost use Rattle.std.specs.Prelude.{◌≡◌, ◌≤◌, Ok};
 ghost use Rattle.fifo_pair.specs.Queue.{no_words};
 
+use crate::fifo::Fifo;
+use arrayvec::ArrayVec;
 use std::alloc::{AllocError, Global};
 use std::marker::Model;
-
-use arrayvec::ArrayVec;
-
-use crate::fifo::Fifo;
 
 /// The words in order, moved up by one at each `pop`.
 #[derive(Drop)]

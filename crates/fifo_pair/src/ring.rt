@@ -1,10 +1,8 @@
 //! A FIFO in a ring of words, which takes its memory when it is made.
+use crate::fifo::Fifo;
+use circular_buffer::HeapCircularBuffer;
 use std::alloc::{AllocError, Global};
 use std::marker::Model;
-
-use circular_buffer::HeapCircularBuffer;
-
-use crate::fifo::Fifo;
 
 /// The words lie where they were put, and the ends move round them.
 #[derive(Drop)]
