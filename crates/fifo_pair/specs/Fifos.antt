@@ -7,7 +7,7 @@
 use Rattle.std.specs.Prelude.{ℕ, ◌≤◌, ◌==◌, Bool, false, not, ◌&&◌, Option, Some, None, List, [], ◌∷◌, ◌++◌, length, drop, slice_get, nat_lt, if◌then◌else◌}
 
 -- TX goes from the system to the machine, RX from the machine to the system; the oldest word of each comes first
--- (RP2040 Datasheet, 3.2.3)
+-- (RP2040 Datasheet, 3.2.3.5)
 pub record Fifos : Type 0 where
   pub tx : List ℕ
   pub rx : List ℕ

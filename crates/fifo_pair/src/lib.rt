@@ -19,4 +19,6 @@ pub use plain::PlainFifo;
 pub use ring::RingFifo;
 
 #[cfg(test)]
+mod rows;
+#[cfg(test)]
 mod tests;

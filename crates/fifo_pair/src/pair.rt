@@ -1,4 +1,4 @@
-//! The two FIFOs of a state machine, and what one clock does to them (RP2040 Datasheet, 3.2.3 and 3.5.3).
+//! The two FIFOs of a state machine, and what one clock does to them (RP2040 Datasheet, 3.2.3.5, 3.5.3).
 ghost use Rattle.std.specs.Prelude.{◌≡◌, ◌<◌, ◌≤◌, ◌↔◌, ◌&&◌, length, slice_get, not, IsTrue, IsSome, IfOk};
 ghost use Rattle.fifo_pair.specs.Fifos as spec;
 ghost use Rattle.fifo_pair.specs.Fifos.{Fits, first_fifos, settled, is_full, is_over, is_under, got_word};
@@ -39,7 +39,8 @@ impl<F: Fifo> Model for Pair<F> {
       rx_room = F.room p.rx;
     } };
 
-    ghost invariant = { λ p. (length (F.items p.tx) ≤ F.room p.tx) × (length (F.items p.rx) ≤ F.room p.rx) };
+    ghost invariant = { λ p. (length (F.items p.tx) ≤ F.room p.tx)
+        × (length (F.items p.rx) ≤ F.room p.rx) };
 }
 
 impl<F: Fifo> Pair<F> {

@@ -8,8 +8,8 @@ use crate::fifo::Fifo;
 /// dropped, since TX was full.
 pub fn settle_tx<F: Fifo>(tx: &mut F, take: bool, system_word: Option<u32>) -> bool
     requires { IsTrue take → 0 < length (F.items tx.old) }
-    ensures items { F.items tx.new
-        ≡ queued (if_room (F.room tx.old) (F.items tx.old) system_word) (less_front take (F.items tx.old)) }
+    ensures items { F.items tx.new ≡ queued (if_room (F.room tx.old) (F.items tx.old) system_word)
+        (less_front take (F.items tx.old)) }
     ensures room { F.room tx.new ≡ F.room tx.old }
     ensures over { result ≡ is_dropped (F.room tx.old) (F.items tx.old) system_word }
 {

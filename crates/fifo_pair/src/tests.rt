@@ -1,16 +1,10 @@
 //! One clock of a pair by the datasheet's rule, worked by hand, and a run of clocks against plain lists: each with both
 //! kinds of FIFO.
+use crate::rows::{Join, RX_ROWS, RxRow, TX_ROWS, TxRow};
 use crate::{Fifo, Pair, PlainFifo, RingFifo, Settled};
 use std::alloc::{AllocError, Global};
 use std::process::Abort;
 use std::test::Fail;
-
-#[derive(Clone, Copy)]
-enum Join {
-    Neither,
-    Tx,
-    Rx,
-}
 
 #[derive(Clone, Copy)]
 struct Events {
@@ -27,246 +21,31 @@ const NOTHING: Events = Events {
     system_read: false,
 };
 
-// One clock at TX: the words before, what happens, whether it is an overrun, and the words after.
-struct TxRow {
-    shows: &'static str,
-    join: Join,
-    before: &'static [u32],
-    take: bool,
-    word: Option<u32>,
-    over: bool,
-    after: &'static [u32],
-    full: bool,
+const TAKE: Events = Events {
+    take: true,
+    ..NOTHING
+};
+
+const READ: Events = Events {
+    system_read: true,
+    ..NOTHING
+};
+
+// The system writes a word.
+const fn writes(word: u32) -> Events {
+    Events {
+        system_word: Some(word),
+        ..NOTHING
+    }
 }
 
-// One clock at RX: the words before, what happens, what the system gets, and the words after.
-struct RxRow {
-    shows: &'static str,
-    join: Join,
-    before: &'static [u32],
-    word: Option<u32>,
-    read: bool,
-    got: Option<u32>,
-    under: bool,
-    after: &'static [u32],
-    full: bool,
+// The machine gives a word.
+const fn gives(word: u32) -> Events {
+    Events {
+        machine_word: Some(word),
+        ..NOTHING
+    }
 }
-
-static TX_ROWS: [TxRow; 10] = [
-    TxRow {
-        shows: "an empty TX lets a word in",
-        join: Join::Neither,
-        before: &[],
-        take: false,
-        word: Some(5),
-        over: false,
-        after: &[5],
-        full: false,
-    },
-    TxRow {
-        shows: "a TX that has one word too few to be full is filled",
-        join: Join::Neither,
-        before: &[1, 2, 3],
-        take: false,
-        word: Some(4),
-        over: false,
-        after: &[1, 2, 3, 4],
-        full: true,
-    },
-    TxRow {
-        shows: "a full TX drops the word and keeps the oldest",
-        join: Join::Neither,
-        before: &[1, 2, 3, 4],
-        take: false,
-        word: Some(5),
-        over: true,
-        after: &[1, 2, 3, 4],
-        full: true,
-    },
-    TxRow {
-        shows: "a full TX drops the word though one is taken in that clock",
-        join: Join::Neither,
-        before: &[1, 2, 3, 4],
-        take: true,
-        word: Some(5),
-        over: true,
-        after: &[2, 3, 4],
-        full: false,
-    },
-    TxRow {
-        shows: "the only word is taken and one is written",
-        join: Join::Neither,
-        before: &[1],
-        take: true,
-        word: Some(2),
-        over: false,
-        after: &[2],
-        full: false,
-    },
-    TxRow {
-        shows: "the oldest word is taken",
-        join: Join::Neither,
-        before: &[1, 2, 3],
-        take: true,
-        word: None,
-        over: false,
-        after: &[2, 3],
-        full: false,
-    },
-    TxRow {
-        shows: "a joined TX takes an eighth word",
-        join: Join::Tx,
-        before: &[1, 2, 3, 4, 5, 6, 7],
-        take: false,
-        word: Some(8),
-        over: false,
-        after: &[1, 2, 3, 4, 5, 6, 7, 8],
-        full: true,
-    },
-    TxRow {
-        shows: "a joined TX drops a ninth word",
-        join: Join::Tx,
-        before: &[1, 2, 3, 4, 5, 6, 7, 8],
-        take: true,
-        word: Some(9),
-        over: true,
-        after: &[2, 3, 4, 5, 6, 7, 8],
-        full: false,
-    },
-    TxRow {
-        shows: "a disabled TX drops each word and stays empty",
-        join: Join::Rx,
-        before: &[],
-        take: false,
-        word: Some(1),
-        over: true,
-        after: &[],
-        full: true,
-    },
-    TxRow {
-        shows: "nothing happens to a TX",
-        join: Join::Neither,
-        before: &[1, 2],
-        take: false,
-        word: None,
-        over: false,
-        after: &[1, 2],
-        full: false,
-    },
-];
-
-static RX_ROWS: [RxRow; 10] = [
-    RxRow {
-        shows: "an empty RX gives nothing though a word comes in that clock",
-        join: Join::Neither,
-        before: &[],
-        word: Some(7),
-        read: true,
-        got: None,
-        under: true,
-        after: &[7],
-        full: false,
-    },
-    RxRow {
-        shows: "an empty RX that is read stays empty",
-        join: Join::Neither,
-        before: &[],
-        word: None,
-        read: true,
-        got: None,
-        under: true,
-        after: &[],
-        full: false,
-    },
-    RxRow {
-        shows: "the only word is read and one is given",
-        join: Join::Neither,
-        before: &[7],
-        word: Some(8),
-        read: true,
-        got: Some(7),
-        under: false,
-        after: &[8],
-        full: false,
-    },
-    RxRow {
-        shows: "the oldest word is read",
-        join: Join::Neither,
-        before: &[7, 8, 9],
-        word: None,
-        read: true,
-        got: Some(7),
-        under: false,
-        after: &[8, 9],
-        full: false,
-    },
-    RxRow {
-        shows: "a full RX is read",
-        join: Join::Neither,
-        before: &[1, 2, 3, 4],
-        word: None,
-        read: true,
-        got: Some(1),
-        under: false,
-        after: &[2, 3, 4],
-        full: false,
-    },
-    RxRow {
-        shows: "the machine fills RX",
-        join: Join::Neither,
-        before: &[1, 2, 3],
-        word: Some(4),
-        read: false,
-        got: None,
-        under: false,
-        after: &[1, 2, 3, 4],
-        full: true,
-    },
-    RxRow {
-        shows: "a joined RX takes an eighth word",
-        join: Join::Rx,
-        before: &[1, 2, 3, 4, 5, 6, 7],
-        word: Some(8),
-        read: false,
-        got: None,
-        under: false,
-        after: &[1, 2, 3, 4, 5, 6, 7, 8],
-        full: true,
-    },
-    RxRow {
-        shows: "a joined RX of eight words is read",
-        join: Join::Rx,
-        before: &[1, 2, 3, 4, 5, 6, 7, 8],
-        word: None,
-        read: true,
-        got: Some(1),
-        under: false,
-        after: &[2, 3, 4, 5, 6, 7, 8],
-        full: false,
-    },
-    RxRow {
-        shows: "a disabled RX that is read stays empty",
-        join: Join::Tx,
-        before: &[],
-        word: None,
-        read: true,
-        got: None,
-        under: true,
-        after: &[],
-        full: true,
-    },
-    RxRow {
-        shows: "nothing happens to an RX",
-        join: Join::Neither,
-        before: &[1, 2],
-        word: None,
-        read: false,
-        got: None,
-        under: false,
-        after: &[1, 2],
-        full: false,
-    },
-];
 
 fn joined<F: Fifo>(alloc: Global, join: Join) -> Result<Pair<F>, AllocError> {
     match join {
@@ -298,22 +77,10 @@ fn filled<F: Fifo>(
 ) -> Result<Pair<F>, AllocError> {
     let mut pair = joined(alloc, join)?;
     for &word in tx {
-        let _ = clock(
-            &mut pair,
-            Events {
-                system_word: Some(word),
-                ..NOTHING
-            },
-        );
+        let _ = clock(&mut pair, writes(word));
     }
     for &word in rx {
-        let _ = clock(
-            &mut pair,
-            Events {
-                machine_word: Some(word),
-                ..NOTHING
-            },
-        );
+        let _ = clock(&mut pair, gives(word));
     }
     Ok(pair)
 }
@@ -325,13 +92,7 @@ fn words_of_tx<F: Fifo>(alloc: Global, mut pair: Pair<F>) -> Result<Vec<u32>, Al
         if let Some(word) = pair.tx_front() {
             words.push(word)?;
         }
-        let _ = clock(
-            &mut pair,
-            Events {
-                take: true,
-                ..NOTHING
-            },
-        );
+        let _ = clock(&mut pair, TAKE);
     }
     Ok(words)
 }
@@ -340,13 +101,7 @@ fn words_of_tx<F: Fifo>(alloc: Global, mut pair: Pair<F>) -> Result<Vec<u32>, Al
 fn words_of_rx<F: Fifo>(alloc: Global, mut pair: Pair<F>) -> Result<Vec<u32>, AllocError> {
     let mut words = Vec::new(alloc);
     for _ in 0..pair.rx_level() {
-        if let Some(settled) = clock(
-            &mut pair,
-            Events {
-                system_read: true,
-                ..NOTHING
-            },
-        ) {
+        if let Some(settled) = clock(&mut pair, READ) {
             words.extend(settled.got)?;
         }
     }
