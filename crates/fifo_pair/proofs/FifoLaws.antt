@@ -1,8 +1,8 @@
 -- What a clock, and any number of them, leaves of the words of both FIFOs.
-use Rattle.std.proofs.Common.{◌≡◌, ℕ, ◌<◌, ◌≤◌, Bool, true, false, not, ◌&&◌, Option, List, [], ◌∷◌, ◌++◌, length, slice_get, ◌==◌, is_some, option_to_list, refl, sym, ap, ◌∙◌, append_assoc, append-nil, if◌then◌else◌, IsSome, arith}
+use Rattle.std.proofs.Common.{◌≡◌, ℕ, ◌<◌, Bool, true, false, not, ◌&&◌, Option, List, [], ◌∷◌, ◌++◌, length, slice_get, ◌==◌, is_some, option_to_list, refl, sym, ap, ◌∙◌, append_assoc, append-nil, if◌then◌else◌, IsSome, arith}
 use Rattle.std.proofs.lemmas.Bool.Decides.{nat_tests}
 use Rattle.fifo_pair.specs.Fifos.{Fifos, Fits, queued, less_front, if_room, settled, is_over, is_under, got_word}
-use Rattle.fifo_pair.specs.Runs.{Events, MayHappen, after_clock, after_clocks, into_tx, out_of_tx, into_rx, out_of_rx}
+use Rattle.fifo_pair.specs.Runs.{Events, after_clock, after_clocks, into_tx, out_of_tx, into_rx, out_of_rx}
 use Rattle.fifo_pair.proofs.Words.{queued-append, if_room-dropped, front-less_front, length-less_front, length-let_in, length-queued}
 
 -- no FIFO gets longer than its room

@@ -1,6 +1,6 @@
 -- What becomes of the words in any number of clocks: which came in, which went out, and what is there in the end.
-use Rattle.std.specs.Prelude.{◌≡◌, ℕ, ◌<◌, Bool, Option, List, [], ◌∷◌, ◌++◌, length, slice_get, option_to_list, IsTrue, IsSome, if◌then◌else◌}
-use Rattle.fifo_pair.specs.Fifos.{Fifos, Fits, settled, is_over, got_word}
+use Rattle.std.specs.Prelude.{ℕ, ◌<◌, Bool, Option, List, [], ◌∷◌, ◌++◌, length, slice_get, option_to_list, IsTrue, IsSome, if◌then◌else◌}
+use Rattle.fifo_pair.specs.Fifos.{Fifos, settled, is_over, got_word}
 
 -- what may happen in one clock: the machine takes a word and gives one, the system writes one and reads
 pub record Events : Type 0 where
