@@ -1,0 +1,11 @@
+//! The words of a call of `piotool`, read by one clap command: which subcommand they ask for, with its arguments.
+#![tactic(auto)]
+
+mod command;
+mod order;
+mod reading;
+#[cfg(test)]
+mod tests;
+
+pub use order::{Order, WordsFault};
+pub use reading::read;
