@@ -1,6 +1,7 @@
 //! The words of a call of `piotool`, read by one clap command: which subcommand they ask for, with its arguments.
 #![tactic(auto)]
 
+mod arguments;
 mod command;
 mod order;
 mod reading;
