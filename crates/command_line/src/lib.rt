@@ -3,6 +3,8 @@
 
 mod arguments;
 mod command;
+mod getters;
+mod matching;
 mod order;
 mod reading;
 #[cfg(test)]
