@@ -1,2 +1,3 @@
 pub mod Tool
 pub mod Words
+pub mod Laws

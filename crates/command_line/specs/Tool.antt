@@ -1,9 +1,17 @@
 -- What the command `piotool` takes, in clap's own words: arguments, subcommands, and the command over them.
-use Rattle.std.specs.Prelude.{ℕ, true, Some, [], ◌∷◌, codes}
+use Rattle.std.specs.Prelude.{ℕ, ◌^◌, true, Some, [], ◌∷◌, codes}
 use Rattle.clap.specs.Walk.{Rule, Text}
 use Rattle.clap.specs.Simple.{App, new_app, new_rule, with_rule, with_subcommand}
 use Rattle.clap.specs.declared.builder.action.ArgAction.TheVariants.{Set, SetTrue}
 use Rattle.clap.specs.declared.builder.value_parser.ValueParser.TheVariants.{Unsigned}
+
+-- the most clocks of a run
+abbrev pub clock_limit : ℕ
+clock_limit = 10 ^ 12
+
+-- the most side-set bits (RP2040 Datasheet, section 3.5.1)
+abbrev pub side_limit : ℕ
+side_limit = 5
 
 -- `--name X`, where X is any text (choice of this profile)
 abbrev pub option_rule : Text → Rule
@@ -21,17 +29,17 @@ up_to most rule = record rule { parser = Some (Unsigned 0 most) }
 abbrev pub source_rule : Rule
 source_rule = required (option_rule (codes "source"))
 
--- `--clocks N`: 0 to 10^12 clocks
+-- `--clocks N`: a number of clocks
 abbrev pub clocks_rule : Rule
-clocks_rule = up_to 1000000000000 (required (option_rule (codes "clocks")))
+clocks_rule = up_to clock_limit (required (option_rule (codes "clocks")))
 
 -- `FILE`, a name that stands alone
 abbrev pub file_rule : Rule
 file_rule = required (record (new_rule (codes "file")) { action = Some Set })
 
--- `--side n`: 0 to 5 side-set bits, and 0 where it isn't given
+-- `--side n`: a number of side-set bits, and 0 where it isn't given
 abbrev pub side_rule : Rule
-side_rule = record (up_to 5 (option_rule (codes "side"))) { defaults = codes "0" ∷ [] }
+side_rule = record (up_to side_limit (option_rule (codes "side"))) { defaults = codes "0" ∷ [] }
 
 -- `--opt`, a flag: the side-set value is optional
 abbrev pub opt_rule : Rule

@@ -9,7 +9,7 @@ use Rattle.clap.specs.Walk.{Row, Text, first_of, one_of}
 use Rattle.clap.specs.Simple.{subcommand_of}
 use Rattle.clap.specs.Takes.{takes}
 use Rattle.clap.specs.Faults.{fault_of}
-use Rattle.command_line.specs.Tool.{tool}
+use Rattle.command_line.specs.Tool.{clock_limit, side_limit, tool}
 use Rattle.command_line.specs.declared.order.Order.{Order}
 use Rattle.command_line.specs.declared.order.Order.TheVariants.{Run, Dis}
 use Rattle.command_line.specs.declared.order.WordsFault.{WordsFault}
@@ -49,11 +49,11 @@ flag_at id rows = bytes_eq (text_at id rows) (codes "true")
 
 -- the arguments of `run`
 abbrev pub run_asked : List Row → Asked
-run_asked rows = run (text_at (codes "source") rows) (number_at (10 ^ 12) (codes "clocks") rows)
+run_asked rows = run (text_at (codes "source") rows) (number_at clock_limit (codes "clocks") rows)
 
 -- the arguments of `dis`
 abbrev pub dis_asked : List Row → Asked
-dis_asked rows = dis (text_at (codes "file") rows) (number_at 5 (codes "side") rows) (flag_at (codes "opt") rows)
+dis_asked rows = dis (text_at (codes "file") rows) (number_at side_limit (codes "side") rows) (flag_at (codes "opt") rows)
 
 -- the arguments of the subcommand of this name
 abbrev pub subcommand_asked : Text → List Row → Asked
@@ -65,8 +65,8 @@ asked_of words = option_map (λ met. subcommand_asked met.0 met.1) (subcommand_o
 
 -- the numbers are in their ranges: up to 10^12 clocks, up to five side-set bits with the one of `--opt`
 abbrev pub IsWithinRange : Asked → Type 0
-IsWithinRange (run source clocks) = clocks ≤ 10 ^ 12
-IsWithinRange (dis file side opt) = side + (if opt then 1 else 0) ≤ 5
+IsWithinRange (run source clocks) = clocks ≤ clock_limit
+IsWithinRange (dis file side opt) = side + (if opt then 1 else 0) ≤ side_limit
 
 -- ---- when there are matches, and when not
 
@@ -74,7 +74,7 @@ IsWithinRange (dis file side opt) = side + (if opt then 1 else 0) ≤ 5
 -- (RP2040 Datasheet, section 3.5.1)
 abbrev pub has_no_room : Asked → Bool
 has_no_room (run source clocks) = false
-has_no_room (dis file side opt) = side == 5 && opt
+has_no_room (dis file side opt) = side == side_limit && opt
 
 -- clap gives matches of `tool` for the words, and they ask for this
 pub record Asks (words : List Text) (a : Asked) : Type 0 where

@@ -3,13 +3,10 @@ ghost use Rattle.std.specs.Prelude.{◌≡◌, false};
 ghost use Rattle.clap.specs.Walk.{rule_of};
 ghost use Rattle.command_line.specs.Tool.{clocks_rule, file_rule, opt_rule, option_rule, side_rule, source_rule};
 
+use crate::order::{MOST_CLOCKS, MOST_SIDE_BITS};
 use clap::builder::ValueParser;
 use clap::{Arg, ArgAction};
 use std::alloc::Global;
-
-const MOST_CLOCKS: u64 = 1_000_000_000_000;
-
-const MOST_SIDE_BITS: u64 = 5;
 
 /// A long option with one value.
 fn option<'a>(alloc: Global, name: &'a str) -> Arg<'a>

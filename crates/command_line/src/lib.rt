@@ -4,11 +4,13 @@
 mod arguments;
 mod command;
 mod getters;
+mod laws;
 mod matching;
 mod order;
 mod reading;
 #[cfg(test)]
 mod tests;
 
+pub use laws::{dis_words, run_words};
 pub use order::{Order, WordsFault};
 pub use reading::read;

@@ -1,5 +1,11 @@
 //! What words ask for, and why they are refused.
 
+/// The most clocks of a run.
+pub const MOST_CLOCKS: u64 = 1_000_000_000_000;
+
+/// The most side-set bits: the side-set values of a program's words take at most five pins.
+pub const MOST_SIDE_BITS: u64 = 5;
+
 /// What the words of a call ask for.
 #[derive(Clone, Copy, Debug, PartialEq)]
 pub enum Order<'a> {

@@ -9,13 +9,9 @@ ghost use Rattle.command_line.specs.Words.{has_no_room as has_no_room_of, run_as
 
 use crate::getters::{flag, number, text};
 use crate::matching::matched;
-use crate::order::{Order, WordsFault};
+use crate::order::{MOST_CLOCKS, MOST_SIDE_BITS, Order, WordsFault};
 use clap::ArgMatches;
 use std::alloc::Global;
-
-const MOST_CLOCKS: u64 = 1_000_000_000_000;
-
-const MOST_SIDE_BITS: u64 = 5;
 
 /// What the words of a call ask for; the first is the program's name.
 pub fn read<'a>(alloc: Global, words: &'a [String]) -> Result<Order<'a>, WordsFault>
@@ -38,7 +34,7 @@ fn has_no_room(order: Order<'_>) -> bool
 {
     match order {
         Order::Run { .. } => false,
-        Order::Dis { side, opt, .. } => side == 5 && opt,
+        Order::Dis { side, opt, .. } => u64::from(side) == MOST_SIDE_BITS && opt,
     }
 }
 
