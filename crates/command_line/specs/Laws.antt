@@ -20,7 +20,7 @@ abbrev pub run_words : Text → Text → Text → List Text
 run_words name source clocks =
     name ∷ codes "run" ∷ (codes "--source=" ++ source) ∷ (codes "--clocks=" ++ clocks) ∷ []
 
--- they ask for N clocks of S, whatever S is, exactly where N is a whole number in range
+-- they ask for N clocks of S exactly where N is a whole number in range, whatever S is
 abbrev pub RunWords : Type 0
 RunWords = (name source clocks : Text)
     → AskWhere (is_unsigned_in 0 clock_limit clocks) (run_words name source clocks)
@@ -32,7 +32,7 @@ dis_words name file side opt =
     name ∷ codes "dis" ∷ (codes "--side=" ++ (48 + side) ∷ [])
     ∷ (if opt then codes "--opt" ∷ codes "--" ∷ file ∷ [] else codes "--" ∷ file ∷ [])
 
--- they ask for the text of FILE, whatever FILE is, exactly where five side-set bits leave room for `--opt`
+-- they ask for the text of FILE exactly where there is room for `--opt`, whatever FILE is
 abbrev pub DisWords : Type 0
 DisWords = (name file : Text) (side : ℕ) (opt : Bool) → side ≤ side_limit
     → AskWhere (not (side == side_limit && opt)) (dis_words name file side opt) (dis file side opt)

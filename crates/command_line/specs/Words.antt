@@ -15,8 +15,7 @@ use Rattle.command_line.specs.declared.order.Order.TheVariants.{Run, Dis}
 use Rattle.command_line.specs.declared.order.WordsFault.{WordsFault}
 use Rattle.command_line.specs.declared.order.WordsFault.TheVariants.{Usage, Memory}
 
--- one command with its arguments: run has a source's name and a number of clocks, dis a file's name, the number of
--- side-set bits, and whether their value is optional
+-- a subcommand with its arguments: source and clocks, or file, side-set bits and whether their value is optional
 pub data Asked : Type 0 where
   run : Text → ℕ → Asked
   dis : Text → ℕ → Bool → Asked
@@ -63,15 +62,14 @@ subcommand_asked name rows = if bytes_eq name (codes "run") then run_asked rows 
 unfoldable pub asked_of : List Text → Option Asked
 asked_of words = option_map (λ met. subcommand_asked met.0 met.1) (subcommand_of tool words)
 
--- the numbers are in their ranges: up to 10^12 clocks, up to five side-set bits with the one of `--opt`
+-- the clocks are in range, and so are the side-set bits with the one of `--opt`
 abbrev pub IsWithinRange : Asked → Type 0
 IsWithinRange (run source clocks) = clocks ≤ clock_limit
 IsWithinRange (dis file side opt) = side + (if opt then 1 else 0) ≤ side_limit
 
 -- ---- when there are matches, and when not
 
--- `--opt` beside `--side 5`: an optional value needs a bit of its own, and there are five in all
--- (RP2040 Datasheet, section 3.5.1)
+-- `--opt` takes one of the five side-set bits, so not beside `--side 5` (RP2040 Datasheet, section 3.5.1)
 abbrev pub has_no_room : Asked → Bool
 has_no_room (run source clocks) = false
 has_no_room (dis file side opt) = side == side_limit && opt

@@ -16,6 +16,7 @@ fn option<'a>(alloc: Global, name: &'a str) -> Arg<'a>
     Arg::new(alloc, name).long(name).action(ArgAction::Set)
 }
 
+/// `--source S`: the source's name, any text.
 pub fn source<'a>(alloc: Global) -> Arg<'a>
     ensures rule { rule_of result ≡ source_rule }
     ensures local { result.global ≡ false }
@@ -25,6 +26,7 @@ pub fn source<'a>(alloc: Global) -> Arg<'a>
         .help("The program, in pioasm")
 }
 
+/// `--clocks N`: 0 to 10^12 clocks.
 pub fn clocks<'a>(alloc: Global) -> Arg<'a>
     ensures rule { rule_of result ≡ clocks_rule }
     ensures local { result.global ≡ false }
@@ -35,6 +37,7 @@ pub fn clocks<'a>(alloc: Global) -> Arg<'a>
         .help("How many clocks to trace, up to 10^12")
 }
 
+/// `FILE`: the name of a file of words, any text.
 pub fn file<'a>(alloc: Global) -> Arg<'a>
     ensures rule { rule_of result ≡ file_rule }
     ensures local { result.global ≡ false }
@@ -45,6 +48,7 @@ pub fn file<'a>(alloc: Global) -> Arg<'a>
         .help("The words, four hexadecimal digits a line")
 }
 
+/// `--side n`: 0 to 5 side-set bits, 0 where it isn't given.
 pub fn side<'a>(alloc: Global) -> Arg<'a>
     ensures rule { rule_of result ≡ side_rule }
     ensures local { result.global ≡ false }
@@ -55,6 +59,7 @@ pub fn side<'a>(alloc: Global) -> Arg<'a>
         .help("How many side-set bits the words have")
 }
 
+/// `--opt`: one side-set bit says whether a word has a side-set value.
 pub fn opt<'a>(alloc: Global) -> Arg<'a>
     ensures rule { rule_of result ≡ opt_rule }
     ensures local { result.global ≡ false }

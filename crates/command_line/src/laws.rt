@@ -1,4 +1,4 @@
-//! Laws above clap's definition of a parse: what words as the usage has them ask for. The functions do nothing.
+//! Laws above clap's definition of a parse: what words as the usage has them ask for. Both functions do nothing.
 ghost use Rattle.command_line.specs.Laws.{DisWords, RunWords};
 
 /// `run --source=S --clocks=N` asks for N clocks of S exactly where N is a whole number in range.

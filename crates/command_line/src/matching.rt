@@ -14,14 +14,16 @@ use clap::error::ErrorKind;
 use clap::{ArgMatches, Error};
 use std::alloc::Global;
 
-/// The matches that clap gives for the words.
+/// The matches that clap gives for the words. Without any, Memory stands for want of it, and Usage for clap's other
+/// errors.
 pub fn matched<'a>(alloc: Global, words: &'a [String]) -> Result<ArgMatches<'a>, WordsFault>
     ensures passed { IfOk result (λ _. fault_of tool_app (map string_bytes words.entry.now) ≡ []) }
-    ensures rows { IfOk result (λ m.
-        subcommand_rows_of m ≡ subcommand_of tool_app (map string_bytes words.entry.now)) }
+    ensures rows { IfOk result (λ m. subcommand_rows_of m
+        ≡ subcommand_of tool_app (map string_bytes words.entry.now)) }
     ensures subcommand { IfOk result (λ m. has_subcommand m ≡ true) }
     ensures cause { IfErr result (HasCause (map string_bytes words.entry.now)) }
-    ensures taken { takes tool_app (map string_bytes words.entry.now) ≡ true → result ≢ Err WordsFault.Usage }
+    ensures taken { takes tool_app (map string_bytes words.entry.now) ≡ true
+        → result ≢ Err WordsFault.Usage }
 {
     let Ok(command) = tool(alloc) else {
         return Err(WordsFault::Memory);
