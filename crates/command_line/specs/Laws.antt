@@ -1,0 +1,38 @@
+-- What words as the usage has them ask for: laws above clap's definition of a parse.
+use Rattle.std.specs.Prelude.{◌++◌, ◌+◌, ◌≤◌, ◌==◌, ◌&&◌, ℕ, Bool, true, false, not, List, [], ◌∷◌, codes, if◌then◌else◌}
+use Rattle.std.specs.Str.Parse.{digits_value, without_leading_plus}
+use Rattle.clap.specs.ValueTests.{is_unsigned_in}
+use Rattle.clap.specs.Walk.{Text}
+use Rattle.command_line.specs.Tool.{clock_limit, side_limit}
+use Rattle.command_line.specs.Words.{Asked, Asks, IsRefused, IsTaken, dis, run}
+
+-- the number of decimal digits, where a plus may stand first
+abbrev pub number_of : Text → ℕ
+number_of text = digits_value 10 (without_leading_plus text)
+
+-- the words are taken and ask for this where the test passes, and else they are refused
+abbrev pub AskWhere : Bool → List Text → Asked → Type 0
+AskWhere true words a = IsTaken words × Asks words a
+AskWhere false words a = IsRefused words
+
+-- `run --source=S --clocks=N`, of a program of any name
+abbrev pub run_words : Text → Text → Text → List Text
+run_words name source clocks =
+    name ∷ codes "run" ∷ (codes "--source=" ++ source) ∷ (codes "--clocks=" ++ clocks) ∷ []
+
+-- they ask for N clocks of S exactly where N is a whole number in range, whatever S is
+abbrev pub RunWords : Type 0
+RunWords = (name source clocks : Text)
+    → AskWhere (is_unsigned_in 0 clock_limit clocks) (run_words name source clocks)
+    (run source (number_of clocks))
+
+-- `dis --side=n [--opt] -- FILE`, of a program of any name, where n is one digit
+abbrev pub dis_words : Text → Text → ℕ → Bool → List Text
+dis_words name file side opt =
+    name ∷ codes "dis" ∷ (codes "--side=" ++ (48 + side) ∷ [])
+    ∷ (if opt then codes "--opt" ∷ codes "--" ∷ file ∷ [] else codes "--" ∷ file ∷ [])
+
+-- they ask for the text of FILE exactly where there is room for `--opt`, whatever FILE is
+abbrev pub DisWords : Type 0
+DisWords = (name file : Text) (side : ℕ) (opt : Bool) → side ≤ side_limit
+    → AskWhere (not (side == side_limit && opt)) (dis_words name file side opt) (dis file side opt)

@@ -1,0 +1,3 @@
+pub mod Tool
+pub mod Words
+pub mod Laws

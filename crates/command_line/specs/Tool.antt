@@ -1,0 +1,64 @@
+-- What the command `piotool` takes, in clap's own words: arguments, subcommands, and the command over them.
+use Rattle.std.specs.Prelude.{ℕ, ◌^◌, true, Some, [], ◌∷◌, codes}
+use Rattle.clap.specs.Walk.{Rule, Text}
+use Rattle.clap.specs.Simple.{App, new_app, new_rule, with_rule, with_subcommand}
+use Rattle.clap.specs.declared.builder.action.ArgAction.TheVariants.{Set, SetTrue}
+use Rattle.clap.specs.declared.builder.value_parser.ValueParser.TheVariants.{Unsigned}
+
+-- the most clocks of a run
+abbrev pub clock_limit : ℕ
+clock_limit = 10 ^ 12
+
+-- the most side-set bits (RP2040 Datasheet, section 3.5.1)
+abbrev pub side_limit : ℕ
+side_limit = 5
+
+-- `--name X`, where X is any text (choice of this profile)
+abbrev pub option_rule : Text → Rule
+option_rule name = record (new_rule name) { long = Some name; action = Some Set }
+
+-- the option stands in each call
+abbrev pub required : Rule → Rule
+required rule = record rule { required = true }
+
+-- the value is a whole number from 0 to `most`
+abbrev pub up_to : ℕ → Rule → Rule
+up_to most rule = record rule { parser = Some (Unsigned 0 most) }
+
+-- `--source S`: the source's name
+abbrev pub source_rule : Rule
+source_rule = required (option_rule (codes "source"))
+
+-- `--clocks N`: a number of clocks
+abbrev pub clocks_rule : Rule
+clocks_rule = up_to clock_limit (required (option_rule (codes "clocks")))
+
+-- `FILE`, a name that stands alone
+abbrev pub file_rule : Rule
+file_rule = required (record (new_rule (codes "file")) { action = Some Set })
+
+-- `--side n`: a number of side-set bits, and 0 where it isn't given
+abbrev pub side_rule : Rule
+side_rule = record (up_to side_limit (option_rule (codes "side"))) { defaults = codes "0" ∷ [] }
+
+-- `--opt`, a flag: the side-set value is optional
+abbrev pub opt_rule : Rule
+opt_rule = record (new_rule (codes "opt")) { long = Some (codes "opt"); action = Some SetTrue }
+
+-- `run --source S --clocks N`
+abbrev pub run_app : App
+run_app = with_rule (with_rule (new_app (codes "run")) source_rule) clocks_rule
+
+-- `dis FILE [--side n] [--opt]`
+abbrev pub dis_app : App
+dis_app = with_rule (with_rule (with_rule (new_app (codes "dis")) file_rule) side_rule) opt_rule
+
+-- `piotool` with no arguments of its own, which wants a subcommand
+abbrev pub bare_app : App
+bare_app = record (new_app (codes "piotool")) {
+  top = record (new_app (codes "piotool")).top { subcommand_required = true };
+}
+
+-- `piotool` with its subcommands
+unfoldable pub tool : App
+tool = with_subcommand (with_subcommand bare_app run_app.top) dis_app.top

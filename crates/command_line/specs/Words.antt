@@ -1,0 +1,103 @@
+-- What the words of a call ask for: the order, when it is given, and when the words are refused.
+use Rattle.std.specs.Prelude.{◌≡◌, ◌≢◌, ◌⊎◌, ◌+◌, ◌≤◌, ◌&&◌, ◌==◌, ◌^◌, ℕ, Bool, true, false, Option, Some, List, [], min, codes, length, nat_lt, unwrap_or, option_map, if◌then◌else◌, ⊤}
+use Rattle.std.specs.List.{list_all}
+use Rattle.std.specs.Option.{option_map_or}
+use Rattle.std.specs.Char.{digit_value}
+use Rattle.std.specs.Str.{bytes_eq}
+use Rattle.std.specs.Str.Parse.{digits_value, without_leading_plus}
+use Rattle.clap.specs.Walk.{Row, Text, first_of, one_of}
+use Rattle.clap.specs.Simple.{subcommand_of}
+use Rattle.clap.specs.Takes.{takes}
+use Rattle.clap.specs.Faults.{fault_of}
+use Rattle.command_line.specs.Tool.{clock_limit, side_limit, tool}
+use Rattle.command_line.specs.declared.order.Order.{Order}
+use Rattle.command_line.specs.declared.order.Order.TheVariants.{Run, Dis}
+use Rattle.command_line.specs.declared.order.WordsFault.{WordsFault}
+use Rattle.command_line.specs.declared.order.WordsFault.TheVariants.{Usage, Memory}
+
+-- a subcommand with its arguments: source and clocks, or file, side-set bits and whether their value is optional
+pub data Asked : Type 0 where
+  run : Text → ℕ → Asked
+  dis : Text → ℕ → Bool → Asked
+
+-- what an order asks for
+abbrev pub asked_by : Order → Asked
+asked_by (Run source clocks) = run source.now clocks
+asked_by (Dis file side opt) = dis file.now side opt
+
+-- ---- what clap's matches of a subcommand ask for
+
+-- the number of decimal digits below 2^64, where a plus may stand first, and 0 of any other text
+abbrev pub number_in : Text → ℕ
+number_in text =
+    let digits = without_leading_plus text in
+    if nat_lt 0 (length digits) && list_all (λ d. nat_lt (digit_value d) 10) digits
+    && nat_lt (digits_value 10 digits) (2 ^ 64) then digits_value 10 digits else 0
+
+-- the text of an argument, and the empty one where it isn't there
+abbrev pub text_at : Text → List Row → Text
+text_at id rows = unwrap_or (first_of id rows) []
+
+-- the number of an argument, at most `most`
+abbrev pub number_at : ℕ → Text → List Row → ℕ
+number_at most id rows = min (option_map_or number_in (one_of id rows) 0) most
+
+-- the flag is given
+abbrev pub flag_at : Text → List Row → Bool
+flag_at id rows = bytes_eq (text_at id rows) (codes "true")
+
+-- the arguments of `run`
+abbrev pub run_asked : List Row → Asked
+run_asked rows = run (text_at (codes "source") rows) (number_at clock_limit (codes "clocks") rows)
+
+-- the arguments of `dis`
+abbrev pub dis_asked : List Row → Asked
+dis_asked rows = dis (text_at (codes "file") rows) (number_at side_limit (codes "side") rows) (flag_at (codes "opt") rows)
+
+-- the arguments of the subcommand of this name
+abbrev pub subcommand_asked : Text → List Row → Asked
+subcommand_asked name rows = if bytes_eq name (codes "run") then run_asked rows else dis_asked rows
+
+-- what the matches that clap's definition gives for `tool` and the words ask for
+unfoldable pub asked_of : List Text → Option Asked
+asked_of words = option_map (λ met. subcommand_asked met.0 met.1) (subcommand_of tool words)
+
+-- the clocks are in range, and so are the side-set bits with the one of `--opt`
+abbrev pub IsWithinRange : Asked → Type 0
+IsWithinRange (run source clocks) = clocks ≤ clock_limit
+IsWithinRange (dis file side opt) = side + (if opt then 1 else 0) ≤ side_limit
+
+-- ---- when there are matches, and when not
+
+-- `--opt` takes one of the five side-set bits, so not beside `--side 5` (RP2040 Datasheet, section 3.5.1)
+abbrev pub has_no_room : Asked → Bool
+has_no_room (run source clocks) = false
+has_no_room (dis file side opt) = side == side_limit && opt
+
+-- clap gives matches of `tool` for the words, and they ask for this
+pub record Asks (words : List Text) (a : Asked) : Type 0 where
+  pub taken : fault_of tool words ≡ []
+  pub asked : asked_of words ≡ Some a
+
+-- clap gives no matches of `tool` for the words, or they ask for `dis` with `--opt` beside `--side 5`
+abbrev pub IsRefused : List Text → Type 0
+IsRefused words = (fault_of tool words ≢ []) ⊎ ((a : Asked) × Asks words a × (has_no_room a ≡ true))
+
+-- `tool` takes the words, and they don't ask for `dis` with `--opt` beside `--side 5`
+pub record IsTaken (words : List Text) : Type 0 where
+  pub takes : takes tool words ≡ true
+  pub room : (a : Asked) → asked_of words ≡ Some a → has_no_room a ≡ false
+
+-- each fault has its cause; memory is free
+abbrev pub HasCause : List Text → WordsFault → Type 0
+HasCause words Usage = IsRefused words
+HasCause words Memory = ⊤
+
+-- how many clocks a command works out at most
+abbrev pub clocks_asked : Asked → ℕ
+clocks_asked (run source clocks) = clocks
+clocks_asked (dis file side opt) = 0
+
+-- how many clocks words ask for at most
+abbrev pub most_clocks : List Text → ℕ
+most_clocks words = option_map_or clocks_asked (asked_of words) 0

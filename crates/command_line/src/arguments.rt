@@ -1,0 +1,71 @@
+//! The arguments of the subcommands, one function each.
+ghost use Rattle.std.specs.Prelude.{◌≡◌, false};
+ghost use Rattle.clap.specs.Walk.{rule_of};
+ghost use Rattle.command_line.specs.Tool.{clocks_rule, file_rule, opt_rule, option_rule, side_rule, source_rule};
+
+use crate::order::{MOST_CLOCKS, MOST_SIDE_BITS};
+use clap::builder::ValueParser;
+use clap::{Arg, ArgAction};
+use std::alloc::Global;
+
+/// A long option with one value.
+fn option<'a>(alloc: Global, name: &'a str) -> Arg<'a>
+    ensures rule { rule_of result ≡ option_rule name.entry.now }
+    ensures local { result.global ≡ false }
+{
+    Arg::new(alloc, name).long(name).action(ArgAction::Set)
+}
+
+/// `--source S`: the source's name, any text.
+pub fn source<'a>(alloc: Global) -> Arg<'a>
+    ensures rule { rule_of result ≡ source_rule }
+    ensures local { result.global ≡ false }
+{
+    option(alloc, "source")
+        .required(true)
+        .help("The program, in pioasm")
+}
+
+/// `--clocks N`: 0 to 10^12 clocks.
+pub fn clocks<'a>(alloc: Global) -> Arg<'a>
+    ensures rule { rule_of result ≡ clocks_rule }
+    ensures local { result.global ≡ false }
+{
+    option(alloc, "clocks")
+        .required(true)
+        .value_parser(ValueParser::Unsigned(0, MOST_CLOCKS))
+        .help("How many clocks to trace, up to 10^12")
+}
+
+/// `FILE`: the name of a file of words, any text.
+pub fn file<'a>(alloc: Global) -> Arg<'a>
+    ensures rule { rule_of result ≡ file_rule }
+    ensures local { result.global ≡ false }
+{
+    Arg::new(alloc, "file")
+        .required(true)
+        .action(ArgAction::Set)
+        .help("The words, four hexadecimal digits a line")
+}
+
+/// `--side n`: 0 to 5 side-set bits, 0 where it isn't given.
+pub fn side<'a>(alloc: Global) -> Arg<'a>
+    ensures rule { rule_of result ≡ side_rule }
+    ensures local { result.global ≡ false }
+{
+    option(alloc, "side")
+        .value_parser(ValueParser::Unsigned(0, MOST_SIDE_BITS))
+        .default_value("0")
+        .help("How many side-set bits the words have")
+}
+
+/// `--opt`: one side-set bit says whether a word has a side-set value.
+pub fn opt<'a>(alloc: Global) -> Arg<'a>
+    ensures rule { rule_of result ≡ opt_rule }
+    ensures local { result.global ≡ false }
+{
+    Arg::new(alloc, "opt")
+        .long("opt")
+        .action(ArgAction::SetTrue)
+        .help("One bit more says whether a word has a side-set value")
+}

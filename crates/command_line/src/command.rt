@@ -1,0 +1,62 @@
+//! The command `piotool` for clap, one function for each subcommand.
+ghost use Rattle.std.specs.Prelude.{◌≡◌, IfOk, false};
+ghost use Rattle.clap.specs.Simple.{app_of, with_subcommand};
+ghost use Rattle.clap.specs.declared.builder.command.Command.TheViews.{out-Command as fields_of};
+ghost use Rattle.command_line.specs.Tool.{bare_app, dis_app, run_app, tool as tool_app};
+
+use crate::arguments;
+use clap::Command;
+use std::alloc::{AllocError, Global};
+
+#[tactic(auto, unfolding(crate::specs::Tool::tool))]
+/// The command with all its subcommands.
+pub fn tool<'a>(alloc: Global) -> Result<Command<'a>, AllocError>
+    ensures app { IfOk result (λ c. app_of c ≡ tool_app) }
+    ensures local { IfOk result (λ c. (fields_of c).has_globals ≡ false) }
+{
+    let command = bare(alloc);
+    let command = add(command, run(alloc)?)?;
+    let command = add(command, dis(alloc)?)?;
+    Ok(command)
+}
+
+fn bare<'a>(alloc: Global) -> Command<'a>
+    ensures app { app_of result ≡ bare_app }
+    ensures local { (fields_of result).has_globals ≡ false }
+{
+    Command::new(alloc, "piotool")
+        .about("Simulates programs of the RP2040's PIO")
+        .subcommand_required(true)
+}
+
+fn run<'a>(alloc: Global) -> Result<Command<'a>, AllocError>
+    ensures app { IfOk result (λ c. app_of c ≡ run_app) }
+    ensures local { IfOk result (λ c. (fields_of c).has_globals ≡ false) }
+{
+    Command::new(alloc, "run")
+        .about("Traces the pins of a program clock by clock, as a value-change dump")
+        .arg(arguments::source(alloc))?
+        .arg(arguments::clocks(alloc))
+}
+
+fn dis<'a>(alloc: Global) -> Result<Command<'a>, AllocError>
+    ensures app { IfOk result (λ c. app_of c ≡ dis_app) }
+    ensures local { IfOk result (λ c. (fields_of c).has_globals ≡ false) }
+{
+    Command::new(alloc, "dis")
+        .about("Writes the instruction that each word means")
+        .arg(arguments::file(alloc))?
+        .arg(arguments::side(alloc))?
+        .arg(arguments::opt(alloc))
+}
+
+/// The command with one subcommand more.
+fn add<'a>(command: Command<'a>, sub: Command<'a>) -> Result<Command<'a>, AllocError>
+    requires local { (fields_of command).has_globals ≡ false }
+    requires sub_local { (fields_of sub).has_globals ≡ false }
+    ensures app { IfOk result (λ c.
+        app_of c ≡ with_subcommand (app_of command.entry) (app_of sub.entry).top) }
+    ensures local { IfOk result (λ c. (fields_of c).has_globals ≡ false) }
+{
+    command.subcommand(sub)
+}

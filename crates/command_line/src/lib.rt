@@ -1,0 +1,16 @@
+//! The words of a call of `piotool`, read by one clap command: which subcommand they ask for, with its arguments.
+#![tactic(auto)]
+
+mod arguments;
+mod command;
+mod getters;
+mod laws;
+mod matching;
+mod order;
+mod reading;
+#[cfg(test)]
+mod tests;
+
+pub use laws::{dis_words, run_words};
+pub use order::{Order, WordsFault};
+pub use reading::read;

@@ -1,0 +1,26 @@
+//! What words ask for, and why they are refused.
+
+/// The most clocks of a run.
+pub const MOST_CLOCKS: u64 = 1_000_000_000_000;
+
+/// The most side-set bits: the side-set values of a program's words take at most five pins.
+pub const MOST_SIDE_BITS: u64 = 5;
+
+/// What the words of a call ask for.
+#[derive(Clone, Copy, Debug, PartialEq)]
+pub enum Order<'a> {
+    /// The trace of so many clocks (0 to 10^12) of the program in a source.
+    Run { source: &'a str, clocks: u64 },
+    /// The text of each word of a file, under a rule of so many side-set bits (0 to 5, with `opt` 0 to 4): with `opt`
+    /// one bit more says whether a word has a side-set value.
+    Dis { file: &'a str, side: u8, opt: bool },
+}
+
+/// Why words give no order.
+#[derive(Clone, Copy, Debug, PartialEq)]
+pub enum WordsFault {
+    /// The words ask for nothing that there is, or for help, or for `--opt` beside `--side 5`.
+    Usage,
+    /// There was no memory to read them.
+    Memory,
+}

@@ -1,0 +1,75 @@
+//! From the words of a call to an order, by clap's matches: one function for each subcommand.
+ghost use Rattle.std.specs.Prelude.{◌≡◌, ◌≢◌, Err, IfErr, IfOk, Some, map, string_bytes, true};
+ghost use Rattle.clap.specs.Matches.{found_of, has_subcommand};
+ghost use Rattle.clap.specs.Simple.{subcommand_rows_of};
+ghost use Rattle.clap.specs.Walk.{rows_of};
+ghost use Rattle.std.specs.Option.{option_map};
+ghost use Rattle.command_line.specs.Words.{Asks, HasCause, IsTaken, IsWithinRange, asked_by, dis_asked};
+ghost use Rattle.command_line.specs.Words.{has_no_room as has_no_room_of, run_asked, subcommand_asked};
+
+use crate::getters::{flag, number, text};
+use crate::matching::matched;
+use crate::order::{MOST_CLOCKS, MOST_SIDE_BITS, Order, WordsFault};
+use clap::ArgMatches;
+use std::alloc::Global;
+
+/// What the words of a call ask for; the first is the program's name.
+pub fn read<'a>(alloc: Global, words: &'a [String]) -> Result<Order<'a>, WordsFault>
+    ensures ok { IfOk result (λ o. Asks (map string_bytes words.entry.now) (asked_by o)) }
+    ensures range { IfOk result (λ o. IsWithinRange (asked_by o)) }
+    ensures cause { IfErr result (HasCause (map string_bytes words.entry.now)) }
+    ensures taken { IsTaken (map string_bytes words.entry.now) → result ≢ Err WordsFault.Usage }
+{
+    let matches = matched(alloc, words)?;
+    let order = order_of(&matches);
+    if has_no_room(order) {
+        return Err(WordsFault::Usage);
+    }
+    Ok(order)
+}
+
+/// `--opt` beside `--side 5`.
+fn has_no_room(order: Order<'_>) -> bool
+    ensures { result ≡ has_no_room_of (asked_by order.entry) }
+{
+    match order {
+        Order::Run { .. } => false,
+        Order::Dis { side, opt, .. } => u64::from(side) == MOST_SIDE_BITS && opt,
+    }
+}
+
+/// What the subcommand of the matches asks for.
+fn order_of<'a>(matches: &ArgMatches<'a>) -> Order<'a>
+    requires { has_subcommand matches.now ≡ true }
+    ensures { option_map (λ met. subcommand_asked met.0 met.1) (subcommand_rows_of matches.now)
+        ≡ Some (asked_by result) }
+{
+    let Some((name, found)) = matches.subcommand() else {
+        unreachable!()
+    };
+    if name == "run" {
+        run_order(found)
+    } else {
+        dis_order(found)
+    }
+}
+
+fn run_order<'a>(matches: &ArgMatches<'a>) -> Order<'a>
+    ensures { asked_by result ≡ run_asked (rows_of (found_of matches.now)) }
+{
+    Order::Run {
+        source: text(matches, "source"),
+        clocks: number(matches, "clocks", MOST_CLOCKS),
+    }
+}
+
+fn dis_order<'a>(matches: &ArgMatches<'a>) -> Order<'a>
+    ensures { asked_by result ≡ dis_asked (rows_of (found_of matches.now)) }
+{
+    let side = number(matches, "side", MOST_SIDE_BITS);
+    Order::Dis {
+        file: text(matches, "file"),
+        side: side as u8,
+        opt: flag(matches, "opt"),
+    }
+}

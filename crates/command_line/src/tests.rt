@@ -1,0 +1,138 @@
+//! What word lists ask for. A row has the words behind the program's name, and what they give, worked by hand from the
+//! usage of the subcommands and the rules of Rust's crate clap, version 4.
+use crate::order::{Order, WordsFault};
+use crate::reading::read;
+use std::alloc::{AllocError, Global};
+use std::test::Fail;
+
+/// Words, and the source and the number of clocks that they ask for.
+static RUNS: [(&[&str], &str, u64); 10] = [
+    (&["run", "--source", "a.pio", "--clocks", "8"], "a.pio", 8),
+    (&["run", "--clocks", "8", "--source", "a.pio"], "a.pio", 8),
+    (&["run", "--source=a.pio", "--clocks=8"], "a.pio", 8),
+    (
+        &["run", "--source", "a=b.pio", "--clocks", "08"],
+        "a=b.pio",
+        8,
+    ),
+    (&["run", "--source", "a.pio", "--clocks", "+8"], "a.pio", 8),
+    (&["run", "--source", "a.pio", "--clocks", "0"], "a.pio", 0),
+    (
+        &["run", "--source", "a.pio", "--clocks", "1000000000000"],
+        "a.pio",
+        1_000_000_000_000,
+    ),
+    (&["run", "--source", "run", "--clocks", "8"], "run", 8),
+    (&["run", "--source=-x", "--clocks", "8"], "-x", 8),
+    (&["run", "--source=", "--clocks", "8"], "", 8),
+];
+
+/// Words, and the file, the number of side-set bits and the flag that they ask for.
+static LISTINGS: [(&[&str], &str, u8, bool); 10] = [
+    (&["dis", "w.hex"], "w.hex", 0, false),
+    (&["dis", "w.hex", "--side", "2"], "w.hex", 2, false),
+    (&["dis", "--side", "4", "--opt", "w.hex"], "w.hex", 4, true),
+    (&["dis", "--opt", "w.hex", "--side=4"], "w.hex", 4, true),
+    (&["dis", "--opt", "w.hex"], "w.hex", 0, true),
+    (&["dis", "--side=5", "w.hex"], "w.hex", 5, false),
+    (&["dis", "w.hex", "--side", "+05"], "w.hex", 5, false),
+    (&["dis", "dis"], "dis", 0, false),
+    (&["dis", "--", "-w.hex"], "-w.hex", 0, false),
+    (&["dis", "--", "--opt"], "--opt", 0, false),
+];
+
+/// Words that ask for nothing.
+static REFUSED: [&[&str]; 34] = [
+    &[],
+    &["--help"],
+    &["-h"],
+    &["help"],
+    &["help", "run"],
+    &["run", "--help"],
+    &["dis", "-h"],
+    &["--version"],
+    &["asm", "a.pio"],
+    &["Run", "--source", "a.pio", "--clocks", "8"],
+    &["--source", "a.pio", "--clocks", "8"],
+    &["run"],
+    &["run", "--clocks", "8"],
+    &["run", "--source", "a.pio"],
+    &["run", "--source", "a.pio", "--clocks"],
+    &["run", "a.pio", "--clocks", "8"],
+    &["run", "--source", "a.pio", "--clocks", "8", "b.pio"],
+    &[
+        "run", "--source", "a.pio", "--clocks", "8", "--config", "c.toml",
+    ],
+    &[
+        "run", "--source", "a.pio", "--source", "b.pio", "--clocks", "8",
+    ],
+    &["run", "--source", "-x", "--clocks", "8"],
+    &["run", "--source", "a.pio", "--clocks", "1000000000001"],
+    &[
+        "run",
+        "--source",
+        "a.pio",
+        "--clocks",
+        "18446744073709551624",
+    ],
+    &["run", "--source", "a.pio", "--clocks", "-1"],
+    &["run", "--source", "a.pio", "--clocks", "8x"],
+    &["run", "--source", "a.pio", "--clocks", ""],
+    &["run", "--source", "a.pio", "--clock", "8"],
+    &["dis"],
+    &["dis", "w.hex", "v.hex"],
+    &["dis", "w.hex", "--side", "6"],
+    &["dis", "w.hex", "--side"],
+    &["dis", "w.hex", "--side", "5", "--opt"],
+    &["dis", "--opt", "--side=5", "w.hex"],
+    &["dis", "w.hex", "--opt", "--opt"],
+    &["dis", "w.hex", "--opt=true"],
+];
+
+#[test]
+fn runs(rt: HostRuntime) -> Result<(), Fail> {
+    for &(words, source, clocks) in &RUNS {
+        let order = Order::Run { source, clocks };
+        assert!(rt; gives(rt.alloc(), words, Ok(order))?, "{words:?}");
+    }
+    Ok(())
+}
+
+#[test]
+fn listings(rt: HostRuntime) -> Result<(), Fail> {
+    for &(words, file, side, opt) in &LISTINGS {
+        let order = Order::Dis { file, side, opt };
+        assert!(rt; gives(rt.alloc(), words, Ok(order))?, "{words:?}");
+    }
+    Ok(())
+}
+
+#[test]
+fn refused(rt: HostRuntime) -> Result<(), Fail> {
+    for &words in &REFUSED {
+        assert!(rt;
+            gives(rt.alloc(), words, Err(WordsFault::Usage))?,
+            "{words:?}"
+        );
+    }
+    Ok(())
+}
+
+#[test]
+fn no_words_at_all(rt: HostRuntime) {
+    assert!(rt; read(rt.alloc(), &[]) == Err(WordsFault::Usage));
+}
+
+/// Whether a call with these words behind the program's name reads as this.
+fn gives(
+    alloc: Global,
+    words: &[&str],
+    want: Result<Order<'_>, WordsFault>,
+) -> Result<bool, AllocError> {
+    let mut call = Vec::new(alloc);
+    call.push(String::from_str(alloc, "piotool")?)?;
+    for word in words {
+        call.push(String::from_str(alloc, word)?)?;
+    }
+    Ok(read(alloc, &call) == want)
+}
