@@ -1,0 +1,31 @@
+//! The first line of a text, and what stands behind it.
+ghost use Rattle.std.specs.Prelude.{◌≡◌, ◌∷◌, ◌<◌, IfSome, length, option_copied};
+ghost use Rattle.byte_lines.specs.Lines.{lines_of, lines_left};
+
+/// The first line of a text without its newline, and what stands behind the newline, where there is one.
+///
+/// A text that ends with a newline has an empty line behind it.
+pub fn first_line(text: &[u8]) -> (&[u8], Option<&[u8]>)
+    ensures line { lines_of text.now ≡ result.0.now ∷ lines_left (option_copied result.1) }
+    ensures shorter { IfSome result.1 (λ behind. length behind.now < length text.now) }
+{
+    for (at, byte) in text.iter().enumerate() {
+        if *byte == b'\n' {
+            return (&text[..at], Some(&text[at + 1..]));
+        }
+    }
+    (text, None)
+}
+
+#[cfg(test)]
+mod tests {
+    use super::*;
+
+    #[test]
+    fn parts_at_the_first_newline(rt: HostRuntime) {
+        assert!(rt; first_line(b"") == (b"".as_slice(), None));
+        assert!(rt; first_line(b"ab") == (b"ab".as_slice(), None));
+        assert!(rt; first_line(b"a\n") == (b"a".as_slice(), Some(b"".as_slice())));
+        assert!(rt; first_line(b"\r\n\nb") == (b"\r".as_slice(), Some(b"\nb".as_slice())));
+    }
+}

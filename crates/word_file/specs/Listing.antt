@@ -1,0 +1,31 @@
+-- The lines of words (choice of this profile).
+use Rattle.std.specs.Prelude.{ℕ, ◌+◌, ◌/◌, ◌%◌, min, Bool, true, false, List, [], ◌∷◌, ◌++◌, codes}
+use Rattle.std.proofs.Math.Nat.{add-le-add_iff_right, min-le_right}
+use Rattle.pio_encode.specs.declared.rule.SideRule.{SideRule}
+use Rattle.pio_encode.specs.Spelling.{hexadecimal_digit, spelled}
+
+-- a place in the memory as two decimal digits
+abbrev pub place_text : ℕ → List ℕ
+place_text place = (48 + place / 10) ∷ (48 + place % 10) ∷ []
+
+-- a word as four lower-case hexadecimal digits
+abbrev pub hexadecimal : ℕ → List ℕ
+hexadecimal w = hexadecimal_digit w 12 ++ hexadecimal_digit w 8 ++ hexadecimal_digit w 4 ++ hexadecimal_digit w 0
+
+-- the line of a word: its place, its digits, its text
+unfoldable pub word_line : SideRule → ℕ → ℕ → List ℕ
+word_line rule place w = place_text place ++ codes " " ++ hexadecimal w ++ codes " " ++ spelled w rule ++ codes "\n"
+
+-- the lines of words from a place on
+abbrev pub lines_from : SideRule → ℕ → List ℕ → List ℕ
+lines_from rule place [] = []
+lines_from rule place (w ∷ words) = word_line rule place w ++ lines_from rule (place + 1) words
+
+-- the lines of words that stand from address 0 on
+abbrev pub word_lines : SideRule → List ℕ → List ℕ
+word_lines rule words = lines_from rule 0 words
+
+-- the rule of so many side-set bits, at most as many as there is room for beside an enable bit (RP2040 Datasheet, section 3.5.1)
+unfoldable pub rule_for : ℕ → Bool → SideRule
+rule_for bits true = record { bits = min bits 4; opt = true; pindirs = false; fits = (add-le-add_iff_right 1 {n = min bits 4} {m = 4}).1 (min-le_right bits 4) }
+rule_for bits false = record { bits = min bits 5; opt = false; pindirs = false; fits = (add-le-add_iff_right 0 {n = min bits 5} {m = 5}).1 (min-le_right bits 5) }

@@ -1,0 +1,86 @@
+//! One line of a file of words: four hexadecimal digits with blanks around them, or blanks alone.
+ghost use Rattle.std.specs.Prelude.{◌≡◌, ◌<◌, IfSome};
+ghost use Rattle.std.specs.List.{list_all};
+ghost use Rattle.word_file.specs.Line as spec;
+
+/// What a line says.
+#[derive(Clone, Copy, Debug, PartialEq, Eq)]
+pub enum Line {
+    /// Nothing.
+    Blank,
+    /// A word.
+    Word(u16),
+    /// Neither.
+    Bad,
+}
+
+/// What a line says.
+pub fn read_line(line: &[u8]) -> Line
+    ensures { result ≡ spec.line_says line.now }
+{
+    said(behind_blanks(line))
+}
+
+/// A line from its first byte on that is no blank.
+fn behind_blanks(line: &[u8]) -> &[u8]
+    ensures { result.now ≡ spec.behind_blanks line.now }
+{
+    let mut rest = line;
+    while let [first, behind @ ..] = rest {
+        if !is_blank(*first) {
+            return rest;
+        }
+        rest = behind;
+    }
+    rest
+}
+
+/// What a line says that begins with no blank.
+fn said(line: &[u8]) -> Line
+    ensures { result ≡ spec.said line.now }
+{
+    match line {
+        [] => Line::Blank,
+        [a, b, c, d, rest @ ..] if are_blank(rest) => match word_of(*a, *b, *c, *d) {
+            Some(word) => Line::Word(word),
+            None => Line::Bad,
+        },
+        _ => Line::Bad,
+    }
+}
+
+fn are_blank(bytes: &[u8]) -> bool
+    ensures { result ≡ list_all spec.is_blank bytes.now }
+{
+    bytes.iter().all(|b| is_blank(*b))
+}
+
+fn is_blank(byte: u8) -> bool
+    ensures { result ≡ spec.is_blank byte }
+{
+    byte == b' ' || byte == b'\t' || byte == b'\r'
+}
+
+/// The word of four hexadecimal digits, the highest first.
+fn word_of(a: u8, b: u8, c: u8, d: u8) -> Option<u16>
+    ensures { result ≡ spec.word_of a b c d }
+{
+    let high = digit_of(a)?;
+    let second = digit_of(b)?;
+    let third = digit_of(c)?;
+    let low = digit_of(d)?;
+    Some(4096 * high + 256 * second + 16 * third + low)
+}
+
+/// The value of a hexadecimal digit of either case.
+fn digit_of(byte: u8) -> Option<u16>
+    ensures value { result ≡ spec.digit_of byte }
+    ensures range { IfSome result (λ d. d < 16) }
+{
+    match byte {
+        b'0'..=b'9' => Some(u16::from(byte - b'0')),
+        b'a'..=b'f' => Some(u16::from(byte - b'a') + 10),
+        b'A'..=b'F' => Some(u16::from(byte - b'A') + 10),
+        _ => None,
+    }
+}
