@@ -1,9 +1,10 @@
 -- Where the outside is quiet and memory is there, the files alone decide how a call ends.
-use Rattle.std.specs.Prelude.{◌≡◌, ◌≢◌, ℕ, Option, Some, None, List}
+use Rattle.std.specs.Prelude.{◌≡◌, ◌≢◌, false, ℕ, Option, Some, None, List}
 use Rattle.pio_edge.specs.Edge.{Files, Rose, with_bytes}
 use Rattle.piotool.specs.declared.fault.Fault.{Fault}
 use Rattle.piotool.specs.declared.fault.Fault.TheVariants as fault
-use Rattle.piotool.specs.Words.{Text, Asked, Asks}
+use Rattle.clap.specs.Walk.{Text}
+use Rattle.command_line.specs.Words.{Asked, Asks, has_no_room}
 use Rattle.piotool.specs.Judged.{Judged, right, wrong, judge}
 use Rattle.piotool.specs.Promise.{Call, EndsAs}
 
@@ -12,6 +13,7 @@ pub record Quiet (words : List Text) (c : Call) (f : Files) (a : Asked) (found :
   pub ends : EndsAs words c found
   pub told : c.files ≡ Some f
   pub asks : Asks words a
+  pub room : has_no_room a ≡ false
   pub memory : found ≢ Some fault.Memory
   pub shelf : Rose c.shelf_before c.shelf_after → ⊥
   pub out : Rose c.count_before c.count_after → ⊥

@@ -6,14 +6,16 @@ use Rattle.pio_edge.specs.Edge.{Files, Rose}
 use Rattle.vcd_trace.specs.VcdText.{vcd_text}
 use Rattle.pio_assemble.specs.Program.{Assembled}
 use Rattle.pio_assemble.specs.Source.{Refusal, reads_source}
-use Rattle.pio_assemble.specs.declared.fault.SourceKind.TheVariants.{Syntax}
 use Rattle.piotool.specs.declared.fault.File.{File}
 use Rattle.piotool.specs.declared.fault.File.TheVariants as file
 use Rattle.piotool.specs.declared.fault.Fault.{Fault}
 use Rattle.piotool.specs.declared.fault.Fault.TheVariants as fault
 use Rattle.piotool.specs.declared.machine.Setup.{Setup}
 use Rattle.piotool.specs.Machine.{samples}
-use Rattle.piotool.specs.Words.{Text, Asked, run}
+use Rattle.command_line.specs.Words.{Asked, run, dis}
+use Rattle.word_file.specs.declared.fault.WordFault.{WordFault}
+use Rattle.word_file.specs.Reading.{word_file}
+use Rattle.word_file.specs.Listing.{word_lines, rule_for}
 
 -- a value, or the first fault on the way to it
 pub data Judged (X : Type 0) : Type 0 where
@@ -33,15 +35,12 @@ IfRight (wrong e) P = ⊥
 -- how many bytes a file may have (choice of this profile)
 abbrev pub limit : File → ℕ
 limit file.Source = 262144
-
--- the fault of a file that has more
-abbrev pub too_long : File → Fault
-too_long file.Source = fault.Source 0 Syntax
+limit file.Words = 262144
 
 -- a file's bytes, if it is there and within its limit
 abbrev pub read_at : File → Option (List ℕ) → Judged (List ℕ)
 read_at role None = wrong (fault.Shelf role)
-read_at role (Some bytes) = if nat_lt (limit role) (length bytes) then wrong (too_long role) else right bytes
+read_at role (Some bytes) = if nat_lt (limit role) (length bytes) then wrong (fault.TooLong role) else right bytes
 
 -- a reading of a source, or its fault
 abbrev pub judged_source : Result (List Assembled) Refusal → Judged (List Assembled)
@@ -49,8 +48,17 @@ judged_source (Ok programs) = right programs
 judged_source (Err refusal) = wrong (fault.Source refusal.line refusal.kind)
 
 -- the programs of the source with this name
-unfoldable pub source_at : Files → Text → Judged (List Assembled)
+unfoldable pub source_at : Files → List ℕ → Judged (List Assembled)
 source_at files name = and_then (read_at file.Source (get files name)) (λ bytes. judged_source (reads_source bytes))
+
+-- a reading of a word file, or its fault
+abbrev pub judged_words : Result (List ℕ) WordFault → Judged (List ℕ)
+judged_words (Ok words) = right words
+judged_words (Err refusal) = wrong (fault.Words refusal.line refusal.kind)
+
+-- the words of the file with this name
+unfoldable pub words_at : Files → List ℕ → Judged (List ℕ)
+words_at files name = and_then (read_at file.Words (get files name)) (λ bytes. judged_words (word_file bytes))
 
 -- what a run of a program starts from: its words from address 0 on, the others 0x0000, and its wrap (choice of this profile)
 unfoldable pub setup_of : Assembled → Setup
@@ -85,3 +93,4 @@ StageFails files before now comes_to e = (now ≡ before) × IfSome files (λ f.
 -- what a command comes to
 unfoldable pub judge : Files → Asked → Judged (List ℕ)
 judge files (run source clocks) = and_then (source_at files source) (λ programs. right (run_text programs clocks))
+judge files (dis name side opt) = and_then (words_at files name) (λ words. right (word_lines (rule_for side opt) words))

@@ -1,4 +1,3 @@
-pub mod Words
 pub mod Machine
 pub mod Run
 pub mod Judged

@@ -3,7 +3,8 @@ use Rattle.std.specs.Prelude.{◌≡◌, ℕ, ◌≤◌, Option, Some, None, IfS
 use Rattle.pio_edge.specs.Edge.{Files, Rose, with_bytes, TakesPrefix}
 use Rattle.piotool.specs.declared.fault.Fault.{Fault}
 use Rattle.piotool.specs.declared.fault.Fault.TheVariants as fault
-use Rattle.piotool.specs.Words.{Text, Asked, Asks, IsRefused}
+use Rattle.clap.specs.Walk.{Text}
+use Rattle.command_line.specs.Words.{Asked, Asks, IsRefused, run, dis}
 use Rattle.piotool.specs.Judged.{judge, right, wrong, IfRight}
 
 -- the outside before and after a call: the files, what the output has taken, and the two counts of faults

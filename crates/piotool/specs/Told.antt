@@ -3,6 +3,8 @@ use Rattle.std.specs.Prelude.{◌≡◌, ℕ, ◌⊎◌, ◌++◌, Option, Some,
 use Rattle.pio_edge.specs.Edge.{Rose, with_bytes, TakesPrefix}
 use Rattle.pio_assemble.specs.declared.fault.SourceKind.{SourceKind}
 use Rattle.pio_assemble.specs.Fault.{code_of}
+use Rattle.word_file.specs.declared.fault.WordKind.{WordKind}
+use Rattle.word_file.specs.Fault.{code_of as word_code}
 use Rattle.piotool.specs.declared.fault.File.{File}
 use Rattle.piotool.specs.declared.fault.File.TheVariants as file
 use Rattle.piotool.specs.declared.fault.Fault.{Fault}
@@ -13,6 +15,8 @@ abbrev pub status_of : Option Fault → ℕ
 status_of None = 0
 status_of (Some fault.Usage) = 2
 status_of (Some (fault.Shelf role)) = 4
+status_of (Some (fault.TooLong role)) = 1
+status_of (Some (fault.Words line kind)) = 1
 status_of (Some (fault.Source line kind)) = 1
 status_of (Some fault.Out) = 5
 status_of (Some fault.Memory) = 6
@@ -20,10 +24,19 @@ status_of (Some fault.Memory) = 6
 -- the word for a file
 abbrev pub file_word : File → List ℕ
 file_word file.Source = codes "source"
+file_word file.Words = codes "words"
 
 -- the line of a file that wasn't fetched
 abbrev pub shelf_line : File → List ℕ
 shelf_line role = codes "piotool: shelf " ++ file_word role ++ codes "\n"
+
+-- the line of a file past its limit
+abbrev pub long_line : File → List ℕ
+long_line role = codes "piotool: long " ++ file_word role ++ codes "\n"
+
+-- the line of a word file's fault
+abbrev pub words_line : ℕ → WordKind → List ℕ
+words_line line kind = codes "piotool: words line " ++ decimal line ++ codes ": " ++ word_code kind ++ codes "\n"
 
 -- the line of a source's fault
 abbrev pub source_line : ℕ → SourceKind → List ℕ
@@ -33,6 +46,8 @@ source_line line kind = codes "piotool: source line " ++ decimal line ++ codes "
 unfoldable pub fault_line : Fault → List ℕ
 fault_line fault.Usage = codes "piotool: usage\n"
 fault_line (fault.Shelf role) = shelf_line role
+fault_line (fault.TooLong role) = long_line role
+fault_line (fault.Words line kind) = words_line line kind
 fault_line (fault.Source line kind) = source_line line kind
 fault_line fault.Out = codes "piotool: out\n"
 fault_line fault.Memory = codes "piotool: memory\n"

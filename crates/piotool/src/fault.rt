@@ -1,12 +1,15 @@
 //! Everything that keeps a command from its text, with the line and the status that tell it.
 
 use pio_assemble::SourceKind;
+use word_file::WordKind;
 
 /// A file that a command reads.
 #[derive(Clone, Copy, Debug, PartialEq, Eq)]
 pub enum File {
     /// The pioasm source.
     Source,
+    /// A file of words.
+    Words,
 }
 
 /// Why a command didn't do all that was asked.
@@ -16,6 +19,10 @@ pub enum Fault {
     Usage,
     /// A file wasn't fetched.
     Shelf(File),
+    /// A file has more bytes than its limit.
+    TooLong(File),
+    /// The first fault of a file of words: its line, from 1 on, and its kind.
+    Words(usize, WordKind),
     /// The first fault of the source: its line, from 1 on and 0 where no place is told, and its kind.
     Source(usize, SourceKind),
     /// The output failed.

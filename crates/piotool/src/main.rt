@@ -3,7 +3,9 @@
 #![tactic(auto)]
 
 mod block;
+mod dis;
 mod fault;
+mod fetch;
 mod machine;
 mod run;
 mod simulation;
@@ -12,7 +14,6 @@ mod source;
 mod tests;
 mod told;
 mod top;
-mod words;
 
 ghost use Rattle.std.specs.Prelude.{◌≡◌};
 

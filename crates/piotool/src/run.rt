@@ -1,6 +1,6 @@
 //! The command `run`: the trace of the first clocks of a source's program.
 ghost use Rattle.std.specs.Prelude.{◌≡◌, ◌+◌, ◌≤◌, ◌<◌, false};
-ghost use Rattle.piotool.specs.Words.{run as run_asked};
+ghost use Rattle.command_line.specs.Words.{run as run_asked};
 ghost use Rattle.piotool.specs.Judged.{trace_text, setup_of};
 ghost use Rattle.piotool.specs.Run.{Writes};
 ghost use Rattle.piotool.specs.Promise.{call_of, CommandEnds};

@@ -21,6 +21,8 @@ enum Text {
     Run(&'static str),
     /// The header and `#0`.
     NoClocks,
+    /// These lines.
+    Lines(&'static str),
 }
 
 /// One call, and what it comes to.
@@ -42,10 +44,14 @@ const RUN_8: &[&str] = &["piotool", "run", "--source", "s", "--clocks", "8"];
 
 const RUN_0: &[&str] = &["piotool", "run", "--source", "s", "--clocks", "0"];
 
+// A blank line, and one word more than a memory has.
+const THIRTY_THREE_WORDS: &str =
+    "\n0000\n0000\n0000\n0000\n0000\n0000\n0000\n0000\n0000\n0000\n0000\n0000\n0000\n0000\n0000\n0000\n0000\n0000\n0000\n0000\n0000\n0000\n0000\n0000\n0000\n0000\n0000\n0000\n0000\n0000\n0000\n0000\n0000\n";
+
 // The changes of the square wave, from the datasheet's example: up in clock 1, two clocks long, every four clocks.
 const EIGHT_CLOCKS: &str = "#1\n1!\n#3\n0!\n#5\n1!\n#7\n0!\n#8\n";
 
-static ROWS: [Row; 18] = [
+static ROWS: [Row; 26] = [
     Row {
         name: "a square wave of eight clocks",
         words: RUN_8,
@@ -67,8 +73,8 @@ static ROWS: [Row; 18] = [
         err: "",
     },
     Row {
-        name: "leading zeros, and one clock",
-        words: &["", "run", "--source", "s", "--clocks", "0000000000001"],
+        name: "one clock",
+        words: &["piotool", "run", "--source", "s", "--clocks", "1"],
         source: Some(SQUARE_WAVE),
         out_fails: &[],
         err_fails: &[],
@@ -168,13 +174,13 @@ static ROWS: [Row; 18] = [
     },
     Row {
         name: "another order of the options",
-        words: &["piotool", "run", "--clocks", "8", "--source", "s"],
+        words: &["piotool", "run", "--clocks", "0", "--source", "s"],
         source: Some(SQUARE_WAVE),
         out_fails: &[],
         err_fails: &[],
-        status: 2,
-        out: Text::Nothing,
-        err: "piotool: usage\n",
+        status: 0,
+        out: Text::NoClocks,
+        err: "",
     },
     Row {
         name: "a word too many",
@@ -204,31 +210,21 @@ static ROWS: [Row; 18] = [
         err: "piotool: usage\n",
     },
     Row {
-        name: "a digit too many",
+        name: "a sign and leading zeros, as clap reads numbers",
         words: &[
             "piotool",
             "run",
             "--source",
             "s",
             "--clocks",
-            "00000000000001",
+            "+00000000000000",
         ],
         source: Some(SQUARE_WAVE),
         out_fails: &[],
         err_fails: &[],
-        status: 2,
-        out: Text::Nothing,
-        err: "piotool: usage\n",
-    },
-    Row {
-        name: "a sign",
-        words: &["piotool", "run", "--source", "s", "--clocks", "+8"],
-        source: Some(SQUARE_WAVE),
-        out_fails: &[],
-        err_fails: &[],
-        status: 2,
-        out: Text::Nothing,
-        err: "piotool: usage\n",
+        status: 0,
+        out: Text::NoClocks,
+        err: "",
     },
     Row {
         name: "no number",
@@ -239,6 +235,100 @@ static ROWS: [Row; 18] = [
         status: 2,
         out: Text::Nothing,
         err: "piotool: usage\n",
+    },
+    Row {
+        name: "a file of words",
+        words: &["piotool", "dis", "s"],
+        source: Some("a060\nA042\r\n\n \tc060 "),
+        out_fails: &[],
+        err_fails: &[],
+        status: 0,
+        out: Text::Lines("00 a060 .word 0xa060\n01 a042 nop\n02 c060 .word 0xc060\n"),
+        err: "",
+    },
+    Row {
+        name: "words under a rule",
+        words: &["piotool", "dis", "s", "--side", "1"],
+        source: Some("6221\n1123\n1400\na442\n"),
+        out_fails: &[],
+        err_fails: &[],
+        status: 0,
+        out: Text::Lines(
+            "00 6221 out x, 1 side 0 [2]\n01 1123 jmp !x, 3 side 1 [1]\n02 1400 jmp 0 side 1 [4]\n03 a442 nop side 0 [4]\n",
+        ),
+        err: "",
+    },
+    Row {
+        name: "words under an optional rule",
+        words: &["piotool", "dis", "--opt", "--side", "1", "s"],
+        source: Some("9fa0\nf727\n6001\n0642\n"),
+        out_fails: &[],
+        err_fails: &[],
+        status: 0,
+        out: Text::Lines(
+            "00 9fa0 pull block side 1 [7]\n01 f727 set x, 7 side 0 [7]\n02 6001 out pins, 1\n03 0642 jmp x--, 2 [6]\n",
+        ),
+        err: "",
+    },
+    Row {
+        name: "no words in the file",
+        words: &["piotool", "dis", "s"],
+        source: Some(""),
+        out_fails: &[],
+        err_fails: &[],
+        status: 0,
+        out: Text::Nothing,
+        err: "",
+    },
+    Row {
+        name: "a line that is no word",
+        words: &["piotool", "dis", "s"],
+        source: Some("12\n"),
+        out_fails: &[],
+        err_fails: &[],
+        status: 1,
+        out: Text::Nothing,
+        err: "piotool: words line 1: H1\n",
+    },
+    Row {
+        name: "the 33rd word",
+        words: &["piotool", "dis", "s"],
+        source: Some(THIRTY_THREE_WORDS),
+        out_fails: &[],
+        err_fails: &[],
+        status: 1,
+        out: Text::Nothing,
+        err: "piotool: words line 34: H2\n",
+    },
+    Row {
+        name: "no file of words",
+        words: &["piotool", "dis", "t"],
+        source: Some(""),
+        out_fails: &[],
+        err_fails: &[],
+        status: 4,
+        out: Text::Nothing,
+        err: "piotool: shelf words\n",
+    },
+    Row {
+        name: "no room for an enable bit",
+        words: &["piotool", "dis", "s", "--side", "5", "--opt"],
+        source: Some(""),
+        out_fails: &[],
+        err_fails: &[],
+        status: 2,
+        out: Text::Nothing,
+        err: "piotool: usage\n",
+    },
+    Row {
+        name: "the second line of words fails with three bytes taken",
+        words: &["piotool", "dis", "s"],
+        source: Some("a042\na042\n"),
+        out_fails: &[(2, 3)],
+        err_fails: &[],
+        status: 5,
+        out: Text::Lines("00 a042 nop\n01 "),
+        err: "piotool: out\n",
     },
 ];
 
@@ -287,6 +377,7 @@ fn text_of(alloc: Global, text: &Text) -> Result<String, AllocError> {
         Text::Start(count) => start_of(alloc, *count),
         Text::Run(rest) => run_text(alloc, rest),
         Text::NoClocks => header(alloc),
+        Text::Lines(lines) => String::from_str(alloc, lines),
     }
 }
 

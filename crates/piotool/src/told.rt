@@ -8,6 +8,7 @@ use crate::fault::{Fault, File};
 use itoa::Buffer;
 use pio_assemble::SourceKind;
 use pio_edge::{Sink, SinkFailed, put_all};
+use word_file::WordKind;
 
 /// The status with which a program ends.
 pub fn status_of(fault: &Option<Fault>) -> u8
@@ -15,7 +16,7 @@ pub fn status_of(fault: &Option<Fault>) -> u8
 {
     match fault {
         None => 0,
-        Some(Fault::Source(..)) => 1,
+        Some(Fault::TooLong(_) | Fault::Words(..) | Fault::Source(..)) => 1,
         Some(Fault::Usage) => 2,
         Some(Fault::Shelf(_)) => 4,
         Some(Fault::Out) => 5,
@@ -32,6 +33,8 @@ pub fn put_fault<E: Sink>(err: &mut E, fault: &Fault) -> Result<(), SinkFailed>
     match fault {
         Fault::Usage => put_text(err, "piotool: usage\n"),
         Fault::Shelf(file) => put_shelf_fault(err, *file),
+        Fault::TooLong(file) => put_long_fault(err, *file),
+        Fault::Words(line, kind) => put_words_fault(err, *line, *kind),
         Fault::Source(line, kind) => put_source_fault(err, *line, kind),
         Fault::Out => put_text(err, "piotool: out\n"),
         Fault::Memory => put_text(err, "piotool: memory\n"),
@@ -61,6 +64,39 @@ fn put_shelf_fault<E: Sink>(err: &mut E, file: File) -> Result<(), SinkFailed>
     )
 }
 
+/// Puts the line of a file past its limit.
+fn put_long_fault<E: Sink>(err: &mut E, file: File) -> Result<(), SinkFailed>
+    ensures bytes { Takes (E.taken err.old) (spec.long_line file) (E.taken err.new) result }
+    ensures cause { PutCounts (E.faults err.old) (E.faults err.new) result }
+{
+    put_all(
+        err,
+        &[
+            "piotool: long ".as_bytes(),
+            word_of(file).as_bytes(),
+            "\n".as_bytes(),
+        ],
+    )
+}
+
+/// Puts the line of a word file's fault.
+fn put_words_fault<E: Sink>(err: &mut E, line: usize, kind: WordKind) -> Result<(), SinkFailed>
+    ensures bytes { Takes (E.taken err.old) (spec.words_line line kind) (E.taken err.new) result }
+    ensures cause { PutCounts (E.faults err.old) (E.faults err.new) result }
+{
+    let mut number = Buffer::new();
+    put_all(
+        err,
+        &[
+            "piotool: words line ".as_bytes(),
+            number.format(line).as_bytes(),
+            ": ".as_bytes(),
+            kind.code().as_bytes(),
+            "\n".as_bytes(),
+        ],
+    )
+}
+
 /// Puts the line of a source's fault.
 fn put_source_fault<E: Sink>(err: &mut E, line: usize, kind: &SourceKind) -> Result<(), SinkFailed>
     ensures bytes { Takes (E.taken err.old) (spec.source_line line kind.now) (E.taken err.new) result }
@@ -85,5 +121,6 @@ fn word_of(file: File) -> &'static str
 {
     match file {
         File::Source => "source",
+        File::Words => "words",
     }
 }

@@ -1,15 +1,16 @@
 //! The whole program as one call over its words, a shelf of files, an output and an error output.
-ghost use Rattle.std.specs.Prelude.{◌≡◌, ◌≢◌, ◌+◌, ◌≤◌, map, Some, string_bytes};
-ghost use Rattle.piotool.specs.Words.{IsTaken, asked_by, most_clocks};
+ghost use Rattle.std.specs.Prelude.{◌≡◌, ◌≢◌, ◌+◌, ◌≤◌, map, Some, Err, string_bytes};
+ghost use Rattle.command_line.specs.Words.{IsTaken, most_clocks};
 ghost use Rattle.piotool.specs.Told as told_spec;
 ghost use Rattle.piotool.specs.Told.{TellsFault};
 ghost use Rattle.piotool.specs.Complete.{FilesDecide};
 ghost use Rattle.piotool.specs.Promise.{call_of, CommandEnds, EndsAs, WorkEnds};
 
+use crate::dis::dis;
 use crate::fault::Fault;
 use crate::run::run;
 use crate::told::{put_fault, status_of};
-use crate::words::{Order, read_words};
+use command_line::{Order, WordsFault, read};
 use pio_edge::{Shelf, Sink};
 use std::alloc::Global;
 use std::sync::ledger::Ledger;
@@ -75,12 +76,15 @@ fn work<F: Shelf, O: Sink, L: Ledger>(
         (call_of (F.holds shelf.old) (F.faults shelf.old) (F.faults shelf.new)
         (O.taken out.old) (O.taken out.new) (O.faults out.old) (O.faults out.new))
         result }
+    ensures taken { IsTaken (map string_bytes words.now) → result ≢ Err Fault.Usage }
     ensures same { F.holds shelf.new ≡ F.holds shelf.old }
     ensures steps { steps.new ≤ steps.old + most_clocks (map string_bytes words.now) }
 {
-    match read_words(words) {
-        Some(Order::Run { source, clocks }) => run(alloc, source, clocks, shelf, out, steps),
-        None => Err(Fault::Usage),
+    match read(alloc, words) {
+        Ok(Order::Run { source, clocks }) => run(alloc, source, clocks, shelf, out, steps),
+        Ok(Order::Dis { file, side, opt }) => dis(alloc, file, side, opt, shelf, out),
+        Err(WordsFault::Usage) => Err(Fault::Usage),
+        Err(WordsFault::Memory) => Err(Fault::Memory),
     }
 }
 

@@ -1,0 +1,43 @@
+//! A file of a command, fetched whole.
+ghost use Rattle.std.specs.Prelude.{◌≡◌, ◌≤◌, IfOk, MatchResult, vec_len};
+ghost use Rattle.std.specs.FinMap.{get};
+ghost use Rattle.piotool.specs.Judged.{read_at, limit, StagePasses, StageFails};
+
+use crate::fault::{Fault, File};
+use pio_edge::{Fetch, Shelf};
+use std::alloc::Global;
+
+/// The bytes of a file, if it is within its limit. One byte more than the limit is asked for, so that a longer
+/// file is told by its length alone.
+pub fn fetch_file<F: Shelf>(
+    alloc: Global,
+    shelf: &mut F,
+    role: File,
+    name: &str,
+) -> Result<Vec<u8>, Fault>
+    ensures same { F.holds shelf.new ≡ F.holds shelf.old }
+    ensures within { IfOk result (λ bytes. vec_len bytes ≤ limit role) }
+    ensures stage { MatchResult result
+        (λ bytes. StagePasses (F.holds shelf.old) (F.faults shelf.old) (F.faults shelf.new)
+        (λ f. read_at role (get f name.now)) bytes.items)
+        (StageFails (F.holds shelf.old) (F.faults shelf.old) (F.faults shelf.new)
+        (λ f. read_at role (get f name.now))) }
+{
+    let most = limit_of(role);
+    match shelf.fetch(alloc, name, most + 1) {
+        Ok(bytes) if bytes.len() > most => Err(Fault::TooLong(role)),
+        Ok(bytes) => Ok(bytes),
+        Err(Fetch::Failed) => Err(Fault::Shelf(role)),
+        Err(Fetch::Memory) => Err(Fault::Memory),
+    }
+}
+
+/// How many bytes a file may have.
+fn limit_of(role: File) -> usize
+    ensures value { result ≡ limit role }
+    ensures small { result ≤ 262144 }
+{
+    match role {
+        File::Source | File::Words => 262_144,
+    }
+}
