@@ -7,7 +7,7 @@ use Rattle.pio_assemble.specs.declared.statement.Statement.TheVariants.{Program,
 use Rattle.pio_assemble.specs.declared.symbols.Symbol.{Symbol}
 use Rattle.pio_assemble.specs.Program.{Assembled}
 use Rattle.pio_assemble.specs.Statement.{◌>>=◌}
-use Rattle.pio_assemble.specs.Meaning.{word_count, symbols_from, symbols_of, are_distinct, words_of, program_with, linked, meaning_of}
+use Rattle.pio_assemble.specs.Meaning.{word_count, symbols_from, few_labels, named_words, are_distinct, value_of, words_of, program_with, linked, meaning_of}
 use Rattle.pio_assemble.specs.Source.{Means, IsSource, Refusal, source_statements, program_of_source, answer, reads_source}
 use Rattle.pio_assemble.proofs.Tokens.{then_some, some_is, chosen}
 use Rattle.std.specs.Result.{IfOk}
@@ -15,29 +15,33 @@ use Rattle.pio_assemble.specs.declared.fault.SourceFault.{SourceFault}
 use Rattle.pio_assemble.specs.Answers.{Gives}
 use Rattle.pio_assemble.proofs.Lines.{source_sound, source_complete}
 
+named_sound : (symbols : List Symbol) (body : List Statement) (words : List ℕ) → named_words symbols body ≡ Some words → (are_distinct symbols ≡ true) × (words_of (value_of symbols) body ≡ Some words)
+named_sound symbols body words e =
+    elim (chosen (are_distinct symbols) (words_of (value_of symbols) body) None (Some words) e) [ inl h ↦ h | inr h ↦ absurd cc ]
+
 linked_sound : (name : List ℕ) (body : List Statement) (p : Assembled) → linked name body ≡ Some p → Means name body p
-unfolding linked symbols_of
+unfolding linked few_labels
 linked_sound name body p e =
-    elim (chosen (leb 1 (word_count body) && leb (word_count body) 32) (symbols_of body >>= λ symbols. words_of symbols body >>= λ words. Some (program_with name symbols words)) None (Some p) e) [
+    elim (chosen (leb 1 (word_count body) && leb (word_count body) 32) (few_labels body >>= λ symbols. named_words symbols body >>= λ words. Some (program_with name symbols words)) None (Some p) e) [
       | inl h ↦ let counts = and_parts (leb 1 (word_count body)) (leb (word_count body) 32) h.0 in
-          let a = then_some (λ symbols. words_of symbols body >>= λ words. Some (program_with name symbols words)) (symbols_of body) p h.1 in
-          let s = cond_some (leb (length (symbols_from 0 body)) 1024 && are_distinct (symbols_from 0 body)) (symbols_from 0 body) a.0 a.1 in
-          let labels = and_parts (leb (length (symbols_from 0 body)) 1024) (are_distinct (symbols_from 0 body)) s.0 in
-          let b = then_some (λ words. Some (program_with name a.0 words)) (words_of a.0 body) p a.2 in
+          let a = then_some (λ symbols. named_words symbols body >>= λ words. Some (program_with name symbols words)) (few_labels body) p h.1 in
+          let labels = cond_some (leb (length (symbols_from 0 body)) 1024) (symbols_from 0 body) a.0 a.1 in
+          let b = then_some (λ words. Some (program_with name a.0 words)) (named_words a.0 body) p a.2 in
+          let named = named_sound a.0 body b.0 b.1 in
           record {
             some_words = leb-true 1 (word_count body) counts.0;
             few_words = leb-true (word_count body) 32 counts.1;
             few_labels = leb-true (length (symbols_from 0 body)) 1024 labels.0;
-            distinct = labels.1;
+            distinct = subst (λ (symbols : List Symbol). are_distinct symbols ≡ true) (sym labels.1) named.0;
             words = b.0;
-            are_words = subst (λ (symbols : List Symbol). words_of symbols body ≡ Some b.0) (sym s.1) b.1;
-            whole = sym (subst (λ (symbols : List Symbol). program_with name symbols b.0 ≡ p) (sym s.1) (some_is (program_with name a.0 b.0) p b.2));
+            are_words = subst (λ (symbols : List Symbol). words_of (value_of symbols) body ≡ Some b.0) (sym labels.1) named.1;
+            whole = sym (subst (λ (symbols : List Symbol). program_with name symbols b.0 ≡ p) (sym labels.1) (some_is (program_with name a.0 b.0) p b.2));
           }
       | inr h ↦ absurd cc
     ]
 
 linked_complete : (name : List ℕ) (body : List Statement) (p : Assembled) → Means name body p → linked name body ≡ Some p
-unfolding linked symbols_of
+unfolding linked few_labels
 linked_complete name body p m =
     let a : leb 1 (word_count body) ≡ true = le-leb 1 (word_count body) m.some_words in
     let b : leb (word_count body) 32 ≡ true = le-leb (word_count body) 32 m.few_words in

@@ -5,3 +5,4 @@ pub mod Statement
 pub mod Meaning
 pub mod Source
 pub mod Answers
+pub mod Values

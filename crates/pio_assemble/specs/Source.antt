@@ -9,7 +9,7 @@ use Rattle.pio_assemble.specs.declared.statement.Statement.TheVariants as statem
 use Rattle.pio_assemble.specs.Program.{Assembled}
 use Rattle.pio_assemble.specs.Tokens.{IsTokens, tokens_of}
 use Rattle.pio_assemble.specs.Statement.{◌>>=◌, statement_of}
-use Rattle.pio_assemble.specs.Meaning.{word_count, symbols_from, are_distinct, words_of, program_with, meaning_of}
+use Rattle.pio_assemble.specs.Meaning.{word_count, symbols_from, are_distinct, value_of, words_of, program_with, meaning_of}
 
 -- ---- the relation
 
@@ -45,7 +45,7 @@ pub record Means (name : List ℕ) (body : List Statement) (p : Assembled) : Typ
   pub few_labels : length (symbols_from 0 body) ≤ 1024
   pub distinct : IsTrue (are_distinct (symbols_from 0 body))
   pub words : List ℕ
-  pub are_words : words_of (symbols_from 0 body) body ≡ Some words
+  pub are_words : words_of (value_of (symbols_from 0 body)) body ≡ Some words
   pub whole : p ≡ program_with name (symbols_from 0 body) words
 
 -- the bytes are a source in the form, and mean this program

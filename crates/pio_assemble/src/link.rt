@@ -4,6 +4,7 @@ ghost use Rattle.pio_encode.specs.Ranges.{IsInstruction, IsInRange};
 ghost use Rattle.pio_assemble.specs.Program.{assembled_of};
 ghost use Rattle.pio_assemble.specs.Meaning as spec;
 ghost use Rattle.pio_assemble.specs.Answers.{Reads};
+ghost use Rattle.pio_assemble.specs.Values.{AreValuesOf, value_in};
 
 use crate::fault::syntax;
 use crate::name::copy_of;
@@ -47,8 +48,8 @@ fn link(alloc: Global, name: &Name, body: &[Statement]) -> Result<Program, Sourc
     if count == 0 || count > MOST_WORDS {
         return Err(syntax());
     }
-    let symbols = Symbols::new(symbols(alloc, body)?);
-    let words = words(&symbols, body)?;
+    let symbols = few_labels(alloc, body)?;
+    let words = words(alloc, &symbols, body)?;
     Ok(Program {
         name: copy_of(alloc, name)?,
         wrap_top: (words.len() - 1) as u8,
@@ -56,7 +57,7 @@ fn link(alloc: Global, name: &Name, body: &[Statement]) -> Result<Program, Sourc
         origin: None,
         side: PLAIN,
         wrap_bottom: 0,
-        symbols,
+        symbols: Symbols::new(symbols),
     })
 }
 
@@ -66,14 +67,14 @@ fn word_count(body: &[Statement]) -> usize
     body.iter().filter(|s| s.is_instruction()).count()
 }
 
-/// The labels, where they are few enough and have names of their own.
-#[tactic(auto, unfolding(crate::specs::Meaning::symbols_of))]
-fn symbols(alloc: Global, body: &[Statement]) -> Result<Vec<Symbol>, SourceFault>
+/// The labels, where they are few enough.
+#[tactic(auto, unfolding(crate::specs::Meaning::few_labels))]
+fn few_labels(alloc: Global, body: &[Statement]) -> Result<Vec<Symbol>, SourceFault>
     requires { spec.word_count body.now ≤ 32 }
-    ensures { Reads (λ v. v.items) result (spec.symbols_of body.now) }
+    ensures { Reads (λ v. v.items) result (spec.few_labels body.now) }
 {
     let symbols = labels(alloc, body)?;
-    if symbols.len() > MOST_LABELS || !are_distinct(alloc, &symbols)? {
+    if symbols.len() > MOST_LABELS {
         return Err(syntax());
     }
     Ok(symbols)
@@ -107,23 +108,43 @@ fn label(alloc: Global, name: &Name, value: u8) -> Result<Symbol, AllocError>
     })
 }
 
-/// Whether no two of them have one name.
-fn are_distinct(alloc: Global, symbols: &[Symbol]) -> Result<bool, AllocError>
-    ensures { IfOk result (λ distinct. distinct ≡ spec.are_distinct symbols.now) }
+/// The words of the instructions in order, where no two symbols have one name.
+fn words(
+    alloc: Global,
+    symbols: &[Symbol],
+    body: &[Statement],
+) -> Result<ArrayVec<u16, 32>, SourceFault>
+    requires { spec.word_count body.now ≤ 32 }
+    ensures words { Reads (λ v. v.items) result (spec.named_words symbols.now body.now) }
+    ensures len { IfOk result (λ v. length v.items ≡ spec.word_count body.now) }
 {
-    let mut names = HashMap::new(alloc);
-    for symbol in symbols {
-        if names.insert(symbol.name.as_str(), ())?.is_some() {
-            return Ok(false);
-        }
+    match values(alloc, symbols)? {
+        Some(values) => words_over(&values, body),
+        None => Err(syntax()),
     }
-    Ok(true)
 }
 
-/// The words of the instructions in order.
-fn words(symbols: &Symbols, body: &[Statement]) -> Result<ArrayVec<u16, 32>, SourceFault>
+/// The symbols by their names, or nothing where two symbols have one name.
+fn values(alloc: Global, symbols: &[Symbol]) -> Result<Option<HashMap<&str, &Symbol>>, AllocError>
+    ensures { IfOk result (AreValuesOf symbols.now) }
+{
+    let mut values = HashMap::new(alloc);
+    for symbol in symbols {
+        let earlier = values.insert(symbol.name.as_str(), symbol)?;
+        if earlier.is_some() {
+            return Ok(None);
+        }
+    }
+    Ok(Some(values))
+}
+
+/// The words of the instructions in order, where names stand for these values.
+fn words_over(
+    values: &HashMap<&str, &Symbol>,
+    body: &[Statement],
+) -> Result<ArrayVec<u16, 32>, SourceFault>
     requires { spec.word_count body.now ≤ 32 }
-    ensures words { Reads (λ v. v.items) result (spec.words_of symbols.now body.now) }
+    ensures words { Reads (λ v. v.items) result (spec.words_of (value_in values.now) body.now) }
     ensures len { IfOk result (λ v. length v.items ≡ spec.word_count body.now) }
 {
     let mut words = ArrayVec::new();
@@ -132,7 +153,7 @@ fn words(symbols: &Symbols, body: &[Statement]) -> Result<ArrayVec<u16, 32>, Sou
             Statement::Program(_) => return Err(syntax()),
             Statement::Label(_) => {}
             Statement::Jump { target, delay } => {
-                let address = address(symbols, target)?;
+                let address = address(values, target)?;
                 words.push(jump_word(address, *delay));
             }
             Statement::Set {
@@ -147,10 +168,10 @@ fn words(symbols: &Symbols, body: &[Statement]) -> Result<ArrayVec<u16, 32>, Sou
 
 /// The address of a label that a jump can go to.
 #[tactic(auto, unfolding(crate::specs::Meaning::address_of))]
-fn address(symbols: &Symbols, name: &Name) -> Result<Small, SourceFault>
-    ensures { Reads (λ n. n) result (spec.address_of symbols.now name.now) }
+fn address(values: &HashMap<&str, &Symbol>, name: &Name) -> Result<Small, SourceFault>
+    ensures { Reads (λ n. n) result (spec.address_of (value_in values.now) name.now) }
 {
-    match symbols.get(name.as_bytes()) {
+    match values.get(name.as_str()) {
         Some(symbol) => small(symbol.value),
         None => Err(syntax()),
     }
