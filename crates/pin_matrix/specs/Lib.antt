@@ -1,0 +1,3 @@
+pub mod Setups
+pub mod Spans
+pub mod Pins
