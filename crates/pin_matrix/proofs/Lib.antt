@@ -1,0 +1,5 @@
+pub mod Bounds
+pub mod Rotations
+pub mod Mapped
+pub mod Merging
+pub mod PadLaws

@@ -1,0 +1,4 @@
+pub mod Setups
+pub mod Spans
+pub mod Pins
+pub mod Pads

@@ -1,0 +1,28 @@
+//! Pins of the RP2040's PIO: which an instruction writes, whose write stands, what a machine sees, and the types of a
+//! setup.
+#![tactic(auto)]
+
+mod laws;
+mod machine;
+mod mapping;
+mod merge;
+mod pads;
+mod rotation;
+mod setup;
+mod span;
+mod sync;
+mod writes;
+
+pub use laws::{
+    each_mapped_pin, each_pad, each_pin_from, no_write_changes_nothing, the_last_write_stands,
+    what_a_machine_sees,
+};
+pub use machine::MachineSetup;
+pub use mapping::Mapping;
+pub use merge::merge4;
+pub use pads::pad_of;
+pub use rotation::pins_from;
+pub use setup::Setup;
+pub use span::{Span, SpanUnit, Spans, Stalls};
+pub use sync::Sync;
+pub use writes::writes_of;

@@ -1,0 +1,25 @@
+//! What a run of a block begins with.
+ghost use Rattle.std.specs.Prelude.{IsTrue};
+ghost use Rattle.pin_matrix.specs.Setups.{ids_are_places};
+
+use crate::machine::MachineSetup;
+use crate::span::Spans;
+
+/// A block at the start of a run, and the spans that are asked of it. In the pins bit i stands for pin i.
+#[derive(Drop)]
+pub struct Setup {
+    /// The instruction memory.
+    pub memory: [u16; 32],
+    /// The machines that are configured, each at the place of its number.
+    pub machines: [Option<MachineSetup>; 4],
+    /// The pins that the outside drives high.
+    pub high: u32,
+    /// The output levels.
+    pub level: u32,
+    /// The pins that are outputs.
+    pub out: u32,
+    /// The pins without input synchroniser.
+    pub bypass: u32,
+    pub spans: Spans,
+    pub ghost at_their_places: { IsTrue (ids_are_places 0 machines) },
+}

@@ -1,0 +1,139 @@
+//! A span between two edges of pins, with its bounds.
+ghost use Rattle.std.specs.Prelude.{◌≡◌, ◌<◌, ◌≤◌, ◌||◌, ◌==◌, ◌^◌, length, IsTrue};
+ghost use Rattle.pin_matrix.specs.Spans as spec;
+ghost use Rattle.pin_matrix.specs.Spans.{is_in_ticks};
+
+use pio_encode::Name;
+use std::marker::Model;
+
+/// What a span's bounds count.
+#[derive(Clone, Copy, Debug, PartialEq, Eq)]
+pub enum SpanUnit {
+    /// Ticks of the machine, less those stalled at the addresses that the span names.
+    Ticks,
+    /// System clocks.
+    Clocks,
+}
+
+/// The addresses, each 0 to 31, at which stalls don't count.
+#[derive(Debug, Drop)]
+pub struct Stalls {
+    addresses: Vec<u8>,
+}
+
+impl Model for Stalls {
+    ghost use Rattle.std.specs.Prelude.{List, ℕ, IsTrue};
+    ghost use Rattle.pin_matrix.specs.Spans.{are_addresses};
+
+    ghost Value = { List ℕ };
+
+    ghost view = { λ s. s.addresses.items };
+
+    ghost invariant = { λ s. IsTrue (are_addresses s.addresses.items) };
+}
+
+impl Stalls {
+    ghost use Rattle.std.specs.Prelude.{◌≡◌, if◌then◌else◌, Some, None};
+    ghost use Rattle.pin_matrix.specs.Spans.{are_addresses};
+
+    /// These addresses, unless one is above 31. It takes no memory.
+    pub fn new(addresses: Vec<u8>) -> Option<Stalls>
+        ensures { result
+            ≡ (if are_addresses addresses.items then Some addresses.items else None) }
+    {
+        if are_addresses(&addresses) {
+            Some(Stalls { addresses })
+        } else {
+            None
+        }
+    }
+
+    /// The addresses in their order.
+    pub fn as_slice(&self) -> &[u8]
+        ensures { result.now ≡ self.now }
+    {
+        self.addresses.as_slice()
+    }
+
+    /// The list that it was made of, with its memory.
+    pub fn into_vec(self) -> Vec<u8>
+        ensures { result.items ≡ self }
+    {
+        self.addresses
+    }
+}
+
+fn are_addresses(bytes: &[u8]) -> bool
+    ensures { result ≡ spec.are_addresses bytes.now }
+{
+    bytes.iter().all(|byte| *byte < 32)
+}
+
+/// From each from-edge to the first to-edge after it, so much time is asked.
+#[derive(Debug, Drop)]
+pub struct Span {
+    pub name: Name,
+    /// The machine whose ticks count: 0 to 3.
+    pub machine: u8,
+    /// 0 to 31.
+    pub from_pin: u8,
+    /// A rise, else a fall.
+    pub from_rise: bool,
+    /// 0 to 31.
+    pub to_pin: u8,
+    /// A rise, else a fall.
+    pub to_rise: bool,
+    pub unit: SpanUnit,
+    /// The least that is right; at most `max`.
+    pub min: u32,
+    /// The most that is right: up to 16,777,215.
+    pub max: u32,
+    /// Empty for a span in clocks.
+    pub stalls: Stalls,
+    pub ghost machine_in_block: { machine < 4 },
+    pub ghost from_pin_is_a_pin: { from_pin < 32 },
+    pub ghost to_pin_is_a_pin: { to_pin < 32 },
+    pub ghost ordered: { min ≤ max },
+    pub ghost bounded: { max < 2 ^ 24 },
+    pub ghost stalls_in_ticks: { IsTrue (is_in_ticks unit || length stalls == 0) },
+}
+
+/// Spans in the order of their configuration, seen as their list.
+#[derive(Debug, Drop)]
+pub struct Spans {
+    spans: Vec<Span>,
+}
+
+impl Model for Spans {
+    ghost use Rattle.std.specs.Prelude.{List};
+    ghost use Rattle.pin_matrix.specs.declared.span.Span.{Span};
+
+    ghost Value = { List Span };
+
+    ghost view = { λ s. s.spans.items };
+}
+
+impl Spans {
+    ghost use Rattle.std.specs.Prelude.{◌≡◌};
+
+    /// These spans. It takes no memory.
+    pub fn new(spans: Vec<Span>) -> Spans
+        ensures { result ≡ spans.items }
+    {
+        Spans { spans }
+    }
+
+    /// The spans in their order.
+    pub fn as_slice(&self) -> &[Span]
+        ensures { result.now ≡ self.now }
+    {
+        self.spans.as_slice()
+    }
+
+    /// The list that it was made of, with its memory.
+    pub fn into_vec(self) -> Vec<Span>
+        ensures { result.items ≡ self }
+    {
+        self.spans
+    }
+}
