@@ -1,3 +1,4 @@
 pub mod Effects
 pub mod Tick
 pub mod Ranges
+pub mod State

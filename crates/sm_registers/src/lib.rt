@@ -5,13 +5,17 @@ mod effect;
 mod fifo_moves;
 mod intent;
 mod jump;
+mod machine;
 mod moving;
 mod registers;
 mod shifting;
+mod shown;
 mod tick;
 mod view;
 mod waiting;
 
 pub use intent::{Intent, Kind, RX_STALL, RX_UNDER, TX_OVER, TX_STALL};
+pub use machine::Machine;
 pub use registers::Registers;
+pub use shown::Shown;
 pub use view::{Queues, View};

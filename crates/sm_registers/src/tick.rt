@@ -128,6 +128,7 @@ fn tick_by(
     registers: &Registers,
     effect: &Effect,
 ) -> (Registers, Intent)
+    requires { registers.now.pc < 32 }
     ensures { result ≡ spec.tick_by op.now setup.now queues.now registers.now effect.now }
 {
     let after = after_effect(op.delay, setup, registers, effect);
@@ -159,6 +160,7 @@ fn after_effect(
     registers: &Registers,
     effect: &Effect,
 ) -> Registers
+    requires { registers.now.pc < 32 }
     ensures { result ≡ spec.after_effect delay setup.now registers.now effect.now }
 {
     if effect.stalled {
@@ -178,6 +180,7 @@ fn after_effect(
 
 /// PC after a finished instruction.
 fn pc_after(jump: Option<u8>, was_pending: bool, setup: &MachineSetup, registers: &Registers) -> u8
+    requires { registers.now.pc < 32 }
     ensures { result ≡ spec.pc_after jump was_pending setup.now registers.now }
 {
     match jump {
