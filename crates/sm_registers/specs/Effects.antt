@@ -152,8 +152,8 @@ abbrev pub autopushed : MachineSetup → Queues → Registers → Effect
 autopushed s q r =
     if s.autopush && nat_le s.push_threshold r.in_count
     then (if q.rx_full
-        then record (stall r) { sticky = RX_STALL }
-        else record (quiet (isr_emptied r)) { word = Some r.isr })
+    then record (stall r) { sticky = RX_STALL }
+    else record (quiet (isr_emptied r)) { word = Some r.isr })
     else quiet r
 
 -- IN shifts in its first tick alone; a later one only pushes (section 3.4.4; that a stall stands behind the shift is a

@@ -80,18 +80,20 @@ tick_delay s q r = let after = record r { delay = r.delay - 1 } in
 
 -- a tick of an instruction, by its effect
 unfoldable pub tick_by : Op → MachineSetup → Queues → Registers → Effect → Registers × Intent
-tick_by op s q r e = let after = after_effect op.delay s r e in let side_set = side_writes op.side r.begun s in
-    (refilled s q after, record {
-      level = e.level ∷ (if s.side_rule.pindirs then (0, 0) else side_set) ∷ [];
-      direction = e.direction ∷ (if s.side_rule.pindirs then side_set else (0, 0)) ∷ [];
-      clears = e.clears;
-      sets = e.sets;
-      take = e.take || refills s q after;
-      word = e.word;
-      sticky = e.sticky;
-      kind = if r.begun then Late else First;
-      stalled = e.stalled;
-    })
+tick_by op s q r e = let after = after_effect op.delay s r e in let side_set = side_writes op.side r.begun s in (
+  refilled s q after,
+  record {
+    level = e.level ∷ (if s.side_rule.pindirs then (0, 0) else side_set) ∷ [];
+    direction = e.direction ∷ (if s.side_rule.pindirs then side_set else (0, 0)) ∷ [];
+    clears = e.clears;
+    sets = e.sets;
+    take = e.take || refills s q after;
+    word = e.word;
+    sticky = e.sticky;
+    kind = if r.begun then Late else First;
+    stalled = e.stalled;
+  },
+)
 
 -- a tick of an instruction
 unfoldable pub tick_word : Op → MachineSetup → View → Queues → Registers → Registers × Intent

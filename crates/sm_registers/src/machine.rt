@@ -62,8 +62,10 @@ impl<F: Fifo> Machine<F> {
     /// One tick. Its registers change; all else that it does is the intent, which `settle` and the block carry out.
     pub fn tick(&mut self, view: &View) -> Intent
         ensures intent { result ≡ (spec_tick.tick_of self.old.setup view.now (queues_of self.old.ports.fifos) self.old.registers).1 }
-        ensures state { self.new ≡ record self.old { registers =
-            (spec_tick.tick_of self.old.setup view.now (queues_of self.old.ports.fifos) self.old.registers).0 } }
+        ensures state { self.new ≡ record self.old {
+          registers =
+              (spec_tick.tick_of self.old.setup view.now (queues_of self.old.ports.fifos) self.old.registers).0;
+        } }
         ensures take { IsTrue result.take → 0 < length self.new.ports.fifos.tx }
         ensures word { IsSome result.word → length self.new.ports.fifos.rx < self.new.ports.fifos.rx_room }
     {

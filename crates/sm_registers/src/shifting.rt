@@ -27,7 +27,12 @@ pub(crate) fn in_effect(
     let shifted = if registers.begun {
         *registers
     } else {
-        with_bits_in(in_word(source, setup, view, registers), count, setup, *registers)
+        with_bits_in(
+            in_word(source, setup, view, registers),
+            count,
+            setup,
+            *registers,
+        )
     };
     autopushed(setup, queues, shifted)
 }

@@ -99,17 +99,31 @@ fn effect_of(
         Act::Jmp { condition, address } => {
             jmp_effect(condition, address, setup, view, registers)
         }
-        Act::Wait { polarity, source, index } => {
-            wait_effect(polarity, source, index, setup, view, registers)
-        }
+        Act::Wait {
+            polarity,
+            source,
+            index,
+        } => { wait_effect(polarity, source, index, setup, view, registers) }
         Act::In { source, count } => in_effect(source, count, setup, view, queues, registers),
         Act::Out { destination, count } => {
             out_effect(destination, count, setup, queues, registers)
         }
         Act::Push { if_full, block } => push_effect(if_full, block, setup, queues, registers),
         Act::Pull { if_empty, block } => pull_effect(if_empty, block, setup, queues, registers),
-        Act::Mov { destination, operation, source } => {
-            mov_effect(destination, operation, source, setup, view, queues, registers)
+        Act::Mov {
+            destination,
+            operation,
+            source,
+        } => {
+            mov_effect(
+                destination,
+                operation,
+                source,
+                setup,
+                view,
+                queues,
+                registers,
+            )
         }
         Act::Irq { clear, wait, index } => {
             irq_effect(clear, wait, index, setup, view, registers)
@@ -205,8 +219,7 @@ fn delay_after(pending: Option<u16>, delay: u8) -> u8
 fn refills(setup: &MachineSetup, queues: &Queues, registers: &Registers) -> bool
     ensures { result ≡ spec.refills setup.now queues.now registers.now }
 {
-    setup.autopull
-        && (setup.pull_threshold <= registers.out_count && queues.front.is_some())
+    setup.autopull && (setup.pull_threshold <= registers.out_count && queues.front.is_some())
 }
 
 /// The registers after autopull.
