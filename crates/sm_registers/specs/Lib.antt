@@ -1,0 +1,5 @@
+pub mod Effects
+pub mod Tick
+pub mod Ranges
+pub mod State
+pub mod Laws

@@ -1,0 +1,76 @@
+//! JMP (RP2040 Datasheet, section 3.4.2).
+ghost use Rattle.std.specs.Prelude.{◌≡◌, ◌<◌};
+ghost use Rattle.sm_registers.specs.Effects as spec;
+
+use crate::effect::{Effect, quiet};
+use crate::registers::Registers;
+use crate::view::View;
+use pin_matrix::MachineSetup;
+use pio_encode::Condition;
+
+/// Goes to the address where the condition holds. X or Y counts down in any case.
+#[tactic(auto, unfolding(crate::specs::Effects::jmp_effect))]
+pub(crate) fn jmp_effect(
+    condition: Condition,
+    address: u8,
+    setup: &MachineSetup,
+    view: &View,
+    registers: &Registers,
+) -> Effect
+    ensures { result ≡ spec.jmp_effect condition address setup.now view.now registers.now }
+{
+    let jump = if jumps(condition, setup, view, registers) {
+        Some(address)
+    } else {
+        None
+    };
+    Effect {
+        jump,
+        ..quiet(counted_down(condition, *registers))
+    }
+}
+
+/// Whether the condition holds, by X and Y before the count.
+fn jumps(condition: Condition, setup: &MachineSetup, view: &View, registers: &Registers) -> bool
+    ensures { result ≡ spec.jumps condition setup.now view.now registers.now }
+{
+    match condition {
+        Condition::Always => true,
+        Condition::XZero => registers.x == 0,
+        Condition::XDecrement => registers.x != 0,
+        Condition::YZero => registers.y == 0,
+        Condition::YDecrement => registers.y != 0,
+        Condition::XNotY => registers.x != registers.y,
+        Condition::Pin => is_up(view.seen, setup.jmp_pin),
+        Condition::OsrNotEmpty => registers.out_count < setup.pull_threshold,
+    }
+}
+
+/// X or Y one less, where the condition counts.
+fn counted_down(condition: Condition, registers: Registers) -> Registers
+    ensures { result ≡ spec.counted_down condition registers }
+{
+    match condition {
+        Condition::XDecrement => {
+            Registers {
+                x: registers.x.wrapping_sub(1),
+                ..registers
+            }
+        }
+        Condition::YDecrement => {
+            Registers {
+                y: registers.y.wrapping_sub(1),
+                ..registers
+            }
+        }
+        _ => registers,
+    }
+}
+
+/// Whether a bit (0 to 31) of a word is 1.
+pub(crate) fn is_up(word: u32, bit: u8) -> bool
+    requires { bit < 32 }
+    ensures { result ≡ spec.is_up word bit }
+{
+    (word >> bit) % 2 == 1
+}

@@ -1,0 +1,165 @@
+//! A state machine with its FIFOs. In a clock it ticks or doesn't, and then settles what it and the system want.
+ghost use Rattle.std.specs.Prelude.{◌≡◌, ◌<◌, length, IsTrue, IsSome, IfOk};
+ghost use Rattle.sm_registers.specs.State.{first_machine, queues_of, settled_ports, shown_of};
+ghost use Rattle.sm_registers.specs.State as spec;
+ghost use Rattle.sm_registers.specs.Tick as spec_tick;
+
+use crate::intent::{Intent, RX_UNDER, TX_OVER};
+use crate::registers::Registers;
+use crate::shown::Shown;
+use crate::tick::tick_of;
+use crate::view::{Queues, View};
+use fifo_pair::{Fifo, Pair};
+use pin_matrix::MachineSetup;
+use std::alloc::{AllocError, Global};
+use std::marker::Model;
+
+/// A state machine. Nothing outside sees more of it than its `MachineState`.
+#[derive(Drop)]
+pub struct Machine<F: Fifo> {
+    setup: MachineSetup,
+    registers: Registers,
+    fifos: Pair<F>,
+    got: u32,
+    sticky: u8,
+}
+
+impl<F: Fifo> Model for Machine<F> {
+    ghost use Rattle.sm_registers.specs.State.{MachineState, IsKept};
+
+    ghost Value = { MachineState };
+
+    ghost view = { λ m. record {
+      setup = m.setup;
+      registers = m.registers;
+      ports = record { fifos = m.fifos; got = m.got; sticky = m.sticky };
+    } };
+
+    ghost invariant = { λ m. IsKept m.setup m.registers m.fifos };
+}
+
+impl<F: Fifo> Machine<F> {
+    /// A machine at the start of a run. The error is want of memory; no other call takes any.
+    pub fn new(alloc: Global, setup: &MachineSetup) -> Result<Machine<F>, AllocError>
+        ensures { IfOk result (λ machine. machine ≡ first_machine setup.now) }
+    {
+        Ok(Machine {
+            setup: *setup,
+            registers: first_registers(setup),
+            fifos: Pair::new(alloc, setup.join_tx, setup.join_rx)?,
+            got: 0,
+            sticky: 0,
+        })
+    }
+
+    /// Its setup, which never changes.
+    pub fn setup(&self) -> &MachineSetup
+        ensures { result.now ≡ self.now.setup }
+    {
+        &self.setup
+    }
+
+    /// One tick. Its registers change; all else that it does is the intent, which `settle` and the block carry out.
+    pub fn tick(&mut self, view: &View) -> Intent
+        ensures intent { result ≡ (spec_tick.tick_of self.old.setup view.now (queues_of self.old.ports.fifos) self.old.registers).1 }
+        ensures state { self.new ≡ record self.old {
+          registers =
+              (spec_tick.tick_of self.old.setup view.now (queues_of self.old.ports.fifos) self.old.registers).0;
+        } }
+        ensures take { IsTrue result.take → 0 < length self.new.ports.fifos.tx }
+        ensures word { IsSome result.word → length self.new.ports.fifos.rx < self.new.ports.fifos.rx_room }
+    {
+        let queues = self.queues();
+        let (registers, intent) = tick_of(&self.setup, view, &queues, &self.registers);
+        self.registers = registers;
+        intent
+    }
+
+    /// What a tick sees of its FIFOs.
+    fn queues(&self) -> Queues
+        ensures { result ≡ queues_of self.now.ports.fifos }
+    {
+        Queues {
+            front: self.fifos.tx_front(),
+            tx_level: self.tx_level(),
+            rx_level: self.rx_level(),
+            rx_full: self.fifos.rx_full(),
+        }
+    }
+
+    /// How many words are in TX.
+    fn tx_level(&self) -> u8
+        ensures { result ≡ length self.now.ports.fifos.tx }
+    {
+        self.fifos.tx_level() as u8
+    }
+
+    /// How many words are in RX.
+    fn rx_level(&self) -> u8
+        ensures { result ≡ length self.now.ports.fifos.rx }
+    {
+        self.fifos.rx_level() as u8
+    }
+
+    /// Ends a clock: the machine takes and gives what the intent says, and the system writes the word, if any, and reads
+    /// RX or doesn't. A level is what it was at the clock's start.
+    #[tactic(auto, unfolding(crate::specs::State::settled_ports))]
+    pub fn settle(&mut self, intent: &Intent, word: Option<u32>, read: bool)
+        requires take { IsTrue intent.now.take → 0 < length self.old.ports.fifos.tx }
+        requires word { IsSome intent.now.word → length self.old.ports.fifos.rx < self.old.ports.fifos.rx_room }
+        ensures { self.new ≡ record self.old { ports = settled_ports intent.now word read self.old.ports } }
+    {
+        let settled = self.fifos.settle(intent.take, intent.word, word, read);
+        self.got = got_after(settled.got, self.got);
+        self.sticky = told(settled.over, settled.under) | (intent.sticky | self.sticky);
+    }
+
+    /// What can be seen of it.
+    pub fn shown(&self) -> Shown
+        ensures { result ≡ shown_of self.now.ports }
+    {
+        Shown {
+            tx: self.tx_level(),
+            rx: self.rx_level(),
+            tx_full: self.fifos.tx_full(),
+            rx_empty: self.rx_level() == 0,
+            got: self.got,
+            sticky: self.sticky,
+        }
+    }
+}
+
+/// The registers at the start.
+fn first_registers(setup: &MachineSetup) -> Registers
+    ensures { result ≡ spec.first_registers setup.now }
+{
+    Registers {
+        pc: setup.start,
+        x: setup.x,
+        y: setup.y,
+        isr: 0,
+        osr: 0,
+        in_count: 0,
+        out_count: 32,
+        delay: 0,
+        pending: None,
+        begun: false,
+    }
+}
+
+/// A word that the system read, else the one before.
+fn got_after(read: Option<u32>, before: u32) -> u32
+    ensures { result ≡ spec.got_after read before }
+{
+    match read {
+        Some(word) => word,
+        None => before,
+    }
+}
+
+/// The sticky flags of the system's accesses.
+fn told(over: bool, under: bool) -> u8
+    ensures { result ≡ spec.told over under }
+{
+    (if over { TX_OVER } else { 0 }) + (if under { RX_UNDER } else { 0 })
+}
