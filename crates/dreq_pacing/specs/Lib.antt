@@ -1,0 +1,4 @@
+pub mod Lines
+pub mod Due
+pub mod Transfers
+pub mod Ports

@@ -1,0 +1,13 @@
+//! The system's side of a block of state machines: the stimulus that says what it does, and its ports clock by clock.
+#![tactic(auto)]
+
+mod due;
+mod line;
+
+mod schedule;
+mod transfer;
+
+pub use due::{Due, Requests};
+pub use line::{Act, Line, Words};
+
+pub use schedule::Schedule;
