@@ -98,6 +98,26 @@ abbrev pub lines_in : ℕ → List Line → List Line
 lines_in clock [] = []
 lines_in clock (l ∷ lines) = if l.clock == clock then l ∷ lines_in clock lines else lines_in clock lines
 
+-- whether there is a line
+abbrev pub has_lines : List Line → Bool
+has_lines [] = false
+has_lines (l ∷ lines) = true
+
 -- whether a line stands in the clock
 abbrev pub has_line : ℕ → List Line → Bool
-has_line clock lines = list_any (λ l. l.clock == clock) lines
+has_line clock lines = has_lines (lines_in clock lines)
+
+-- no line stands in a clock from this one on and before that one
+abbrev pub NoneBetween : List Line → ℕ → ℕ → Type 0
+NoneBetween lines from to = (c : ℕ) → from ≤ c → c < to → has_line c lines ≡ false
+
+-- what a list of lines is to the ports whose next clock is this one: all lines from this clock on are in the rest, and no others
+pub record IsRest (lines : List Line) (next : ℕ) (rest : List Line) : Type 0 where
+  pub schedule : IsSchedule rest
+  pub same : (c : ℕ) → next ≤ c → lines_in c lines ≡ lines_in c rest
+  pub ahead : AllByRecursion (λ l. next ≤ l.clock) rest
+
+-- how many lines at the head stand in the clock
+abbrev pub leading : ℕ → List Line → ℕ
+leading clock [] = 0
+leading clock (l ∷ lines) = if l.clock == clock then leading clock lines + 1 else 0

@@ -4,10 +4,11 @@
 --   transfers_at     the same from clock 0 on, by the history of requests
 --   due_at           what it does in a clock, by the history of requests
 --   acts_in          whether a line stands in the clock, or a transfer moves in it
-use Rattle.std.specs.Prelude.{◌≡◌, ℕ, zero, suc, ◌+◌, ◌<◌, ◌≤◌, ◌&&◌, ◌||◌, not, Bool, true, false, Option, Some, None, is_some, List, [], ◌∷◌, if◌then◌else◌, slice_index_or}
+use Rattle.std.specs.Prelude.{◌≡◌, ℕ, zero, suc, ◌+◌, ◌<◌, ◌≤◌, ◌&&◌, ◌||◌, nat_lt, not, Bool, true, false, Option, Some, None, is_some, List, [], ◌∷◌, if◌then◌else◌, slice_index_or}
 use Rattle.dreq_pacing.specs.declared.line.Line.{Line}
 use Rattle.dreq_pacing.specs.declared.due.Due.{Due}
 use Rattle.dreq_pacing.specs.declared.due.Requests.{Requests}
+use Rattle.dreq_pacing.specs.declared.transfer.Moved.{Moved}
 use Rattle.dreq_pacing.specs.Lines.{lines_in, has_line}
 use Rattle.dreq_pacing.specs.Due.{quiet, with_lines}
 use Rattle.dreq_pacing.specs.Transfers.{Paced, Transfers, first_transfers, begun, feed_moves, drain_moves, fed_word, moved}
@@ -22,36 +23,31 @@ abbrev pub rx_ready : ℕ → Due → Requests → Bool
 rx_ready machine lined requests =
     not (slice_index_or lined.read machine false) && slice_index_or requests.rx machine false
 
--- the word that a machine's feed moves in a clock in which the lines do this
-abbrev pub paced_word : ℕ → ℕ → Due → Requests → Paced → Option ℕ
-paced_word machine clock lined requests p = fed_word clock (tx_ready machine lined requests) p.feed
-
--- whether its drain moves one
-abbrev pub paced_read : ℕ → ℕ → Due → Requests → Paced → Bool
-paced_read machine clock lined requests p = drain_moves clock (rx_ready machine lined requests) p.drain
+-- what a machine's transfers move in a clock in which the lines do this
+abbrev pub paced_moves : ℕ → ℕ → Due → Requests → Paced → Moved
+paced_moves machine clock lined requests p = record {
+  word = fed_word clock (tx_ready machine lined requests) p.feed;
+  read = drain_moves clock (rx_ready machine lined requests) p.drain;
+}
 
 -- the line's word, else the transfer's
 abbrev pub either_word : Option ℕ → Option ℕ → Option ℕ
 either_word (Some w) paced = Some w
 either_word None paced = paced
 
+-- what is done in a clock in which the lines do this, and the machines' transfers move this
+abbrev pub with_moves : Due → Moved → Moved → Moved → Moved → Due
+with_moves lined first second third fourth = record lined {
+  word = either_word (slice_index_or lined.word 0 None) first.word ∷ either_word (slice_index_or lined.word 1 None) second.word ∷ either_word (slice_index_or lined.word 2 None) third.word ∷ either_word (slice_index_or lined.word 3 None) fourth.word ∷ [];
+  read = (slice_index_or lined.read 0 false || first.read) ∷ (slice_index_or lined.read 1 false || second.read) ∷ (slice_index_or lined.read 2 false || third.read) ∷ (slice_index_or lined.read 3 false || fourth.read) ∷ [];
+  word_paced = is_some first.word ∷ is_some second.word ∷ is_some third.word ∷ is_some fourth.word ∷ [];
+  read_paced = first.read ∷ second.read ∷ third.read ∷ fourth.read ∷ [];
+}
+
 -- what is done in a clock in which the lines do this, with the transfers as they are after these lines
-abbrev pub with_moves : ℕ → Requests → Transfers → Due → Due
-with_moves clock requests t lined =
-    let first = paced_word 0 clock lined requests t.first in
-    let second = paced_word 1 clock lined requests t.second in
-    let third = paced_word 2 clock lined requests t.third in
-    let fourth = paced_word 3 clock lined requests t.fourth in
-    let first_read = paced_read 0 clock lined requests t.first in
-    let second_read = paced_read 1 clock lined requests t.second in
-    let third_read = paced_read 2 clock lined requests t.third in
-    let fourth_read = paced_read 3 clock lined requests t.fourth in
-    record lined {
-      word = either_word (slice_index_or lined.word 0 None) first ∷ either_word (slice_index_or lined.word 1 None) second ∷ either_word (slice_index_or lined.word 2 None) third ∷ either_word (slice_index_or lined.word 3 None) fourth ∷ [];
-      read = (slice_index_or lined.read 0 false || first_read) ∷ (slice_index_or lined.read 1 false || second_read) ∷ (slice_index_or lined.read 2 false || third_read) ∷ (slice_index_or lined.read 3 false || fourth_read) ∷ [];
-      word_paced = is_some first ∷ is_some second ∷ is_some third ∷ is_some fourth ∷ [];
-      read_paced = first_read ∷ second_read ∷ third_read ∷ fourth_read ∷ [];
-    }
+abbrev pub done_in : ℕ → Requests → Transfers → Due → Due
+done_in clock requests t lined =
+    with_moves lined (paced_moves 0 clock lined requests t.first) (paced_moves 1 clock lined requests t.second) (paced_moves 2 clock lined requests t.third) (paced_moves 3 clock lined requests t.fourth)
 
 -- the transfers after the lines of a clock
 abbrev pub begun_all : List Line → Transfers → Transfers
@@ -74,7 +70,7 @@ moved_all clock requests lined t = record {
 -- What the system does in a clock: what its lines do, and each word that a transfer moves.
 unfoldable pub due_in : List Line → ℕ → Requests → Transfers → Due
 due_in lines clock requests t =
-    with_moves clock requests (begun_all (lines_in clock lines) t) (with_lines (lines_in clock lines) quiet)
+    done_in clock requests (begun_all (lines_in clock lines) t) (with_lines (lines_in clock lines) quiet)
 
 -- What is left of the transfers after a clock.
 unfoldable pub transfers_after : List Line → ℕ → Requests → Transfers → Transfers
@@ -119,20 +115,13 @@ first_ports lines = record { lines = lines; next = 0; transfers = first_transfer
 abbrev pub asked : ℕ → Requests → Ports → Ports
 asked clock requests p = record { lines = p.lines; next = clock + 1; transfers = transfers_after p.lines clock requests p.transfers }
 
--- no line stands in a clock from this one on and before that one
-abbrev pub NoneBetween : List Line → ℕ → ℕ → Type 0
-NoneBetween lines from to = (c : ℕ) → from ≤ c → c < to → has_line c lines ≡ false
+-- The least number from this one on that passes a test, or none where none does.
+abbrev pub IsFirst : (ℕ → Bool) → ℕ → Option ℕ → Type 0
+IsFirst test from None = (c : ℕ) → from ≤ c → test c ≡ false
+IsFirst test from (Some n) = (from ≤ n) × (test n ≡ true) × ((c : ℕ) → from ≤ c → c < n → test c ≡ false)
 
--- nothing happens in a clock from this one on and before that one, while the requests stay
-abbrev pub NoneActs : List Line → Requests → Transfers → ℕ → ℕ → Type 0
-NoneActs lines requests t from to = (c : ℕ) → from ≤ c → c < to → acts_in lines c requests t ≡ false
-
--- The least clock from this one on in which a line stands or a transfer moves, while the requests stay.
-pub record IsNextDue (lines : List Line) (from : ℕ) (requests : Requests) (t : Transfers) (clock : ℕ) : Type 0 where
-  pub not_before : from ≤ clock
-  pub acts : acts_in lines clock requests t ≡ true
-  pub first : NoneActs lines requests t from clock
-
--- from this clock on nothing ever happens, while the requests stay
-abbrev pub NeverDue : List Line → ℕ → Requests → Transfers → Type 0
-NeverDue lines from requests t = (c : ℕ) → from ≤ c → acts_in lines c requests t ≡ false
+-- the lesser of two numbers that may be missing
+abbrev pub earlier : Option ℕ → Option ℕ → Option ℕ
+earlier None b = b
+earlier (Some m) None = Some m
+earlier (Some m) (Some n) = Some (if nat_lt n m then n else m)

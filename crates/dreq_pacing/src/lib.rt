@@ -3,11 +3,11 @@
 
 mod due;
 mod line;
-
+mod ports;
 mod schedule;
 mod transfer;
 
 pub use due::{Due, Requests};
 pub use line::{Act, Line, Words};
-
+pub use ports::HostPorts;
 pub use schedule::Schedule;

@@ -1,8 +1,12 @@
 //! A machine's paced transfers: how they begin, and how they move word by word (choice of this profile).
 ghost use Rattle.std.specs.Prelude.{◌≡◌, ◌<◌, ◌^◌};
 ghost use Rattle.dreq_pacing.specs.Transfers as spec;
+ghost use Rattle.dreq_pacing.specs.Transfers.{begun};
+ghost use Rattle.dreq_pacing.specs.Ports.{IsFirst, tx_ready, rx_ready, paced_moves, moves};
 
-use crate::line::Act;
+use crate::due::{Due, Requests};
+use crate::line::{Act, Line};
+use crate::ports::earlier;
 use std::marker::Model;
 
 /// A drain: its period, and from which clock on the next word is due.
@@ -33,6 +37,7 @@ impl<'a> Model for Pacer<'a> {
 }
 
 /// What a machine's transfers move in a clock.
+#[derive(Clone, Copy)]
 pub struct Moved {
     pub word: Option<u32>,
     pub read: bool,
@@ -48,6 +53,56 @@ impl<'a> Pacer<'a> {
             every: 0,
             due: 0,
             drain: None,
+        }
+    }
+
+    /// A clock of the machine with this number: transfers of the clock's lines begin, and words move.
+    pub fn turn(
+        &mut self,
+        machine: usize,
+        clock: u64,
+        here: &'a [Line],
+        lined: &Due,
+        requests: &Requests,
+    ) -> Moved
+        requires machine { machine < 4 }
+        requires clock { clock < 2 ^ 40 }
+        ensures after { self.new ≡ spec.moved clock (tx_ready machine lined.now requests.now)
+            (rx_ready machine lined.now requests.now) (begun machine here.now self.old) }
+        ensures moved { result ≡ paced_moves machine clock lined.now requests.now
+            (begun machine here.now self.old) }
+    {
+        self.begin_all(machine as u8, here);
+        let tx_ready = lined.word[machine].is_none() && requests.tx[machine];
+        let rx_ready = !lined.read[machine] && requests.rx[machine];
+        self.step(clock, tx_ready, rx_ready)
+    }
+
+    /// The least clock from this one on in which a word moves, while the requests stay as they are and no line acts.
+    pub fn next_move(&self, machine: usize, clock: u64, requests: &Requests) -> Option<u64>
+        requires { machine < 4 }
+        ensures { IsFirst (λ c. moves machine c requests.now self.now) clock result }
+    {
+        let feed = if requests.tx[machine] && !self.words.is_empty() {
+            Some(clock.max(self.due))
+        } else {
+            None
+        };
+        let drain = match self.drain {
+            Some(drain) if requests.rx[machine] => Some(clock.max(drain.due)),
+            _ => None,
+        };
+        earlier(feed, drain)
+    }
+
+    /// What the lines of a clock begin.
+    fn begin_all(&mut self, machine: u8, here: &'a [Line])
+        ensures { self.new ≡ begun machine here.now self.old }
+    {
+        let mut rest = here;
+        while let [line, behind @ ..] = rest {
+            self.begin(machine, line.clock, &line.act);
+            rest = behind;
         }
     }
 
