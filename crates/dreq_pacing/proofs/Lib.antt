@@ -1,2 +1,4 @@
 pub mod Rests
 pub mod Firsts
+pub mod Numbers
+pub mod Parts

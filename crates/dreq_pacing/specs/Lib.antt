@@ -2,3 +2,5 @@ pub mod Lines
 pub mod Due
 pub mod Transfers
 pub mod Ports
+pub mod Fields
+pub mod Number

@@ -2,7 +2,9 @@
 #![tactic(auto)]
 
 mod due;
+mod fields;
 mod line;
+mod number;
 mod ports;
 mod schedule;
 mod transfer;
