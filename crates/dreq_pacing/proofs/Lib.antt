@@ -2,3 +2,4 @@ pub mod Rests
 pub mod Firsts
 pub mod Numbers
 pub mod Parts
+pub mod Forms

@@ -4,3 +4,5 @@ pub mod Transfers
 pub mod Ports
 pub mod Fields
 pub mod Number
+pub mod Fault
+pub mod Form

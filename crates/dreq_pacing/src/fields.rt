@@ -1,5 +1,5 @@
 //! The fields of a line: what stands before `#`, parted by blanks (choice of this profile).
-ghost use Rattle.std.specs.Prelude.{◌≡◌, ◌∷◌, ◌<◌, ◌≤◌, [], length, MatchOption};
+ghost use Rattle.std.specs.Prelude.{◌≡◌, ◌∷◌, ◌<◌, ◌≤◌, [], drop, length, option_copied, slice_get, MatchOption};
 ghost use Rattle.dreq_pacing.specs.Fields as spec;
 
 use std::marker::Model;
@@ -31,8 +31,9 @@ impl<'a> Fields<'a> {
 
     /// The next field, if there is one.
     pub fn next(&mut self) -> Option<&'a [u8]>
-        ensures { MatchOption result ((self.old ≡ []) × (self.new ≡ []))
-            (λ field. self.old ≡ field.now ∷ self.new) }
+        ensures cases { MatchOption result (self.old ≡ []) (λ field. self.old ≡ field.now ∷ self.new) }
+        ensures field { option_copied result ≡ slice_get self.old 0 }
+        ensures rest { self.new ≡ drop 1 self.old }
     {
         let mut rest = self.rest;
         while !rest.is_empty() {
