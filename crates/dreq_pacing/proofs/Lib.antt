@@ -1,0 +1,5 @@
+pub mod Rests
+pub mod Firsts
+pub mod Numbers
+pub mod Parts
+pub mod Forms

@@ -1,0 +1,10 @@
+use Rattle.std.proofs.Common.{◌≡◌, length}
+use Rattle.dreq_pacing.specs.Fields.{parted}
+use Rattle.dreq_pacing.proofs.fields.Fields.next.Given as goal
+
+-- only blanks were left behind
+abbrev pub invariant-loop-rest : goal.invariant-loop-rest
+invariant-loop-rest l = parted l.rest ≡ parted l.initial.rest
+
+abbrev pub decreases-loop-rest : goal.decreases-loop-rest
+decreases-loop-rest l = length l.rest

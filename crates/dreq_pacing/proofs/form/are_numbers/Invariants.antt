@@ -1,0 +1,10 @@
+use Rattle.std.proofs.Common.{◌≡◌, length}
+use Rattle.dreq_pacing.specs.Form.{are_numbers}
+use Rattle.dreq_pacing.proofs.form.are_numbers.Given as goal
+
+-- those left behind are numbers
+abbrev pub invariant-loop-field : goal.invariant-loop-field
+invariant-loop-field l = are_numbers l.rest ≡ are_numbers l.fields
+
+abbrev pub decreases-loop-field : goal.decreases-loop-field
+decreases-loop-field l = length l.rest

@@ -1,0 +1,29 @@
+-- The fields of a line: the parts between blanks of what stands before `#`, without the empty ones (choice of this profile).
+use Rattle.std.specs.Prelude.{ℕ, ◌==◌, ◌||◌, Bool, true, false, List, [], ◌∷◌, if◌then◌else◌}
+use Rattle.std.specs.List.{filter, slice_split}
+
+-- space, tab or CR
+abbrev pub is_blank : ℕ → Bool
+is_blank b = b == 32 || (b == 9 || b == 13)
+
+-- what stands before the first `#`
+abbrev pub before_comment : List ℕ → List ℕ
+before_comment [] = []
+before_comment (b ∷ bs) = if b == 35 then [] else b ∷ before_comment bs
+
+-- whether there is a byte
+abbrev pub has_bytes : List ℕ → Bool
+has_bytes [] = false
+has_bytes (b ∷ bs) = true
+
+-- the parts between blanks that aren't empty
+abbrev pub parted : List ℕ → List (List ℕ)
+parted text = filter has_bytes (slice_split is_blank text)
+
+-- a part in front of fields, where it isn't empty
+abbrev pub with_field : List ℕ → List (List ℕ) → List (List ℕ)
+with_field part fields = if has_bytes part then part ∷ fields else fields
+
+-- the fields of a line
+abbrev pub fields_of : List ℕ → List (List ℕ)
+fields_of line = parted (before_comment line)

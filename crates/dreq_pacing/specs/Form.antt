@@ -1,0 +1,161 @@
+-- What the fields of a line say: first its form, then the ranges of its numbers (choice of this profile).
+--   verb_of   the word behind the clock
+--   has_form  that all other fields are numbers, and as many as the word wants
+--   act_of    what the numbers say, where they are in their ranges
+--   line_of   the line, or what is wrong with it
+use Rattle.std.specs.Prelude.{ℕ, ◌==◌, ◌&&◌, min, Bool, true, false, Option, Some, None, option_map, option_and_then, List, [], ◌∷◌, drop, slice_get, length, Result, Ok, Err, if◌then◌else◌, codes}
+use Rattle.std.specs.List.{list_all}
+use Rattle.std.specs.Str.{bytes_eq}
+use Rattle.dreq_pacing.specs.declared.fault.StimKind.{StimKind}
+use Rattle.dreq_pacing.specs.declared.fault.StimKind.TheVariants.{BadLine, Range}
+use Rattle.dreq_pacing.specs.declared.verb.Verb.{Verb}
+use Rattle.dreq_pacing.specs.declared.verb.Verb.TheVariants as verb
+use Rattle.dreq_pacing.specs.declared.line.Act.{Act}
+use Rattle.dreq_pacing.specs.declared.line.Act.TheVariants as act
+use Rattle.dreq_pacing.specs.declared.line.Line.{Line}
+use Rattle.dreq_pacing.specs.Lines.{last_clock, longest_period}
+use Rattle.dreq_pacing.specs.Number.{is_number, in_range}
+
+infixl 10 ◌>>=◌
+abbrev pub ◌>>=◌ : {A B : Type 0} → Option A → (A → Option B) → Option B
+o >>= f = option_and_then f o
+
+-- the greatest word
+abbrev pub greatest_word : ℕ
+greatest_word = 4294967295
+
+-- the words that version 2 adds
+abbrev pub second_verb_of : List ℕ → Option Verb
+second_verb_of name =
+    if bytes_eq name (codes "enable") then Some verb.Enable else
+    if bytes_eq name (codes "disable") then Some verb.Disable else
+    if bytes_eq name (codes "restart") then Some verb.Restart else None
+
+-- the word of a name, in a file of version 2 or not
+abbrev pub verb_of : Bool → List ℕ → Option Verb
+verb_of two name =
+    if bytes_eq name (codes "pin") then Some verb.Pin else
+    if bytes_eq name (codes "tx") then Some verb.Tx else
+    if bytes_eq name (codes "rx") then Some verb.Rx else
+    if bytes_eq name (codes "feed") then Some verb.Feed else
+    if bytes_eq name (codes "drain") then Some verb.Drain else
+    if two then second_verb_of name else None
+
+-- whether a word wants so many fields behind it, where three stands for more too
+abbrev pub fits : Verb → ℕ → Bool
+fits verb.Pin count = count == 2
+fits verb.Tx count = count == 2
+fits verb.Rx count = count == 1
+fits verb.Feed count = count == 3
+fits verb.Drain count = count == 2
+fits verb.Enable count = count == 1
+fits verb.Disable count = count == 1
+fits verb.Restart count = count == 1
+
+-- whether all fields are numbers
+abbrev pub are_numbers : List (List ℕ) → Bool
+are_numbers fields = list_all is_number fields
+
+-- whether the clock and the fields behind the word are numbers, and as many as the word wants: for a feed three or more
+abbrev pub has_form : Verb → List ℕ → List (List ℕ) → Bool
+has_form verb clock args = is_number clock && (fits verb (min (length args) 3) && are_numbers args)
+
+-- the number of a field, where there is one from `low` to `high`
+abbrev pub number : ℕ → ℕ → Option (List ℕ) → Option ℕ
+number low high None = None
+number low high (Some field) = in_range low high field
+
+-- the words that some fields are
+abbrev pub all_words : List (List ℕ) → Option (List ℕ)
+all_words [] = Some []
+all_words (field ∷ fields) = do
+  word ← in_range 0 greatest_word field
+  words ← all_words fields
+  Some (word ∷ words)
+
+-- words, where there is one
+abbrev pub if_any : List ℕ → Option (List ℕ)
+if_any [] = None
+if_any (word ∷ words) = Some (word ∷ words)
+
+-- the words of a feed
+abbrev pub words_of : List (List ℕ) → Option (List ℕ)
+words_of fields = option_and_then if_any (all_words fields)
+
+abbrev pub pin_act : Option (List ℕ) → Option (List ℕ) → Option Act
+pin_act pin level = do
+  p ← number 0 31 pin
+  l ← number 0 1 level
+  Some (act.Pin p (l == 1))
+
+abbrev pub tx_act : Option (List ℕ) → Option (List ℕ) → Option Act
+tx_act machine word = do
+  m ← number 0 3 machine
+  w ← number 0 greatest_word word
+  Some (act.Tx m w)
+
+abbrev pub rx_act : Option (List ℕ) → Option Act
+rx_act machine = do
+  m ← number 0 3 machine
+  Some (act.Rx m)
+
+abbrev pub feed_act : Option (List ℕ) → Option (List ℕ) → List (List ℕ) → Option Act
+feed_act machine every words = do
+  m ← number 0 3 machine
+  e ← number 1 longest_period every
+  ws ← words_of words
+  Some (act.Feed m e ws)
+
+abbrev pub drain_act : Option (List ℕ) → Option (List ℕ) → Option Act
+drain_act machine every = do
+  m ← number 0 3 machine
+  e ← number 1 longest_period every
+  Some (act.Drain m e)
+
+abbrev pub enable_act : Option (List ℕ) → Option Act
+enable_act machine = do
+  m ← number 0 3 machine
+  Some (act.Enable m)
+
+abbrev pub disable_act : Option (List ℕ) → Option Act
+disable_act machine = do
+  m ← number 0 3 machine
+  Some (act.Disable m)
+
+abbrev pub restart_act : Option (List ℕ) → Option Act
+restart_act machine = do
+  m ← number 0 3 machine
+  Some (act.Restart m)
+
+-- what the fields behind the word say, where they are in their ranges
+abbrev pub act_of : Verb → List (List ℕ) → Option Act
+act_of verb.Pin args = pin_act (slice_get args 0) (slice_get args 1)
+act_of verb.Tx args = tx_act (slice_get args 0) (slice_get args 1)
+act_of verb.Rx args = rx_act (slice_get args 0)
+act_of verb.Feed args = feed_act (slice_get args 0) (slice_get args 1) (drop 2 args)
+act_of verb.Drain args = drain_act (slice_get args 0) (slice_get args 1)
+act_of verb.Enable args = enable_act (slice_get args 0)
+act_of verb.Disable args = disable_act (slice_get args 0)
+act_of verb.Restart args = restart_act (slice_get args 0)
+
+-- the line of a clock, where all is in its range
+abbrev pub ranged : Option ℕ → Option Act → Result Line StimKind
+ranged None act = Err Range
+ranged (Some clock) None = Err Range
+ranged (Some clock) (Some act) = Ok (record { clock = clock; act = act })
+
+-- the line with a word, or what is wrong with it
+abbrev pub line_by : Verb → List ℕ → List (List ℕ) → Result Line StimKind
+line_by verb clock args =
+    if has_form verb clock args then ranged (in_range 0 last_clock clock) (act_of verb args) else Err BadLine
+
+-- the same where there is a word
+abbrev pub line_with : Option Verb → List ℕ → List (List ℕ) → Result Line StimKind
+line_with None clock args = Err BadLine
+line_with (Some verb) clock args = line_by verb clock args
+
+-- the line that fields are, in a file of version 2 or not
+abbrev pub line_of : Bool → List (List ℕ) → Result Line StimKind
+line_of two [] = Err BadLine
+line_of two (clock ∷ []) = Err BadLine
+line_of two (clock ∷ name ∷ args) = line_with (verb_of two name) clock args

@@ -1,0 +1,89 @@
+//! The fields of a line: what stands before `#`, parted by blanks (choice of this profile).
+ghost use Rattle.std.specs.Prelude.{◌≡◌, ◌∷◌, ◌<◌, ◌≤◌, [], drop, length, option_copied, slice_get, MatchOption};
+ghost use Rattle.dreq_pacing.specs.Fields as spec;
+
+use std::marker::Model;
+
+/// The fields of a line that are still to be read, which contracts see as their list.
+#[derive(Drop)]
+pub struct Fields<'a> {
+    rest: &'a [u8],
+}
+
+impl<'a> Model for Fields<'a> {
+    ghost use Rattle.std.specs.Prelude.{ℕ, List};
+    ghost use Rattle.dreq_pacing.specs.Fields.{parted};
+
+    ghost Value = { List (List ℕ) };
+
+    ghost view = { λ f. parted f.rest.now };
+}
+
+impl<'a> Fields<'a> {
+    /// The fields of a line without its newline.
+    pub fn of_line(line: &'a [u8]) -> Fields<'a>
+        ensures { result ≡ spec.fields_of line.now }
+    {
+        Fields {
+            rest: before_comment(line),
+        }
+    }
+
+    /// The next field, if there is one.
+    pub fn next(&mut self) -> Option<&'a [u8]>
+        ensures cases { MatchOption result (self.old ≡ []) (λ field. self.old ≡ field.now ∷ self.new) }
+        ensures field { option_copied result ≡ slice_get self.old 0 }
+        ensures rest { self.new ≡ drop 1 self.old }
+    {
+        let mut rest = self.rest;
+        while !rest.is_empty() {
+            let (field, behind) = first_part(rest);
+            rest = behind;
+            if !field.is_empty() {
+                self.rest = rest;
+                return Some(field);
+            }
+        }
+        self.rest = rest;
+        None
+    }
+
+    /// The same fields, to be read once more.
+    pub fn again(&self) -> Fields<'a>
+        ensures { result ≡ self.now }
+    {
+        Fields { rest: self.rest }
+    }
+}
+
+/// What stands before the first `#`.
+fn before_comment(line: &[u8]) -> &[u8]
+    ensures { result.now ≡ spec.before_comment line.now }
+{
+    for (at, byte) in line.iter().enumerate() {
+        if *byte == b'#' {
+            return &line[..at];
+        }
+    }
+    line
+}
+
+/// What stands before the first blank, and what stands behind it.
+fn first_part(text: &[u8]) -> (&[u8], &[u8])
+    requires { 0 < length text.now }
+    ensures parts { spec.parted text.now ≡ spec.with_field result.0.now (spec.parted result.1.now) }
+    ensures shorter { length result.1.now < length text.now }
+{
+    for (at, byte) in text.iter().enumerate() {
+        if is_blank(*byte) {
+            return (&text[..at], &text[at + 1..]);
+        }
+    }
+    (text, &[])
+}
+
+fn is_blank(byte: u8) -> bool
+    ensures { result ≡ spec.is_blank byte }
+{
+    byte == b' ' || byte == b'\t' || byte == b'\r'
+}

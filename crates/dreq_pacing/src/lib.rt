@@ -1,0 +1,20 @@
+//! The system's side of a block of state machines: the stimulus that says what it does, and its ports clock by clock.
+#![tactic(auto)]
+
+mod act;
+mod due;
+mod fault;
+mod fields;
+mod form;
+mod line;
+mod number;
+mod ports;
+mod schedule;
+mod transfer;
+mod verb;
+
+pub use due::{Due, Requests};
+pub use fault::{StimFault, StimKind};
+pub use line::{Act, Line, Words};
+pub use ports::HostPorts;
+pub use schedule::Schedule;

@@ -1,0 +1,89 @@
+//! Numbers of a stimulus: decimal digits, or `0x` and hexadecimal digits of either case, as many as there are
+//! (choice of this profile).
+ghost use Rattle.std.specs.Prelude.{◌≡◌, ◌<◌, ◌≤◌, IfSome, is_some, option_map};
+ghost use Rattle.dreq_pacing.specs.Number as spec;
+
+/// Past every range: a number from here on counts as this.
+const PAST: u64 = 1_000_000_000_001;
+
+/// Whether a field is a number.
+#[tactic(auto, using(crate::proofs::Numbers::is_some_map))]
+pub fn is_number(field: &[u8]) -> bool
+    ensures { result ≡ spec.is_number field.now }
+{
+    number_of(field).is_some()
+}
+
+/// The number of a field, where it is one from `low` to `high`, at most 10^12.
+pub fn in_range(field: &[u8], low: u64, high: u64) -> Option<u64>
+    requires { high ≤ 1000000000000 }
+    ensures value { result ≡ spec.in_range low high field.now }
+    ensures range { IfSome result (λ n. (low ≤ n) × (n ≤ high)) }
+{
+    match number_of(field) {
+        Some(number) if low <= number && number <= high => Some(number),
+        _ => None,
+    }
+}
+
+/// The number of a field, or `PAST` where it is more.
+fn number_of(field: &[u8]) -> Option<u64>
+    ensures { result ≡ option_map spec.capped (spec.number_of field.now) }
+{
+    match field {
+        [first, second, digits @ ..] => {
+            if *first == b'0' && *second == b'x' {
+                number_in(16, digits)
+            } else {
+                number_in(10, field)
+            }
+        }
+        _ => number_in(10, field),
+    }
+}
+
+/// The number of some digits, at least one, or `PAST` where it is more.
+fn number_in(base: u64, digits: &[u8]) -> Option<u64>
+    requires { (1 ≤ base) × (base ≤ 16) }
+    ensures { result ≡ option_map spec.capped (spec.number_in base digits.now) }
+{
+    match digits {
+        [] => None,
+        [_, ..] => value_of(base, digits),
+    }
+}
+
+/// The number that digits make, or `PAST` where it is more.
+fn value_of(base: u64, digits: &[u8]) -> Option<u64>
+    requires { (1 ≤ base) × (base ≤ 16) }
+    ensures { result ≡ option_map spec.capped (spec.number_from base 0 digits.now) }
+{
+    let mut value = 0;
+    for byte in digits {
+        value = (value * base + digit_of(base, *byte)?).min(PAST);
+    }
+    Some(value)
+}
+
+/// The value of a digit of either case.
+fn digit_of(base: u64, byte: u8) -> Option<u64>
+    requires { base ≤ 16 }
+    ensures value { result ≡ spec.digit_of base byte }
+    ensures range { IfSome result (λ d. d < 16) }
+{
+    match byte {
+        b'0'..=b'9' => below(base, u64::from(byte - b'0')),
+        b'a'..=b'f' => below(base, u64::from(byte - b'a') + 10),
+        b'A'..=b'F' => below(base, u64::from(byte - b'A') + 10),
+        _ => None,
+    }
+}
+
+/// The digit, where it is one to the base.
+fn below(base: u64, digit: u64) -> Option<u64>
+    requires { base ≤ 16 }
+    ensures value { result ≡ spec.below base digit }
+    ensures range { IfSome result (λ d. d < 16) }
+{
+    if digit < base { Some(digit) } else { None }
+}
