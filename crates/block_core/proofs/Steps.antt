@@ -1,0 +1,39 @@
+-- That the places of a block stay in step with its clock.
+use Rattle.std.proofs.Common.{◌≡◌, ℕ, ◌+◌, ◌≤◌, ◌<◌, ◌^◌, Bool, true, false, Option, Some, None, option_map, cond, slice_index_or, ◌∙◌, refl, subst, sym, ap, arith, rules}
+use Rattle.clock_divider.specs.Timing.{Timing, resumed}
+use Rattle.pin_matrix.specs.declared.machine.MachineSetup.{MachineSetup}
+use Rattle.sm_registers.specs.declared.view.View.{View}
+use Rattle.dreq_pacing.specs.declared.due.Due.{Due}
+use Rattle.block_core.specs.Slots.{Slot, first_slot, counted, timed_by, settled_slot, slot_after, place_after}
+use Rattle.block_core.specs.Kept.{IsInStep, IsInTime}
+
+pub first_in_step : (m : Option MachineSetup) (s : Option Slot) → s ≡ option_map first_slot m → IsInStep 0 s
+first_in_step m s e = subst (IsInStep 0) (sym e) (cases m) where
+  cases : (m : Option MachineSetup) → IsInStep 0 (option_map first_slot m)
+  cases None = tt
+  cases (Some setup) = (refl, omega arith, omega arith)
+
+counted-le : (more : Bool) (n clock : ℕ) → n ≤ clock → counted more n ≤ clock + 1
+counted-le true n clock le = omega arith
+counted-le false n clock le = omega arith
+
+-- a restart leaves the clock
+resumed_if-clock : (restarts : Bool) (t : Timing) → (cond restarts (resumed t) t).clock ≡ t.clock
+resumed_if-clock true t = refl
+resumed_if-clock false t = refl
+
+place_in_step : (clock : ℕ) (v : View) (d : Due) (s : Option Slot) → IsInStep clock s → IsInStep (clock + 1) (place_after v d s)
+unfolding settled_slot
+place_in_step clock v d None h = tt
+place_in_step clock v d (Some s) h = let id = s.machine.setup.id in (
+  ap (λ n. n + 1) (resumed_if-clock (slice_index_or d.restart id false) s.timing ∙ h.0),
+  counted-le (slice_index_or d.word_paced id false) s.sent clock h.1,
+  counted-le (slice_index_or d.read_paced id false) s.received clock h.2,
+)
+
+pub in_step_after : (clock : ℕ) (v : View) (d : Due) (s t : Option Slot) → IsInStep clock s → t ≡ place_after v d s → IsInStep (clock + 1) t
+in_step_after clock v d s t h e = subst (IsInStep (clock + 1)) (sym e) (place_in_step clock v d s h)
+
+pub in_time : (clock : ℕ) (s : Option Slot) → clock < 2 ^ 40 → IsInStep clock s → IsInTime s
+in_time clock None lt h = tt
+in_time clock (Some s) lt h = (omega (arith, h.0), omega (arith, h.1), omega (arith, h.2))

@@ -1,0 +1,122 @@
+-- The whole block, clock by clock.
+--   BlockState      what changes of it in a clock
+--   Run             it in some clock, with what its synchronisers hold
+--   Worked          with the number of clocks that were worked out singly
+--   stepped         the state after a clock
+--   next            the run after a clock
+--   first_run       as a setup begins
+--   run_from        some clocks on
+--   run_at          the run of a setup in each clock
+use Rattle.std.specs.Prelude.{◌≡◌, ℕ, zero, suc, ◌+◌, ◌≤◌, Bool, false, Option, Some, None, option_map, List, [], ◌∷◌, ◌++◌, map, flat_map, slice_index_or, bit_or}
+use Rattle.irq_flags.specs.declared.flags.Flags.{Flags}
+use Rattle.irq_flags.specs.Flags.{merged_flags}
+use Rattle.pin_matrix.specs.declared.setup.Setup.{Setup}
+use Rattle.pin_matrix.specs.Pins.{written, merged}
+use Rattle.pin_matrix.specs.Pads as pads
+use Rattle.pin_matrix.specs.Pads.{Synchroniser, pads_of, seen_of, first_synchroniser}
+use Rattle.sm_registers.specs.declared.view.View.{View}
+use Rattle.sm_registers.specs.declared.intent.Intent.{Intent}
+use Rattle.dreq_pacing.specs.declared.due.Due.{Due}
+use Rattle.block_core.specs.Slots.{Slot, first_slot, place_after, place_intent}
+
+-- The four machines' places, each with its machine where one is configured; the output levels and directions, the IRQ
+-- flags, and the levels that the outside drives.
+pub record BlockState : Type 0 where
+  pub machines : List (Option Slot)
+  pub levels : ℕ
+  pub directions : ℕ
+  pub flags : ℕ
+  pub outside : ℕ
+
+-- The block in some clock: the instruction memory, which no run changes, the state, and the synchronisers.
+pub record Run : Type 0 where
+  pub memory : List ℕ
+  pub clock : ℕ
+  pub state : BlockState
+  pub synchroniser : Synchroniser
+
+-- A run with the number of the clocks in it that were worked out singly, each by a call.
+pub record Worked : Type 0 where
+  pub run : Run
+  pub calls : ℕ
+
+-- the outside levels of a clock: its lines act on the pads of their own clock
+abbrev pub outside_after : Due → ℕ → ℕ
+outside_after d outside = written outside (d.pins, d.values)
+
+-- the pads of a clock, by the levels and directions at its start
+abbrev pub pads_in : Due → BlockState → ℕ
+pads_in d b = pads_of b.levels b.directions (outside_after d b.outside)
+
+-- what every machine sees in a clock: the flags are those at its start
+abbrev pub view_of : (memory : List ℕ) → (seen : ℕ) → BlockState → View
+view_of memory seen b = record { memory = memory; seen = seen; flags = record { up = b.flags } }
+
+-- an intent's writes to levels, or to directions: the instruction's, then side-set's
+abbrev pub two_writes : List (ℕ × ℕ) → List (ℕ × ℕ)
+two_writes writes = slice_index_or writes 0 (0, 0) ∷ slice_index_or writes 1 (0, 0) ∷ []
+
+-- the flags that any of these lowers, or raises
+abbrev pub any_of : List ℕ → ℕ
+any_of [] = 0
+any_of (x ∷ []) = x
+any_of (x ∷ y ∷ rest) = bit_or x (any_of (y ∷ rest))
+
+-- The state after a clock. Every machine acts from the state at its start, in any order; then pins and flags are
+-- merged, as all machines want them (RP2040 Datasheet, sections 3.2 and 3.5).
+unfoldable pub stepped : (memory : List ℕ) → (seen : ℕ) → Due → BlockState → BlockState
+stepped memory seen d b =
+    let view = view_of memory seen b in
+    let intents = map (place_intent view d) b.machines in
+    record {
+      machines = map (place_after view d) b.machines;
+      levels = merged b.levels (flat_map (λ i. two_writes i.level) intents);
+      directions = merged b.directions (flat_map (λ i. two_writes i.direction) intents);
+      flags = merged_flags b.flags (any_of (map (λ i. i.clears) intents)) (any_of (map (λ i. i.sets) intents));
+      outside = outside_after d b.outside;
+    }
+
+-- what a machine sees of the pins in a clock
+abbrev pub seen_in : Due → Run → ℕ
+seen_in d r = seen_of r.synchroniser.bypass (pads_in d r.state) r.synchroniser.pad_2
+
+-- the run one clock on, in which the system does this
+unfoldable pub next : Due → Run → Run
+next d r = record {
+  memory = r.memory;
+  clock = r.clock + 1;
+  state = stepped r.memory (seen_in d r) d r.state;
+  synchroniser = pads.stepped (pads_in d r.state) r.synchroniser;
+}
+
+-- a machine's place at the start
+abbrev pub first_place : Setup → ℕ → Option Slot
+first_place s id = option_map first_slot (slice_index_or s.machines id None)
+
+-- the state at the start: flags are down (choice of this profile)
+abbrev pub first_state : Setup → BlockState
+first_state s = record {
+  machines = first_place s 0 ∷ first_place s 1 ∷ first_place s 2 ∷ first_place s 3 ∷ [];
+  levels = s.level;
+  directions = s.out;
+  flags = 0;
+  outside = s.high;
+}
+
+-- clock 0, before which the pads were always those of the setup (choice of this profile)
+abbrev pub first_run : Setup → Run
+first_run s = record {
+  memory = s.memory;
+  clock = 0;
+  state = first_state s;
+  synchroniser = first_synchroniser (pads_of s.level s.out s.high) s.bypass;
+}
+
+-- the run some clocks on, where the system does this in each
+unfoldable pub run_from : Run → (ℕ → Due) → ℕ → Run
+run_from start host zero = start
+run_from start host (suc c) = next (host c) (run_from start host c)
+
+-- the run of a setup in each clock
+abbrev pub run_at : Setup → (ℕ → Due) → ℕ → Run
+run_at s host clock = run_from (first_run s) host clock

@@ -1,0 +1,86 @@
+//! What becomes of pins and flags when all machines have said what they want in a clock.
+ghost use Rattle.std.specs.Prelude.{◌≡◌, [], ◌∷◌, map, flat_map};
+ghost use Rattle.irq_flags.specs.Flags.{merged_flags};
+ghost use Rattle.pin_matrix.specs.Pins.{merged};
+ghost use Rattle.block_core.specs.Block.{two_writes, any_of};
+ghost use Rattle.block_core.specs.Block as spec;
+
+use dreq_pacing::Due;
+use irq_flags::Flags;
+use pin_matrix::merge4;
+use sm_registers::Intent;
+
+/// The levels that the outside drives, after the lines of a clock.
+pub(crate) fn outside_after(outside: u32, due: &Due) -> u32
+    ensures { result ≡ spec.outside_after due.now outside }
+{
+    if due.pins == 0 {
+        outside
+    } else {
+        due.values | (outside & !due.pins)
+    }
+}
+
+/// The output levels after a clock.
+pub(crate) fn levels_after(
+    levels: u32,
+    first: &Intent,
+    second: &Intent,
+    third: &Intent,
+    fourth: &Intent,
+) -> u32
+    ensures { result ≡ merged levels
+        (flat_map (λ i. two_writes i.level) (first.now ∷ second.now ∷ third.now ∷ fourth.now ∷ [])) }
+{
+    let writes = [
+        first.level[0],
+        first.level[1],
+        second.level[0],
+        second.level[1],
+        third.level[0],
+        third.level[1],
+        fourth.level[0],
+        fourth.level[1],
+    ];
+    merge4(levels, &writes)
+}
+
+/// The directions after a clock.
+pub(crate) fn directions_after(
+    directions: u32,
+    first: &Intent,
+    second: &Intent,
+    third: &Intent,
+    fourth: &Intent,
+) -> u32
+    ensures { result ≡ merged directions
+        (flat_map (λ i. two_writes i.direction) (first.now ∷ second.now ∷ third.now ∷ fourth.now ∷ [])) }
+{
+    let writes = [
+        first.direction[0],
+        first.direction[1],
+        second.direction[0],
+        second.direction[1],
+        third.direction[0],
+        third.direction[1],
+        fourth.direction[0],
+        fourth.direction[1],
+    ];
+    merge4(directions, &writes)
+}
+
+/// Lowers and then raises the flags that the machines want.
+pub(crate) fn merge_flags(
+    flags: &mut Flags,
+    first: &Intent,
+    second: &Intent,
+    third: &Intent,
+    fourth: &Intent,
+)
+    ensures { let intents = first.now ∷ second.now ∷ third.now ∷ fourth.now ∷ [] in
+        flags.new.up ≡ merged_flags flags.old.up (any_of (map (λ i. i.clears) intents)) (any_of (map (λ i. i.sets) intents)) }
+{
+    let clears = first.clears | (second.clears | (third.clears | fourth.clears));
+    let sets = first.sets | (second.sets | (third.sets | fourth.sets));
+    flags.merge(clears, sets);
+}

@@ -1,0 +1,157 @@
+//! One machine in a run of its block, with its divider.
+ghost use Rattle.std.specs.Prelude.{◌≡◌, ◌<◌, ◌^◌, ◌+◌, length, IsTrue, IsSome, IfOk, if◌then◌else◌, slice_index_or, false};
+ghost use Rattle.clock_divider.specs.Timing as timing;
+ghost use Rattle.sm_registers.specs.State as spec_shown;
+ghost use Rattle.block_core.specs.Slots as spec;
+ghost use Rattle.block_core.specs.Slots.{lined, acted, settled_slot, slot_after, slot_intent};
+
+use clock_divider::Divider;
+use dreq_pacing::Due;
+use fifo_pair::Fifo;
+use pin_matrix::MachineSetup;
+use sm_registers::{Intent, Machine, Shown, View};
+use std::alloc::{AllocError, Global};
+use std::marker::Model;
+
+/// A machine that is configured.
+#[derive(Drop)]
+pub(crate) struct Slot<F: Fifo> {
+    machine: Machine<F>,
+    divider: Divider,
+    enabled: bool,
+    sent: u64,
+    received: u64,
+}
+
+impl<F: Fifo> Model for Slot<F> {
+    ghost use Rattle.block_core.specs.Slots as slots;
+
+    ghost Value = { slots.Slot };
+
+    ghost view = { λ s. record {
+      machine = s.machine;
+      timing = s.divider;
+      enabled = s.enabled;
+      sent = s.sent;
+      received = s.received;
+    } };
+}
+
+impl<F: Fifo> Slot<F> {
+    /// The machine of a setup at the start of a run.
+    pub fn new(alloc: Global, setup: &MachineSetup) -> Result<Slot<F>, AllocError>
+        ensures { IfOk result (λ s. s ≡ spec.first_slot setup.now) }
+    {
+        Ok(Slot {
+            machine: Machine::new(alloc, setup)?,
+            divider: divider_of(setup),
+            enabled: true,
+            sent: 0,
+            received: 0,
+        })
+    }
+
+    /// One clock: what it wants of its block.
+    pub fn clock(&mut self, view: &View, due: &Due) -> Intent
+        requires clock { self.old.timing.clock < 2 ^ 40 }
+        requires sent { self.old.sent < 2 ^ 40 }
+        requires received { self.old.received < 2 ^ 40 }
+        ensures after { self.new ≡ slot_after view.now due.now self.old }
+        ensures intent { result ≡ slot_intent view.now due.now self.old }
+    {
+        self.obey(due);
+        let intent = self.act(view);
+        self.settle(due, &intent);
+        intent
+    }
+
+    /// The place of its lines in `Due`.
+    fn place(&self) -> usize
+        ensures id { result ≡ self.now.machine.setup.id }
+        ensures below { result < 4 }
+    {
+        self.machine.setup().id as usize
+    }
+
+    /// The lines that enable, disable or restart it.
+    fn obey(&mut self, due: &Due)
+        ensures { self.new ≡ lined due.now self.old }
+    {
+        let place = self.place();
+        if due.enable[place] {
+            self.enabled = true;
+        } else if due.disable[place] {
+            self.enabled = false;
+        }
+        if due.restart[place] {
+            self.divider.restart();
+        }
+    }
+
+    /// Its tick, where it has one in this clock.
+    #[tactic(auto, unfolding(crate::specs::Slots::acted))]
+    fn act(&mut self, view: &View) -> Intent
+        ensures intent { result ≡ (acted view.now self.old).1 }
+        ensures after { self.new ≡ record self.old {
+          machine = record self.old.machine { registers = (acted view.now self.old).0 };
+        } }
+        ensures take { IsTrue result.take → 0 < length self.new.machine.ports.fifos.tx }
+        ensures word { IsSome result.word → length self.new.machine.ports.fifos.rx < self.new.machine.ports.fifos.rx_room }
+    {
+        if self.enabled && self.divider.ticks_now() {
+            self.machine.tick(view)
+        } else {
+            Intent::none()
+        }
+    }
+
+    /// The end of the clock: its FIFOs, its divider, and what the transfers moved.
+    #[tactic(auto, unfolding(crate::specs::Slots::settled_slot))]
+    fn settle(&mut self, due: &Due, intent: &Intent)
+        requires take { IsTrue intent.now.take → 0 < length self.old.machine.ports.fifos.tx }
+        requires word { IsSome intent.now.word → length self.old.machine.ports.fifos.rx < self.old.machine.ports.fifos.rx_room }
+        requires clock { self.old.timing.clock < 2 ^ 40 }
+        requires sent { self.old.sent < 2 ^ 40 }
+        requires received { self.old.received < 2 ^ 40 }
+        ensures { self.new ≡ settled_slot due.now (self.old.machine.registers, intent.now) self.old }
+    {
+        let place = self.place();
+        self.machine
+            .settle(intent, due.word[place], due.read[place]);
+        self.divider.step();
+        self.sent = counted(due.word_paced[place], self.sent);
+        self.received = counted(due.read_paced[place], self.received);
+    }
+
+    /// What is seen of it.
+    pub fn shown(&self) -> Shown
+        ensures { result ≡ spec_shown.shown_of self.now.machine.ports }
+    {
+        self.machine.shown()
+    }
+
+    /// How many words transfers moved into its TX and out of its RX.
+    pub fn moved(&self) -> (u64, u64)
+        ensures { result ≡ (self.now.sent, self.now.received) }
+    {
+        (self.sent, self.received)
+    }
+}
+
+/// One more, where it is so.
+fn counted(more: bool, n: u64) -> u64
+    requires { n < 2 ^ 40 }
+    ensures { result ≡ spec.counted more n }
+{
+    if more { n + 1 } else { n }
+}
+
+/// The divider of a machine, which its setup's type says that there is.
+fn divider_of(setup: &MachineSetup) -> Divider
+    ensures { result ≡ timing.first (timing.period_of setup.now.int setup.now.frac) }
+{
+    match Divider::new(setup.int, setup.frac) {
+        Some(divider) => divider,
+        None => unreachable!(),
+    }
+}
