@@ -3,6 +3,7 @@ ghost use Rattle.std.specs.Prelude.{◌≡◌, ◌<◌};
 
 use super::*;
 use pio_encode::{Name, SideRule};
+use std::alloc::Global;
 
 const NONE: (u32, u32) = (0, 0);
 
@@ -160,6 +161,22 @@ fn machine(id: u8) -> MachineSetup
     machine
 }
 
+// From a rise of pin 0 to its fall in the same clock: a span in clocks, which leaves out no stalls.
+fn clocks(alloc: Global, name: Name) -> Span {
+    Span {
+        name,
+        machine: 0,
+        from_pin: 0,
+        from_rise: true,
+        to_pin: 0,
+        to_rise: false,
+        unit: SpanUnit::Clocks,
+        min: 0,
+        max: 0,
+        stalls: Stalls::empty(alloc),
+    }
+}
+
 #[test]
 fn takes_a_setup(rt: HostRuntime) {
     let stalls = Stalls::new(vec![in rt.alloc(); 0, 31].expect(&rt, "memory")).expect(
@@ -198,9 +215,11 @@ fn takes_a_setup(rt: HostRuntime) {
 
 #[test]
 fn starts_with_no_machine(rt: HostRuntime) {
-    let setup = Setup::of([0; 32], Spans::new(Vec::new(rt.alloc())));
+    let name = Name::new(String::from_str(rt.alloc(), "at_once").expect(&rt, "memory"));
+    let spans = vec![in rt.alloc(); clocks(rt.alloc(), name)].expect(&rt, "memory");
+    let setup = Setup::of([0; 32], Spans::new(spans));
     assert!(rt; setup.machines.iter().all(|machine| machine.is_none()));
-    assert!(rt; setup.spans.as_slice().is_empty());
+    assert_eq!(rt; setup.spans.as_slice()[0].unit, SpanUnit::Clocks);
 }
 
 #[test]
