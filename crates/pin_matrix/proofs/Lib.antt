@@ -3,3 +3,4 @@ pub mod Rotations
 pub mod Mapped
 pub mod Merging
 pub mod PadLaws
+pub mod Placed

@@ -1,7 +1,8 @@
 -- Which write of a clock stands, pin by pin.
-use Rattle.std.proofs.Common.{◌≡◌, ℕ, ◌+◌, ◌-◌, ◌^◌, ◌<◌, ◌≤◌, min, max, cond, eqb, List, [], ◌∷◌, ◌++◌, length, get_or, drop, refl, sym, ap, ◌∙◌, inl, inr, arith, w32, add-one, drop-cons, bit_and, bit_or, Bool, false}
+use Rattle.std.proofs.Common.{◌≡◌, ℕ, ◌+◌, ◌-◌, ◌^◌, ◌<◌, ◌≤◌, min, max, cond, eqb, List, [], ◌∷◌, ◌++◌, length, get_or, drop, refl, ap, ◌∙◌, inl, inr, arith, w32, add-one, drop-cons, bit_and, bit_or, Bool, false}
 use Rattle.std.proofs.lemmas.Bool.{cases_eq}
 use Rattle.std.proofs.lemmas.Bool.Decides.{nat_tests}
+use Rattle.std.proofs.lemmas.Nat.{or_lt, and_le_l}
 use Rattle.std.proofs.lemmas.Nat.Bits.{bit_at_and, bit_at_or, bit_at_not, bit_at-zero, bit_at-lt}
 use Rattle.std.proofs.Math.ListN.{drop_of_length-le}
 use Rattle.std.specs.Int.{bit_at}
@@ -33,8 +34,8 @@ bit_at-written p old w inside write =
       | inl none ↦ rw none (rw (bit_at-zero p) refl)
       | inr some ↦
           let made : bit_at (bit_or w.1 (bit_and old (2 ^ 32 - 1 - w.0))) p ≡ max (bit_at w.1 p) (min (bit_at old p) (1 - bit_at w.0 p)) =
-              bit_at_or w.1 (bit_and old (2 ^ 32 - 1 - w.0)) p
-              ∙ ap (max (bit_at w.1 p)) (bit_at_and old (2 ^ 32 - 1 - w.0) p ∙ ap (min (bit_at old p)) (bit_at_not w32 w.0 p write.pins inside)) in
+          bit_at_or w.1 (bit_and old (2 ^ 32 - 1 - w.0)) p
+          ∙ ap (max (bit_at w.1 p)) (bit_at_and old (2 ^ 32 - 1 - w.0) p ∙ ap (min (bit_at old p)) (bit_at_not w32 w.0 p write.pins inside)) in
           ap (λ m. bit_at m p) (unless (eqb w.0 0) old (bit_or w.1 (bit_and old (2 ^ 32 - 1 - w.0))) (grind (arith, nat_tests))) ∙ made
           ∙ chosen (bit_at w.0 p) (bit_at w.1 p) (bit_at old p) (bit_at-lt w.0 p) (write.within p) (bit_at-lt old p)
     ]
@@ -61,3 +62,22 @@ pub merged-none : (old : ℕ) (ws : List (ℕ × ℕ)) → AllByRecursion (λ w.
 unfolding merged
 merged-none old [] none = refl
 merged-none old (w ∷ ws) none = rw none.0 (merged-none old ws none.1)
+
+-- no pins, no bits
+pub IsWrite-none : IsWrite (0, 0)
+IsWrite-none = record { pins = omega arith; bits = omega arith; within = λ p. omega arith }
+
+written-lt : (old : ℕ) (w : ℕ × ℕ) → old < 2 ^ 32 → IsWrite w → written old w < 2 ^ 32
+written-lt old w word write =
+    elim (cases_eq w.0 0) [
+      | inl none ↦ rw none word
+      | inr some ↦
+          rw (unless (eqb w.0 0) old (bit_or w.1 (bit_and old (2 ^ 32 - 1 - w.0))) (grind (arith, nat_tests)))
+          (or_lt 32 w.1 (bit_and old (2 ^ 32 - 1 - w.0)) write.bits (omega (arith, and_le_l old (2 ^ 32 - 1 - w.0))))
+    ]
+
+-- Pins stay pins.
+pub merged-lt : (old : ℕ) (ws : List (ℕ × ℕ)) → old < 2 ^ 32 → AllByRecursion IsWrite ws → merged old ws < 2 ^ 32
+unfolding merged
+merged-lt old [] word writes = word
+merged-lt old (w ∷ ws) word writes = merged-lt (written old w) ws (written-lt old w word writes.0) writes.1

@@ -1,8 +1,9 @@
 -- What is on the pads and what a machine sees, pin by pin and over the whole history.
-use Rattle.std.proofs.Common.{◌≡◌, ℕ, ◌+◌, ◌-◌, ◌^◌, ◌<◌, ◌≤◌, min, max, cond, eqb, List, [], ◌∷◌, length, get_or, refl, sym, ap, ◌∙◌, inl, inr, arith, w32, if◌then◌else◌, slice_index_or, ◌==◌, bit_and, bit_or, Bool, false}
+use Rattle.std.proofs.Common.{◌≡◌, ℕ, ◌-◌, ◌^◌, ◌<◌, min, max, cond, eqb, List, [], ◌∷◌, length, refl, sym, ap, ◌∙◌, inl, inr, arith, w32, if◌then◌else◌, slice_index_or, ◌==◌, bit_and, bit_or, Bool, true, false}
 use Rattle.std.proofs.lemmas.Bool.{cases_eq}
 use Rattle.std.proofs.lemmas.Bool.Decides.{nat_tests}
-use Rattle.std.proofs.lemmas.Nat.Bits.{bit_at_and, bit_at_or, bit_at_not, bit_at-zero, bit_at-lt}
+use Rattle.std.proofs.lemmas.Nat.{or_lt, and_le_l}
+use Rattle.std.proofs.lemmas.Nat.Bits.{bit_at_and, bit_at_or, bit_at_not, bit_at-zero, bit_at-lt, same_from_bits_below}
 use Rattle.std.specs.Int.{bit_at}
 use Rattle.pin_matrix.specs.Pads.{Synchroniser, pads_of, seen_of, first_synchroniser, stepped, after_pads, one_clock_ago, two_clocks_ago}
 
@@ -27,6 +28,11 @@ bit_at-pads_of level direction outside p below inside =
     ∙ ap (max (min (bit_at level p) (bit_at direction p))) (bit_at_and outside (2 ^ 32 - 1 - direction) p ∙ sym (masked outside direction p below inside))
     ∙ chosen (bit_at direction p) (bit_at level p) (bit_at outside p) (bit_at-lt direction p) (bit_at-lt level p) (bit_at-lt outside p)
 
+pub pads_of-lt : (level direction outside : ℕ) → level < 2 ^ 32 → outside < 2 ^ 32 → pads_of level direction outside < 2 ^ 32
+pads_of-lt level direction outside p q =
+    or_lt 32 (bit_and level direction) (bit_and outside (2 ^ 32 - 1 - direction))
+    (omega (arith, and_le_l level direction)) (omega (arith, and_le_l outside (2 ^ 32 - 1 - direction)))
+
 -- What a machine sees.
 pub bit_at-seen_of : (bypass pad pad_2 p : ℕ) → bypass < 2 ^ 32 → p < 32 → bit_at (seen_of bypass pad pad_2) p ≡ cond (bit_at bypass p == 1) (bit_at pad p) (bit_at pad_2 p)
 bit_at-seen_of bypass pad pad_2 p below inside =
@@ -39,6 +45,26 @@ bit_at-seen_of bypass pad pad_2 p below inside =
           ∙ ap (max (min (bit_at pad_2 p) (1 - bit_at bypass p))) (bit_at_and pad bypass p)
           ∙ chosen_late (bit_at bypass p) (bit_at pad p) (bit_at pad_2 p) (bit_at-lt bypass p) (bit_at-lt pad p) (bit_at-lt pad_2 p)
     ]
+
+same : (b : Bool) (x : ℕ) → cond b x x ≡ x
+same true x = refl
+same false x = refl
+
+pub seen_of-lt : (bypass pad pad_2 : ℕ) → pad < 2 ^ 32 → pad_2 < 2 ^ 32 → seen_of bypass pad pad_2 < 2 ^ 32
+seen_of-lt bypass pad pad_2 p q =
+    elim (cases_eq bypass 0) [
+      | inl none ↦ rw none q
+      | inr some ↦
+          rw (unless (eqb bypass 0) pad_2 (bit_or (bit_and pad_2 (2 ^ 32 - 1 - bypass)) (bit_and pad bypass)) (grind (arith, nat_tests)))
+          (or_lt 32 (bit_and pad_2 (2 ^ 32 - 1 - bypass)) (bit_and pad bypass)
+          (omega (arith, and_le_l pad_2 (2 ^ 32 - 1 - bypass))) (omega (arith, and_le_l pad bypass)))
+    ]
+
+-- Where the pads are those of two clocks ago, a machine sees them.
+pub seen_of-same : (bypass pad : ℕ) → bypass < 2 ^ 32 → pad < 2 ^ 32 → seen_of bypass pad pad ≡ pad
+seen_of-same bypass pad below word =
+    same_from_bits_below 32 (seen_of bypass pad pad) pad (seen_of-lt bypass pad pad word word) word
+    (λ p inside. bit_at-seen_of bypass pad pad p below inside ∙ same (bit_at bypass p == 1) (bit_at pad p))
 
 -- two words held, and the pads since
 pub after_pads-from : (s : Synchroniser) (d : ℕ) (pads : List ℕ) → after_pads pads s ≡ record { pad_1 = slice_index_or (s.pad_1 ∷ pads) (length pads) d; pad_2 = slice_index_or (s.pad_2 ∷ s.pad_1 ∷ pads) (length pads) d; bypass = s.bypass }

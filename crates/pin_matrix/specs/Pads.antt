@@ -6,7 +6,7 @@
 --   one_clock_ago, two_clocks_ago  the pads then, in the whole history
 use Rattle.std.specs.Prelude.{ℕ, ◌-◌, ◌^◌, ◌==◌, List, [], ◌∷◌, length, slice_index_or, bit_and, bit_or, if◌then◌else◌}
 
--- The pads: of each pin its level where its direction is out, else the outside value (RP2040 Datasheet, section 2.19.2).
+-- The pads: of each pin its level where its direction is out, else the outside value (RP2040 Datasheet, section 2.19).
 abbrev pub pads_of : (level direction outside : ℕ) → ℕ
 pads_of level direction outside = bit_or (bit_and level direction) (bit_and outside (2 ^ 32 - 1 - direction))
 

@@ -35,7 +35,7 @@ abbrev pub written : ℕ → ℕ × ℕ → ℕ
 written old w = if w.0 == 0 then old else bit_or w.1 (bit_and old (2 ^ 32 - 1 - w.0))
 
 -- The pins after all writes of a clock, which are listed by machine, side-set's last of its machine's (RP2040 Datasheet,
--- section 3.5.6: of the machines the highest-numbered one has priority, and side-set over OUT and SET).
+-- section 3.5.6.1: the highest-numbered machine has priority, and side-set over OUT and SET within a machine).
 unfoldable pub merged : ℕ → List (ℕ × ℕ) → ℕ
 merged old [] = old
 merged old (w ∷ ws) = merged (written old w) ws

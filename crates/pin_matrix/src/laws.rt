@@ -32,9 +32,10 @@ pub fn the_last_write_stands()
         last_of p old ws ≡ old }
 {}
 
-/// Writes of no pins leave all pins.
+/// Writes of no pins leave all pins, and nothing is such a write.
 pub fn no_write_changes_nothing()
-    ensures { (old : ℕ) (ws : List (ℕ × ℕ)) → AllByRecursion (λ w. w.0 ≡ 0) ws →
+    ensures write { IsWrite (0, 0) }
+    ensures pins { (old : ℕ) (ws : List (ℕ × ℕ)) → AllByRecursion (λ w. w.0 ≡ 0) ws →
         merged old ws ≡ old }
 {}
 
@@ -54,4 +55,19 @@ pub fn what_a_machine_sees()
     ensures seen { (before bypass pad p : ℕ) (pads : List ℕ) → bypass < 2 ^ 32 → p < 32 →
         bit_at (seen_of bypass pad (after_pads pads (first_synchroniser before bypass)).pad_2) p
         ≡ (if bit_at bypass p == 1 then bit_at pad p else bit_at (two_clocks_ago before pads) p) }
+{}
+
+/// Where the pads are those of two clocks ago, a machine sees them.
+pub fn settled_pads_are_seen()
+    ensures { (bypass pad : ℕ) → bypass < 2 ^ 32 → pad < 2 ^ 32 → seen_of bypass pad pad ≡ pad }
+{}
+
+/// What writes, pads and synchronisers make of words of 32 bits are such words.
+pub fn words_stay_words()
+    ensures merged { (old : ℕ) (ws : List (ℕ × ℕ)) → old < 2 ^ 32 → AllByRecursion IsWrite ws →
+        merged old ws < 2 ^ 32 }
+    ensures pads { (level direction outside : ℕ) → level < 2 ^ 32 → outside < 2 ^ 32 →
+        pads_of level direction outside < 2 ^ 32 }
+    ensures seen { (bypass pad pad_2 : ℕ) → pad < 2 ^ 32 → pad_2 < 2 ^ 32 →
+        seen_of bypass pad pad_2 < 2 ^ 32 }
 {}

@@ -14,8 +14,8 @@ mod sync;
 mod writes;
 
 pub use laws::{
-    each_mapped_pin, each_pad, each_pin_from, no_write_changes_nothing, the_last_write_stands,
-    what_a_machine_sees,
+    each_mapped_pin, each_pad, each_pin_from, no_write_changes_nothing, settled_pads_are_seen,
+    the_last_write_stands, what_a_machine_sees, words_stay_words,
 };
 pub use machine::MachineSetup;
 pub use mapping::Mapping;
@@ -26,3 +26,6 @@ pub use setup::Setup;
 pub use span::{Span, SpanUnit, Spans, Stalls};
 pub use sync::Sync;
 pub use writes::writes_of;
+
+#[cfg(test)]
+mod tests;

@@ -4,6 +4,7 @@ ghost use Rattle.pin_matrix.specs.Spans as spec;
 ghost use Rattle.pin_matrix.specs.Spans.{is_in_ticks};
 
 use pio_encode::Name;
+use std::alloc::Global;
 use std::marker::Model;
 
 /// What a span's bounds count.
@@ -33,7 +34,7 @@ impl Model for Stalls {
 }
 
 impl Stalls {
-    ghost use Rattle.std.specs.Prelude.{◌≡◌, if◌then◌else◌, Some, None};
+    ghost use Rattle.std.specs.Prelude.{◌≡◌, if◌then◌else◌, Some, None, []};
     ghost use Rattle.pin_matrix.specs.Spans.{are_addresses};
 
     /// These addresses, unless one is above 31. It takes no memory.
@@ -45,6 +46,15 @@ impl Stalls {
             Some(Stalls { addresses })
         } else {
             None
+        }
+    }
+
+    /// No addresses. It takes no memory.
+    pub fn empty(alloc: Global) -> Stalls
+        ensures { result ≡ [] }
+    {
+        Stalls {
+            addresses: Vec::new(alloc),
         }
     }
 
