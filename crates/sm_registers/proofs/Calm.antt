@@ -1,5 +1,5 @@
 -- Ticks that change nothing, and ticks that see only what they read.
-use Rattle.std.proofs.Common.{◌≡◌, ℕ, ◌+◌, ◌-◌, ◌*◌, ◌/◌, ◌%◌, ◌^◌, ◌<◌, ◌==◌, nat_lt, nat_le, min, Bool, true, false, cond, not, ◌&&◌, ◌||◌, if◌then◌else◌, Option, Some, None, is_some, List, [], ◌∷◌, refl, sym, ap, subst, ◌∙◌, rules, arith}
+use Rattle.std.proofs.Common.{◌≡◌, ℕ, ◌+◌, ◌-◌, ◌*◌, ◌/◌, ◌%◌, ◌^◌, ◌<◌, ◌==◌, nat_lt, nat_le, min, Bool, true, false, cond, not, ◌&&◌, if◌then◌else◌, Option, Some, None, is_some, [], ◌∷◌, refl, sym, ap, ◌∙◌, rules, arith}
 use Rattle.std.proofs.lemmas.Bool.Decides.{nat_tests}
 use Rattle.pio_encode.specs.declared.act.Act.{Act}
 use Rattle.pio_encode.specs.declared.act.Act.TheVariants.{Jmp, Wait, In, Out, Push, Pull, Mov, Irq, Set, Nothing}
@@ -19,7 +19,7 @@ use Rattle.pio_encode.specs.declared.act.MovSource.TheVariants as mov_source
 use Rattle.pio_encode.specs.declared.act.SetDestination.{SetDestination}
 use Rattle.pio_encode.specs.declared.act.SetDestination.TheVariants as set_destination
 use Rattle.pio_encode.specs.declared.op.Op.{Op}
-use Rattle.pio_encode.specs.Word.{act_of, reading_of}
+use Rattle.pio_encode.specs.Word.{reading_of}
 use Rattle.irq_flags.specs.Flags.{flag_of}
 use Rattle.pin_matrix.specs.Pins.{rotated_right}
 use Rattle.pin_matrix.specs.declared.machine.MachineSetup.{MachineSetup}
@@ -31,7 +31,7 @@ use Rattle.sm_registers.specs.declared.intent.Intent.{Intent}
 use Rattle.sm_registers.specs.declared.intent.Kind.{Kind}
 use Rattle.sm_registers.specs.declared.intent.Kind.TheVariants.{First, Late, Delay}
 use Rattle.sm_registers.specs.Laws.{IsAlike, bit_of, read_of, jmp_reads, wait_reads, in_reads, mov_reads, irq_reads}
-use Rattle.sm_registers.specs.Effects.{no_intent, quiet, stall, counted_down, has_polarity, waited_flag, isr_emptied, osr_filled, jmp_effect, wait_effect, in_effect, autopushed, out_to, out_effect, push_effect, pulled, pull_effect, mov_to, mov_effect, operated, mov_word, irq_effect, set_effect, effect_of}
+use Rattle.sm_registers.specs.Effects.{no_intent, quiet, stall, has_polarity, waited_flag, jmp_effect, wait_effect, in_effect, autopushed, out_to, out_effect, push_effect, pulled, pull_effect, mov_to, mov_effect, operated, irq_effect, set_effect, effect_of}
 use Rattle.sm_registers.specs.Tick.{current_word, after_effect, refills, refilled, osr_filled_from, side_writes, tick_delay, tick_by, tick_word, tick_of}
 
 -- without a refill the registers stay

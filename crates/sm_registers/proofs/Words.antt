@@ -1,5 +1,5 @@
 -- That a tick keeps X, Y, the shift registers and the pending word in their ranges.
-use Rattle.std.proofs.Common.{◌≡◌, ℕ, zero, suc, ◌+◌, ◌-◌, ◌*◌, ◌/◌, ◌%◌, ◌^◌, ◌<◌, ◌≤◌, ◌==◌, nat_lt, nat_le, min, Bool, true, false, cond, not, ◌&&◌, Option, Some, None, IfSome, is_some, refl, rules, arith}
+use Rattle.std.proofs.Common.{ℕ, zero, suc, ◌+◌, ◌-◌, ◌*◌, ◌/◌, ◌%◌, ◌^◌, ◌<◌, ◌≤◌, nat_lt, nat_le, Bool, true, false, cond, ◌&&◌, Option, Some, None, IfSome, rules, arith}
 use Rattle.std.proofs.lemmas.Nat.{mod_below, pow_pos, mul-le}
 use Rattle.std.proofs.Math.Nat.{mod-le, pow-suc, div-le_self}
 use Rattle.pio_encode.specs.declared.act.Act.{Act}
@@ -30,7 +30,7 @@ use Rattle.sm_registers.specs.declared.view.View.{View}
 use Rattle.sm_registers.specs.declared.view.Queues.{Queues}
 use Rattle.sm_registers.specs.declared.effect.Effect.{Effect}
 use Rattle.sm_registers.specs.Laws.{AreWords, AreWordsSeen}
-use Rattle.sm_registers.specs.Effects.{quiet, stall, counted_down, in_word, with_bits_in, autopushed, with_bits_out, out_to, pulled, mov_word, mov_to, operated, status, jmp_effect, wait_effect, in_effect, out_effect, push_effect, pull_effect, mov_effect, irq_effect, set_effect, effect_of}
+use Rattle.sm_registers.specs.Effects.{counted_down, in_word, with_bits_in, autopushed, with_bits_out, out_to, pulled, mov_word, mov_to, operated, jmp_effect, wait_effect, in_effect, out_effect, push_effect, pull_effect, mov_effect, irq_effect, set_effect, effect_of}
 use Rattle.sm_registers.specs.Tick.{current_word, after_effect, osr_filled_from, refilled, tick_delay, tick_by, tick_word, tick_of}
 use Rattle.sm_registers.proofs.Placed.{ranged_word, placed_tick}
 
@@ -213,8 +213,8 @@ unfolding after_effect
 whole_after delay s r e k =
     let kept : AreWhole e.registers = k.registers in
     kept_if e.stalled _ _
-      (record { x = kept.x; y = kept.y; isr = kept.isr; osr = kept.osr; pending = kept.pending })
-      (record { x = kept.x; y = kept.y; isr = kept.isr; osr = kept.osr; pending = k.pending })
+    (record { x = kept.x; y = kept.y; isr = kept.isr; osr = kept.osr; pending = kept.pending })
+    (record { x = kept.x; y = kept.y; isr = kept.isr; osr = kept.osr; pending = k.pending })
 
 whole_filled : (front : Option ℕ) (r : Registers) → IfSome front (λ w. w < 2 ^ 32) → AreWhole r → AreWhole (osr_filled_from front r)
 whole_filled None r k h = h
@@ -233,9 +233,10 @@ whole_tick s v q r g h =
     let word : ℕ = current_word v r in
     let effect : IsWholeEffect (effect_of (act_of word) s v q r) = whole_effect (act_of word) s v q r (ranged_word word).range g h in
     elim (nat_lt 0 r.delay) as (λ b. AreWhole (cond b (tick_delay s q r) (tick_word (reading_of word s.side_rule) s v q r)).0) [
-      true ↦ whole_refilled s q (record r { delay = r.delay - 1 }) g.front
-        (record { x = h.x; y = h.y; isr = h.isr; osr = h.osr; pending = h.pending })
-    | false ↦ whole_refilled s q _ g.front (whole_after _ s r _ effect) ]
+      | true ↦ whole_refilled s q (record r { delay = r.delay - 1 }) g.front
+          (record { x = h.x; y = h.y; isr = h.isr; osr = h.osr; pending = h.pending })
+      | false ↦ whole_refilled s q _ g.front (whole_after _ s r _ effect)
+    ]
 
 -- a tick keeps all registers in their ranges
 pub words_kept :
@@ -259,5 +260,6 @@ word_fits s v q r h g =
     let word : ℕ = current_word v r in
     let effect : IsWholeEffect (effect_of (act_of word) s v q r) = whole_effect (act_of word) s v q r (ranged_word word).range g (whole r h) in
     elim (nat_lt 0 r.delay) as (λ b. IfSome (cond b (tick_delay s q r) (tick_word (reading_of word s.side_rule) s v q r)).1.word (λ w. w < 2 ^ 32)) [
-      true ↦ tt
-    | false ↦ effect.word ]
+      | true ↦ tt
+      | false ↦ effect.word
+    ]

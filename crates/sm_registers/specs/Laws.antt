@@ -4,7 +4,7 @@
 --   AreWordsSeen     what a tick reads is in its range
 --   read_of          what an act reads of the view, as one number
 --   IsAlike          a tick reads the same in two views
-use Rattle.std.specs.Prelude.{◌≡◌, ℕ, ◌+◌, ◌/◌, ◌%◌, ◌^◌, ◌<◌, Bool, true, false, not, if◌then◌else◌, Option, IfSome, is_some}
+use Rattle.std.specs.Prelude.{◌≡◌, ℕ, ◌+◌, ◌/◌, ◌%◌, ◌^◌, ◌<◌, Bool, true, false, not, if◌then◌else◌, IfSome, is_some}
 use Rattle.pio_encode.specs.declared.act.Act.{Act}
 use Rattle.pio_encode.specs.declared.act.Act.TheVariants.{Jmp, Wait, In, Out, Push, Pull, Mov, Irq, Set, Nothing}
 use Rattle.pio_encode.specs.declared.act.Condition.TheVariants as condition

@@ -38,11 +38,14 @@ pub fn a_delay_only_counts()
 pub fn a_late_stall_only_waits()
     ensures { (s : setup.MachineSetup) (v : view.View) (q : queues.Queues) (r : registers.Registers)
         → r.begun ≡ true → r.delay ≡ 0 → refills s q r ≡ false → (tick_of s v q r).1.stalled ≡ true
-        → tick_of s v q r ≡ (r, record no_intent {
+        → tick_of s v q r ≡ (
+          r,
+          record no_intent {
             sticky = (tick_of s v q r).1.sticky;
             kind = kind.Late;
             stalled = true;
-        }) }
+          },
+        ) }
 {}
 
 /// A tick is the same in two views that agree on what it reads. A delay reads nothing.
