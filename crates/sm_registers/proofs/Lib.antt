@@ -1,2 +1,4 @@
 pub mod Placed
 pub mod Fair
+pub mod Calm
+pub mod Words

@@ -1,5 +1,5 @@
 -- That a tick keeps PC, the counts and the delay in their ranges.
-use Rattle.std.proofs.Common.{◌≡◌, ℕ, ◌+◌, ◌-◌, ◌/◌, ◌%◌, ◌^◌, ◌<◌, ◌≤◌, ◌==◌, nat_lt, nat_le, min, Bool, true, false, cond, ◌&&◌, Option, Some, None, IfSome, is_some, refl, rules, arith}
+use Rattle.std.proofs.Common.{ℕ, ◌+◌, ◌-◌, ◌/◌, ◌%◌, ◌^◌, ◌<◌, ◌≤◌, ◌==◌, nat_lt, nat_le, min, Bool, true, false, cond, ◌&&◌, Option, Some, None, IfSome, is_some, rules, arith}
 use Rattle.std.proofs.lemmas.Nat.{mod_below, pow_pos}
 use Rattle.std.proofs.Math.Pow.{pow_mono}
 use Rattle.pio_encode.specs.declared.act.Act.{Act}
@@ -14,7 +14,6 @@ use Rattle.pio_encode.specs.declared.act.MovOperation.{MovOperation}
 use Rattle.pio_encode.specs.declared.act.MovSource.{MovSource}
 use Rattle.pio_encode.specs.declared.act.SetDestination.{SetDestination}
 use Rattle.pio_encode.specs.declared.act.SetDestination.TheVariants as set_destination
-use Rattle.pio_encode.specs.declared.op.Op.{Op}
 use Rattle.pio_encode.specs.declared.rule.SideRule.{SideRule}
 use Rattle.pio_encode.specs.Ranges.{IsInRange, delay_bits}
 use Rattle.pio_encode.specs.Word.{bits, count_at, act_of, wait_at, in_at, push_or_pull_at, mov_with, mov_at, irq_at, set_at, reading_of, delay_of}
@@ -24,7 +23,7 @@ use Rattle.sm_registers.specs.declared.view.View.{View}
 use Rattle.sm_registers.specs.declared.view.Queues.{Queues}
 use Rattle.sm_registers.specs.declared.effect.Effect.{Effect}
 use Rattle.sm_registers.specs.Ranges.{IsPlaced}
-use Rattle.sm_registers.specs.Effects.{quiet, stall, counted_down, jmp_effect, wait_effect, in_effect, autopushed, with_bits_in, with_bits_out, out_to, out_effect, push_effect, pulled, pull_effect, mov_to, mov_effect, irq_effect, set_effect, effect_of, in_word, operated, mov_word, jumps}
+use Rattle.sm_registers.specs.Effects.{counted_down, jmp_effect, wait_effect, in_effect, autopushed, with_bits_in, with_bits_out, out_to, out_effect, push_effect, pulled, pull_effect, mov_to, mov_effect, irq_effect, set_effect, effect_of, in_word, jumps}
 use Rattle.sm_registers.specs.Tick.{current_word, next_pc, pc_after, delay_after, after_effect, osr_filled_from, refilled, tick_delay, tick_by, tick_word, tick_of}
 
 -- an act whose operands are in their ranges

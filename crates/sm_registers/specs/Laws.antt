@@ -1,10 +1,109 @@
 -- Words of the laws of a tick.
---   IsFair       an intent takes a word only where TX has one, and gives one only where RX has room
-use Rattle.std.specs.Prelude.{◌≡◌, true, false, is_some}
+--   IsFair           an intent takes a word only where TX has one, and gives one only where RX has room
+--   AreWords         each register is in its range
+--   AreWordsSeen     what a tick reads is in its range
+--   read_of          what an act reads of the view, as one number
+--   IsAlike          a tick reads the same in two views
+use Rattle.std.specs.Prelude.{◌≡◌, ℕ, ◌+◌, ◌/◌, ◌%◌, ◌^◌, ◌<◌, Bool, true, false, not, if◌then◌else◌, IfSome, is_some}
+use Rattle.pio_encode.specs.declared.act.Act.{Act}
+use Rattle.pio_encode.specs.declared.act.Act.TheVariants.{Jmp, Wait, In, Out, Push, Pull, Mov, Irq, Set, Nothing}
+use Rattle.pio_encode.specs.declared.act.Condition.TheVariants as condition
+use Rattle.pio_encode.specs.declared.act.Condition.{Condition}
+use Rattle.pio_encode.specs.declared.act.WaitSource.{WaitSource}
+use Rattle.pio_encode.specs.declared.act.WaitSource.TheVariants as wait_source
+use Rattle.pio_encode.specs.declared.act.InSource.{InSource}
+use Rattle.pio_encode.specs.declared.act.InSource.TheVariants as in_source
+use Rattle.pio_encode.specs.declared.act.MovSource.{MovSource}
+use Rattle.pio_encode.specs.declared.act.MovSource.TheVariants as mov_source
+use Rattle.pio_encode.specs.Word.{act_of}
+use Rattle.irq_flags.specs.Flags.{flag_of}
+use Rattle.pin_matrix.specs.Pins.{rotated_right}
+use Rattle.pin_matrix.specs.declared.machine.MachineSetup.{MachineSetup}
+use Rattle.sm_registers.specs.declared.registers.Registers.{Registers}
+use Rattle.sm_registers.specs.declared.view.View.{View}
 use Rattle.sm_registers.specs.declared.view.Queues.{Queues}
 use Rattle.sm_registers.specs.declared.intent.Intent.{Intent}
+use Rattle.sm_registers.specs.Ranges.{IsPlaced}
+use Rattle.sm_registers.specs.Tick.{current_word}
 
 -- it takes a word only where TX has one, and gives one only where RX has room
 pub record IsFair (q : Queues) (i : Intent) : Type 0 where
   pub take : i.take ≡ true → is_some q.front ≡ true
   pub word : is_some i.word ≡ true → q.rx_full ≡ false
+
+-- each register is in its range
+pub record AreWords (r : Registers) : Type 0 where
+  pub placed : IsPlaced r
+  pub x : r.x < 2 ^ 32
+  pub y : r.y < 2 ^ 32
+  pub isr : r.isr < 2 ^ 32
+  pub osr : r.osr < 2 ^ 32
+  pub pending : IfSome r.pending (λ w. w < 2 ^ 16)
+
+-- what a tick reads is in its range
+pub record AreWordsSeen (v : View) (q : Queues) : Type 0 where
+  pub seen : v.seen < 2 ^ 32
+  pub front : IfSome q.front (λ w. w < 2 ^ 32)
+
+-- the bit of a word as a number
+abbrev pub bit_of : ℕ → ℕ → ℕ
+bit_of w i = w / 2 ^ i % 2
+
+-- what a JMP reads: its pin, under the condition `pin`
+abbrev pub jmp_reads : Condition → MachineSetup → View → ℕ
+jmp_reads condition.Always s v = 0
+jmp_reads condition.XZero s v = 0
+jmp_reads condition.XDecrement s v = 0
+jmp_reads condition.YZero s v = 0
+jmp_reads condition.YDecrement s v = 0
+jmp_reads condition.XNotY s v = 0
+jmp_reads condition.Pin s v = bit_of v.seen s.jmp_pin
+jmp_reads condition.OsrNotEmpty s v = 0
+
+-- what a WAIT reads: its pin or its flag
+abbrev pub wait_reads : WaitSource → ℕ → MachineSetup → View → ℕ
+wait_reads wait_source.Gpio index s v = bit_of v.seen index
+wait_reads wait_source.Pin index s v = bit_of v.seen ((s.in_base + index) % 32)
+wait_reads wait_source.Irq index s v = bit_of v.flags.up (flag_of index s.id)
+
+-- what an IN reads: n pins, in its first tick
+abbrev pub in_reads : InSource → ℕ → MachineSetup → View → Registers → ℕ
+in_reads in_source.Pins n s v r = if r.begun then 0 else rotated_right v.seen s.in_base % 2 ^ n
+in_reads in_source.X n s v r = 0
+in_reads in_source.Y n s v r = 0
+in_reads in_source.Null n s v r = 0
+in_reads in_source.Isr n s v r = 0
+in_reads in_source.Osr n s v r = 0
+
+-- what a MOV reads: all pins, where they are its source
+abbrev pub mov_reads : MovSource → MachineSetup → View → ℕ
+mov_reads mov_source.Pins s v = rotated_right v.seen s.in_base
+mov_reads mov_source.X s v = 0
+mov_reads mov_source.Y s v = 0
+mov_reads mov_source.Null s v = 0
+mov_reads mov_source.Status s v = 0
+mov_reads mov_source.Isr s v = 0
+mov_reads mov_source.Osr s v = 0
+
+-- what an IRQ reads: its flag, where it waits and has begun
+abbrev pub irq_reads : (clear waits begun : Bool) → ℕ → MachineSetup → View → ℕ
+irq_reads clear waits begun index s v =
+    if clear then 0 else if not waits then 0 else if not begun then 0 else bit_of v.flags.up (flag_of index s.id)
+
+-- what an act reads of the view, as one number
+abbrev pub read_of : Act → MachineSetup → Registers → View → ℕ
+read_of (Jmp c address) s r v = jmp_reads c s v
+read_of (Wait polarity source index) s r v = wait_reads source index s v
+read_of (In source n) s r v = in_reads source n s v r
+read_of (Out destination n) s r v = 0
+read_of (Push if_full block) s r v = 0
+read_of (Pull if_empty block) s r v = 0
+read_of (Mov destination operation source) s r v = mov_reads source s v
+read_of (Irq clear waits index) s r v = irq_reads clear waits r.begun index s v
+read_of (Set destination value) s r v = 0
+read_of Nothing s r v = 0
+
+-- a tick reads the same in two views: the same word, and what its act reads
+pub record IsAlike (s : MachineSetup) (r : Registers) (v w : View) : Type 0 where
+  pub word : current_word v r ≡ current_word w r
+  pub reads : read_of (act_of (current_word v r)) s r v ≡ read_of (act_of (current_word v r)) s r w

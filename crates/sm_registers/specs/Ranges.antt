@@ -1,6 +1,6 @@
 -- What a machine keeps of its registers besides what their types say.
 --   IsPlaced         PC, counts and delay in their ranges
-use Rattle.std.specs.Prelude.{ℕ, ◌<◌, ◌≤◌}
+use Rattle.std.specs.Prelude.{◌<◌, ◌≤◌}
 use Rattle.sm_registers.specs.declared.registers.Registers.{Registers}
 
 -- PC is an address, the counts count the bits of a word, the delay is one of five bits

@@ -4,7 +4,7 @@
 --   queues_of               what a tick sees of the FIFOs
 --   settled_ports           the ports after a clock
 --   shown_of                what can be seen of a machine
-use Rattle.std.specs.Prelude.{◌≡◌, ℕ, ◌+◌, ◌==◌, ◌<◌, ◌≤◌, Bool, false, Option, Some, None, length, slice_get, if◌then◌else◌, bit_or}
+use Rattle.std.specs.Prelude.{◌≡◌, ℕ, ◌+◌, ◌==◌, Bool, false, Option, Some, None, length, slice_get, if◌then◌else◌, bit_or}
 use Rattle.fifo_pair.specs.Fifos.{Fifos, Fits, first_fifos, settled, is_full, is_over, is_under, got_word, room_of}
 use Rattle.pin_matrix.specs.declared.machine.MachineSetup.{MachineSetup}
 use Rattle.sm_registers.specs.declared.registers.Registers.{Registers}

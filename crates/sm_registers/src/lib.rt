@@ -5,6 +5,7 @@ mod effect;
 mod fifo_moves;
 mod intent;
 mod jump;
+mod laws;
 mod machine;
 mod moving;
 mod registers;
@@ -15,7 +16,22 @@ mod view;
 mod waiting;
 
 pub use intent::{Intent, Kind, RX_STALL, RX_UNDER, TX_OVER, TX_STALL};
+pub use laws::{
+    a_delay_only_counts, a_late_stall_only_waits, a_tick_sees_what_it_reads, moves_are_fair,
+    ranges_are_kept,
+};
 pub use machine::Machine;
 pub use registers::Registers;
 pub use shown::Shown;
 pub use view::{Queues, View};
+
+#[cfg(test)]
+mod rows;
+#[cfg(test)]
+mod rows_fifos;
+#[cfg(test)]
+mod rows_flow;
+#[cfg(test)]
+mod rows_pins;
+#[cfg(test)]
+mod tests;

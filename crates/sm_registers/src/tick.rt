@@ -53,16 +53,16 @@ fn tick_delay(setup: &MachineSetup, queues: &Queues, registers: Registers) -> (R
     requires { 0 < registers.delay }
     ensures { result ≡ spec.tick_delay setup.now queues.now registers }
 {
-    let after = Registers {
+    let counted = Registers {
         delay: registers.delay - 1,
         ..registers
     };
     let intent = Intent {
-        take: refills(setup, queues, &after),
+        take: refills(setup, queues, &counted),
         kind: Kind::Delay,
         ..Intent::none()
     };
-    (refilled(setup, queues, after), intent)
+    (refilled(setup, queues, counted), intent)
 }
 
 /// A tick of an instruction.

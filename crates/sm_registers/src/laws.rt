@@ -1,0 +1,57 @@
+//! Laws of a tick, each on a function that does nothing. `tick_of` gives the registers after a tick and its intent.
+ghost use Rattle.std.specs.Prelude.{◌≡◌, ℕ, ◌-◌, ◌^◌, ◌<◌, Bool, true, false, IfSome};
+ghost use Rattle.pin_matrix.specs.declared.machine.MachineSetup as setup;
+ghost use Rattle.sm_registers.specs.declared.registers.Registers as registers;
+ghost use Rattle.sm_registers.specs.declared.view.View as view;
+ghost use Rattle.sm_registers.specs.declared.view.Queues as queues;
+ghost use Rattle.sm_registers.specs.declared.intent.Kind.TheVariants as kind;
+ghost use Rattle.sm_registers.specs.Effects.{no_intent};
+ghost use Rattle.sm_registers.specs.Laws.{AreWords, AreWordsSeen, IsAlike, IsFair};
+ghost use Rattle.sm_registers.specs.Ranges.{IsPlaced};
+ghost use Rattle.sm_registers.specs.Tick.{refills, tick_of};
+
+/// A tick keeps every register in its range, and gives a word of 32 bits.
+pub fn ranges_are_kept()
+    ensures placed { (s : setup.MachineSetup) (v : view.View) (q : queues.Queues) (r : registers.Registers)
+        → IsPlaced r → IsPlaced (tick_of s v q r).0 }
+    ensures words { (s : setup.MachineSetup) (v : view.View) (q : queues.Queues) (r : registers.Registers)
+        → AreWordsSeen v q → AreWords r → AreWords (tick_of s v q r).0 }
+    ensures word { (s : setup.MachineSetup) (v : view.View) (q : queues.Queues) (r : registers.Registers)
+        → AreWords r → AreWordsSeen v q → IfSome (tick_of s v q r).1.word (λ w. w < 2 ^ 32) }
+{}
+
+/// A tick takes a word only where TX has one, and gives one only where RX has room.
+pub fn moves_are_fair()
+    ensures { (s : setup.MachineSetup) (v : view.View) (q : queues.Queues) (r : registers.Registers)
+        → IsFair q (tick_of s v q r).1 }
+{}
+
+/// A tick of a delay, in which the OSR isn't refilled, changes the delay alone, and does nothing outside.
+pub fn a_delay_only_counts()
+    ensures { (s : setup.MachineSetup) (v : view.View) (q : queues.Queues) (r : registers.Registers)
+        → 0 < r.delay → refills s q r ≡ false
+        → tick_of s v q r ≡ (record r { delay = r.delay - 1 }, record no_intent { kind = kind.Delay }) }
+{}
+
+/// A late tick that stalls, in which the OSR isn't refilled, changes no register, and does nothing outside but to raise
+/// again the sticky flags of its stall.
+pub fn a_late_stall_only_waits()
+    ensures { (s : setup.MachineSetup) (v : view.View) (q : queues.Queues) (r : registers.Registers)
+        → r.begun ≡ true → r.delay ≡ 0 → refills s q r ≡ false → (tick_of s v q r).1.stalled ≡ true
+        → tick_of s v q r ≡ (
+          r,
+          record no_intent {
+            sticky = (tick_of s v q r).1.sticky;
+            kind = kind.Late;
+            stalled = true;
+          },
+        ) }
+{}
+
+/// A tick is the same in two views that agree on what it reads. A delay reads nothing.
+pub fn a_tick_sees_what_it_reads()
+    ensures instruction { (s : setup.MachineSetup) (v w : view.View) (q : queues.Queues) (r : registers.Registers)
+        → IsAlike s r v w → tick_of s v q r ≡ tick_of s w q r }
+    ensures waiting { (s : setup.MachineSetup) (v w : view.View) (q : queues.Queues) (r : registers.Registers)
+        → 0 < r.delay → tick_of s v q r ≡ tick_of s w q r }
+{}
