@@ -3,3 +3,4 @@ pub mod Firsts
 pub mod Numbers
 pub mod Parts
 pub mod Forms
+pub mod Drafts

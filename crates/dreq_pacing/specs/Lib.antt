@@ -6,3 +6,4 @@ pub mod Fields
 pub mod Number
 pub mod Fault
 pub mod Form
+pub mod Drafts

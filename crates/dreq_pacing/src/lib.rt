@@ -2,6 +2,7 @@
 #![tactic(auto)]
 
 mod act;
+mod draft;
 mod due;
 mod fault;
 mod fields;
