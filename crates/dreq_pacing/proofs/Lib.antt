@@ -4,3 +4,4 @@ pub mod Numbers
 pub mod Parts
 pub mod Forms
 pub mod Drafts
+pub mod Readings

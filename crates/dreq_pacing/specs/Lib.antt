@@ -7,3 +7,4 @@ pub mod Number
 pub mod Fault
 pub mod Form
 pub mod Drafts
+pub mod Reading
