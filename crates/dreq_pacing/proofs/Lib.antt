@@ -5,3 +5,6 @@ pub mod Parts
 pub mod Forms
 pub mod Drafts
 pub mod Readings
+pub mod QuietClocks
+pub mod FeedOrder
+pub mod PinLines

@@ -8,3 +8,4 @@ pub mod Fault
 pub mod Form
 pub mod Drafts
 pub mod Reading
+pub mod Runs
