@@ -3,3 +3,8 @@ pub mod Firsts
 pub mod Numbers
 pub mod Parts
 pub mod Forms
+pub mod Drafts
+pub mod Readings
+pub mod QuietClocks
+pub mod FeedOrder
+pub mod PinLines

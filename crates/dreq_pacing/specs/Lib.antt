@@ -6,3 +6,6 @@ pub mod Fields
 pub mod Number
 pub mod Fault
 pub mod Form
+pub mod Drafts
+pub mod Reading
+pub mod Runs

@@ -2,19 +2,30 @@
 #![tactic(auto)]
 
 mod act;
+mod draft;
 mod due;
 mod fault;
 mod fields;
 mod form;
+mod laws;
 mod line;
 mod number;
 mod ports;
+mod reading;
 mod schedule;
 mod transfer;
 mod verb;
 
 pub use due::{Due, Requests};
 pub use fault::{StimFault, StimKind};
+pub use laws::{
+    a_feed_keeps_its_words_in_order, a_quiet_clock_changes_nothing, ports_follow_the_history,
+    quiet_clocks_may_be_left_out, the_last_pin_line_stands,
+};
 pub use line::{Act, Line, Words};
 pub use ports::HostPorts;
+pub use reading::read_stimulus;
 pub use schedule::Schedule;
+
+#[cfg(test)]
+mod tests;

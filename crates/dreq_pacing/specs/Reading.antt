@@ -1,0 +1,78 @@
+-- What a stimulus has: its lines, or its first fault (choice of this profile).
+--   version_of   the version that a version line tells
+--   after_line   a reader after one more line
+--   stimulus_of  the lines of a text, or its first fault
+use Rattle.std.specs.Prelude.{◌≡◌, ℕ, ◌+◌, ◌==◌, ◌&&◌, nat_lt, Bool, false, Option, Some, None, List, [], ◌∷◌, Result, Ok, Err, map, if◌then◌else◌, codes}
+use Rattle.std.specs.Str.{bytes_eq}
+use Rattle.byte_lines.specs.Lines.{lines_of}
+use Rattle.dreq_pacing.specs.declared.fault.StimKind.{StimKind}
+use Rattle.dreq_pacing.specs.declared.fault.StimKind.TheVariants.{BadLine, Range, Many}
+use Rattle.dreq_pacing.specs.declared.fault.StimFault.{StimFault}
+use Rattle.dreq_pacing.specs.declared.fault.StimFault.TheVariants.{Memory, At}
+use Rattle.dreq_pacing.specs.declared.line.Line.{Line}
+use Rattle.dreq_pacing.specs.declared.reading.Reader.{Reader}
+use Rattle.dreq_pacing.specs.Drafts.{first_draft, objection, with_line}
+use Rattle.dreq_pacing.specs.Fields.{fields_of}
+use Rattle.dreq_pacing.specs.Form.{line_of}
+use Rattle.dreq_pacing.specs.Number.{is_number, in_range}
+
+-- the most lines with fields
+abbrev pub most_lines : ℕ
+most_lines = 1000000
+
+-- nothing is read: without a version line the file is of version 1
+abbrev pub first_reader : Reader
+first_reader = record { count = 0; two = false; draft = first_draft }
+
+-- whether a version is 2
+abbrev pub is_two : Option ℕ → Result Bool StimKind
+is_two None = Err Range
+is_two (Some version) = Ok (version == 2)
+
+-- whether a version line tells version 2, by the fields behind its word: one number, 1 or 2
+abbrev pub version_of : List (List ℕ) → Result Bool StimKind
+version_of [] = Err BadLine
+version_of (number ∷ []) = if is_number number then is_two (in_range 1 2 number) else Err BadLine
+version_of (number ∷ other ∷ others) = Err BadLine
+
+-- a reader after the version line
+abbrev pub with_version : Reader → Result Bool StimKind → Result Reader StimKind
+with_version r (Err kind) = Err kind
+with_version r (Ok two) = Ok (record { count = r.count + 1; two = two; draft = r.draft })
+
+-- a reader after a line, unless something is wrong with it beside those before
+abbrev pub unless_objected : Reader → Line → Option StimKind → Result Reader StimKind
+unless_objected r l (Some kind) = Err kind
+unless_objected r l None = Ok (record { count = r.count + 1; two = r.two; draft = with_line r.draft l })
+
+-- a reader after a line, unless its form or a range is wrong
+abbrev pub with_said : Reader → Result Line StimKind → Result Reader StimKind
+with_said r (Err kind) = Err kind
+with_said r (Ok l) = unless_objected r l (objection r.draft l)
+
+-- A reader after one more line, or what is wrong with the line. One without fields is nothing. The first with fields may be
+-- the version line.
+abbrev pub after_line : Reader → List (List ℕ) → Result Reader StimKind
+after_line r [] = Ok r
+after_line r (field ∷ fields) =
+    if nat_lt r.count most_lines then
+      (if r.count == 0 && bytes_eq field (codes "version") then with_version r (version_of fields)
+        else with_said r (line_of r.two (field ∷ fields)))
+    else Err Many
+
+-- the lines of a reader after lines with these fields, or the first fault; the first of them has this number
+abbrev pub lines_from : ℕ → Reader → List (List (List ℕ)) → Result (List Line) StimFault
+lines_from number r [] = Ok r.draft.lines
+lines_from number r (fields ∷ rest) = elim (after_line r fields) [
+    | Ok after ↦ lines_from (number + 1) after rest
+    | Err kind ↦ Err (At number kind)
+  ]
+
+-- The lines of a text, or its first fault.
+unfoldable pub stimulus_of : List ℕ → Result (List Line) StimFault
+stimulus_of text = lines_from 1 first_reader (map fields_of (lines_of text))
+
+-- that memory ran out, or this is the text's first fault
+abbrev pub IsRefused : StimFault → List ℕ → Type 0
+IsRefused Memory text = Unit {0}
+IsRefused (At line kind) text = stimulus_of text ≡ Err (At line kind)

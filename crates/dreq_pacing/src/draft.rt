@@ -1,0 +1,183 @@
+//! The lines of a stimulus as they are read one after the other: their order, and which accesses they have taken.
+ghost use Rattle.std.specs.Prelude.{◌≡◌, ◌≤◌, ◌<◌, false, IfOk, IfSome, MatchOption, length, []};
+ghost use Rattle.dreq_pacing.specs.Lines as spec;
+ghost use Rattle.dreq_pacing.specs.Lines.{IsLine, IsSchedule, is_crowded};
+ghost use Rattle.dreq_pacing.specs.Drafts.{first_draft, objection, with_line, taken_at, marked, still_taken};
+
+use crate::fault::StimKind;
+use crate::line::{Act, Line};
+use crate::schedule::{Schedule, schedule_of};
+use std::alloc::{AllocFailed, Global};
+use std::marker::Model;
+
+/// The lines read so far, and the clock of the last of them.
+#[derive(Drop)]
+pub struct Draft {
+    lines: Vec<Line>,
+    clock: u64,
+    /// The transfers that the file has: the machines' feeds, then their drains.
+    transfers: [bool; 8],
+    /// The accesses that the clock has: the machines' words, reads, enablings or disablings, restarts.
+    accesses: [bool; 16],
+}
+
+impl Model for Draft {
+    ghost use Rattle.dreq_pacing.specs.Drafts.{Lines, IsDraft};
+
+    ghost Value = { Lines };
+
+    ghost view = { λ d. record { lines = d.lines.items; clock = d.clock } };
+
+    ghost invariant = { λ d. IsDraft d.lines.items d.clock d.transfers d.accesses };
+}
+
+impl Draft {
+    /// No line so far. It takes no memory.
+    pub fn new(alloc: Global) -> Draft
+        ensures { result ≡ first_draft }
+    {
+        Draft {
+            lines: Vec::new(alloc),
+            clock: 0,
+            transfers: [false; 8],
+            accesses: [false; 16],
+        }
+    }
+
+    /// One line more, or what is wrong with it beside those before. The error is want of memory.
+    pub fn add(&mut self, line: Line) -> Result<Option<StimKind>, AllocFailed<Line>>
+        requires { IsLine line }
+        ensures kind { IfOk result (λ kind. kind ≡ objection self.old line) }
+        ensures after { IfOk result (λ kind. MatchOption kind (self.new ≡ with_line self.old line)
+            (λ _. self.new ≡ self.old)) }
+    {
+        if line.clock < self.clock {
+            return Ok(Some(StimKind::Backwards));
+        }
+        if self.is_crowded(&line) {
+            return Ok(Some(StimKind::Crowded));
+        }
+        self.put(line)?;
+        Ok(None)
+    }
+
+    /// The lines.
+    pub fn finish(self) -> Schedule
+        ensures { result ≡ self.lines }
+    {
+        schedule_of(self.lines)
+    }
+
+    /// Whether the line is a second transfer in the file, or a second access in its clock.
+    fn is_crowded(&self, line: &Line) -> bool
+        requires line { IsLine line.now }
+        requires in_order { self.now.clock ≤ line.now.clock }
+        ensures { result ≡ is_crowded self.now.lines line.now }
+    {
+        self.has_transfer(&line.act) || self.has_access(line.clock, &line.act)
+    }
+
+    fn has_transfer(&self, act: &Act) -> bool
+        requires { spec.IsAct act.now }
+        ensures { result ≡ spec.has_transfer (spec.transfer_of act.now) self.now.lines }
+    {
+        has_place(&self.transfers, transfer_of(act))
+    }
+
+    fn has_access(&self, clock: u64, act: &Act) -> bool
+        requires act { spec.IsAct act.now }
+        requires in_order { self.now.clock ≤ clock }
+        ensures { result ≡ spec.has_access (spec.access_of act.now) clock self.now.lines }
+    {
+        if clock == self.clock {
+            has_place(&self.accesses, access_of(act))
+        } else {
+            false
+        }
+    }
+
+    /// One line more, which is in order and crowds none.
+    fn put(&mut self, line: Line) -> Result<(), AllocFailed<Line>>
+        requires line { IsLine line }
+        requires in_order { self.old.clock ≤ line.clock }
+        requires apart { is_crowded self.old.lines line ≡ false }
+        ensures { IfOk result (λ _. self.new ≡ with_line self.old line) }
+    {
+        let clock = line.clock;
+        let transfer = transfer_of(&line.act);
+        let access = access_of(&line.act);
+        self.lines.push(line)?;
+        self.transfers = with_transfer(self.transfers, transfer);
+        self.accesses = with_access(accesses_at(self.accesses, clock == self.clock), access);
+        self.clock = clock;
+        Ok(())
+    }
+}
+
+/// The place of a transfer among those of a file.
+fn transfer_of(act: &Act) -> Option<usize>
+    requires { spec.IsAct act.now }
+    ensures place { result ≡ spec.transfer_of act.now }
+    ensures below { IfSome result (λ place. place < 8) }
+{
+    match act {
+        Act::Feed { machine, .. } => Some(usize::from(*machine)),
+        Act::Drain { machine, .. } => Some(4 + usize::from(*machine)),
+        _ => None,
+    }
+}
+
+/// The place of another access among those of a clock.
+fn access_of(act: &Act) -> Option<usize>
+    requires { spec.IsAct act.now }
+    ensures place { result ≡ spec.access_of act.now }
+    ensures below { IfSome result (λ place. place < 16) }
+{
+    match act {
+        Act::Tx { machine, .. } => Some(usize::from(*machine)),
+        Act::Rx { machine } => Some(4 + usize::from(*machine)),
+        Act::Enable { machine } | Act::Disable { machine } => Some(8 + usize::from(*machine)),
+        Act::Restart { machine } => Some(12 + usize::from(*machine)),
+        _ => None,
+    }
+}
+
+/// Whether a place is taken.
+fn has_place(taken: &[bool], place: Option<usize>) -> bool
+    requires { IfSome place (λ p. p < length taken.now) }
+    ensures { result ≡ taken_at place taken.now }
+{
+    match place {
+        Some(place) => taken[place],
+        None => false,
+    }
+}
+
+fn with_transfer(taken: [bool; 8], place: Option<usize>) -> [bool; 8]
+    requires { IfSome place (λ p. p < 8) }
+    ensures { result ≡ marked place taken }
+{
+    let mut taken = taken;
+    if let Some(place) = place {
+        taken[place] = true;
+    }
+    taken
+}
+
+fn with_access(taken: [bool; 16], place: Option<usize>) -> [bool; 16]
+    requires { IfSome place (λ p. p < 16) }
+    ensures { result ≡ marked place taken }
+{
+    let mut taken = taken;
+    if let Some(place) = place {
+        taken[place] = true;
+    }
+    taken
+}
+
+/// The accesses that a clock has before its first line, or before a later one.
+fn accesses_at(taken: [bool; 16], same_clock: bool) -> [bool; 16]
+    ensures { result ≡ still_taken same_clock taken }
+{
+    if same_clock { taken } else { [false; 16] }
+}
