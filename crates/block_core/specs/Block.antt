@@ -56,6 +56,17 @@ view_of memory seen b = record { memory = memory; seen = seen; flags = record { 
 abbrev pub two_writes : List (ℕ × ℕ) → List (ℕ × ℕ)
 two_writes writes = slice_index_or writes 0 (0, 0) ∷ slice_index_or writes 1 (0, 0) ∷ []
 
+-- what the machines want in a clock, in order of their numbers
+abbrev pub intents_of : View → Due → List (Option Slot) → List Intent
+intents_of view d places = map (place_intent view d) places
+
+-- all writes to levels, and to directions, in order of the machines' numbers
+abbrev pub level_writes : List Intent → List (ℕ × ℕ)
+level_writes intents = flat_map (λ i. two_writes i.level) intents
+
+abbrev pub direction_writes : List Intent → List (ℕ × ℕ)
+direction_writes intents = flat_map (λ i. two_writes i.direction) intents
+
 -- the flags that any of these lowers, or raises
 abbrev pub any_of : List ℕ → ℕ
 any_of [] = 0
@@ -67,11 +78,11 @@ any_of (x ∷ y ∷ rest) = bit_or x (any_of (y ∷ rest))
 unfoldable pub stepped : (memory : List ℕ) → (seen : ℕ) → Due → BlockState → BlockState
 stepped memory seen d b =
     let view = view_of memory seen b in
-    let intents = map (place_intent view d) b.machines in
+    let intents = intents_of view d b.machines in
     record {
       machines = map (place_after view d) b.machines;
-      levels = merged b.levels (flat_map (λ i. two_writes i.level) intents);
-      directions = merged b.directions (flat_map (λ i. two_writes i.direction) intents);
+      levels = merged b.levels (level_writes intents);
+      directions = merged b.directions (direction_writes intents);
       flags = merged_flags b.flags (any_of (map (λ i. i.clears) intents)) (any_of (map (λ i. i.sets) intents));
       outside = outside_after d b.outside;
     }

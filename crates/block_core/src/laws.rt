@@ -1,13 +1,23 @@
 //! Laws of a run, each on a function that does nothing.
-ghost use Rattle.std.specs.Prelude.{◌≡◌, ℕ, suc, ◌+◌, List};
+ghost use Rattle.std.specs.Prelude.{◌≡◌, ℕ, suc, ◌+◌, ◌<◌, ◌++◌, ◌↔◌, None, false, [], List, Option, option_map, option_to_list, map, slice_get, slice_index_or, if◌then◌else◌, IsTrue};
+ghost use Rattle.std.specs.List.{AllByRecursion};
+ghost use Rattle.std.specs.Int.{bit_at};
+ghost use Rattle.fifo_pair.specs.Fifos.{is_over, got_word};
+ghost use Rattle.pin_matrix.specs.Pins.{IsWrite, last_of};
+ghost use Rattle.sm_registers.specs.declared.view.View.{View};
 ghost use Rattle.pin_matrix.specs.Pads.{seen_of};
 ghost use Rattle.pin_matrix.specs.declared.setup.Setup.{Setup};
 ghost use Rattle.dreq_pacing.specs.declared.due.Due.{Due};
 ghost use Rattle.dreq_pacing.specs.declared.line.Line.{Line};
 ghost use Rattle.dreq_pacing.specs.Ports.{transfers_at, due_at};
-ghost use Rattle.block_core.specs.Block.{Run, run_at, run_from, stepped};
-ghost use Rattle.block_core.specs.History.{pad_at, pad_before};
+ghost use Rattle.block_core.specs.Block.{BlockState, Run, run_at, run_from, stepped, first_state, view_of, intents_of, level_writes, direction_writes};
+ghost use Rattle.block_core.specs.History.{pad_at, pad_before, Ticks, OfEach};
+ghost use Rattle.block_core.specs.Slots.{Slot, lined, has_tick, slot_after, slot_intent};
 ghost use Rattle.block_core.specs.Hosted.{hosted_at, host_of, asked_at};
+
+use clock_divider::tick_test;
+use fifo_pair::{rx_loses_nothing, tx_loses_only_overruns};
+use pin_matrix::the_last_write_stands;
 
 /// A machine sees of each pin the pad of two clocks ago, or of now where the pin bypasses its synchroniser: the state after
 /// each clock follows from the state before it and from the history of the pads.
@@ -34,3 +44,50 @@ pub fn a_stimulus_is_a_system()
     ensures system { (start : Run) (lines : List Line) (clock : ℕ) → start.clock ≡ 0 →
         host_of start lines clock ≡ due_at lines (asked_at start lines) clock }
 {}
+
+/// A machine has a tick in a clock exactly where it is enabled and, for some k, k periods of its divider after the last
+/// restart fall into the clock.
+pub fn ticks_follow_the_divider()
+    ensures ticks { (s : Setup) (host : ℕ → Due) (clock : ℕ) →
+        OfEach (λ m. IsTrue (has_tick (lined (host clock) m)) ↔ (Ticks host m.machine.setup clock))
+        (run_at s host clock).state.machines }
+    ensures setups { (s : Setup) (host : ℕ → Due) (clock : ℕ) →
+        map (option_map (λ m. m.machine.setup)) (run_at s host clock).state.machines
+        ≡ map (option_map (λ m. m.machine.setup)) (first_state s).machines }
+{
+    tick_test();
+}
+
+/// After a clock each pin has the level, and the direction, that the last of the clock's writes to it gives, in order of the
+/// machines' numbers, side-set's behind the instruction's; one that nothing writes stays.
+pub fn each_pin_gets_the_last_write()
+    ensures levels { (memory : List ℕ) (seen : ℕ) (d : Due) (b : BlockState) (p : ℕ) → p < 32 →
+        let writes = level_writes (intents_of (view_of memory seen b) d b.machines) in
+        AllByRecursion IsWrite writes →
+        bit_at (stepped memory seen d b).levels p ≡ last_of p (bit_at b.levels p) writes }
+    ensures directions { (memory : List ℕ) (seen : ℕ) (d : Due) (b : BlockState) (p : ℕ) → p < 32 →
+        let writes = direction_writes (intents_of (view_of memory seen b) d b.machines) in
+        AllByRecursion IsWrite writes →
+        bit_at (stepped memory seen d b).directions p ≡ last_of p (bit_at b.directions p) writes }
+{
+    the_last_write_stands();
+}
+
+/// In a clock, the words of a machine's FIFO with the one that comes in are those that go out and those still there, in
+/// order. Only an overrun's word doesn't come in.
+pub fn words_go_through_in_order()
+    ensures tx { (v : View) (d : Due) (s : Slot) →
+        let fifos = s.machine.ports.fifos in
+        let word = slice_index_or d.word s.machine.setup.id None in
+        fifos.tx ++ (if is_over word fifos then [] else option_to_list word)
+        ≡ (if (slot_intent v d s).take then option_to_list (slice_get fifos.tx 0) else [])
+        ++ (slot_after v d s).machine.ports.fifos.tx }
+    ensures rx { (v : View) (d : Due) (s : Slot) →
+        let fifos = s.machine.ports.fifos in
+        let read = slice_index_or d.read s.machine.setup.id false in
+        fifos.rx ++ option_to_list (slot_intent v d s).word
+        ≡ option_to_list (got_word read fifos) ++ (slot_after v d s).machine.ports.fifos.rx }
+{
+    tx_loses_only_overruns();
+    rx_loses_nothing();
+}

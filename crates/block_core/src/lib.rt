@@ -8,5 +8,17 @@ mod sample;
 mod slot;
 
 pub use block::Block;
-pub use laws::{a_stimulus_is_a_system, clocks_are_counted, pads_are_seen_two_clocks_late};
+pub use laws::{
+    a_stimulus_is_a_system, clocks_are_counted, each_pin_gets_the_last_write,
+    pads_are_seen_two_clocks_late, ticks_follow_the_divider, words_go_through_in_order,
+};
 pub use sample::Sample;
+
+#[cfg(test)]
+mod rows;
+#[cfg(test)]
+mod rows_block;
+#[cfg(test)]
+mod rows_ports;
+#[cfg(test)]
+mod tests;

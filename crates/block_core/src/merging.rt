@@ -1,8 +1,8 @@
 //! What becomes of pins and flags when all machines have said what they want in a clock.
-ghost use Rattle.std.specs.Prelude.{◌≡◌, [], ◌∷◌, map, flat_map};
+ghost use Rattle.std.specs.Prelude.{◌≡◌, [], ◌∷◌, map};
 ghost use Rattle.irq_flags.specs.Flags.{merged_flags};
 ghost use Rattle.pin_matrix.specs.Pins.{merged};
-ghost use Rattle.block_core.specs.Block.{two_writes, any_of};
+ghost use Rattle.block_core.specs.Block.{level_writes, direction_writes, any_of};
 ghost use Rattle.block_core.specs.Block as spec;
 
 use dreq_pacing::Due;
@@ -29,8 +29,7 @@ pub(crate) fn levels_after(
     third: &Intent,
     fourth: &Intent,
 ) -> u32
-    ensures { result ≡ merged levels
-        (flat_map (λ i. two_writes i.level) (first.now ∷ second.now ∷ third.now ∷ fourth.now ∷ [])) }
+    ensures { result ≡ merged levels (level_writes (first.now ∷ second.now ∷ third.now ∷ fourth.now ∷ [])) }
 {
     let writes = [
         first.level[0],
@@ -53,8 +52,7 @@ pub(crate) fn directions_after(
     third: &Intent,
     fourth: &Intent,
 ) -> u32
-    ensures { result ≡ merged directions
-        (flat_map (λ i. two_writes i.direction) (first.now ∷ second.now ∷ third.now ∷ fourth.now ∷ [])) }
+    ensures { result ≡ merged directions (direction_writes (first.now ∷ second.now ∷ third.now ∷ fourth.now ∷ [])) }
 {
     let writes = [
         first.direction[0],
