@@ -1,4 +1,6 @@
 //! The tables of rows, each run with both kinds of FIFO over the system's ports.
+ghost use Rattle.std.specs.Prelude.{◌≤◌};
+
 use crate::rows::{Row, Seen, setup_of};
 use crate::rows_block::BLOCK;
 use crate::rows_ports::PORTS;
@@ -23,15 +25,17 @@ fn is_seen(sample: &Sample, seen: Seen) -> bool {
     }
 }
 
-/// The last clock that a row looks at.
-fn last_clock(row: &Row) -> u64 {
+/// How many clocks a row takes.
+fn clocks_of(row: &Row) -> u64
+    ensures { result ≤ 100001 }
+{
     let mut last = 0;
     for &(clock, _) in row.seen {
         if clock > last {
             last = clock;
         }
     }
-    last.min(100_000)
+    last.min(100_000) + 1
 }
 
 /// The row's clocks, one after the other.
@@ -43,14 +47,14 @@ fn run<F: Fifo>(rt: &impl Abort, alloc: Global, row: &Row) -> Result<(), Fail> {
     };
     let mut ports = HostPorts::new(&schedule);
     let mut block = Block::<F>::new(alloc, &setup)?;
-    for now in 0..last_clock(row) + 1 {
-        let due = ports.at(now, &block.requests());
+    for clock in 0..clocks_of(row) {
+        let due = ports.at(clock, &block.requests());
         block.clock(&due);
         let sample = block.view();
-        for &(clock, seen) in row.seen {
+        for &(at, seen) in row.seen {
             assert!(rt;
-                clock != now || is_seen(&sample, seen),
-                "{}: {seen:?} after clock {now}",
+                at != clock || is_seen(&sample, seen),
+                "{}: {seen:?} after clock {clock}",
                 row.shows
             );
         }
