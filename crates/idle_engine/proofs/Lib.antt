@@ -1,0 +1,3 @@
+mod SampleLists
+mod Steps
+mod Stopping

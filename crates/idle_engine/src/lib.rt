@@ -1,0 +1,8 @@
+//! A run of a block beside a stimulus, told to a trace.
+#![tactic(auto)]
+
+mod laws;
+mod simulation;
+
+pub use laws::{a_stopped_run_leaves_a_first_part, later_samples_stand_behind};
+pub use simulation::simulate;
