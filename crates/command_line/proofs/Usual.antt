@@ -1,5 +1,5 @@
 -- What words as the usage has them ask for.
-use Rattle.std.proofs.Common.{◌≡◌, ◌≢◌, ◌∙◌, ◌≤◌, ◌^◌, ◌==◌, ◌&&◌, zero, suc, ℕ, Bool, true, false, not, List, [], ◌∷◌, Some, refl, ap, arith, inl, inr, nat_lt, length, leb-true}
+use Rattle.std.proofs.Common.{◌≡◌, ◌≢◌, ◌∙◌, ◌≤◌, ◌^◌, ◌==◌, ◌&&◌, zero, suc, ℕ, Bool, true, false, not, List, [], ◌∷◌, Option, None, Some, refl, ap, arith, inl, inr, nat_lt, length, leb-true, if◌then◌else◌}
 use Rattle.std.specs.Prelude.{min, nat_le}
 use Rattle.std.specs.List.{list_all}
 use Rattle.std.specs.Char.{digit_value}
@@ -7,7 +7,7 @@ use Rattle.std.specs.Str.Parse.{without_leading_plus}
 use Rattle.clap.specs.Walk.{Text}
 use Rattle.clap.specs.Takes.{takes}
 use Rattle.clap.specs.Faults.{fault_of}
-use Rattle.clap.specs.Kinds.{Kinds}
+use Rattle.clap.specs.Kinds.{Kinds, or_else}
 use Rattle.clap.specs.ValueTests.{is_unsigned_in, is_numeral}
 use Rattle.clap.specs.declared.error.kind.ErrorKind.TheVariants as kind
 use Rattle.clap.proofs.OnLiterals.{clap_on_literals}
@@ -31,25 +31,46 @@ range_read most text e =
 
 -- ---- run
 
-run_asks : (name source clocks : Text)
-    → asked_of (run_words name source clocks) ≡ Some (run source (min (number_in clocks) clock_limit))
+run_asks : (name source : Text) (stimulus : Option Text) (clocks : Text)
+    → asked_of (run_words name source stimulus clocks) ≡ Some (run source stimulus (min (number_in clocks) clock_limit))
 unfolding clap_on_literals tool asked_of
-run_asks name source clocks = refl
+run_asks name source None clocks = refl
+run_asks name source (Some stimulus) clocks = refl
 
-run_takes : (name source clocks : Text) → is_unsigned_in 0 clock_limit clocks ≡ true
-    → takes tool (run_words name source clocks) ≡ true
+run_takes : (name source : Text) (stimulus : Option Text) (clocks : Text) → is_unsigned_in 0 clock_limit clocks ≡ true
+    → takes tool (run_words name source stimulus clocks) ≡ true
 unfolding clap_on_literals tool
-run_takes name source clocks e = rw e refl
+run_takes name source None clocks e = rw e refl
+run_takes name source (Some stimulus) clocks e = rw e refl
 
-run_passes : (name source clocks : Text) → is_unsigned_in 0 clock_limit clocks ≡ true
-    → fault_of tool (run_words name source clocks) ≡ []
-unfolding clap_on_literals tool
-run_passes name source clocks e = rw e refl
+-- kinds with nothing behind them, at so many levels
+within : ℕ → Kinds → Kinds
+within zero kinds = kinds
+within (suc n) kinds = or_else (within n kinds) []
 
-run_fails : (name source clocks : Text) → is_unsigned_in 0 clock_limit clocks ≡ false
-    → fault_of tool (run_words name source clocks) ≡ kind.ValueValidation ∷ []
-unfolding clap_on_literals tool
-run_fails name source clocks e = rw e refl
+within_is : (n : ℕ) (kinds : Kinds) → within n kinds ≡ kinds
+unfolding within
+within_is zero kinds = refl
+within_is (suc n) kinds = nothing_more (within n kinds) ∙ within_is n kinds
+  where
+    nothing_more : (ks : Kinds) → or_else ks [] ≡ ks
+    nothing_more [] = refl
+    nothing_more (k ∷ ks) = refl
+
+-- the fault of a number, by its test
+abbrev fault_where : Bool → Kinds
+fault_where in_range = if in_range then [] else kind.ValueValidation ∷ []
+
+-- the words have no fault but the number's, which clap's definition meets five levels down
+run_computes : (name source : Text) (stimulus : Option Text) (clocks : Text)
+    → fault_of tool (run_words name source stimulus clocks) ≡ within 5 (fault_where (is_unsigned_in 0 clock_limit clocks))
+unfolding clap_on_literals tool within
+run_computes name source None clocks = refl
+run_computes name source (Some stimulus) clocks = refl
+
+run_fault : (name source : Text) (stimulus : Option Text) (clocks : Text) (b : Bool) → is_unsigned_in 0 clock_limit clocks ≡ b
+    → fault_of tool (run_words name source stimulus clocks) ≡ fault_where b
+run_fault name source stimulus clocks b e = run_computes name source stimulus clocks ∙ within_is 5 _ ∙ ap fault_where e
 
 not_empty : (kinds : Kinds) → kinds ≡ kind.ValueValidation ∷ [] → kinds ≢ []
 not_empty kinds one none = cc
@@ -58,13 +79,15 @@ taken_by : (words : List Text) (a : Asked) → takes tool words ≡ true → ask
 taken_by words a taken asked room = record { takes = taken; room = λ b is. cc }
 
 pub run_words_law : RunWords
-run_words_law name source clocks = go (is_unsigned_in 0 clock_limit clocks) refl
+run_words_law name source stimulus clocks = go (is_unsigned_in 0 clock_limit clocks) refl
   where
-    go : (b : Bool) → is_unsigned_in 0 clock_limit clocks ≡ b → AskWhere b (run_words name source clocks) (run source (number_of clocks))
+    go : (b : Bool) → is_unsigned_in 0 clock_limit clocks ≡ b
+        → AskWhere b (run_words name source stimulus clocks) (run source stimulus (number_of clocks))
     go true e =
-        let asked = run_asks name source clocks ∙ ap (λ n. Some (run source n)) (range_read clock_limit clocks e) in
-        (taken_by _ _ (run_takes name source clocks e) asked refl, record { taken = run_passes name source clocks e; asked = asked })
-    go false e = inl (not_empty _ (run_fails name source clocks e))
+        let asked = run_asks name source stimulus clocks ∙ ap (λ n. Some (run source stimulus n)) (range_read clock_limit clocks e) in
+        let takes = run_takes name source stimulus clocks e in
+        (taken_by _ _ takes asked refl, record { taken = run_fault name source stimulus clocks true e; asked = asked })
+    go false e = inl (not_empty _ (run_fault name source stimulus clocks false e))
 
 -- ---- dis
 

@@ -1,5 +1,5 @@
 -- What words as the usage has them ask for: laws above clap's definition of a parse.
-use Rattle.std.specs.Prelude.{◌++◌, ◌+◌, ◌≤◌, ◌==◌, ◌&&◌, ℕ, Bool, true, false, not, List, [], ◌∷◌, codes, if◌then◌else◌}
+use Rattle.std.specs.Prelude.{◌++◌, ◌+◌, ◌≤◌, ◌==◌, ◌&&◌, ℕ, Bool, true, false, not, Option, None, Some, List, [], ◌∷◌, codes, if◌then◌else◌}
 use Rattle.std.specs.Str.Parse.{digits_value, without_leading_plus}
 use Rattle.clap.specs.ValueTests.{is_unsigned_in}
 use Rattle.clap.specs.Walk.{Text}
@@ -15,16 +15,19 @@ abbrev pub AskWhere : Bool → List Text → Asked → Type 0
 AskWhere true words a = IsTaken words × Asks words a
 AskWhere false words a = IsRefused words
 
--- `run --source=S --clocks=N`, of a program of any name
-abbrev pub run_words : Text → Text → Text → List Text
-run_words name source clocks =
+-- `run --source=S [--stimulus=T] --clocks=N`, of a program of any name
+abbrev pub run_words : Text → Text → Option Text → Text → List Text
+run_words name source None clocks =
     name ∷ codes "run" ∷ (codes "--source=" ++ source) ∷ (codes "--clocks=" ++ clocks) ∷ []
+run_words name source (Some stimulus) clocks =
+    name ∷ codes "run" ∷ (codes "--source=" ++ source) ∷ (codes "--stimulus=" ++ stimulus)
+    ∷ (codes "--clocks=" ++ clocks) ∷ []
 
--- they ask for N clocks of S exactly where N is a whole number in range, whatever S is
+-- they ask for N clocks of S under T, or under none, exactly where N is a whole number in range, whatever S and T are
 abbrev pub RunWords : Type 0
-RunWords = (name source clocks : Text)
-    → AskWhere (is_unsigned_in 0 clock_limit clocks) (run_words name source clocks)
-    (run source (number_of clocks))
+RunWords = (name source : Text) (stimulus : Option Text) (clocks : Text)
+    → AskWhere (is_unsigned_in 0 clock_limit clocks) (run_words name source stimulus clocks)
+    (run source stimulus (number_of clocks))
 
 -- `dis --side=n [--opt] -- FILE`, of a program of any name, where n is one digit
 abbrev pub dis_words : Text → Text → ℕ → Bool → List Text

@@ -9,11 +9,19 @@ pub const MOST_SIDE_BITS: u64 = 5;
 /// What the words of a call ask for.
 #[derive(Clone, Copy, Debug, PartialEq)]
 pub enum Order<'a> {
-    /// The trace of so many clocks (0 to 10^12) of the program in a source.
-    Run { source: &'a str, clocks: u64 },
+    /// The trace of so many clocks (0 to 10^12) of the program in a source, under a stimulus where one is named.
+    Run {
+        source: &'a str,
+        stimulus: Option<&'a str>,
+        clocks: u64,
+    },
     /// The text of each word of a file, under a rule of so many side-set bits (0 to 5, with `opt` 0 to 4): with `opt`
     /// one bit more says whether a word has a side-set value.
-    Dis { file: &'a str, side: u8, opt: bool },
+    Dis {
+        file: &'a str,
+        side: u8,
+        opt: bool,
+    },
 }
 
 /// Why words give no order.

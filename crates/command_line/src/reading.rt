@@ -7,7 +7,7 @@ ghost use Rattle.std.specs.Option.{option_map};
 ghost use Rattle.command_line.specs.Words.{Asks, HasCause, IsTaken, IsWithinRange, asked_by, dis_asked};
 ghost use Rattle.command_line.specs.Words.{has_no_room as has_no_room_of, run_asked, subcommand_asked};
 
-use crate::getters::{flag, number, text};
+use crate::getters::{flag, number, option_text, text};
 use crate::matching::matched;
 use crate::order::{MOST_CLOCKS, MOST_SIDE_BITS, Order, WordsFault};
 use clap::ArgMatches;
@@ -59,6 +59,7 @@ fn run_order<'a>(matches: &ArgMatches<'a>) -> Order<'a>
 {
     Order::Run {
         source: text(matches, "source"),
+        stimulus: option_text(matches, "stimulus"),
         clocks: number(matches, "clocks", MOST_CLOCKS),
     }
 }

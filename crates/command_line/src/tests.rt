@@ -5,7 +5,7 @@ use crate::reading::read;
 use std::alloc::{AllocError, Global};
 use std::test::Fail;
 
-/// Words, and the source and the number of clocks that they ask for.
+/// Words without a stimulus, and the source and the number of clocks that they ask for.
 static RUNS: [(&[&str], &str, u64); 10] = [
     (&["run", "--source", "a.pio", "--clocks", "8"], "a.pio", 8),
     (&["run", "--clocks", "8", "--source", "a.pio"], "a.pio", 8),
@@ -27,6 +27,47 @@ static RUNS: [(&[&str], &str, u64); 10] = [
     (&["run", "--source=", "--clocks", "8"], "", 8),
 ];
 
+/// Words that ask for 8 clocks of `a.pio` under a stimulus, and its name.
+static DRIVEN: [(&[&str], &str); 6] = [
+    (
+        &[
+            "run",
+            "--source",
+            "a.pio",
+            "--stimulus",
+            "t",
+            "--clocks",
+            "8",
+        ],
+        "t",
+    ),
+    (
+        &[
+            "run",
+            "--stimulus",
+            "t",
+            "--clocks",
+            "8",
+            "--source",
+            "a.pio",
+        ],
+        "t",
+    ),
+    (
+        &["run", "--source=a.pio", "--clocks=8", "--stimulus=a=b"],
+        "a=b",
+    ),
+    (
+        &["run", "--source=a.pio", "--stimulus=--clocks", "--clocks=8"],
+        "--clocks",
+    ),
+    (&["run", "--source=a.pio", "--stimulus=", "--clocks=8"], ""),
+    (
+        &["run", "--source=a.pio", "--stimulus", "a.pio", "--clocks=8"],
+        "a.pio",
+    ),
+];
+
 /// Words, and the file, the number of side-set bits and the flag that they ask for.
 static LISTINGS: [(&[&str], &str, u8, bool); 10] = [
     (&["dis", "w.hex"], "w.hex", 0, false),
@@ -42,7 +83,7 @@ static LISTINGS: [(&[&str], &str, u8, bool); 10] = [
 ];
 
 /// Words that ask for nothing.
-static REFUSED: [&[&str]; 34] = [
+static REFUSED: [&[&str]; 40] = [
     &[],
     &["--help"],
     &["-h"],
@@ -79,6 +120,18 @@ static REFUSED: [&[&str]; 34] = [
     &["run", "--source", "a.pio", "--clocks", "8x"],
     &["run", "--source", "a.pio", "--clocks", ""],
     &["run", "--source", "a.pio", "--clock", "8"],
+    &["run", "--source", "a.pio", "--clocks", "8", "--stimulus"],
+    &["run", "--source", "a.pio", "--stimulus", "--clocks", "8"],
+    &["run", "--source", "a.pio", "--clocks=8", "--stimulus", "-t"],
+    &[
+        "run",
+        "--source=a",
+        "--clocks=8",
+        "--stimulus=t",
+        "--stimulus=t",
+    ],
+    &["run", "--stimulus", "t", "--clocks", "8"],
+    &["dis", "w.hex", "--stimulus", "t"],
     &["dis"],
     &["dis", "w.hex", "v.hex"],
     &["dis", "w.hex", "--side", "6"],
@@ -92,7 +145,24 @@ static REFUSED: [&[&str]; 34] = [
 #[test]
 fn runs(rt: HostRuntime) -> Result<(), Fail> {
     for &(words, source, clocks) in &RUNS {
-        let order = Order::Run { source, clocks };
+        let order = Order::Run {
+            source,
+            stimulus: None,
+            clocks,
+        };
+        assert!(rt; gives(rt.alloc(), words, Ok(order))?, "{words:?}");
+    }
+    Ok(())
+}
+
+#[test]
+fn driven_runs(rt: HostRuntime) -> Result<(), Fail> {
+    for &(words, stimulus) in &DRIVEN {
+        let order = Order::Run {
+            source: "a.pio",
+            stimulus: Some(stimulus),
+            clocks: 8,
+        };
         assert!(rt; gives(rt.alloc(), words, Ok(order))?, "{words:?}");
     }
     Ok(())
