@@ -23,9 +23,9 @@ no_lines (l ∷ ls) e = absurd (cc)
 -- a feed and a drain that don't move
 fed-still : (clock : ℕ) (up : Bool) (f : Feeding) → feed_moves clock up f ≡ false → (fed clock up f ≡ f) × (fed_word clock up f ≡ None)
 fed-still clock up f e = (
-    ap (λ (b : Bool). cond b (record { words = drop 1 f.words; every = f.every; due = clock + f.every }) f) e,
-    ap (λ (b : Bool). cond b (slice_get f.words 0) None) e,
-  )
+  ap (λ (b : Bool). cond b (record { words = drop 1 f.words; every = f.every; due = clock + f.every }) f) e,
+  ap (λ (b : Bool). cond b (slice_get f.words 0) None) e,
+)
 
 drained-still : (clock : ℕ) (up : Bool) (d : Option Draining) → drain_moves clock up d ≡ false → drained clock up d ≡ d
 drained-still clock up None e = refl
