@@ -1,5 +1,4 @@
 -- The earliest of the first line and the machines' first moves.
-use Rattle.std.proofs.Common.{◌≡◌}
 use Rattle.dreq_pacing.specs.Lines.{has_line}
 use Rattle.dreq_pacing.specs.Ports.{IsFirst, acts_in, moves}
 use Rattle.dreq_pacing.proofs.Firsts.{first_of_two}
