@@ -1,5 +1,5 @@
 -- What a reader keeps of the lines, one line on.
-use Rattle.std.proofs.Common.{◌≡◌, ℕ, ◌+◌, ◌<◌, ◌≤◌, ◌==◌, Bool, true, false, cond, ◌||◌, ◌&&◌, Option, Some, None, List, [], ◌∷◌, ◌++◌, length, refl, sym, ap, subst, ◌∙◌, inl, inr, arith}
+use Rattle.std.proofs.Common.{◌≡◌, ℕ, ◌<◌, ◌≤◌, ◌==◌, Bool, true, false, ◌||◌, ◌&&◌, Option, Some, None, List, [], ◌∷◌, ◌++◌, length, refl, sym, ap, subst, ◌∙◌, inl, inr, arith}
 use Rattle.std.specs.Prelude.{slice_index_or, slice_set, IfSome}
 use Rattle.std.specs.List.{AllByRecursion, list_any}
 use Rattle.std.proofs.lemmas.Bool.{cases_lt, cases_eq}
@@ -10,7 +10,7 @@ use Rattle.dreq_pacing.specs.declared.line.Line.{Line}
 use Rattle.dreq_pacing.specs.declared.line.Act.{Act}
 use Rattle.dreq_pacing.specs.declared.line.Act.TheVariants.{Pin, Tx, Rx, Feed, Drain, Enable, Disable, Restart}
 use Rattle.dreq_pacing.specs.Lines.{IsLine, IsAct, IsSchedule, MayPrecede, is_place, is_transfer, is_access, transfer_of, access_of, has_transfer, has_access, is_crowded}
-use Rattle.dreq_pacing.specs.Drafts.{IsDraft, taken_at, marked, still_taken, no_access}
+use Rattle.dreq_pacing.specs.Drafts.{IsDraft, taken_at, marked, still_taken}
 
 all-append : (P : Line → Type 0) (ls : List Line) (l : Line) → AllByRecursion P ls → P l → AllByRecursion P (ls ++ l ∷ [])
 all-append P [] l h p = (p, tt)
@@ -114,9 +114,10 @@ precedes (k ∷ ks) last l h le e =
     let both = or_false (has_transfer t (k ∷ ks)) (has_access a l.clock (k ∷ ks)) e in
     let ts = or_false (has_transfer t (k ∷ [])) (has_transfer t ks) (sym (transfer-cons t k ks) ∙ both.0) in
     let as' = or_false (has_access a l.clock (k ∷ [])) (has_access a l.clock ks) (sym (access-cons a l.clock k ks) ∙ both.1) in
-    let low : k.clock ≤ last = h.0 in
-    (record { in_order = omega arith; apart = both_false _ _ ts.0 as'.0 },
-     precedes ks last l h.1 le (both_false _ _ ts.1 as'.1))
+    let low : k.clock ≤ last = h.0 in (
+      record { in_order = omega arith; apart = both_false _ _ ts.0 as'.0 },
+      precedes ks last l h.1 le (both_false _ _ ts.1 as'.1),
+    )
 
 latest-moved : (ls : List Line) (last clock : ℕ) → last ≤ clock → AllByRecursion (λ k. k.clock ≤ last) ls → AllByRecursion (λ k. k.clock ≤ clock) ls
 latest-moved [] last clock le h = tt
@@ -153,13 +154,13 @@ draft_on lines clock transfers accesses l d fine le apart lt la =
       schedule = schedule-append lines l d.schedule fine (precedes lines clock l d.latest le apart);
       latest = all-append (λ k. k.clock ≤ l.clock) lines l (latest-moved lines clock l.clock le d.latest) (omega arith);
       transfer = λ place below.
-        marked-at t transfers place (some-along t 8 (length transfers) (sym lt) (transfer_below l.act fine.act))
-        ∙ (ap (λ (b : Bool). b || is_place place t) (d.transfer place below)
-        ∙ sym (list_any-append (is_transfer place) lines (l ∷ []) ∙ ap (λ (b : Bool). list_any (is_transfer place) lines || b) (or_end (is_place place t))));
+          marked-at t transfers place (some-along t 8 (length transfers) (sym lt) (transfer_below l.act fine.act))
+          ∙ (ap (λ (b : Bool). b || is_place place t) (d.transfer place below)
+          ∙ sym (list_any-append (is_transfer place) lines (l ∷ []) ∙ ap (λ (b : Bool). list_any (is_transfer place) lines || b) (or_end (is_place place t))));
       access = λ place below.
-        let here : (l.clock == l.clock) ≡ true = grind (arith, nat_tests) in
-        marked-at a kept place (some-along a 16 (length kept) (sym (still-length (l.clock == clock) accesses la)) (access_below l.act fine.act))
-        ∙ (ap (λ (b : Bool). b || is_place place a) (still lines clock transfers accesses l.clock d le place below)
-        ∙ sym (list_any-append (is_access place l.clock) lines (l ∷ [])
-            ∙ ap (λ (b : Bool). list_any (is_access place l.clock) lines || b) (or_end (is_access place l.clock l) ∙ ap (λ (b : Bool). b && is_place place a) here)));
+          let here : (l.clock == l.clock) ≡ true = grind (arith, nat_tests) in
+          marked-at a kept place (some-along a 16 (length kept) (sym (still-length (l.clock == clock) accesses la)) (access_below l.act fine.act))
+          ∙ (ap (λ (b : Bool). b || is_place place a) (still lines clock transfers accesses l.clock d le place below)
+          ∙ sym (list_any-append (is_access place l.clock) lines (l ∷ [])
+          ∙ ap (λ (b : Bool). list_any (is_access place l.clock) lines || b) (or_end (is_access place l.clock l) ∙ ap (λ (b : Bool). b && is_place place a) here)));
     }

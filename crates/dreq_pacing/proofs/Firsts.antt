@@ -1,5 +1,5 @@
 -- The first number that passes a test, or one of two tests.
-use Rattle.std.proofs.Common.{◌≡◌, ℕ, ◌<◌, ◌≤◌, nat_lt, cond, Bool, true, false, ◌||◌, Option, Some, None, refl, sym, ap, subst, ◌∙◌, inl, inr, arith}
+use Rattle.std.proofs.Common.{◌≡◌, ℕ, nat_lt, cond, Bool, true, false, ◌||◌, Option, Some, None, refl, sym, ap, subst, ◌∙◌, inl, inr, arith}
 use Rattle.std.proofs.lemmas.Bool.{cases_lt}
 use Rattle.std.proofs.lemmas.Bool.Decides.{nat_tests}
 use Rattle.dreq_pacing.specs.Ports.{IsFirst, earlier}
@@ -24,8 +24,8 @@ first_of_two p q from (Some m) (Some n) ha hb =
     elim (cases_lt n m) [
       | inl lt ↦ (let e : nat_lt n m ≡ true = grind (arith, nat_tests) in
           subst P (sym (ap (λ (t : Bool). cond t n m) e))
-            (hb.0, or_right (p n) (q n) hb.1, λ c le below. or_none (p c) (q c) (ha.2 c le (omega arith)) (hb.2 c le below)))
+          (hb.0, or_right (p n) (q n) hb.1, λ c le below. or_none (p c) (q c) (ha.2 c le (omega arith)) (hb.2 c le below)))
       | inr ge ↦ (let e : nat_lt n m ≡ false = grind (arith, nat_tests) in
           subst P (sym (ap (λ (t : Bool). cond t n m) e))
-            (ha.0, or_left (p m) (q m) ha.1, λ c le below. or_none (p c) (q c) (ha.2 c le below) (hb.2 c le (omega arith))))
+          (ha.0, or_left (p m) (q m) ha.1, λ c le below. or_none (p c) (q c) (ha.2 c le below) (hb.2 c le (omega arith))))
     ]

@@ -1,6 +1,5 @@
 -- Of the lines of a pin the last stands.
-use Rattle.std.proofs.Common.{◌≡◌, ℕ, ◌-◌, ◌^◌, ◌<◌, ◌==◌, min, max, Bool, true, false, cond, Option, Some, None, List, [], ◌∷◌, refl, sym, ap, subst, ◌∙◌, inl, inr, arith, w32}
-use Rattle.std.specs.Prelude.{bit_or, bit_and}
+use Rattle.std.proofs.Common.{◌≡◌, ℕ, ◌-◌, ◌^◌, ◌<◌, ◌==◌, min, max, Bool, true, false, cond, Option, Some, None, List, [], ◌∷◌, refl, sym, ap, ◌∙◌, inl, inr, arith, w32}
 use Rattle.std.specs.Int.{bit_at}
 use Rattle.std.specs.List.{AllByRecursion}
 use Rattle.std.proofs.lemmas.Bool.{cases_eq}
@@ -12,7 +11,7 @@ use Rattle.dreq_pacing.specs.declared.line.Act.{Act}
 use Rattle.dreq_pacing.specs.declared.line.Act.TheVariants.{Pin, Tx, Rx, Feed, Drain, Enable, Disable, Restart}
 use Rattle.dreq_pacing.specs.declared.due.Due.{Due}
 use Rattle.dreq_pacing.specs.Lines.{IsLine, IsAct}
-use Rattle.dreq_pacing.specs.Due.{quiet, with_pin, with_act, with_lines, bit_of}
+use Rattle.dreq_pacing.specs.Due.{quiet, with_pin, with_act, with_lines}
 use Rattle.dreq_pacing.specs.Runs.{is_set, last_level, level_by, later_level, level_bit}
 
 -- a bit that was so before, and the level of the last line

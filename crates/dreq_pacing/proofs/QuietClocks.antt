@@ -2,7 +2,6 @@
 use Rattle.std.proofs.Common.{◌≡◌, ℕ, zero, suc, ◌+◌, ◌-◌, ◌<◌, ◌≤◌, ◌||◌, Bool, true, false, cond, Option, Some, None, List, [], ◌∷◌, drop, refl, sym, ap, subst, ◌∙◌, arith, add-zero, add-suc, add-one}
 use Rattle.std.specs.Prelude.{slice_get, slice_index_or}
 use Rattle.dreq_pacing.specs.declared.line.Line.{Line}
-use Rattle.dreq_pacing.specs.declared.due.Due.{Due}
 use Rattle.dreq_pacing.specs.declared.due.Requests.{Requests}
 use Rattle.dreq_pacing.specs.declared.transfer.Draining.{Draining}
 use Rattle.dreq_pacing.specs.declared.transfer.Moved.{Moved}
@@ -23,9 +22,9 @@ no_lines (l ∷ ls) e = absurd (cc)
 -- a feed and a drain that don't move
 fed-still : (clock : ℕ) (up : Bool) (f : Feeding) → feed_moves clock up f ≡ false → (fed clock up f ≡ f) × (fed_word clock up f ≡ None)
 fed-still clock up f e = (
-    ap (λ (b : Bool). cond b (record { words = drop 1 f.words; every = f.every; due = clock + f.every }) f) e,
-    ap (λ (b : Bool). cond b (slice_get f.words 0) None) e,
-  )
+  ap (λ (b : Bool). cond b (record { words = drop 1 f.words; every = f.every; due = clock + f.every }) f) e,
+  ap (λ (b : Bool). cond b (slice_get f.words 0) None) e,
+)
 
 drained-still : (clock : ℕ) (up : Bool) (d : Option Draining) → drain_moves clock up d ≡ false → drained clock up d ≡ d
 drained-still clock up None e = refl

@@ -1,5 +1,5 @@
 -- The lines of a text, one at a time.
-use Rattle.std.proofs.Common.{◌≡◌, ℕ, ◌+◌, List, [], ◌∷◌, map, Result, Ok, Err, Option, Some, Bor, refl, sym, ap, ◌∙◌}
+use Rattle.std.proofs.Common.{◌≡◌, ℕ, ◌+◌, List, ◌∷◌, map, Result, Ok, Err, Option, Some, Bor, sym, ap, ◌∙◌}
 use Rattle.std.specs.Prelude.{option_copied}
 use Rattle.byte_lines.specs.Lines.{lines_of, lines_left}
 use Rattle.dreq_pacing.specs.declared.fault.StimKind.{StimKind}

@@ -33,11 +33,11 @@ ahead-moved lines next clock [] r le none = tt
 ahead-moved lines next clock (l ∷ ls) r le none =
     let low = r.ahead.0 in
     let from : clock ≤ l.clock =
-      elim (cases_lt l.clock clock) [
-        | inl lt ↦ absurd (let e : has_line l.clock lines ≡ true = ap has_lines (r.same l.clock low ∙ lines_in-here l.clock l ls refl) in
-            let f = none l.clock low lt in let g : true ≡ false = sym e ∙ f in cc)
-        | inr ge ↦ ge
-      ] in
+    elim (cases_lt l.clock clock) [
+      | inl lt ↦ absurd (let e : has_line l.clock lines ≡ true = ap has_lines (r.same l.clock low ∙ lines_in-here l.clock l ls refl) in
+          let f = none l.clock low lt in let g : true ≡ false = sym e ∙ f in cc)
+      | inr ge ↦ ge
+    ] in
     (from, ahead-from clock l ls from r.schedule.1)
 
 leading-le : (c : ℕ) (ls : List Line) → leading c ls ≤ length ls
@@ -67,12 +67,12 @@ turn-past c l ls s low =
 
 turn-more : (c n : ℕ) (l : Line) (ls : List Line) → IsLine l → l.clock ≡ c → IsTurn c ls n → IsTurn c (l ∷ ls) (suc n)
 turn-more c n l ls fine e t = record {
-    here = lines_in-here c l ls e ∙ ap (λ (ks : List Line). l ∷ ks) t.here;
-    schedule = t.schedule;
-    later = λ d h. lines_in-other d l ls (grind (arith, nat_tests)) ∙ t.later d h;
-    ahead = t.ahead;
-    fine = (fine, t.fine);
-  }
+  here = lines_in-here c l ls e ∙ ap (λ (ks : List Line). l ∷ ks) t.here;
+  schedule = t.schedule;
+  later = λ d h. lines_in-other d l ls (grind (arith, nat_tests)) ∙ t.later d h;
+  ahead = t.ahead;
+  fine = (fine, t.fine);
+}
 
 -- the lines at the head that stand in the clock are all of its lines
 pub turn : (c : ℕ) (ls : List Line) → IsSchedule ls → AllByRecursion (λ l. c ≤ l.clock) ls → IsTurn c ls (leading c ls)
@@ -94,17 +94,17 @@ turn c (l ∷ ls) s h =
 pub first_rest : (lines : List Line) → IsSchedule lines → IsRest lines 0 lines
 first_rest lines s = record { schedule = s; same = λ c h. refl; ahead = all_from_zero lines }
   where
-  all_from_zero : (ls : List Line) → AllByRecursion (λ l. 0 ≤ l.clock) ls
-  all_from_zero [] = tt
-  all_from_zero (l ∷ ls) = (omega arith, all_from_zero ls)
+    all_from_zero : (ls : List Line) → AllByRecursion (λ l. 0 ≤ l.clock) ls
+    all_from_zero [] = tt
+    all_from_zero (l ∷ ls) = (omega arith, all_from_zero ls)
 
 -- the rest one clock on
 pub rest_on : (lines : List Line) (next clock : ℕ) (rest : List Line) (number : ℕ) → IsRest lines next rest → next ≤ clock → IsTurn clock rest number → IsRest lines (clock + 1) (drop number rest)
 rest_on lines next clock rest number r le t = record {
-    schedule = t.schedule;
-    same = λ c h. r.same c (omega arith) ∙ t.later c h;
-    ahead = t.ahead;
-  }
+  schedule = t.schedule;
+  same = λ c h. r.same c (omega arith) ∙ t.later c h;
+  ahead = t.ahead;
+}
 
 -- the first of the lines that are left is the first line from the clock on
 pub has_line-here : (c : ℕ) (l : Line) (ls : List Line) → l.clock ≡ c → has_line c (l ∷ ls) ≡ true
@@ -121,7 +121,7 @@ next_line-found lines next clock (k ∷ ks) l r le none some is =
       low,
       ap has_lines (r.same k.clock (omega arith)) ∙ has_line-here k.clock k ks refl,
       λ c from before.
-        ap has_lines (r.same c (omega arith) ∙ lines_in-none c k.clock (k ∷ ks) before (omega arith, ahead-from k.clock k ks (omega arith) r.schedule.1)),
+          ap has_lines (r.same c (omega arith) ∙ lines_in-none c k.clock (k ∷ ks) before (omega arith, ahead-from k.clock k ks (omega arith) r.schedule.1)),
     )
 
 -- no line is left

@@ -3,7 +3,7 @@
 --   has_form  that all other fields are numbers, and as many as the word wants
 --   act_of    what the numbers say, where they are in their ranges
 --   line_of   the line, or what is wrong with it
-use Rattle.std.specs.Prelude.{ℕ, ◌==◌, ◌&&◌, min, Bool, true, false, Option, Some, None, option_map, option_and_then, List, [], ◌∷◌, drop, slice_get, length, Result, Ok, Err, if◌then◌else◌, codes}
+use Rattle.std.specs.Prelude.{ℕ, ◌==◌, ◌&&◌, min, Bool, Option, Some, None, option_and_then, List, [], ◌∷◌, drop, slice_get, length, Result, Ok, Err, if◌then◌else◌, codes}
 use Rattle.std.specs.List.{list_all}
 use Rattle.std.specs.Str.{bytes_eq}
 use Rattle.dreq_pacing.specs.declared.fault.StimKind.{StimKind}

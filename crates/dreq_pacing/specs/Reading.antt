@@ -56,17 +56,17 @@ abbrev pub after_line : Reader → List (List ℕ) → Result Reader StimKind
 after_line r [] = Ok r
 after_line r (field ∷ fields) =
     if nat_lt r.count most_lines then
-      (if r.count == 0 && bytes_eq field (codes "version") then with_version r (version_of fields)
-        else with_said r (line_of r.two (field ∷ fields)))
+    (if r.count == 0 && bytes_eq field (codes "version") then with_version r (version_of fields)
+    else with_said r (line_of r.two (field ∷ fields)))
     else Err Many
 
 -- the lines of a reader after lines with these fields, or the first fault; the first of them has this number
 abbrev pub lines_from : ℕ → Reader → List (List (List ℕ)) → Result (List Line) StimFault
 lines_from number r [] = Ok r.draft.lines
 lines_from number r (fields ∷ rest) = elim (after_line r fields) [
-    | Ok after ↦ lines_from (number + 1) after rest
-    | Err kind ↦ Err (At number kind)
-  ]
+  | Ok after ↦ lines_from (number + 1) after rest
+  | Err kind ↦ Err (At number kind)
+]
 
 -- The lines of a text, or its first fault.
 unfoldable pub stimulus_of : List ℕ → Result (List Line) StimFault

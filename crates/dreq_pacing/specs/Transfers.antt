@@ -5,7 +5,7 @@
 --   Transfers          those of all machines
 --   begun              after some lines
 --   feed_moves, drain_moves   that a word moves in a clock
-use Rattle.std.specs.Prelude.{ℕ, ◌+◌, ◌==◌, ◌&&◌, nat_le, Bool, true, false, Option, Some, None, List, [], ◌∷◌, drop, slice_get, max, if◌then◌else◌}
+use Rattle.std.specs.Prelude.{ℕ, ◌+◌, ◌==◌, ◌&&◌, nat_le, Bool, true, false, Option, Some, None, List, [], ◌∷◌, drop, slice_get, if◌then◌else◌}
 use Rattle.dreq_pacing.specs.declared.line.Act.{Act}
 use Rattle.dreq_pacing.specs.declared.line.Act.TheVariants.{Pin, Tx, Rx, Feed, Drain, Enable, Disable, Restart}
 use Rattle.dreq_pacing.specs.declared.line.Line.{Line}
@@ -85,12 +85,3 @@ drained clock ready (Some d) = if ready && nat_le d.due clock then Some (record 
 -- a machine's transfers after a clock
 abbrev pub moved : ℕ → Bool → Bool → Paced → Paced
 moved clock tx_ready rx_ready p = record { feed = fed clock tx_ready p.feed; drain = drained clock rx_ready p.drain }
-
--- the clock from this one on in which a feed moves, while TX is ready or isn't
-abbrev pub next_feed : ℕ → Bool → Feeding → Option ℕ
-next_feed clock ready f = if ready && has_words f.words then Some (max clock f.due) else None
-
--- the clock from this one on in which a drain moves, while RX is ready or isn't
-abbrev pub next_drain : ℕ → Bool → Option Draining → Option ℕ
-next_drain clock ready None = None
-next_drain clock ready (Some d) = if ready then Some (max clock d.due) else None

@@ -23,7 +23,7 @@ pub fn a_quiet_clock_changes_nothing()
 pub fn quiet_clocks_may_be_left_out()
     ensures { (lines : List Line) (requests : ℕ → Requests) (from n : ℕ)
         → ((c : ℕ) → from ≤ c → c < from + n
-            → acts_in lines c (requests c) (transfers_at lines requests from) ≡ false)
+        → acts_in lines c (requests c) (transfers_at lines requests from) ≡ false)
         → transfers_at lines requests (from + n) ≡ transfers_at lines requests from }
 {}
 

@@ -28,4 +28,6 @@ pub use reading::read_stimulus;
 pub use schedule::Schedule;
 
 #[cfg(test)]
+mod port_tests;
+#[cfg(test)]
 mod tests;

@@ -37,11 +37,19 @@ impl Words {
 #[derive(Drop)]
 pub enum Act {
     /// The outside drives this level on a pin, 0 to 31, from this clock on.
-    Pin { pin: u8, level: bool },
+    Pin {
+        pin: u8,
+        level: bool,
+    },
     /// It writes a word to the machine's TX FIFO.
-    Tx { machine: u8, word: u32 },
+    Tx {
+        machine: u8,
+        word: u32,
+    },
     /// It reads a word from the machine's RX FIFO.
-    Rx { machine: u8 },
+    Rx {
+        machine: u8,
+    },
     /// From this clock on a paced transfer writes the words, at least one, to the machine's TX FIFO. After each that
     /// it moves it waits for `every` clocks, 1 to 1,000,000.
     Feed {
@@ -51,13 +59,22 @@ pub enum Act {
     },
     /// From this clock on a paced transfer reads the machine's RX FIFO, without end. After each word that it moves it
     /// waits for `every` clocks, 1 to 1,000,000.
-    Drain { machine: u8, every: u32 },
+    Drain {
+        machine: u8,
+        every: u32,
+    },
     /// It enables the machine.
-    Enable { machine: u8 },
+    Enable {
+        machine: u8,
+    },
     /// It disables the machine.
-    Disable { machine: u8 },
+    Disable {
+        machine: u8,
+    },
     /// It restarts the machine's clock divider.
-    Restart { machine: u8 },
+    Restart {
+        machine: u8,
+    },
 }
 
 /// A line: what the system does in a clock, 0 to 10^12.

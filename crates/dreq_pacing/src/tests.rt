@@ -1,7 +1,6 @@
 //! Rows of stimuli: what is read of them, and what the ports do clock by clock, worked by hand from the rules.
 use super::*;
-use std::alloc::Global;
-use std::process::Abort;
+use std::alloc::{AllocError, Global};
 
 // How many lines a text has, or its fault.
 fn outcome(alloc: Global, text: &[u8]) -> Result<usize, StimFault> {
@@ -94,5 +93,26 @@ fn reads_versions(rt: HostRuntime) {
     ];
     for (text, want) in rows {
         assert_eq!(rt; outcome(rt.alloc(), text), want);
+    }
+}
+
+// So many lines of one kind.
+fn many_lines(alloc: Global, number: usize) -> Result<Vec<u8>, AllocError> {
+    let mut text = Vec::new(alloc);
+    for _ in 0..number {
+        text.extend_from_slice(b"0 pin 0 1\n")?;
+    }
+    Ok(text)
+}
+
+#[test]
+fn reads_a_million_lines(rt: HostRuntime) {
+    let rows = [
+        (1_000_000, Ok(1_000_000)),
+        (1_000_001, at(1_000_001, StimKind::Many)),
+    ];
+    for (number, want) in rows {
+        let text = many_lines(rt.alloc(), number).expect(&rt, "memory");
+        assert_eq!(rt; outcome(rt.alloc(), text.as_slice()), want);
     }
 }

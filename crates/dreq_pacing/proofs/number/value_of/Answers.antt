@@ -4,6 +4,6 @@ use Rattle.dreq_pacing.proofs.number.value_of.Goals as goal
 
 pub loop-byte-preserved : goal.loop-byte-preserved
 loop-byte-preserved c = record {
-    whole = digit_step c.args.base c.loop-byte.value _ c.loop-byte.byte-index c.in_ok-digit_of.field-0 c.args.digits.now _ (omega arith) (sym c.in_ok-digit_of.ensures.value) c.min-value.ensures (omega arith) c.loop-byte.invariant.whole;
-    most = omega arith;
-  }
+  whole = digit_step c.args.base c.loop-byte.value _ c.loop-byte.byte-index c.in_ok-digit_of.field-0 c.args.digits.now _ (omega arith) (sym c.in_ok-digit_of.ensures.value) c.min-value.ensures (omega arith) c.loop-byte.invariant.whole;
+  most = omega arith;
+}

@@ -8,6 +8,6 @@ use Rattle.dreq_pacing.proofs.reading.read_stimulus.Goals as goal
 pub loop-rest-init : goal.loop-rest-init
 unfolding stimulus_of
 loop-rest-init c = record {
-    whole = ap (λ (r : Reader). going_on 1 r (lines_of c.args.text.now)) c.new-reader.ensures;
-    counted = omega arith;
-  }
+  whole = ap (λ (r : Reader). going_on 1 r (lines_of c.args.text.now)) c.new-reader.ensures;
+  counted = omega arith;
+}

@@ -1,4 +1,4 @@
-use Rattle.std.proofs.Common.{◌≡◌, ◌<◌, ◌≤◌, arith}
+use Rattle.std.proofs.Common.{◌<◌, ◌≤◌, arith}
 use Rattle.dreq_pacing.specs.Lines.{access_of}
 use Rattle.dreq_pacing.proofs.Drafts.{access_none}
 use Rattle.dreq_pacing.proofs.draft.Draft.has_access.Goals as goal

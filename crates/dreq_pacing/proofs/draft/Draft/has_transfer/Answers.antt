@@ -1,4 +1,3 @@
-use Rattle.std.proofs.Common.{◌≡◌, ◌∙◌, ap}
 use Rattle.dreq_pacing.specs.Lines.{transfer_of}
 use Rattle.dreq_pacing.proofs.Drafts.{transfer_taken, transfer_below}
 use Rattle.dreq_pacing.proofs.draft.Draft.has_transfer.Goals as goal

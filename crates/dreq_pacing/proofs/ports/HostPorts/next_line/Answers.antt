@@ -1,5 +1,5 @@
 -- The first line that is left is the next.
-use Rattle.std.proofs.Common.{length, ◌<◌, ◌≡◌, ◌≤◌, arith}
+use Rattle.std.proofs.Common.{◌≤◌, arith}
 use Rattle.dreq_pacing.specs.Lines.{NoneBetween}
 use Rattle.dreq_pacing.proofs.Rests.{next_line-found}
 use Rattle.dreq_pacing.proofs.ports.HostPorts.next_line.Goals as goal

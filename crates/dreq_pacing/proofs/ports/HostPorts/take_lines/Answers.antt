@@ -1,5 +1,5 @@
 -- The lines at the head are those of the clock, and the rest is the rest one clock on.
-use Rattle.std.proofs.Common.{◌≡◌, ◌+◌, ◌≤◌, sym, ◌∙◌}
+use Rattle.std.proofs.Common.{◌≤◌, sym, ◌∙◌}
 use Rattle.std.proofs.lemmas.List.{take_rest}
 use Rattle.dreq_pacing.specs.Lines.{NoneBetween}
 use Rattle.dreq_pacing.proofs.Rests.{turn, ahead-moved, rest_on}

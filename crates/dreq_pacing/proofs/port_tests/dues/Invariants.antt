@@ -1,0 +1,6 @@
+use Rattle.std.proofs.Common.{◌≡◌}
+use Rattle.dreq_pacing.proofs.port_tests.dues.Given as goal
+
+-- each clock is asked of
+abbrev pub invariant-loop-clock : goal.invariant-loop-clock
+invariant-loop-clock l = l.ports.next ≡ l.clock
