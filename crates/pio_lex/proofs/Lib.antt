@@ -1,0 +1,8 @@
+pub mod Runs
+pub mod Tables
+pub mod Gaps
+pub mod Numbers
+pub mod Sizes
+pub mod Rows
+pub mod Readings
+pub mod Answers

@@ -1,0 +1,16 @@
+//! Laws of the tokens' definition.
+ghost use Rattle.std.specs.Prelude.{◌≡◌, ℕ, List, ◌⊎◌};
+ghost use Rattle.pio_lex.specs.declared.fault.LexKind.{LexKind};
+ghost use Rattle.pio_lex.specs.declared.token.Token.{Token};
+ghost use Rattle.pio_lex.specs.Tokens.{IsTokens, IsFirstFault, HasTokens, HasFault};
+
+/// Each source has tokens or a first fault, never both, and of either just one.
+pub fn every_source_has_one_reading()
+    ensures some { (source : List ℕ) → HasTokens source ⊎ HasFault source }
+    ensures one_list { (source : List ℕ) (a b : List Token) → IsTokens source a → IsTokens source b → a ≡ b }
+    ensures one_fault { (source : List ℕ) (line other : ℕ) (kind another : LexKind)
+        → IsFirstFault source line kind → IsFirstFault source other another
+        → (line ≡ other) × (kind ≡ another) }
+    ensures apart { (source : List ℕ) (tokens : List Token) (line : ℕ) (kind : LexKind)
+        → IsTokens source tokens → IsFirstFault source line kind → ⊥ }
+{}
