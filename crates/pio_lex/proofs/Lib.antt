@@ -3,6 +3,6 @@ pub mod Tables
 pub mod Gaps
 pub mod Numbers
 pub mod Sizes
-pub mod Rows
+pub mod Progress
 pub mod Readings
 pub mod Answers

@@ -16,4 +16,11 @@ mod token;
 pub use directive::Directive;
 pub use fault::{LexFault, LexKind};
 pub use keyword::Keyword;
+pub use laws::every_source_has_one_reading;
+pub use lexer::tokens;
 pub use token::{Token, TokenKind};
+
+#[cfg(test)]
+mod rows;
+#[cfg(test)]
+mod tests;

@@ -4,7 +4,7 @@ use Rattle.std.proofs.lemmas.List.{take_rest}
 use Rattle.pio_lex.specs.Bytes.{is_newline}
 use Rattle.pio_lex.specs.Pieces.{piece_at, size, IsWithin}
 use Rattle.pio_lex.specs.Tokens.{last_kind}
-use Rattle.pio_lex.proofs.Rows.{reading_more}
+use Rattle.pio_lex.proofs.Progress.{reading_more}
 use Rattle.pio_lex.proofs.lexer.read.Goals as goal
 
 pub loop-at-preserved : goal.loop-at-preserved

@@ -1,5 +1,5 @@
 use Rattle.std.proofs.Common.{◌-◌, length}
-use Rattle.pio_lex.proofs.Rows.{Reading}
+use Rattle.pio_lex.proofs.Progress.{Reading}
 use Rattle.pio_lex.proofs.lexer.read.Given as goal
 
 abbrev pub invariant-loop-at : goal.invariant-loop-at
