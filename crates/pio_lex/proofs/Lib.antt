@@ -6,3 +6,4 @@ pub mod Sizes
 pub mod Progress
 pub mod Readings
 pub mod Answers
+pub mod Spelled

@@ -20,7 +20,7 @@ use Rattle.pio_lex.specs.Spellings.{word_of, begins_name, directive_at, counted,
 use Rattle.pio_lex.specs.Pieces.{token_piece, piece_by, piece_at, size, IsWithin}
 
 -- which way a test went
-chosen : {A : Type 0} (b : Bool) (x y z : A) → cond b x y ≡ z → ((b ≡ true) × (x ≡ z)) ⊎ ((b ≡ false) × (y ≡ z))
+pub chosen : {A : Type 0} (b : Bool) (x y z : A) → cond b x y ≡ z → ((b ≡ true) × (x ≡ z)) ⊎ ((b ≡ false) × (y ≡ z))
 chosen true x y z e = inl (refl, e)
 chosen false x y z e = inr (refl, e)
 
@@ -81,7 +81,7 @@ gap_is : (o : Option ℕ) (fault : LexKind) (n : ℕ) → ended fault o ≡ Ok (
 gap_is (Some m) fault n e = cc
 gap_is None fault n e = absurd cc
 
-ok_is : {A : Type 0} (x y : A) → ◌≡◌ {A = Result A LexKind} (Ok x) (Ok y) → x ≡ y
+pub ok_is : {A : Type 0} (x y : A) → ◌≡◌ {A = Result A LexKind} (Ok x) (Ok y) → x ≡ y
 ok_is x y e = cc
 
 ok_some : (m n : ℕ) → ◌≡◌ {A = Result (Option ℕ) LexKind} (Ok (Some m)) (Ok (Some n)) → m ≡ n
@@ -132,7 +132,7 @@ err_is_not f p e = cc
 ok_pair : (k l : TokenKind) (m n : ℕ) → ◌≡◌ {A = Result (TokenKind × ℕ) LexKind} (Ok (k, m)) (Ok (l, n)) → m ≡ n
 ok_pair k l m n e = ap (λ (p : TokenKind × ℕ). p.1) (ok_is {A = TokenKind × ℕ} (k, m) (l, n) e)
 
-letter_is_name_byte : (b : ℕ) → is_letter b ≡ true → is_name_byte b ≡ true
+pub letter_is_name_byte : (b : ℕ) → is_letter b ≡ true → is_name_byte b ≡ true
 letter_is_name_byte b e = ap (λ (t : Bool). t || is_ascii_digit b) e
 
 digit_is_name_byte : (b : ℕ) → is_ascii_digit b ≡ true → is_name_byte b ≡ true
@@ -157,7 +157,7 @@ counted_is : (m : ℕ) (o : Option ℕ) (k : TokenKind) (n : ℕ) → counted m 
 counted_is m (Some v) k n e = ok_pair (kind.Number v) k m n e
 counted_is m None k n e = absurd cc
 
-mark_is : (o : Option (TokenKind × ℕ)) (k : TokenKind) (n : ℕ) → ok_or o BadByte ≡ Ok (k, n) → o ≡ Some (k, n)
+pub mark_is : (o : Option (TokenKind × ℕ)) (k : TokenKind) (n : ℕ) → ok_or o BadByte ≡ Ok (k, n) → o ≡ Some (k, n)
 mark_is (Some m) k n e = cc
 mark_is None k n e = absurd cc
 

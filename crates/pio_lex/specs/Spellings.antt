@@ -1,6 +1,6 @@
--- How tokens are spelled (Pico SDK manual, section 3.3), each as long as it can be.
-use Rattle.std.specs.Prelude.{ℕ, ◌+◌, ◌==◌, not, Bool, false, List, [], ◌∷◌, take, drop, Option, Some, None, option_map, Result, Ok, Err, ok_or, slice_index, codes, if◌then◌else◌}
-use Rattle.std.specs.List.{prefix_len}
+-- How tokens are spelled (Pico SDK manual, section 3.3), and which spelling begins a text, as long as it can be.
+use Rattle.std.specs.Prelude.{◌≡◌, ℕ, ◌+◌, ◌≤◌, ◌==◌, IsTrue, not, Bool, false, List, [], ◌∷◌, take, drop, Option, Some, None, option_map, Result, Ok, Err, ok_or, slice_index, codes, if◌then◌else◌}
+use Rattle.std.specs.List.{prefix_len, list_all}
 use Rattle.std.specs.Char.{is_ascii_digit}
 use Rattle.pio_lex.specs.declared.fault.LexKind.{LexKind}
 use Rattle.pio_lex.specs.declared.fault.LexKind.TheVariants.{BadByte, BadNumber}
@@ -10,6 +10,39 @@ use Rattle.pio_lex.specs.declared.token.TokenKind.TheVariants as kind
 use Rattle.pio_lex.specs.Bytes.{is_newline, is_letter, is_name_byte, begins_with}
 use Rattle.pio_lex.specs.Words.{keyword_of, directive_of}
 use Rattle.pio_lex.specs.Numbers.{number_of}
+
+abbrev pub begins_name : List ℕ → Bool
+begins_name [] = false
+begins_name (b ∷ bs) = is_letter b
+
+-- a letter or `_`, then letters, digits and `_`
+abbrev pub IsWord : List ℕ → Type 0
+IsWord text = IsTrue (begins_name text) × IsTrue (list_all is_name_byte text)
+
+-- a text spells a token of this kind
+abbrev pub IsSpelling : TokenKind → List ℕ → Type 0
+IsSpelling kind.Newline text = text ≡ 10 ∷ []
+IsSpelling kind.Name text = IsWord text × (keyword_of text ≡ None)
+IsSpelling (kind.Keyword keyword) text = IsWord text × (keyword_of text ≡ Some keyword)
+IsSpelling (kind.Directive directive) text = (text ≡ 46 ∷ drop 1 text) × IsWord (drop 1 text) × (directive_of (drop 1 text) ≡ directive)
+IsSpelling (kind.Number value) text = IsTrue (list_all is_name_byte text) × (number_of text ≡ Some value) × (value ≤ 2147483647)
+IsSpelling kind.Comma text = text ≡ codes ","
+IsSpelling kind.Colon text = text ≡ codes ":"
+IsSpelling kind.DoubleColon text = text ≡ codes "::"
+IsSpelling kind.OpenBracket text = text ≡ codes "["
+IsSpelling kind.CloseBracket text = text ≡ codes "]"
+IsSpelling kind.OpenParen text = text ≡ codes "("
+IsSpelling kind.CloseParen text = text ≡ codes ")"
+IsSpelling kind.Plus text = text ≡ codes "+"
+IsSpelling kind.Minus text = text ≡ codes "-"
+IsSpelling kind.MinusMinus text = text ≡ codes "--"
+IsSpelling kind.Star text = text ≡ codes "*"
+IsSpelling kind.Slash text = text ≡ codes "/"
+IsSpelling kind.Bang text = text ≡ codes "!"
+IsSpelling kind.NotEqual text = text ≡ codes "!="
+IsSpelling kind.Tilde text = text ≡ codes "~"
+
+-- ---- the longest one that begins a text
 
 -- the letters, digits and `_` that a text begins with
 abbrev pub word_of : List ℕ → List ℕ
@@ -22,10 +55,6 @@ name_kind None = kind.Name
 
 abbrev pub name_at : List ℕ → TokenKind × ℕ
 name_at text = (name_kind (keyword_of (word_of text)), prefix_len is_name_byte text)
-
-abbrev pub begins_name : List ℕ → Bool
-begins_name [] = false
-begins_name (b ∷ bs) = is_letter b
 
 -- `.` and a name
 unfoldable pub directive_at : List ℕ → Result (TokenKind × ℕ) LexKind

@@ -1,10 +1,11 @@
 //! Laws of the tokens' definition.
 ghost use Rattle.std.specs.Prelude.{◌≡◌, ℕ, List, ◌⊎◌};
+ghost use Rattle.std.specs.List.{All};
 ghost use Rattle.pio_lex.specs.declared.fault.LexKind.{LexKind};
 ghost use Rattle.pio_lex.specs.declared.token.Token.{Token};
-ghost use Rattle.pio_lex.specs.Tokens.{IsTokens, IsFirstFault, HasTokens, HasFault};
+ghost use Rattle.pio_lex.specs.Tokens.{IsTokens, IsTokenOf, IsFirstFault, HasTokens, HasFault};
 
-/// Each source has tokens or a first fault, never both, and of either just one.
+/// Each source has tokens or a first fault, never both, and of either just one; each token is what its text spells.
 pub fn every_source_has_one_reading()
     ensures some { (source : List ℕ) → HasTokens source ⊎ HasFault source }
     ensures one_list { (source : List ℕ) (a b : List Token) → IsTokens source a → IsTokens source b → a ≡ b }
@@ -13,4 +14,5 @@ pub fn every_source_has_one_reading()
         → (line ≡ other) × (kind ≡ another) }
     ensures apart { (source : List ℕ) (tokens : List Token) (line : ℕ) (kind : LexKind)
         → IsTokens source tokens → IsFirstFault source line kind → ⊥ }
+    ensures each { (source : List ℕ) (tokens : List Token) → IsTokens source tokens → All (IsTokenOf source) tokens }
 {}

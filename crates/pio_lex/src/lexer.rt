@@ -1,9 +1,9 @@
 //! From the bytes of a source to its tokens.
-ghost use Rattle.std.specs.Prelude.{◌≡◌, ℕ, ◌+◌, ◌≤◌, List, ◌++◌, IfOk, OnOk, IfErr, length};
+ghost use Rattle.std.specs.Prelude.{◌≡◌, ℕ, List, ◌++◌, IfOk, OnOk, IfErr, length};
 ghost use Rattle.std.specs.List.{All};
 ghost use Rattle.pio_lex.specs.declared.fault.LexKind.{LexKind};
 ghost use Rattle.pio_lex.specs.declared.token.Token.{Token};
-ghost use Rattle.pio_lex.specs.Tokens.{IsTokens, IsFirstFault, AreInOrder, tokens_of, last_kind};
+ghost use Rattle.pio_lex.specs.Tokens.{IsTokens, IsTokenOf, IsFirstFault, AreInOrder, tokens_of, last_kind};
 ghost use Rattle.pio_lex.specs.Answers.{IsFaultOf, Gives, Refuses};
 
 use crate::bytes::newlines;
@@ -26,8 +26,8 @@ pub fn tokens(alloc: Global, source: &[u8]) -> Result<Vec<Token>, LexFault>
         → Refuses result line kind }
     // Each token stands behind the one before.
     ensures in_order { IfOk result (λ v. AreInOrder 0 v.items (length source.now)) }
-    ensures within { IfOk result
-        (λ v. All (λ t. t.first + t.length ≤ length source.now) v.items) }
+    // Each token is what its text spells, within the source and on its line.
+    ensures each { IfOk result (λ v. All (IsTokenOf source.now) v.items) }
 {
     read(alloc, source)
 }
