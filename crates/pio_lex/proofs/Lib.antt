@@ -7,3 +7,4 @@ pub mod Progress
 pub mod Readings
 pub mod Answers
 pub mod Spelled
+pub mod Longest

@@ -91,7 +91,7 @@ ok_some m n e = cc
 line_within : (text : List ℕ) → 0 < length text → is_newline (get_or text 0 0) ≡ false → IsWithin (line_length text) text
 line_within text lt e = run_within (λ b. not (is_newline b)) text lt (ap not e)
 
-first_is : (a : ℕ) (mark text : List ℕ) → begins_with (a ∷ mark) text ≡ true → get_or text 0 0 ≡ a
+pub first_is : (a : ℕ) (mark text : List ℕ) → begins_with (a ∷ mark) text ≡ true → get_or text 0 0 ≡ a
 first_is a mark [] e = absurd cc
 first_is a mark (x ∷ xs) e = sym (eqb-true a x (and_parts (eqb a x) _ e).0)
 
@@ -129,13 +129,13 @@ err_is_not f p e = cc
 
 -- ---- tokens
 
-ok_pair : (k l : TokenKind) (m n : ℕ) → ◌≡◌ {A = Result (TokenKind × ℕ) LexKind} (Ok (k, m)) (Ok (l, n)) → m ≡ n
+pub ok_pair : (k l : TokenKind) (m n : ℕ) → ◌≡◌ {A = Result (TokenKind × ℕ) LexKind} (Ok (k, m)) (Ok (l, n)) → m ≡ n
 ok_pair k l m n e = ap (λ (p : TokenKind × ℕ). p.1) (ok_is {A = TokenKind × ℕ} (k, m) (l, n) e)
 
 pub letter_is_name_byte : (b : ℕ) → is_letter b ≡ true → is_name_byte b ≡ true
 letter_is_name_byte b e = ap (λ (t : Bool). t || is_ascii_digit b) e
 
-digit_is_name_byte : (b : ℕ) → is_ascii_digit b ≡ true → is_name_byte b ≡ true
+pub digit_is_name_byte : (b : ℕ) → is_ascii_digit b ≡ true → is_name_byte b ≡ true
 digit_is_name_byte b e = either (is_letter b) (is_ascii_digit b) e where
   either : (s t : Bool) → t ≡ true → (s || t) ≡ true
   either true t h = refl
@@ -153,7 +153,7 @@ directive_within text k n lt e =
           (omega arith, omega arith)
     ]
 
-counted_is : (m : ℕ) (o : Option ℕ) (k : TokenKind) (n : ℕ) → counted m o ≡ Ok (k, n) → m ≡ n
+pub counted_is : (m : ℕ) (o : Option ℕ) (k : TokenKind) (n : ℕ) → counted m o ≡ Ok (k, n) → m ≡ n
 counted_is m (Some v) k n e = ok_pair (kind.Number v) k m n e
 counted_is m None k n e = absurd cc
 
@@ -164,10 +164,10 @@ mark_is None k n e = absurd cc
 pair_is : {A : Type 0} (x y : A) → Some x ≡ Some y → x ≡ y
 pair_is x y e = cc
 
-some_pair : (k l : TokenKind) (m n : ℕ) → ◌≡◌ {A = Option (TokenKind × ℕ)} (Some (k, m)) (Some (l, n)) → m ≡ n
+pub some_pair : (k l : TokenKind) (m n : ℕ) → ◌≡◌ {A = Option (TokenKind × ℕ)} (Some (k, m)) (Some (l, n)) → m ≡ n
 some_pair k l m n e = ap (λ (p : TokenKind × ℕ). p.1) (pair_is {A = TokenKind × ℕ} (k, m) (l, n) e)
 
-one_byte : (o : Option TokenKind) (k : TokenKind) (n : ℕ) → ◌≡◌ {A = Option (TokenKind × ℕ)} (option_map {U = TokenKind × ℕ} (λ mark. (mark, 1)) o) (Some (k, n)) → 1 ≡ n
+pub one_byte : (o : Option TokenKind) (k : TokenKind) (n : ℕ) → ◌≡◌ {A = Option (TokenKind × ℕ)} (option_map {U = TokenKind × ℕ} (λ mark. (mark, 1)) o) (Some (k, n)) → 1 ≡ n
 one_byte (Some m) k n e = some_pair m k 1 n e
 one_byte None k n e = absurd cc
 

@@ -25,6 +25,7 @@ use Rattle.pio_lex.specs.Gaps.{gap_at}
 use Rattle.pio_lex.specs.Spellings.{begins_name, IsWord, IsSpelling, word_of, name_kind, name_at, directive_at, counted, number_at, byte_mark, mark_at, token_at}
 use Rattle.pio_lex.specs.Pieces.{token_piece, piece_by, piece_at}
 use Rattle.pio_lex.specs.Tokens.{line_at, Place, start, last_kind, StandsAt, tokens_of, behind, AreBetween, IsTokens, IsTokenOf}
+use Rattle.pio_lex.proofs.Longest.{token_longest}
 use Rattle.pio_lex.proofs.Sizes.{chosen, ok_is, letter_is_name_byte, mark_is, piece_within}
 
 -- a kind and a length, as a spelling at the beginning of a text
@@ -206,6 +207,7 @@ tokens_spelled source place (piece.Token k n) s =
       within = omega (arith, fits.1);
       on_line = refl;
       spelled = spelled_token text (k, n) some (token_of (last_kind place.tokens) text k n s.stands);
+      longest = token_longest text k n some (token_of (last_kind place.tokens) text k n s.stands);
     }) (All-nil (IsTokenOf source))
 
 between : (source : List ℕ) (from : Place) (pieces : List Piece) (to : Place) → AreBetween source from pieces to → All (IsTokenOf source) from.tokens → All (IsTokenOf source) to.tokens

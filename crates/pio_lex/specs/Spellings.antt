@@ -1,5 +1,5 @@
 -- How tokens are spelled (Pico SDK manual, section 3.3), and which spelling begins a text, as long as it can be.
-use Rattle.std.specs.Prelude.{◌≡◌, ℕ, ◌+◌, ◌≤◌, ◌==◌, IsTrue, not, Bool, false, List, [], ◌∷◌, take, drop, Option, Some, None, option_map, Result, Ok, Err, ok_or, slice_index, codes, if◌then◌else◌}
+use Rattle.std.specs.Prelude.{◌≡◌, ℕ, ◌+◌, ◌<◌, ◌≤◌, ◌==◌, IsTrue, not, Bool, false, List, [], ◌∷◌, length, take, drop, Option, Some, None, option_map, Result, Ok, Err, ok_or, slice_index, codes, if◌then◌else◌}
 use Rattle.std.specs.List.{prefix_len, list_all}
 use Rattle.std.specs.Char.{is_ascii_digit}
 use Rattle.pio_lex.specs.declared.fault.LexKind.{LexKind}
@@ -41,6 +41,10 @@ IsSpelling kind.Slash text = text ≡ codes "/"
 IsSpelling kind.Bang text = text ≡ codes "!"
 IsSpelling kind.NotEqual text = text ≡ codes "!="
 IsSpelling kind.Tilde text = text ≡ codes "~"
+
+-- no text of more than n bytes, from the beginning of this one, spells a token
+abbrev pub IsLongest : List ℕ → ℕ → Type 0
+IsLongest text n = (k : TokenKind) (m : ℕ) → n < m → m ≤ length text → IsSpelling k (take m text) → ⊥
 
 -- ---- the longest one that begins a text
 

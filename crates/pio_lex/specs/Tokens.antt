@@ -7,7 +7,7 @@ use Rattle.pio_lex.specs.declared.token.Token.{Token}
 use Rattle.pio_lex.specs.declared.piece.Piece.{Piece}
 use Rattle.pio_lex.specs.declared.piece.Piece.TheVariants as piece
 use Rattle.pio_lex.specs.Bytes.{is_newline}
-use Rattle.pio_lex.specs.Spellings.{IsSpelling}
+use Rattle.pio_lex.specs.Spellings.{IsSpelling, IsLongest}
 use Rattle.pio_lex.specs.Pieces.{piece_at, size}
 
 -- the line of the byte at a place, counted from 1
@@ -72,9 +72,10 @@ HasTokens source = (tokens : List Token) × IsTokens source tokens
 abbrev pub HasFault : List ℕ → Type 0
 HasFault source = (line : ℕ) × (kind : LexKind) × IsFirstFault source line kind
 
--- a token is within the source, on its line, and is what its text spells
+-- a token is within the source, on its line, and is what its text spells; no longer text from there spells one
 pub record IsTokenOf (source : List ℕ) (token : Token) : Type 0 where
   pub some : 0 < token.length
   pub within : token.first + token.length ≤ length source
   pub on_line : token.line ≡ line_at source token.first
   pub spelled : IsSpelling token.kind (take token.length (drop token.first source))
+  pub longest : IsLongest (drop token.first source) token.length

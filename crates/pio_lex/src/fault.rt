@@ -1,5 +1,5 @@
 //! Why a source has no tokens.
-ghost use Rattle.std.specs.Prelude.{◌≡◌};
+ghost use Rattle.std.specs.Prelude.{◌≡◌, Some};
 ghost use Rattle.pio_lex.specs.declared.fault.LexFault.TheVariants.{Memory};
 ghost use Rattle.pio_lex.specs.Fault.{code_of};
 
@@ -34,6 +34,8 @@ impl LexKind {
 }
 
 impl fmt::Display for LexKind {
+    ghost output = { λ kind. Some (code_of kind) };
+
     fn fmt<W: fmt::Write>(&self, f: &mut fmt::Formatter<W>) -> fmt::Result {
         f.write_str(self.code())
     }

@@ -16,7 +16,7 @@ mod token;
 pub use directive::Directive;
 pub use fault::{LexFault, LexKind};
 pub use keyword::Keyword;
-pub use laws::every_source_has_one_reading;
+pub use laws::{every_source_has_one_reading, tokens_are_the_longest_spellings};
 pub use lexer::tokens;
 pub use token::{Token, TokenKind};
 

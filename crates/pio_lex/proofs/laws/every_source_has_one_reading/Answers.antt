@@ -1,5 +1,4 @@
 use Rattle.pio_lex.proofs.Readings.{some, one_list, one_fault, apart}
-use Rattle.pio_lex.proofs.Spelled.{all_spelled}
 use Rattle.pio_lex.proofs.laws.every_source_has_one_reading.Goals as goal
 
 pub returns-clause-some : goal.returns-clause-some
@@ -13,6 +12,3 @@ returns-clause-one_fault c = one_fault
 
 pub returns-clause-apart : goal.returns-clause-apart
 returns-clause-apart c = apart
-
-pub returns-clause-each : goal.returns-clause-each
-returns-clause-each c = all_spelled
