@@ -4,6 +4,7 @@ use Rattle.std.specs.List.{prefix_len, starts_with}
 use Rattle.std.specs.Char.{is_ascii_alphabetic, is_ascii_digit}
 use Rattle.std.specs.Prelude.{nat_eq}
 
+-- LF, which ends a line
 abbrev pub is_newline : ℕ → Bool
 is_newline b = b == 10
 

@@ -9,7 +9,7 @@ use Rattle.pio_lex.specs.declared.token.TokenKind.TheVariants.{Newline, Directiv
 use Rattle.pio_lex.specs.declared.directive.Directive.TheVariants.{LangOpt}
 use Rattle.pio_lex.specs.Bytes.{is_newline, is_blank, is_block_byte, line_length, begins_with}
 
--- no token stands on the line so far
+-- no token stands behind the last newline token, or behind the beginning; comments may
 abbrev pub begins_line : Option TokenKind → Bool
 begins_line None = true
 begins_line (Some Newline) = true
@@ -20,6 +20,7 @@ abbrev pub is_lang_opt : Option TokenKind → Bool
 is_lang_opt (Some (Directive LangOpt)) = true
 is_lang_opt _ = false
 
+-- a text without the blanks that it begins with
 abbrev pub behind_blanks : List ℕ → List ℕ
 behind_blanks text = drop (prefix_len is_blank text) text
 

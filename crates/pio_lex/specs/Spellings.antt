@@ -11,6 +11,7 @@ use Rattle.pio_lex.specs.Bytes.{is_newline, is_letter, is_name_byte, begins_with
 use Rattle.pio_lex.specs.Words.{keyword_of, directive_of}
 use Rattle.pio_lex.specs.Numbers.{number_of}
 
+-- a text whose first byte is a letter or `_`
 abbrev pub begins_name : List ℕ → Bool
 begins_name [] = false
 begins_name (b ∷ bs) = is_letter b
@@ -57,6 +58,7 @@ abbrev pub name_kind : Option Keyword → TokenKind
 name_kind (Some keyword) = kind.Keyword keyword
 name_kind None = kind.Name
 
+-- the letters, digits and `_` that a text begins with, as a name
 abbrev pub name_at : List ℕ → TokenKind × ℕ
 name_at text = (name_kind (keyword_of (word_of text)), prefix_len is_name_byte text)
 

@@ -19,6 +19,7 @@ pub record Place : Type 0 where
   pub at : ℕ
   pub tokens : List Token
 
+-- the beginning of a source
 abbrev pub start : Place
 start = record { at = 0; tokens = [] }
 

@@ -5,19 +5,22 @@ ghost use Rattle.std.specs.Str.{bytes_eq};
 ghost use Rattle.std.specs.Char.{to_ascii_lowercase};
 ghost use Rattle.pio_lex.specs.Bytes as spec;
 
+/// A space, a tab or a CR, which ends no line.
 pub fn is_blank(byte: u8) -> bool
     ensures { result ≡ spec.is_blank byte }
 {
     byte == b' ' || byte == b'\t' || byte == b'\r'
 }
 
+/// A letter or `_`.
 pub fn is_letter(byte: u8) -> bool
     ensures { result ≡ spec.is_letter byte }
 {
     byte.is_ascii_alphabetic() || byte == b'_'
 }
 
-pub fn is_name_byte(byte: u8) -> bool
+/// A letter, a digit or `_`.
+fn is_name_byte(byte: u8) -> bool
     ensures { result ≡ spec.is_name_byte byte }
 {
     is_letter(byte) || byte.is_ascii_digit()

@@ -25,24 +25,20 @@ fn sources_have_the_faults_worked_by_hand(rt: HostRuntime) {
 
 #[test]
 fn tokens_have_their_kinds_and_places(rt: HostRuntime) {
-    match tokens(rt.alloc(), PLACED) {
-        Ok(tokens) => {
-            assert_eq!(rt; tokens.len(), PLACES.len());
-            for (token, place) in tokens.iter().zip(&PLACES) {
-                let &(kind, line, first, length) = place;
-                assert!(rt;
-                    *token
-                        == Token {
-                            kind,
-                            line,
-                            first,
-                            length
-                        },
-                    "{first}"
-                );
-            }
-        }
-        Err(_) => assert!(rt; false),
+    let Ok(tokens) = tokens(rt.alloc(), PLACED) else {
+        assert!(rt; false);
+        return;
+    };
+    assert_eq!(rt; tokens.len(), PLACES.len());
+    for (token, place) in tokens.iter().zip(&PLACES) {
+        let &(kind, line, first, length) = place;
+        let want = Token {
+            kind,
+            line,
+            first,
+            length,
+        };
+        assert!(rt; *token == want, "{first}");
     }
 }
 
