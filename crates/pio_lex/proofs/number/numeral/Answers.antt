@@ -1,0 +1,14 @@
+use Rattle.std.proofs.Common.{◌≡◌, ◌+◌, ◌*◌, None, get_or, arith, rules, sym, ap, ◌∙◌}
+use Rattle.std.specs.Char.{digit_value}
+use Rattle.pio_lex.specs.Numbers.{within}
+use Rattle.pio_lex.proofs.Numbers.{not_within, too_large}
+use Rattle.pio_lex.proofs.number.numeral.Goals as goal
+
+pub returns-in_err-value : goal.returns-in_err-value
+returns-in_err-value c =
+    let ds = c.args.digits.now in
+    let m = c.loop-byte.value * c.args.radix + digit_value (get_or ds c.loop-byte.byte-index 0) in
+    let digit : c.in_ok-digit.digit ≡ digit_value (get_or ds c.loop-byte.byte-index 0) = search rules in
+    let none : within m ≡ None = ap (λ d. within (c.loop-byte.value * c.args.radix + d)) (sym digit) ∙ sym c.in_err-value.ensures in
+    let gives : c.from_residual-in_err-value.result ≡ None = search rules in
+    gives ∙ too_large c.args.radix c.loop-byte.value ds c.loop-byte.byte-index (omega arith) (omega arith) (not_within m none) c.loop-byte.invariant

@@ -1,0 +1,9 @@
+pub mod Fault
+pub mod Bytes
+pub mod Words
+pub mod Numbers
+pub mod Gaps
+pub mod Spellings
+pub mod Pieces
+pub mod Tokens
+pub mod Answers

@@ -1,0 +1,22 @@
+-- What numbers a source writes (Pico SDK manual, section 3.3); the greatest is a choice of this profile.
+use Rattle.std.specs.Prelude.{ℕ, ◌==◌, ◌&&◌, ◌||◌, not, nat_le, List, length, drop, Option, Some, None, codes, if◌then◌else◌}
+use Rattle.std.specs.List.{list_all}
+use Rattle.std.specs.Char.{is_digit}
+use Rattle.std.specs.Str.Parse.{digits_value}
+use Rattle.pio_lex.specs.Bytes.{begins_with}
+
+-- a value that isn't too large
+abbrev pub within : ℕ → Option ℕ
+within n = if nat_le n 2147483647 then Some n else None
+
+-- one digit of the radix or more, of a value that isn't too large
+abbrev pub numeral : ℕ → List ℕ → Option ℕ
+numeral radix digits =
+    if not (length digits == 0) && list_all (λ b. is_digit b radix) digits then within (digits_value radix digits) else None
+
+-- the number of a word: hexadecimal behind `0x`, binary behind `0b`, else decimal; leading zeros are right
+unfoldable pub number_of : List ℕ → Option ℕ
+number_of word =
+    if begins_with (codes "0x") word || begins_with (codes "0X") word then numeral 16 (drop 2 word) else
+    if begins_with (codes "0b") word || begins_with (codes "0B") word then numeral 2 (drop 2 word) else
+    numeral 10 word

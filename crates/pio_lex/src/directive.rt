@@ -1,0 +1,53 @@
+//! The directives of pioasm (Pico SDK manual, section 3.3).
+ghost use Rattle.std.specs.Prelude.{◌≡◌};
+ghost use Rattle.pio_lex.specs.Words.{directive_of, row_of};
+
+use crate::bytes::is_same_but_case;
+
+/// The name behind the `.` of a directive.
+#[derive(Clone, Copy, Debug, PartialEq, Eq)]
+pub enum Directive {
+    Program,
+    Define,
+    Origin,
+    SideSet,
+    WrapTarget,
+    Wrap,
+    Word,
+    LangOpt,
+    PioVersion,
+    /// Any other name.
+    Other,
+}
+
+/// Each known directive's name in lower case.
+static NAMES: [(&str, Directive); 9] = [
+    ("program", Directive::Program),
+    ("define", Directive::Define),
+    ("origin", Directive::Origin),
+    ("side_set", Directive::SideSet),
+    ("wrap_target", Directive::WrapTarget),
+    ("wrap", Directive::Wrap),
+    ("word", Directive::Word),
+    ("lang_opt", Directive::LangOpt),
+    ("pio_version", Directive::PioVersion),
+];
+
+impl Directive {
+    /// The directive of a name, in any case of letters.
+    pub(crate) fn of(name: &[u8]) -> Directive
+        ensures { result ≡ directive_of name.now }
+    {
+        named(&NAMES, name).unwrap_or(Directive::Other)
+    }
+}
+
+/// The directive beside the name, in any case of letters.
+#[tactic(auto, unfolding(crate::specs::Words::row_of))]
+fn named(rows: &[(&str, Directive)], name: &[u8]) -> Option<Directive>
+    ensures { result ≡ row_of (λ row. row.0.now) (λ row. row.1) rows.now name.now }
+{
+    rows.iter()
+        .find(|row| is_same_but_case(row.0, name))
+        .map(|row| row.1)
+}

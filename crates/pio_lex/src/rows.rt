@@ -1,0 +1,156 @@
+//! Lexical inputs, each with its tokens or its first fault, worked by hand from the language's rules (Pico SDK manual,
+//! section 3.3).
+use crate::{Directive, Keyword, LexKind, TokenKind};
+
+/// A source, and its tokens' texts with a blank between; a newline is shown as `|`.
+pub static TEXTS: [(&[u8], &[u8]); 45] = [
+    (b"", b""),
+    (b" \t\r", b""),
+    (b"\r\n\n", b"| |"),
+    (b"nop\rjmp 1", b"nop jmp 1"),
+    // The longest token stands.
+    (b"x--1", b"x -- 1"),
+    (b"3--1", b"3 -- 1"),
+    (b"3 - -1", b"3 - - 1"),
+    (b"---", b"-- -"),
+    (b":::", b":: :"),
+    (b"a:b::c", b"a : b :: c"),
+    (b"jmp x---3", b"jmp x -- - 3"),
+    (b"jmp x!=y(3)", b"jmp x != y ( 3 )"),
+    (b"jmp ~osre,3", b"jmp ~ osre , 3"),
+    (b"mov x::y", b"mov x :: y"),
+    (b"nop [1+2*3/4]", b"nop [ 1 + 2 * 3 / 4 ]"),
+    (b"_a9 side3!x", b"_a9 side3 ! x"),
+    (b".sideset 1.wrap", b".sideset 1 .wrap"),
+    // Numbers.
+    (b"007 0X1F 0B1 0xaBcD", b"007 0X1F 0B1 0xaBcD"),
+    (b"2147483647 0x7fffffff", b"2147483647 0x7fffffff"),
+    (b"set pins, 01", b"set pins , 01"),
+    // Comments.
+    (b"4 /**// 2", b"4 / 2"),
+    (b"*/", b"* /"),
+    (b"-/**/-", b"- -"),
+    (b"; /*", b""),
+    (b"// /*\nnop", b"| nop"),
+    (b"nop;$\nnop//$", b"nop | nop"),
+    (b"/*/*/ nop", b"nop"),
+    (b"/***/ nop", b"nop"),
+    (b"/* % x { */ nop", b"nop"),
+    (b".program p\nnop /*\n*/ nop", b".program p | nop nop"),
+    (b"/* .lang_opt */ nop", b"nop"),
+    // Foreign blocks.
+    (b"/* c */ % x {\n%}", b""),
+    (b"/*\n*/ % x {\n%}", b""),
+    (b"% c {\n%} $", b""),
+    (b"% c { %}\n$ %}\n%}\nnop", b"| nop"),
+    (b"%c{\n%}", b""),
+    (b" % 9- { $\n$\n/* */ %}\n\t %}$\nnop", b"| nop"),
+    (b"% a {\n%}\n% b {\n/*\n%}\nnop", b"| | nop"),
+    (b"nop\n% c-sdk {\n\"x\" 'y'\n%}\n", b"nop | |"),
+    // What follows `.lang_opt`.
+    (b".lang_opt /* \nnop", b".lang_opt | nop"),
+    (b".LANG_opt % x {\nnop", b".LANG_opt | nop"),
+    (b"nop .lang_opt $", b"nop .lang_opt"),
+    (b"a: .lang_opt $;\nnop", b"a : .lang_opt | nop"),
+    (b".lang_opt", b".lang_opt"),
+    (b".lang_opts 1", b".lang_opts 1"),
+];
+
+/// A source, the line of its first fault, and its kind.
+pub static FAULTS: [(&[u8], usize, LexKind); 46] = [
+    // No token begins here.
+    (b"nop $", 1, LexKind::BadByte),
+    (b"!==", 1, LexKind::BadByte),
+    (b"=", 1, LexKind::BadByte),
+    (b"1 & 2", 1, LexKind::BadByte),
+    (b"1 << 2", 1, LexKind::BadByte),
+    (b"nop .5", 1, LexKind::BadByte),
+    (b"nop .", 1, LexKind::BadByte),
+    (b".program p\n\xff", 2, LexKind::BadByte),
+    (b"\xef\xbb\xbfnop", 1, LexKind::BadByte),
+    (b"nop\n\0", 2, LexKind::BadByte),
+    (b"nop\n\n\x0b", 3, LexKind::BadByte),
+    (b"\x0c", 1, LexKind::BadByte),
+    (b"nop\r\r$", 1, LexKind::BadByte),
+    (b".program p\nnop /*\n*/ $", 3, LexKind::BadByte),
+    (b"$ /*", 1, LexKind::BadByte),
+    // Numbers.
+    (b"0x", 1, LexKind::BadNumber),
+    (b"0b", 1, LexKind::BadNumber),
+    (b"0b2", 1, LexKind::BadNumber),
+    (b"0xg", 1, LexKind::BadNumber),
+    (b"0_x1", 1, LexKind::BadNumber),
+    (b"12ab", 1, LexKind::BadNumber),
+    (b"1_0", 1, LexKind::BadNumber),
+    (b"nop\n3side", 2, LexKind::BadNumber),
+    (b"0x80000000", 1, LexKind::BadNumber),
+    (b".define a 2147483648", 1, LexKind::BadNumber),
+    (b"4294967296", 1, LexKind::BadNumber),
+    (b"18446744073709551616", 1, LexKind::BadNumber),
+    (b"0x\n$", 1, LexKind::BadNumber),
+    // Comments.
+    (b"/* x", 1, LexKind::OpenComment),
+    (b"/*/", 1, LexKind::OpenComment),
+    (b"/* *", 1, LexKind::OpenComment),
+    (b"\n\nnop /* \n\n* /", 3, LexKind::OpenComment),
+    // Foreign blocks.
+    (b"% c { %}", 1, LexKind::OpenBlock),
+    (b"/* \n */ % x {", 2, LexKind::OpenBlock),
+    (b"% c {\n$\n", 1, LexKind::OpenBlock),
+    (b"% a {\n %} \n% b {\n/* %}\n", 3, LexKind::OpenBlock),
+    (b"% /**/ x {\n%}", 1, LexKind::BadByte),
+    (b"nop /*\n*/ % x {\n%}", 2, LexKind::BadByte),
+    (b"nop % x {\n%}", 1, LexKind::BadByte),
+    (b"% {\n%}", 1, LexKind::BadByte),
+    (b"% c++ {\n%}", 1, LexKind::BadByte),
+    (b"% c d {\n%}", 1, LexKind::BadByte),
+    (b"% c\n%}", 1, LexKind::BadByte),
+    (b"% c\n{\n%}", 1, LexKind::BadByte),
+    (b"\n%}", 2, LexKind::BadByte),
+    (b".lang_opt\n%", 2, LexKind::BadByte),
+];
+
+/// Bytes that are repeated up to the largest source, and how many tokens these have, or the fault on line 1.
+pub static LARGEST: [(&[u8], Result<usize, LexKind>); 11] = [
+    (b";", Ok(0)),
+    (b"(", Ok(262_144)),
+    (b"\n", Ok(262_144)),
+    (b"- ", Ok(131_072)),
+    (b"/*", Err(LexKind::OpenComment)),
+    (b"0", Ok(1)),
+    (b"9", Err(LexKind::BadNumber)),
+    (b"a", Ok(1)),
+    (b"%c{\n", Err(LexKind::OpenBlock)),
+    (b"\0", Err(LexKind::BadByte)),
+    (b"\xff", Err(LexKind::BadByte)),
+];
+
+/// A source, and its tokens' kinds, lines, places and lengths.
+pub static PLACED: &[u8] =
+    b", : ::\n/*\n*/[] () + - -- * / ! != ~ a 0x10 .Wrap .in NoP if_Full Side_set";
+
+pub static PLACES: [(TokenKind, usize, usize, usize); 23] = [
+    (TokenKind::Comma, 1, 0, 1),
+    (TokenKind::Colon, 1, 2, 1),
+    (TokenKind::DoubleColon, 1, 4, 2),
+    (TokenKind::Newline, 1, 6, 1),
+    (TokenKind::OpenBracket, 3, 12, 1),
+    (TokenKind::CloseBracket, 3, 13, 1),
+    (TokenKind::OpenParen, 3, 15, 1),
+    (TokenKind::CloseParen, 3, 16, 1),
+    (TokenKind::Plus, 3, 18, 1),
+    (TokenKind::Minus, 3, 20, 1),
+    (TokenKind::MinusMinus, 3, 22, 2),
+    (TokenKind::Star, 3, 25, 1),
+    (TokenKind::Slash, 3, 27, 1),
+    (TokenKind::Bang, 3, 29, 1),
+    (TokenKind::NotEqual, 3, 31, 2),
+    (TokenKind::Tilde, 3, 34, 1),
+    (TokenKind::Name, 3, 36, 1),
+    (TokenKind::Number(16), 3, 38, 4),
+    (TokenKind::Directive(Directive::Wrap), 3, 43, 5),
+    (TokenKind::Directive(Directive::Other), 3, 49, 3),
+    (TokenKind::Keyword(Keyword::Nop), 3, 53, 3),
+    (TokenKind::Keyword(Keyword::IfFull), 3, 57, 7),
+    (TokenKind::Keyword(Keyword::Side), 3, 65, 8),
+];
