@@ -1,3 +1,2 @@
-pub mod SampleLists
 pub mod Quiet
-pub mod Breaking
+pub mod Setups

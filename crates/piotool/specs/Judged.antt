@@ -1,6 +1,5 @@
 -- What a command comes to, from its files alone: its text, or the first fault in the order of reading.
-use Rattle.std.specs.Prelude.{◌≡◌, ℕ, ◌++◌, map, slice_index, nat_lt, if◌then◌else◌, Option, Some, None, IfSome, List, [], ◌∷◌, length, Result, Ok, Err}
-use Rattle.std.specs.List.{range_with_len}
+use Rattle.std.specs.Prelude.{◌≡◌, ℕ, ◌++◌, nat_lt, if◌then◌else◌, Option, Some, None, IfSome, List, [], ◌∷◌, length, Result, Ok, Err}
 use Rattle.std.specs.FinMap.{get}
 use Rattle.pio_edge.specs.Edge.{Files, Rose}
 use Rattle.vcd_trace.specs.VcdText.{vcd_text}
@@ -10,8 +9,13 @@ use Rattle.piotool.specs.declared.fault.File.{File}
 use Rattle.piotool.specs.declared.fault.File.TheVariants as file
 use Rattle.piotool.specs.declared.fault.Fault.{Fault}
 use Rattle.piotool.specs.declared.fault.Fault.TheVariants as fault
-use Rattle.piotool.specs.declared.machine.Setup.{Setup}
-use Rattle.piotool.specs.Machine.{samples}
+use Rattle.dreq_pacing.specs.declared.line.Line.{Line}
+use Rattle.dreq_pacing.specs.declared.fault.StimFault.{StimFault}
+use Rattle.dreq_pacing.specs.declared.fault.StimFault.TheVariants.{Memory, At}
+use Rattle.dreq_pacing.specs.Reading.{stimulus_of}
+use Rattle.block_core.specs.Block.{Run, first_run}
+use Rattle.block_core.specs.Hosted.{samples}
+use Rattle.piotool.specs.Default.{default_setup}
 use Rattle.command_line.specs.Words.{Asked, run, dis}
 use Rattle.word_file.specs.declared.fault.WordFault.{WordFault}
 use Rattle.word_file.specs.Reading.{word_file}
@@ -36,6 +40,7 @@ IfRight (wrong e) P = ⊥
 abbrev pub limit : File → ℕ
 limit file.Source = 262144
 limit file.Words = 262144
+limit file.Stimulus = 33554432
 
 -- a file's bytes, if it is there and within its limit
 abbrev pub read_at : File → Option (List ℕ) → Judged (List ℕ)
@@ -60,23 +65,34 @@ judged_words (Err refusal) = wrong (fault.Words refusal.line refusal.kind)
 unfoldable pub words_at : Files → List ℕ → Judged (List ℕ)
 words_at files name = and_then (read_at file.Words (get files name)) (λ bytes. judged_words (word_file bytes))
 
--- what a run of a program starts from: its words from address 0 on, the others 0x0000, and its wrap (choice of this profile)
-unfoldable pub setup_of : Assembled → Setup
-setup_of program = record {
-  memory = map (λ address. slice_index program.words address) (range_with_len 0 32);
-  side = program.side;
-  wrap_bottom = program.wrap_bottom;
-  wrap_top = program.wrap_top;
-}
+-- a reading of a stimulus, or its fault; want of memory is none of its answers
+abbrev pub judged_stimulus : Result (List Line) StimFault → Judged (List Line)
+judged_stimulus (Ok lines) = right lines
+judged_stimulus (Err (At line kind)) = wrong (fault.Stim line kind)
+judged_stimulus (Err Memory) = wrong fault.Memory
 
--- the text of so many clocks of a setup
-unfoldable pub trace_text : Setup → ℕ → List ℕ
-trace_text setup clocks = vcd_text (samples setup clocks)
+-- the lines of the stimulus with this name
+unfoldable pub stimulus_at : Files → List ℕ → Judged (List Line)
+stimulus_at files name = and_then (read_at file.Stimulus (get files name)) (λ bytes. judged_stimulus (stimulus_of bytes))
+
+-- the same, and no lines where none is named
+abbrev pub schedule_at : Files → Option (List ℕ) → Judged (List Line)
+schedule_at files None = right []
+schedule_at files (Some name) = stimulus_at files name
+
+-- the programs of a source and the lines of a stimulus, in this order
+unfoldable pub prepared_at : Files → List ℕ → Option (List ℕ) → Judged (List Assembled × List Line)
+prepared_at files source stimulus =
+    and_then (source_at files source) (λ programs. and_then (schedule_at files stimulus) (λ lines. right (programs, lines)))
+
+-- the text of so many clocks from a start, beside the lines of a stimulus
+unfoldable pub trace_text : Run → List Line → ℕ → List ℕ
+trace_text start lines clocks = vcd_text (samples start lines clocks)
 
 -- the text of a run of the first program
-abbrev pub run_text : List Assembled → ℕ → List ℕ
-run_text [] clocks = []
-run_text (program ∷ others) clocks = trace_text (setup_of program) clocks
+abbrev pub run_text : List Assembled → List Line → ℕ → List ℕ
+run_text [] lines clocks = []
+run_text (program ∷ others) lines clocks = trace_text (first_run (default_setup program)) lines clocks
 
 -- a stage passes with a value: the shelf had no fault, and where the files are told they come to it
 abbrev pub StagePasses : {X : Type 0} → Option Files → ℕ → ℕ → (Files → Judged X) → X → Type 0
@@ -92,5 +108,6 @@ StageFails files before now comes_to e = (now ≡ before) × IfSome files (λ f.
 
 -- what a command comes to
 unfoldable pub judge : Files → Asked → Judged (List ℕ)
-judge files (run source clocks) = and_then (source_at files source) (λ programs. right (run_text programs clocks))
+judge files (run source stimulus clocks) =
+    and_then (prepared_at files source stimulus) (λ prepared. right (run_text prepared.0 prepared.1 clocks))
 judge files (dis name side opt) = and_then (words_at files name) (λ words. right (word_lines (rule_for side opt) words))

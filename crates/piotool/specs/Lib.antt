@@ -1,4 +1,4 @@
-pub mod Machine
+pub mod Default
 pub mod Run
 pub mod Judged
 pub mod Told

@@ -5,6 +5,8 @@ use Rattle.pio_assemble.specs.declared.fault.SourceKind.{SourceKind}
 use Rattle.pio_assemble.specs.Fault.{code_of}
 use Rattle.word_file.specs.declared.fault.WordKind.{WordKind}
 use Rattle.word_file.specs.Fault.{code_of as word_code}
+use Rattle.dreq_pacing.specs.declared.fault.StimKind.{StimKind}
+use Rattle.dreq_pacing.specs.Fault.{code_of as stim_code}
 use Rattle.piotool.specs.declared.fault.File.{File}
 use Rattle.piotool.specs.declared.fault.File.TheVariants as file
 use Rattle.piotool.specs.declared.fault.Fault.{Fault}
@@ -18,6 +20,7 @@ status_of (Some (fault.Shelf role)) = 4
 status_of (Some (fault.TooLong role)) = 1
 status_of (Some (fault.Words line kind)) = 1
 status_of (Some (fault.Source line kind)) = 1
+status_of (Some (fault.Stim line kind)) = 1
 status_of (Some fault.Out) = 5
 status_of (Some fault.Memory) = 6
 
@@ -25,6 +28,7 @@ status_of (Some fault.Memory) = 6
 abbrev pub file_word : File → List ℕ
 file_word file.Source = codes "source"
 file_word file.Words = codes "words"
+file_word file.Stimulus = codes "stimulus"
 
 -- the line of a file that wasn't fetched
 abbrev pub shelf_line : File → List ℕ
@@ -34,13 +38,21 @@ shelf_line role = codes "piotool: shelf " ++ file_word role ++ codes "\n"
 abbrev pub long_line : File → List ℕ
 long_line role = codes "piotool: long " ++ file_word role ++ codes "\n"
 
+-- a line that tells a place: what stands in front of its number, the number, and a code
+abbrev pub line_fault : List ℕ → ℕ → List ℕ → List ℕ
+line_fault front line code = front ++ decimal line ++ codes ": " ++ code ++ codes "\n"
+
 -- the line of a word file's fault
 abbrev pub words_line : ℕ → WordKind → List ℕ
-words_line line kind = codes "piotool: words line " ++ decimal line ++ codes ": " ++ word_code kind ++ codes "\n"
+words_line line kind = line_fault (codes "piotool: words line ") line (word_code kind)
 
 -- the line of a source's fault
 abbrev pub source_line : ℕ → SourceKind → List ℕ
-source_line line kind = codes "piotool: source line " ++ decimal line ++ codes ": " ++ code_of kind ++ codes "\n"
+source_line line kind = line_fault (codes "piotool: source line ") line (code_of kind)
+
+-- the line of a stimulus's fault
+abbrev pub stimulus_line : ℕ → StimKind → List ℕ
+stimulus_line line kind = line_fault (codes "piotool: stimulus line ") line (stim_code kind)
 
 -- the line of a fault
 unfoldable pub fault_line : Fault → List ℕ
@@ -49,6 +61,7 @@ fault_line (fault.Shelf role) = shelf_line role
 fault_line (fault.TooLong role) = long_line role
 fault_line (fault.Words line kind) = words_line line kind
 fault_line (fault.Source line kind) = source_line line kind
+fault_line (fault.Stim line kind) = stimulus_line line kind
 fault_line fault.Out = codes "piotool: out\n"
 fault_line fault.Memory = codes "piotool: memory\n"
 

@@ -1,5 +1,6 @@
 //! Everything that keeps a command from its text, with the line and the status that tell it.
 
+use dreq_pacing::StimKind;
 use pio_assemble::SourceKind;
 use word_file::WordKind;
 
@@ -10,6 +11,8 @@ pub enum File {
     Source,
     /// A file of words.
     Words,
+    /// The stimulus.
+    Stimulus,
 }
 
 /// Why a command didn't do all that was asked.
@@ -25,6 +28,8 @@ pub enum Fault {
     Words(usize, WordKind),
     /// The first fault of the source: its line, from 1 on and 0 where no place is told, and its kind.
     Source(usize, SourceKind),
+    /// The first fault of the stimulus: its line, from 1 on, and its kind.
+    Stim(usize, StimKind),
     /// The output failed.
     Out,
     /// Memory ran out.

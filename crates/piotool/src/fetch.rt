@@ -35,9 +35,10 @@ pub fn fetch_file<F: Shelf>(
 /// How many bytes a file may have.
 fn limit_of(role: File) -> usize
     ensures value { result ≡ limit role }
-    ensures small { result ≤ 262144 }
+    ensures small { result ≤ 33554432 }
 {
     match role {
         File::Source | File::Words => 262_144,
+        File::Stimulus => 33_554_432,
     }
 }

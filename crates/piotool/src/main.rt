@@ -2,14 +2,13 @@
 //! Here real files, standard output and standard error are handed to the one call that does everything.
 #![tactic(auto)]
 
-mod block;
 mod dis;
 mod fault;
 mod fetch;
-mod machine;
 mod run;
-mod simulation;
+mod setup;
 mod source;
+mod stimulus;
 #[cfg(test)]
 mod tests;
 mod told;

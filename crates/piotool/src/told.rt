@@ -5,6 +5,7 @@ ghost use Rattle.piotool.specs.Told as spec;
 ghost use Rattle.piotool.specs.Told.{fault_line, file_word};
 
 use crate::fault::{Fault, File};
+use dreq_pacing::StimKind;
 use itoa::Buffer;
 use pio_assemble::SourceKind;
 use pio_edge::{Sink, SinkFailed, put_all};
@@ -16,7 +17,7 @@ pub fn status_of(fault: &Option<Fault>) -> u8
 {
     match fault {
         None => 0,
-        Some(Fault::TooLong(_) | Fault::Words(..) | Fault::Source(..)) => 1,
+        Some(Fault::TooLong(_) | Fault::Words(..) | Fault::Source(..) | Fault::Stim(..)) => 1,
         Some(Fault::Usage) => 2,
         Some(Fault::Shelf(_)) => 4,
         Some(Fault::Out) => 5,
@@ -36,6 +37,7 @@ pub fn put_fault<E: Sink>(err: &mut E, fault: &Fault) -> Result<(), SinkFailed>
         Fault::TooLong(file) => put_long_fault(err, *file),
         Fault::Words(line, kind) => put_words_fault(err, *line, *kind),
         Fault::Source(line, kind) => put_source_fault(err, *line, kind),
+        Fault::Stim(line, kind) => put_stimulus_fault(err, *line, *kind),
         Fault::Out => put_text(err, "piotool: out\n"),
         Fault::Memory => put_text(err, "piotool: memory\n"),
     }
@@ -84,17 +86,7 @@ fn put_words_fault<E: Sink>(err: &mut E, line: usize, kind: WordKind) -> Result<
     ensures bytes { Takes (E.taken err.old) (spec.words_line line kind) (E.taken err.new) result }
     ensures cause { PutCounts (E.faults err.old) (E.faults err.new) result }
 {
-    let mut number = Buffer::new();
-    put_all(
-        err,
-        &[
-            "piotool: words line ".as_bytes(),
-            number.format(line).as_bytes(),
-            ": ".as_bytes(),
-            kind.code().as_bytes(),
-            "\n".as_bytes(),
-        ],
-    )
+    put_line_fault(err, "piotool: words line ", line, kind.code())
 }
 
 /// Puts the line of a source's fault.
@@ -102,14 +94,35 @@ fn put_source_fault<E: Sink>(err: &mut E, line: usize, kind: &SourceKind) -> Res
     ensures bytes { Takes (E.taken err.old) (spec.source_line line kind.now) (E.taken err.new) result }
     ensures cause { PutCounts (E.faults err.old) (E.faults err.new) result }
 {
+    put_line_fault(err, "piotool: source line ", line, kind.code())
+}
+
+/// Puts the line of a stimulus's fault.
+fn put_stimulus_fault<E: Sink>(err: &mut E, line: usize, kind: StimKind) -> Result<(), SinkFailed>
+    ensures bytes { Takes (E.taken err.old) (spec.stimulus_line line kind) (E.taken err.new) result }
+    ensures cause { PutCounts (E.faults err.old) (E.faults err.new) result }
+{
+    put_line_fault(err, "piotool: stimulus line ", line, kind.code())
+}
+
+/// Puts the line of a fault that has a place in a file: what stands before its number, the number, and its code.
+fn put_line_fault<E: Sink>(
+    err: &mut E,
+    front: &str,
+    line: usize,
+    code: &str,
+) -> Result<(), SinkFailed>
+    ensures bytes { Takes (E.taken err.old) (spec.line_fault front.now line code.now) (E.taken err.new) result }
+    ensures cause { PutCounts (E.faults err.old) (E.faults err.new) result }
+{
     let mut number = Buffer::new();
     put_all(
         err,
         &[
-            "piotool: source line ".as_bytes(),
+            front.as_bytes(),
             number.format(line).as_bytes(),
             ": ".as_bytes(),
-            kind.code().as_bytes(),
+            code.as_bytes(),
             "\n".as_bytes(),
         ],
     )
@@ -122,5 +135,6 @@ fn word_of(file: File) -> &'static str
     match file {
         File::Source => "source",
         File::Words => "words",
+        File::Stimulus => "stimulus",
     }
 }

@@ -81,7 +81,13 @@ fn work<F: Shelf, O: Sink, L: Ledger>(
     ensures steps { steps.new ≤ steps.old + most_clocks (map string_bytes words.now) }
 {
     match read(alloc, words) {
-        Ok(Order::Run { source, clocks }) => run(alloc, source, clocks, shelf, out, steps),
+        Ok(
+            Order::Run {
+                source,
+                stimulus,
+                clocks,
+            },
+        ) => run(alloc, source, stimulus, clocks, shelf, out, steps),
         Ok(Order::Dis { file, side, opt }) => dis(alloc, file, side, opt, shelf, out),
         Err(WordsFault::Usage) => Err(Fault::Usage),
         Err(WordsFault::Memory) => Err(Fault::Memory),

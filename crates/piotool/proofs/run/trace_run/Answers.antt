@@ -1,10 +1,6 @@
-use Rattle.std.proofs.Common.{refl, subst}
-use Rattle.pio_edge.specs.Edge.{TakesPrefix}
-use Rattle.vcd_trace.specs.VcdText.{vcd_text}
-use Rattle.piotool.specs.declared.machine.Setup.{Setup}
-use Rattle.piotool.specs.Machine.{samples}
+use Rattle.std.proofs.Common.{refl}
+use Rattle.block_core.specs.Hosted.{samples}
 use Rattle.piotool.specs.Judged.{trace_text}
-use Rattle.piotool.proofs.Breaking.{broken_run}
 use Rattle.piotool.proofs.run.trace_run.Goals as goal
 
 pub returns-in-Err-clause-ends : goal.returns-in-Err-clause-ends
@@ -12,6 +8,14 @@ unfolding trace_text
 returns-in-Err-clause-ends g c =
     let before = g.O.Sink.taken c.args.trace.now.sink.now in
     let after = g.O.Sink.taken c.simulate.new.trace.sink.now in
-    let broke = c.in-Err.ensures.err before refl in
-    let part = broken_run before after c.new-block.result.setup c.args.clocks c.failing_early_leaves_a_first_part.ensures broke in
-    (refl, subst (λ (s : Setup). TakesPrefix before (vcd_text (samples s c.args.clocks)) after) c.new-block.ensures.setup part, c.in-Err.ensures.cause.failed)
+    let stops = c.in-Err.ensures.err in
+    let part = c.a_stopped_run_leaves_a_first_part.ensures before after c.args.block.now.run c.simulate.new.block.run c.args.schedule.now c.args.clocks
+    (record {
+      count = stops.count;
+      within = stops.within;
+      ended = stops.ended;
+      whole = stops.whole;
+      run = stops.run;
+      breaks = stops.breaks before refl;
+    }) in
+    (refl, part, c.in-Err.ensures.cause.failed)

@@ -1,5 +1,5 @@
 use Rattle.std.proofs.Common.{◌≡◌, ℕ, ◌<◌, length, get_or}
-use Rattle.piotool.proofs.run.default_setup.Given as goal
+use Rattle.piotool.proofs.setup.default_memory.Given as goal
 
 -- the words so far are copied, and 0 where there is none
 abbrev pub invariant-loop-address : goal.invariant-loop-address
