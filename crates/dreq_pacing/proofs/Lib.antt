@@ -8,3 +8,4 @@ pub mod Readings
 pub mod QuietClocks
 pub mod FeedOrder
 pub mod PinLines
+pub mod Rows

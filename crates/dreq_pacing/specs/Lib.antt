@@ -2,10 +2,10 @@ pub mod Lines
 pub mod Due
 pub mod Transfers
 pub mod Ports
+pub mod Runs
 pub mod Fields
 pub mod Number
-pub mod Fault
 pub mod Form
 pub mod Drafts
 pub mod Reading
-pub mod Runs
+pub mod Fault

@@ -1,5 +1,5 @@
 //! Why a text is no stimulus.
-ghost use Rattle.std.specs.Prelude.{◌≡◌};
+ghost use Rattle.std.specs.Prelude.{◌≡◌, Some};
 ghost use Rattle.dreq_pacing.specs.declared.fault.StimFault.TheVariants.{Memory};
 ghost use Rattle.dreq_pacing.specs.Fault.{code_of};
 
@@ -38,6 +38,8 @@ impl StimKind {
 }
 
 impl fmt::Display for StimKind {
+    ghost output = { λ kind. Some (code_of kind) };
+
     fn fmt<W: fmt::Write>(&self, f: &mut fmt::Formatter<W>) -> fmt::Result {
         f.write_str(self.code())
     }
