@@ -1,3 +1,5 @@
 pub mod Setups
+pub mod Placing
 pub mod Spans
 pub mod Pins
+pub mod Pads

@@ -2,16 +2,30 @@
 //! setup.
 #![tactic(auto)]
 
+mod laws;
 mod machine;
 mod mapping;
+mod merge;
+mod pads;
 mod rotation;
 mod setup;
 mod span;
+mod sync;
 mod writes;
 
+pub use laws::{
+    each_mapped_pin, each_pad, each_pin_from, no_write_changes_nothing, settled_pads_are_seen,
+    the_last_write_stands, what_a_machine_sees, words_stay_words,
+};
 pub use machine::MachineSetup;
 pub use mapping::Mapping;
+pub use merge::merge4;
+pub use pads::pad_of;
 pub use rotation::pins_from;
 pub use setup::Setup;
 pub use span::{Span, SpanUnit, Spans, Stalls};
+pub use sync::Sync;
 pub use writes::writes_of;
+
+#[cfg(test)]
+mod tests;

@@ -69,3 +69,45 @@ pub struct MachineSetup {
     pub ghost joins_one_way: { IsTrue (not (join_tx && join_rx)) },
     pub ghost status_in_field: { status_n < 16 },
 }
+
+impl MachineSetup {
+    ghost use Rattle.pin_matrix.specs.Setups.{IsDefault};
+
+    /// A machine of this number and side-set rule with all else at its default: every clock a tick, the program from address
+    /// 0 on and wrapped at 31 to 0, SET to pins 0 to 4, side-set to as many pins from 0 on as the rule has bits, shifts to
+    /// the right and whole words.
+    pub fn of(id: u8, side_rule: SideRule) -> MachineSetup
+        requires { id < 4 }
+        ensures { IsDefault id side_rule result }
+    {
+        MachineSetup {
+            id,
+            start: 0,
+            x: 0,
+            y: 0,
+            int: 1,
+            frac: 0,
+            side_rule,
+            wrap_bottom: 0,
+            wrap_top: 31,
+            in_base: 0,
+            jmp_pin: 0,
+            out: Mapping { base: 0, count: 0 },
+            set: Mapping { base: 0, count: 5 },
+            side: Mapping {
+                base: 0,
+                count: side_rule.bits,
+            },
+            in_right: true,
+            out_right: true,
+            autopush: false,
+            autopull: false,
+            push_threshold: 32,
+            pull_threshold: 32,
+            join_tx: false,
+            join_rx: false,
+            status_rx: false,
+            status_n: 0,
+        }
+    }
+}

@@ -23,3 +23,34 @@ pub struct Setup {
     pub spans: Spans,
     pub ghost at_their_places: { IsTrue (ids_are_places 0 machines) },
 }
+
+impl Setup {
+    ghost use Rattle.std.specs.Prelude.{◌≡◌, None, Some, replicate, slice_set};
+    ghost use Rattle.pin_matrix.specs.Placing.{IsIdle, HasRestOf};
+
+    /// A block without machines, all of whose pins are low, inputs and synchronised.
+    pub fn of(memory: [u16; 32], spans: Spans) -> Setup
+        ensures idle { IsIdle result }
+        ensures memory { result.memory ≡ memory }
+        ensures spans { result.spans ≡ spans }
+    {
+        Setup {
+            memory,
+            machines: [None; 4],
+            high: 0,
+            level: 0,
+            out: 0,
+            bypass: 0,
+            spans,
+        }
+    }
+
+    /// Configures a machine, instead of the one that had its number.
+    pub fn place(&mut self, machine: MachineSetup)
+        ensures machines { self.new.machines
+            ≡ slice_set self.old.machines machine.id (Some machine) }
+        ensures rest { HasRestOf self.new self.old }
+    {
+        self.machines[usize::from(machine.id)] = Some(machine);
+    }
+}

@@ -1,8 +1,10 @@
 //! A span between two edges of pins, with its bounds.
 ghost use Rattle.std.specs.Prelude.{◌≡◌, ◌<◌, ◌≤◌, ◌||◌, ◌==◌, ◌^◌, length, IsTrue};
+ghost use Rattle.pin_matrix.specs.Spans as spec;
 ghost use Rattle.pin_matrix.specs.Spans.{is_in_ticks};
 
 use pio_encode::Name;
+use std::alloc::Global;
 use std::marker::Model;
 
 /// What a span's bounds count.
@@ -29,6 +31,52 @@ impl Model for Stalls {
     ghost view = { λ s. s.addresses.items };
 
     ghost invariant = { λ s. IsTrue (are_addresses s.addresses.items) };
+}
+
+impl Stalls {
+    ghost use Rattle.std.specs.Prelude.{◌≡◌, if◌then◌else◌, Some, None, []};
+    ghost use Rattle.pin_matrix.specs.Spans.{are_addresses};
+
+    /// These addresses, unless one is above 31. It takes no memory.
+    pub fn new(addresses: Vec<u8>) -> Option<Stalls>
+        ensures { result
+            ≡ (if are_addresses addresses.items then Some addresses.items else None) }
+    {
+        if are_addresses(&addresses) {
+            Some(Stalls { addresses })
+        } else {
+            None
+        }
+    }
+
+    /// No addresses. It takes no memory.
+    pub fn empty(alloc: Global) -> Stalls
+        ensures { result ≡ [] }
+    {
+        Stalls {
+            addresses: Vec::new(alloc),
+        }
+    }
+
+    /// The addresses in their order.
+    pub fn as_slice(&self) -> &[u8]
+        ensures { result.now ≡ self.now }
+    {
+        self.addresses.as_slice()
+    }
+
+    /// The list that it was made of, with its memory.
+    pub fn into_vec(self) -> Vec<u8>
+        ensures { result.items ≡ self }
+    {
+        self.addresses
+    }
+}
+
+fn are_addresses(bytes: &[u8]) -> bool
+    ensures { result ≡ spec.are_addresses bytes.now }
+{
+    bytes.iter().all(|byte| *byte < 32)
 }
 
 /// From each from-edge to the first to-edge after it, so much time is asked.
@@ -73,4 +121,29 @@ impl Model for Spans {
     ghost Value = { List Span };
 
     ghost view = { λ s. s.spans.items };
+}
+
+impl Spans {
+    ghost use Rattle.std.specs.Prelude.{◌≡◌};
+
+    /// These spans. It takes no memory.
+    pub fn new(spans: Vec<Span>) -> Spans
+        ensures { result ≡ spans.items }
+    {
+        Spans { spans }
+    }
+
+    /// The spans in their order.
+    pub fn as_slice(&self) -> &[Span]
+        ensures { result.now ≡ self.now }
+    {
+        self.spans.as_slice()
+    }
+
+    /// The list that it was made of, with its memory.
+    pub fn into_vec(self) -> Vec<Span>
+        ensures { result.items ≡ self }
+    {
+        self.spans
+    }
 }

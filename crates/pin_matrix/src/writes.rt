@@ -1,6 +1,7 @@
 //! What an instruction writes to the pins of a mapping.
 ghost use Rattle.std.specs.Prelude.{◌≡◌, ◌<◌, ◌≤◌, ◌%◌, ◌^◌};
 ghost use Rattle.pin_matrix.specs.Pins as spec;
+ghost use Rattle.pin_matrix.specs.Pins.{IsWrite};
 
 use crate::mapping::Mapping;
 use crate::rotation::rotate_right;
@@ -9,6 +10,7 @@ use crate::rotation::rotate_right;
 /// for each i below the mapping's count. A pin that isn't written has bit 0.
 pub fn writes_of(mapping: &Mapping, value: u32) -> (u32, u32)
     ensures value { result ≡ spec.writes_of mapping.now value }
+    ensures write { IsWrite result }
 {
     let turn = 32 - mapping.base;
     (
