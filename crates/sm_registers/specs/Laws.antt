@@ -2,6 +2,7 @@
 --   IsFair           an intent takes a word only where TX has one, and gives one only where RX has room
 --   AreWords         each register is in its range
 --   AreWordsSeen     what a tick reads is in its range
+--   WritesPins       an intent's pairs are writes of pins
 --   read_of          what an act reads of the view, as one number
 --   IsAlike          a tick reads the same in two views
 use Rattle.std.specs.Prelude.{◌≡◌, ℕ, ◌+◌, ◌/◌, ◌%◌, ◌^◌, ◌<◌, Bool, true, false, not, if◌then◌else◌, IfSome, is_some}
@@ -17,7 +18,8 @@ use Rattle.pio_encode.specs.declared.act.MovSource.{MovSource}
 use Rattle.pio_encode.specs.declared.act.MovSource.TheVariants as mov_source
 use Rattle.pio_encode.specs.Word.{act_of}
 use Rattle.irq_flags.specs.Flags.{flag_of}
-use Rattle.pin_matrix.specs.Pins.{rotated_right}
+use Rattle.std.specs.List.{AllByRecursion}
+use Rattle.pin_matrix.specs.Pins.{IsWrite, rotated_right}
 use Rattle.pin_matrix.specs.declared.machine.MachineSetup.{MachineSetup}
 use Rattle.sm_registers.specs.declared.registers.Registers.{Registers}
 use Rattle.sm_registers.specs.declared.view.View.{View}
@@ -44,6 +46,11 @@ pub record AreWords (r : Registers) : Type 0 where
 pub record AreWordsSeen (v : View) (q : Queues) : Type 0 where
   pub seen : v.seen < 2 ^ 32
   pub front : IfSome q.front (λ w. w < 2 ^ 32)
+
+-- its writes to levels and to directions have bits at their own pins alone
+pub record WritesPins (i : Intent) : Type 0 where
+  pub level : AllByRecursion IsWrite i.level
+  pub direction : AllByRecursion IsWrite i.direction
 
 -- the bit of a word as a number
 abbrev pub bit_of : ℕ → ℕ → ℕ

@@ -6,7 +6,7 @@ ghost use Rattle.sm_registers.specs.declared.view.View as view;
 ghost use Rattle.sm_registers.specs.declared.view.Queues as queues;
 ghost use Rattle.sm_registers.specs.declared.intent.Kind.TheVariants as kind;
 ghost use Rattle.sm_registers.specs.Effects.{no_intent};
-ghost use Rattle.sm_registers.specs.Laws.{AreWords, AreWordsSeen, IsAlike, IsFair};
+ghost use Rattle.sm_registers.specs.Laws.{AreWords, AreWordsSeen, IsAlike, IsFair, WritesPins};
 ghost use Rattle.sm_registers.specs.Ranges.{IsPlaced};
 ghost use Rattle.sm_registers.specs.Tick.{refills, tick_of};
 
@@ -18,6 +18,12 @@ pub fn ranges_are_kept()
         → AreWordsSeen v q → AreWords r → AreWords (tick_of s v q r).0 }
     ensures word { (s : setup.MachineSetup) (v : view.View) (q : queues.Queues) (r : registers.Registers)
         → AreWords r → AreWordsSeen v q → IfSome (tick_of s v q r).1.word (λ w. w < 2 ^ 32) }
+{}
+
+/// All that a tick writes are writes of pins: each has bits at its own pins alone.
+pub fn writes_are_of_pins()
+    ensures { (s : setup.MachineSetup) (v : view.View) (q : queues.Queues) (r : registers.Registers)
+        → AreWords r → AreWordsSeen v q → WritesPins (tick_of s v q r).1 }
 {}
 
 /// A tick takes a word only where TX has one, and gives one only where RX has room.

@@ -2,7 +2,9 @@
 ghost use Rattle.std.specs.Prelude.{◌≡◌, ◌<◌, ◌≤◌};
 ghost use Rattle.pio_encode.specs.Ranges.{IsInRange};
 ghost use Rattle.sm_registers.specs.Effects as effects;
-ghost use Rattle.sm_registers.specs.Ranges.{IsPlaced};
+ghost use Rattle.sm_registers.specs.Ranges.{IsPlaced, WritesOwnPins};
+ghost use Rattle.std.specs.List.{AllByRecursion};
+ghost use Rattle.pin_matrix.specs.Pins.{IsWrite};
 ghost use Rattle.sm_registers.specs.Tick as spec;
 
 use crate::effect::{Effect, quiet};
@@ -26,7 +28,9 @@ pub(crate) fn tick_of(
     registers: &Registers,
 ) -> (Registers, Intent)
     requires { IsPlaced registers.now }
-    ensures { result ≡ spec.tick_of setup.now view.now queues.now registers.now }
+    ensures value { result ≡ spec.tick_of setup.now view.now queues.now registers.now }
+    ensures level { AllByRecursion IsWrite result.1.level }
+    ensures direction { AllByRecursion IsWrite result.1.direction }
 {
     if registers.delay > 0 {
         tick_delay(setup, queues, *registers)
@@ -51,7 +55,9 @@ fn current_word(view: &View, registers: &Registers) -> u16
 #[tactic(auto, unfolding(crate::specs::Tick::tick_delay))]
 fn tick_delay(setup: &MachineSetup, queues: &Queues, registers: Registers) -> (Registers, Intent)
     requires { 0 < registers.delay }
-    ensures { result ≡ spec.tick_delay setup.now queues.now registers }
+    ensures value { result ≡ spec.tick_delay setup.now queues.now registers }
+    ensures level { AllByRecursion IsWrite result.1.level }
+    ensures direction { AllByRecursion IsWrite result.1.direction }
 {
     let counted = Registers {
         delay: registers.delay - 1,
@@ -76,7 +82,9 @@ fn tick_word(
 ) -> (Registers, Intent)
     requires act { IsInRange op.now.act }
     requires placed { IsPlaced registers.now }
-    ensures { result ≡ spec.tick_word op.now setup.now view.now queues.now registers.now }
+    ensures value { result ≡ spec.tick_word op.now setup.now view.now queues.now registers.now }
+    ensures level { AllByRecursion IsWrite result.1.level }
+    ensures direction { AllByRecursion IsWrite result.1.direction }
 {
     let effect = effect_of(op.act, setup, view, queues, registers);
     tick_by(op, setup, queues, registers, &effect)
@@ -93,7 +101,8 @@ fn effect_of(
 ) -> Effect
     requires act { IsInRange act }
     requires placed { IsPlaced registers.now }
-    ensures { result ≡ effects.effect_of act setup.now view.now queues.now registers.now }
+    ensures value { result ≡ effects.effect_of act setup.now view.now queues.now registers.now }
+    ensures writes { WritesOwnPins result }
 {
     match act {
         Act::Jmp { condition, address } => {
@@ -142,8 +151,11 @@ fn tick_by(
     registers: &Registers,
     effect: &Effect,
 ) -> (Registers, Intent)
-    requires { registers.now.pc < 32 }
-    ensures { result ≡ spec.tick_by op.now setup.now queues.now registers.now effect.now }
+    requires pc { registers.now.pc < 32 }
+    requires writes { WritesOwnPins effect.now }
+    ensures value { result ≡ spec.tick_by op.now setup.now queues.now registers.now effect.now }
+    ensures level { AllByRecursion IsWrite result.1.level }
+    ensures direction { AllByRecursion IsWrite result.1.direction }
 {
     let after = after_effect(op.delay, setup, registers, effect);
     let side_set = side_writes(op.side, registers.begun, setup);
@@ -238,7 +250,8 @@ fn refilled(setup: &MachineSetup, queues: &Queues, registers: Registers) -> Regi
 
 /// What side-set writes, in the first tick of an instruction alone.
 fn side_writes(side: Option<u8>, begun: bool, setup: &MachineSetup) -> (u32, u32)
-    ensures { result ≡ spec.side_writes side begun setup.now }
+    ensures value { result ≡ spec.side_writes side begun setup.now }
+    ensures write { IsWrite result }
 {
     match side {
         Some(value) if !begun => writes_of(&setup.side, u32::from(value)),
