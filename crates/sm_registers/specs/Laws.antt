@@ -1,5 +1,7 @@
 -- Words of the laws of a tick.
 --   IsFair           an intent takes a word only where TX has one, and gives one only where RX has room
+--   TakesInto        a taken word is all that the OSR holds
+--   GivesAll         nothing is left in the ISR
 --   AreWords         each register is in its range
 --   AreWordsSeen     what a tick reads is in its range
 --   WritesPins       an intent's pairs are writes of pins
@@ -32,6 +34,16 @@ use Rattle.sm_registers.specs.Tick.{current_word}
 pub record IsFair (q : Queues) (i : Intent) : Type 0 where
   pub take : i.take ≡ true → is_some q.front ≡ true
   pub word : is_some i.word ≡ true → q.rx_full ≡ false
+
+-- the OSR holds the whole word, of which no bit was shifted out
+pub record TakesInto (word : ℕ) (r : Registers) : Type 0 where
+  pub osr : r.osr ≡ word
+  pub out_count : r.out_count ≡ 0
+
+-- the ISR is empty
+pub record GivesAll (r : Registers) : Type 0 where
+  pub isr : r.isr ≡ 0
+  pub in_count : r.in_count ≡ 0
 
 -- each register is in its range
 pub record AreWords (r : Registers) : Type 0 where

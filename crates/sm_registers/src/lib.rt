@@ -18,7 +18,7 @@ mod waiting;
 pub use intent::{Intent, Kind, RX_STALL, RX_UNDER, TX_OVER, TX_STALL};
 pub use laws::{
     a_delay_only_counts, a_late_stall_only_waits, a_tick_sees_what_it_reads, moves_are_fair,
-    ranges_are_kept, writes_are_of_pins,
+    no_word_is_lost, ranges_are_kept, writes_are_of_pins,
 };
 pub use machine::Machine;
 pub use registers::Registers;
