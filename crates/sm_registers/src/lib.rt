@@ -3,6 +3,7 @@
 
 mod effect;
 mod fifo_moves;
+mod instruction;
 mod intent;
 mod jump;
 mod laws;
@@ -33,5 +34,7 @@ mod rows_fifos;
 mod rows_flow;
 #[cfg(test)]
 mod rows_pins;
+#[cfg(test)]
+mod rows_shifts;
 #[cfg(test)]
 mod tests;

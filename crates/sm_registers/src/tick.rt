@@ -1,23 +1,19 @@
 //! One tick: the current word's effect, and what each tick does besides (RP2040 Datasheet, sections 3.2.4 and 3.5).
 ghost use Rattle.std.specs.Prelude.{◌≡◌, ◌<◌, ◌≤◌};
 ghost use Rattle.pio_encode.specs.Ranges.{IsInRange};
-ghost use Rattle.sm_registers.specs.Effects as effects;
 ghost use Rattle.sm_registers.specs.Ranges.{IsPlaced, WritesOwnPins};
 ghost use Rattle.std.specs.List.{AllByRecursion};
 ghost use Rattle.pin_matrix.specs.Pins.{IsWrite};
 ghost use Rattle.sm_registers.specs.Tick as spec;
 
-use crate::effect::{Effect, quiet};
-use crate::fifo_moves::{osr_filled, pull_effect, push_effect};
+use crate::effect::Effect;
+use crate::fifo_moves::osr_filled;
+use crate::instruction::effect_of;
 use crate::intent::{Intent, Kind};
-use crate::jump::jmp_effect;
-use crate::moving::{mov_effect, set_effect};
 use crate::registers::Registers;
-use crate::shifting::{in_effect, out_effect};
 use crate::view::{Queues, View};
-use crate::waiting::{irq_effect, wait_effect};
 use pin_matrix::{MachineSetup, writes_of};
-use pio_encode::{Act, Op, decode};
+use pio_encode::{Op, decode};
 
 /// A tick: the registers after it, and what it does outside them.
 #[tactic(auto, unfolding(crate::specs::Tick::tick_of))]
@@ -88,58 +84,6 @@ fn tick_word(
 {
     let effect = effect_of(op.act, setup, view, queues, registers);
     tick_by(op, setup, queues, registers, &effect)
-}
-
-/// What an act does by itself.
-#[tactic(auto, unfolding(crate::specs::Effects::effect_of))]
-fn effect_of(
-    act: Act,
-    setup: &MachineSetup,
-    view: &View,
-    queues: &Queues,
-    registers: &Registers,
-) -> Effect
-    requires act { IsInRange act }
-    requires placed { IsPlaced registers.now }
-    ensures value { result ≡ effects.effect_of act setup.now view.now queues.now registers.now }
-    ensures writes { WritesOwnPins result }
-{
-    match act {
-        Act::Jmp { condition, address } => {
-            jmp_effect(condition, address, setup, view, registers)
-        }
-        Act::Wait {
-            polarity,
-            source,
-            index,
-        } => { wait_effect(polarity, source, index, setup, view, registers) }
-        Act::In { source, count } => in_effect(source, count, setup, view, queues, registers),
-        Act::Out { destination, count } => {
-            out_effect(destination, count, setup, queues, registers)
-        }
-        Act::Push { if_full, block } => push_effect(if_full, block, setup, queues, registers),
-        Act::Pull { if_empty, block } => pull_effect(if_empty, block, setup, queues, registers),
-        Act::Mov {
-            destination,
-            operation,
-            source,
-        } => {
-            mov_effect(
-                destination,
-                operation,
-                source,
-                setup,
-                view,
-                queues,
-                registers,
-            )
-        }
-        Act::Irq { clear, wait, index } => {
-            irq_effect(clear, wait, index, setup, view, registers)
-        }
-        Act::Set { destination, value } => set_effect(destination, value, setup, registers),
-        Act::Nothing => quiet(*registers),
-    }
 }
 
 /// A tick of an instruction, by its effect.
