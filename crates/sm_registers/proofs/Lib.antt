@@ -2,3 +2,4 @@ pub mod Placed
 pub mod Fair
 pub mod Calm
 pub mod Words
+pub mod Taken

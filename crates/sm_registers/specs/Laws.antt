@@ -1,7 +1,10 @@
 -- Words of the laws of a tick.
 --   IsFair           an intent takes a word only where TX has one, and gives one only where RX has room
+--   TakesInto        a taken word is all that the OSR holds
+--   GivesAll         nothing is left in the ISR
 --   AreWords         each register is in its range
 --   AreWordsSeen     what a tick reads is in its range
+--   WritesPins       an intent's pairs are writes of pins
 --   read_of          what an act reads of the view, as one number
 --   IsAlike          a tick reads the same in two views
 use Rattle.std.specs.Prelude.{◌≡◌, ℕ, ◌+◌, ◌/◌, ◌%◌, ◌^◌, ◌<◌, Bool, true, false, not, if◌then◌else◌, IfSome, is_some}
@@ -17,7 +20,8 @@ use Rattle.pio_encode.specs.declared.act.MovSource.{MovSource}
 use Rattle.pio_encode.specs.declared.act.MovSource.TheVariants as mov_source
 use Rattle.pio_encode.specs.Word.{act_of}
 use Rattle.irq_flags.specs.Flags.{flag_of}
-use Rattle.pin_matrix.specs.Pins.{rotated_right}
+use Rattle.std.specs.List.{AllByRecursion}
+use Rattle.pin_matrix.specs.Pins.{IsWrite, rotated_right}
 use Rattle.pin_matrix.specs.declared.machine.MachineSetup.{MachineSetup}
 use Rattle.sm_registers.specs.declared.registers.Registers.{Registers}
 use Rattle.sm_registers.specs.declared.view.View.{View}
@@ -30,6 +34,16 @@ use Rattle.sm_registers.specs.Tick.{current_word}
 pub record IsFair (q : Queues) (i : Intent) : Type 0 where
   pub take : i.take ≡ true → is_some q.front ≡ true
   pub word : is_some i.word ≡ true → q.rx_full ≡ false
+
+-- the OSR holds the whole word, of which no bit was shifted out
+pub record TakesInto (word : ℕ) (r : Registers) : Type 0 where
+  pub osr : r.osr ≡ word
+  pub out_count : r.out_count ≡ 0
+
+-- the ISR is empty
+pub record GivesAll (r : Registers) : Type 0 where
+  pub isr : r.isr ≡ 0
+  pub in_count : r.in_count ≡ 0
 
 -- each register is in its range
 pub record AreWords (r : Registers) : Type 0 where
@@ -44,6 +58,11 @@ pub record AreWords (r : Registers) : Type 0 where
 pub record AreWordsSeen (v : View) (q : Queues) : Type 0 where
   pub seen : v.seen < 2 ^ 32
   pub front : IfSome q.front (λ w. w < 2 ^ 32)
+
+-- its writes to levels and to directions have bits at their own pins alone
+pub record WritesPins (i : Intent) : Type 0 where
+  pub level : AllByRecursion IsWrite i.level
+  pub direction : AllByRecursion IsWrite i.direction
 
 -- the bit of a word as a number
 abbrev pub bit_of : ℕ → ℕ → ℕ

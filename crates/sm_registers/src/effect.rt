@@ -1,6 +1,7 @@
 //! What an instruction does in a tick by itself, apart from the PC's next step, its side-set, its delay and a refill.
 ghost use Rattle.std.specs.Prelude.{◌≡◌};
 ghost use Rattle.sm_registers.specs.Effects as spec;
+ghost use Rattle.sm_registers.specs.Ranges.{WritesOwnPins};
 
 use crate::registers::Registers;
 
@@ -33,7 +34,8 @@ pub(crate) struct Effect {
 
 /// It finishes, and does nothing else than what it did to the registers.
 pub(crate) fn quiet(registers: Registers) -> Effect
-    ensures { result ≡ spec.quiet registers }
+    ensures value { result ≡ spec.quiet registers }
+    ensures writes { WritesOwnPins result }
 {
     Effect {
         stalled: false,
@@ -52,7 +54,8 @@ pub(crate) fn quiet(registers: Registers) -> Effect
 
 /// It stalls, and does nothing else than what it did to the registers.
 pub(crate) fn stall(registers: Registers) -> Effect
-    ensures { result ≡ spec.stall registers }
+    ensures value { result ≡ spec.stall registers }
+    ensures writes { WritesOwnPins result }
 {
     Effect {
         stalled: true,

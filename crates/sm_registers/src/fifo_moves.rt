@@ -1,6 +1,7 @@
 //! PUSH and PULL: words between the shift registers and the FIFOs (RP2040 Datasheet, sections 3.4.6 and 3.4.7).
 ghost use Rattle.std.specs.Prelude.{◌≡◌};
 ghost use Rattle.sm_registers.specs.Effects as spec;
+ghost use Rattle.sm_registers.specs.Ranges.{WritesOwnPins};
 
 use crate::effect::{Effect, quiet, stall};
 use crate::intent::{RX_STALL, TX_STALL};
@@ -18,7 +19,8 @@ pub(crate) fn push_effect(
     queues: &Queues,
     registers: &Registers,
 ) -> Effect
-    ensures { result ≡ spec.push_effect if_full block setup.now queues.now registers.now }
+    ensures value { result ≡ spec.push_effect if_full block setup.now queues.now registers.now }
+    ensures writes { WritesOwnPins result }
 {
     if if_full && registers.in_count < setup.push_threshold {
         quiet(*registers)
@@ -49,7 +51,8 @@ pub(crate) fn pull_effect(
     queues: &Queues,
     registers: &Registers,
 ) -> Effect
-    ensures { result ≡ spec.pull_effect if_empty block setup.now queues.now registers.now }
+    ensures value { result ≡ spec.pull_effect if_empty block setup.now queues.now registers.now }
+    ensures writes { WritesOwnPins result }
 {
     if pulls_nothing(if_empty, setup, registers) {
         quiet(*registers)
@@ -68,7 +71,8 @@ fn pulls_nothing(if_empty: bool, setup: &MachineSetup, registers: &Registers) ->
 
 /// What a PULL that isn't kept from it does with the oldest word of TX, or with none.
 fn pulled(front: Option<u32>, block: bool, registers: Registers) -> Effect
-    ensures { result ≡ spec.pulled front block registers }
+    ensures value { result ≡ spec.pulled front block registers }
+    ensures writes { WritesOwnPins result }
 {
     match front {
         Some(word) => {

@@ -1,5 +1,7 @@
 //! What a machine wants of its block in a clock: all that its tick does outside its registers.
 ghost use Rattle.std.specs.Prelude.{◌≡◌};
+ghost use Rattle.std.specs.List.{AllByRecursion};
+ghost use Rattle.pin_matrix.specs.Pins.{IsWrite};
 ghost use Rattle.sm_registers.specs.Effects as spec;
 
 /// The system wrote to a full TX (RP2040 Datasheet, section 3.7, FDEBUG).
@@ -53,7 +55,9 @@ pub struct Intent {
 impl Intent {
     /// That of a clock without a tick.
     pub fn none() -> Intent
-        ensures { result ≡ spec.no_intent }
+        ensures value { result ≡ spec.no_intent }
+        ensures level { AllByRecursion IsWrite result.level }
+        ensures direction { AllByRecursion IsWrite result.direction }
     {
         Intent {
             level: [(0, 0), (0, 0)],

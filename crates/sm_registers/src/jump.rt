@@ -1,6 +1,7 @@
 //! JMP (RP2040 Datasheet, section 3.4.2).
 ghost use Rattle.std.specs.Prelude.{◌≡◌, ◌<◌};
 ghost use Rattle.sm_registers.specs.Effects as spec;
+ghost use Rattle.sm_registers.specs.Ranges.{WritesOwnPins};
 
 use crate::effect::{Effect, quiet};
 use crate::registers::Registers;
@@ -17,7 +18,8 @@ pub(crate) fn jmp_effect(
     view: &View,
     registers: &Registers,
 ) -> Effect
-    ensures { result ≡ spec.jmp_effect condition address setup.now view.now registers.now }
+    ensures value { result ≡ spec.jmp_effect condition address setup.now view.now registers.now }
+    ensures writes { WritesOwnPins result }
 {
     let jump = if jumps(condition, setup, view, registers) {
         Some(address)

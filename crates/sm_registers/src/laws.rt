@@ -1,12 +1,12 @@
 //! Laws of a tick, each on a function that does nothing. `tick_of` gives the registers after a tick and its intent.
-ghost use Rattle.std.specs.Prelude.{◌≡◌, ℕ, ◌-◌, ◌^◌, ◌<◌, Bool, true, false, IfSome};
+ghost use Rattle.std.specs.Prelude.{◌≡◌, ℕ, ◌-◌, ◌^◌, ◌<◌, Bool, true, false, Some, IfSome, is_some};
 ghost use Rattle.pin_matrix.specs.declared.machine.MachineSetup as setup;
 ghost use Rattle.sm_registers.specs.declared.registers.Registers as registers;
 ghost use Rattle.sm_registers.specs.declared.view.View as view;
 ghost use Rattle.sm_registers.specs.declared.view.Queues as queues;
 ghost use Rattle.sm_registers.specs.declared.intent.Kind.TheVariants as kind;
 ghost use Rattle.sm_registers.specs.Effects.{no_intent};
-ghost use Rattle.sm_registers.specs.Laws.{AreWords, AreWordsSeen, IsAlike, IsFair};
+ghost use Rattle.sm_registers.specs.Laws.{AreWords, AreWordsSeen, IsAlike, IsFair, TakesInto, GivesAll, WritesPins};
 ghost use Rattle.sm_registers.specs.Ranges.{IsPlaced};
 ghost use Rattle.sm_registers.specs.Tick.{refills, tick_of};
 
@@ -20,10 +20,25 @@ pub fn ranges_are_kept()
         → AreWords r → AreWordsSeen v q → IfSome (tick_of s v q r).1.word (λ w. w < 2 ^ 32) }
 {}
 
+/// All that a tick writes are writes of pins: each has bits at its own pins alone.
+pub fn writes_are_of_pins()
+    ensures { (s : setup.MachineSetup) (v : view.View) (q : queues.Queues) (r : registers.Registers)
+        → AreWords r → AreWordsSeen v q → WritesPins (tick_of s v q r).1 }
+{}
+
 /// A tick takes a word only where TX has one, and gives one only where RX has room.
 pub fn moves_are_fair()
     ensures { (s : setup.MachineSetup) (v : view.View) (q : queues.Queues) (r : registers.Registers)
         → IsFair q (tick_of s v q r).1 }
+{}
+
+/// No word is lost between a FIFO and a shift register: one that a tick takes, by PULL or by a refill, is whole in the OSR
+/// after it, and one that it gives leaves the ISR empty.
+pub fn no_word_is_lost()
+    ensures taken { (s : setup.MachineSetup) (v : view.View) (q : queues.Queues) (r : registers.Registers) (word : ℕ)
+        → q.front ≡ Some word → (tick_of s v q r).1.take ≡ true → TakesInto word (tick_of s v q r).0 }
+    ensures given { (s : setup.MachineSetup) (v : view.View) (q : queues.Queues) (r : registers.Registers)
+        → is_some (tick_of s v q r).1.word ≡ true → GivesAll (tick_of s v q r).0 }
 {}
 
 /// A tick of a delay, in which the OSR isn't refilled, changes the delay alone, and does nothing outside.

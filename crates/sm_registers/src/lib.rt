@@ -3,6 +3,7 @@
 
 mod effect;
 mod fifo_moves;
+mod instruction;
 mod intent;
 mod jump;
 mod laws;
@@ -18,7 +19,7 @@ mod waiting;
 pub use intent::{Intent, Kind, RX_STALL, RX_UNDER, TX_OVER, TX_STALL};
 pub use laws::{
     a_delay_only_counts, a_late_stall_only_waits, a_tick_sees_what_it_reads, moves_are_fair,
-    ranges_are_kept,
+    no_word_is_lost, ranges_are_kept, writes_are_of_pins,
 };
 pub use machine::Machine;
 pub use registers::Registers;
@@ -33,5 +34,7 @@ mod rows_fifos;
 mod rows_flow;
 #[cfg(test)]
 mod rows_pins;
+#[cfg(test)]
+mod rows_shifts;
 #[cfg(test)]
 mod tests;

@@ -1,6 +1,8 @@
 //! A state machine with its FIFOs. In a clock it ticks or doesn't, and then settles what it and the system want.
 ghost use Rattle.std.specs.Prelude.{◌≡◌, ◌<◌, length, IsTrue, IsSome, IfOk};
-ghost use Rattle.sm_registers.specs.State.{first_machine, queues_of, settled_ports, shown_of};
+ghost use Rattle.std.specs.List.{AllByRecursion};
+ghost use Rattle.pin_matrix.specs.Pins.{IsWrite};
+ghost use Rattle.sm_registers.specs.State.{IsKept, first_machine, queues_of, settled_ports, shown_of};
 ghost use Rattle.sm_registers.specs.State as spec;
 ghost use Rattle.sm_registers.specs.Tick as spec_tick;
 
@@ -54,7 +56,8 @@ impl<F: Fifo> Machine<F> {
 
     /// Its setup, which never changes.
     pub fn setup(&self) -> &MachineSetup
-        ensures { result.now ≡ self.now.setup }
+        ensures value { result.now ≡ self.now.setup }
+        ensures kept { IsKept self.now.setup self.now.registers self.now.ports.fifos }
     {
         &self.setup
     }
@@ -66,6 +69,8 @@ impl<F: Fifo> Machine<F> {
           registers =
               (spec_tick.tick_of self.old.setup view.now (queues_of self.old.ports.fifos) self.old.registers).0;
         } }
+        ensures level { AllByRecursion IsWrite result.level }
+        ensures direction { AllByRecursion IsWrite result.direction }
         ensures take { IsTrue result.take → 0 < length self.new.ports.fifos.tx }
         ensures word { IsSome result.word → length self.new.ports.fifos.rx < self.new.ports.fifos.rx_room }
     {
@@ -116,7 +121,8 @@ impl<F: Fifo> Machine<F> {
 
     /// What can be seen of it.
     pub fn shown(&self) -> Shown
-        ensures { result ≡ shown_of self.now.ports }
+        ensures value { result ≡ shown_of self.now.ports }
+        ensures kept { IsKept self.now.setup self.now.registers self.now.ports.fifos }
     {
         Shown {
             tx: self.tx_level(),

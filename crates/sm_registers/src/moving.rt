@@ -1,6 +1,7 @@
 //! MOV and SET, which put a word or a number where it belongs (RP2040 Datasheet, sections 3.4.8 and 3.4.10).
 ghost use Rattle.std.specs.Prelude.{◌≡◌};
 ghost use Rattle.sm_registers.specs.Effects as spec;
+ghost use Rattle.sm_registers.specs.Ranges.{WritesOwnPins};
 
 use crate::effect::{Effect, quiet};
 use crate::fifo_moves::osr_filled;
@@ -21,7 +22,8 @@ pub(crate) fn mov_effect(
     queues: &Queues,
     registers: &Registers,
 ) -> Effect
-    ensures { result ≡ spec.mov_effect destination operation source setup.now view.now queues.now registers.now }
+    ensures value { result ≡ spec.mov_effect destination operation source setup.now view.now queues.now registers.now }
+    ensures writes { WritesOwnPins result }
 {
     let word = mov_word(source, setup, view, queues, registers);
     mov_to(destination, operated(operation, word), setup, *registers)
@@ -78,7 +80,8 @@ fn mov_to(
     setup: &MachineSetup,
     registers: Registers,
 ) -> Effect
-    ensures { result ≡ spec.mov_to destination value setup.now registers }
+    ensures value { result ≡ spec.mov_to destination value setup.now registers }
+    ensures writes { WritesOwnPins result }
 {
     match destination {
         MovDestination::Pins => {
@@ -130,7 +133,8 @@ pub(crate) fn set_effect(
     setup: &MachineSetup,
     registers: &Registers,
 ) -> Effect
-    ensures { result ≡ spec.set_effect destination value setup.now registers.now }
+    ensures value { result ≡ spec.set_effect destination value setup.now registers.now }
+    ensures writes { WritesOwnPins result }
 {
     let value = u32::from(value);
     match destination {

@@ -1,6 +1,7 @@
 //! IN and OUT: bits into the ISR and out of the OSR (RP2040 Datasheet, sections 3.4.4, 3.4.5 and 3.5.4).
 ghost use Rattle.std.specs.Prelude.{◌≡◌, ◌≤◌};
 ghost use Rattle.sm_registers.specs.Effects as spec;
+ghost use Rattle.sm_registers.specs.Ranges.{WritesOwnPins};
 
 use crate::effect::{Effect, quiet, stall};
 use crate::intent::{RX_STALL, TX_STALL};
@@ -22,7 +23,8 @@ pub(crate) fn in_effect(
 ) -> Effect
     requires count { count ≤ 32 }
     requires placed { registers.now.in_count ≤ 32 }
-    ensures { result ≡ spec.in_effect source count setup.now view.now queues.now registers.now }
+    ensures value { result ≡ spec.in_effect source count setup.now view.now queues.now registers.now }
+    ensures writes { WritesOwnPins result }
 {
     let shifted = if registers.begun {
         *registers
@@ -66,7 +68,8 @@ fn with_bits_in(word: u32, count: u8, setup: &MachineSetup, registers: Registers
 
 /// With autopush, pushes an ISR whose count has reached the threshold.
 fn autopushed(setup: &MachineSetup, queues: &Queues, registers: Registers) -> Effect
-    ensures { result ≡ spec.autopushed setup.now queues.now registers }
+    ensures value { result ≡ spec.autopushed setup.now queues.now registers }
+    ensures writes { WritesOwnPins result }
 {
     if setup.autopush && setup.push_threshold <= registers.in_count {
         if queues.rx_full {
@@ -107,7 +110,8 @@ pub(crate) fn out_effect(
 ) -> Effect
     requires count { count ≤ 32 }
     requires placed { registers.now.out_count ≤ 32 }
-    ensures { result ≡ spec.out_effect destination count setup.now queues.now registers.now }
+    ensures value { result ≡ spec.out_effect destination count setup.now queues.now registers.now }
+    ensures writes { WritesOwnPins result }
 {
     if setup.autopull && setup.pull_threshold <= registers.out_count {
         let sticky = if queues.tx_level == 0 { TX_STALL } else { 0 };
@@ -133,7 +137,8 @@ fn out_to(
     setup: &MachineSetup,
     registers: Registers,
 ) -> Effect
-    ensures { result ≡ spec.out_to destination value count setup.now registers }
+    ensures value { result ≡ spec.out_to destination value count setup.now registers }
+    ensures writes { WritesOwnPins result }
 {
     match destination {
         OutDestination::Pins => {

@@ -3,6 +3,7 @@ use crate::rows::{Event, PLAIN, Row, Seen, setup_of};
 use crate::rows_fifos::FIFOS;
 use crate::rows_flow::FLOW;
 use crate::rows_pins::PINS;
+use crate::rows_shifts::SHIFTS;
 use crate::{Machine, View};
 use fifo_pair::{Fifo, PlainFifo, RingFifo};
 use irq_flags::Flags;
@@ -124,6 +125,7 @@ fn run_all(rt: &impl Abort, alloc: Global, rows: &[Row]) -> Result<(), Fail> {
 fn rows(rt: HostRuntime) -> Result<(), Fail> {
     run_all(&rt, rt.alloc(), &FLOW)?;
     run_all(&rt, rt.alloc(), &FIFOS)?;
+    run_all(&rt, rt.alloc(), &SHIFTS)?;
     run_all(&rt, rt.alloc(), &PINS)
 }
 

@@ -1,21 +1,19 @@
 //! One tick: the current word's effect, and what each tick does besides (RP2040 Datasheet, sections 3.2.4 and 3.5).
 ghost use Rattle.std.specs.Prelude.{◌≡◌, ◌<◌, ◌≤◌};
 ghost use Rattle.pio_encode.specs.Ranges.{IsInRange};
-ghost use Rattle.sm_registers.specs.Effects as effects;
-ghost use Rattle.sm_registers.specs.Ranges.{IsPlaced};
+ghost use Rattle.sm_registers.specs.Ranges.{IsPlaced, WritesOwnPins};
+ghost use Rattle.std.specs.List.{AllByRecursion};
+ghost use Rattle.pin_matrix.specs.Pins.{IsWrite};
 ghost use Rattle.sm_registers.specs.Tick as spec;
 
-use crate::effect::{Effect, quiet};
-use crate::fifo_moves::{osr_filled, pull_effect, push_effect};
+use crate::effect::Effect;
+use crate::fifo_moves::osr_filled;
+use crate::instruction::effect_of;
 use crate::intent::{Intent, Kind};
-use crate::jump::jmp_effect;
-use crate::moving::{mov_effect, set_effect};
 use crate::registers::Registers;
-use crate::shifting::{in_effect, out_effect};
 use crate::view::{Queues, View};
-use crate::waiting::{irq_effect, wait_effect};
 use pin_matrix::{MachineSetup, writes_of};
-use pio_encode::{Act, Op, decode};
+use pio_encode::{Op, decode};
 
 /// A tick: the registers after it, and what it does outside them.
 #[tactic(auto, unfolding(crate::specs::Tick::tick_of))]
@@ -26,7 +24,9 @@ pub(crate) fn tick_of(
     registers: &Registers,
 ) -> (Registers, Intent)
     requires { IsPlaced registers.now }
-    ensures { result ≡ spec.tick_of setup.now view.now queues.now registers.now }
+    ensures value { result ≡ spec.tick_of setup.now view.now queues.now registers.now }
+    ensures level { AllByRecursion IsWrite result.1.level }
+    ensures direction { AllByRecursion IsWrite result.1.direction }
 {
     if registers.delay > 0 {
         tick_delay(setup, queues, *registers)
@@ -51,7 +51,9 @@ fn current_word(view: &View, registers: &Registers) -> u16
 #[tactic(auto, unfolding(crate::specs::Tick::tick_delay))]
 fn tick_delay(setup: &MachineSetup, queues: &Queues, registers: Registers) -> (Registers, Intent)
     requires { 0 < registers.delay }
-    ensures { result ≡ spec.tick_delay setup.now queues.now registers }
+    ensures value { result ≡ spec.tick_delay setup.now queues.now registers }
+    ensures level { AllByRecursion IsWrite result.1.level }
+    ensures direction { AllByRecursion IsWrite result.1.direction }
 {
     let counted = Registers {
         delay: registers.delay - 1,
@@ -76,61 +78,12 @@ fn tick_word(
 ) -> (Registers, Intent)
     requires act { IsInRange op.now.act }
     requires placed { IsPlaced registers.now }
-    ensures { result ≡ spec.tick_word op.now setup.now view.now queues.now registers.now }
+    ensures value { result ≡ spec.tick_word op.now setup.now view.now queues.now registers.now }
+    ensures level { AllByRecursion IsWrite result.1.level }
+    ensures direction { AllByRecursion IsWrite result.1.direction }
 {
     let effect = effect_of(op.act, setup, view, queues, registers);
     tick_by(op, setup, queues, registers, &effect)
-}
-
-/// What an act does by itself.
-#[tactic(auto, unfolding(crate::specs::Effects::effect_of))]
-fn effect_of(
-    act: Act,
-    setup: &MachineSetup,
-    view: &View,
-    queues: &Queues,
-    registers: &Registers,
-) -> Effect
-    requires act { IsInRange act }
-    requires placed { IsPlaced registers.now }
-    ensures { result ≡ effects.effect_of act setup.now view.now queues.now registers.now }
-{
-    match act {
-        Act::Jmp { condition, address } => {
-            jmp_effect(condition, address, setup, view, registers)
-        }
-        Act::Wait {
-            polarity,
-            source,
-            index,
-        } => { wait_effect(polarity, source, index, setup, view, registers) }
-        Act::In { source, count } => in_effect(source, count, setup, view, queues, registers),
-        Act::Out { destination, count } => {
-            out_effect(destination, count, setup, queues, registers)
-        }
-        Act::Push { if_full, block } => push_effect(if_full, block, setup, queues, registers),
-        Act::Pull { if_empty, block } => pull_effect(if_empty, block, setup, queues, registers),
-        Act::Mov {
-            destination,
-            operation,
-            source,
-        } => {
-            mov_effect(
-                destination,
-                operation,
-                source,
-                setup,
-                view,
-                queues,
-                registers,
-            )
-        }
-        Act::Irq { clear, wait, index } => {
-            irq_effect(clear, wait, index, setup, view, registers)
-        }
-        Act::Set { destination, value } => set_effect(destination, value, setup, registers),
-        Act::Nothing => quiet(*registers),
-    }
 }
 
 /// A tick of an instruction, by its effect.
@@ -142,8 +95,11 @@ fn tick_by(
     registers: &Registers,
     effect: &Effect,
 ) -> (Registers, Intent)
-    requires { registers.now.pc < 32 }
-    ensures { result ≡ spec.tick_by op.now setup.now queues.now registers.now effect.now }
+    requires pc { registers.now.pc < 32 }
+    requires writes { WritesOwnPins effect.now }
+    ensures value { result ≡ spec.tick_by op.now setup.now queues.now registers.now effect.now }
+    ensures level { AllByRecursion IsWrite result.1.level }
+    ensures direction { AllByRecursion IsWrite result.1.direction }
 {
     let after = after_effect(op.delay, setup, registers, effect);
     let side_set = side_writes(op.side, registers.begun, setup);
@@ -238,7 +194,8 @@ fn refilled(setup: &MachineSetup, queues: &Queues, registers: Registers) -> Regi
 
 /// What side-set writes, in the first tick of an instruction alone.
 fn side_writes(side: Option<u8>, begun: bool, setup: &MachineSetup) -> (u32, u32)
-    ensures { result ≡ spec.side_writes side begun setup.now }
+    ensures value { result ≡ spec.side_writes side begun setup.now }
+    ensures write { IsWrite result }
 {
     match side {
         Some(value) if !begun => writes_of(&setup.side, u32::from(value)),

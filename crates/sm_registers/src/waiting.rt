@@ -2,6 +2,7 @@
 ghost use Rattle.std.specs.Prelude.{◌≡◌, ◌<◌, ◌^◌};
 ghost use Rattle.irq_flags.specs.Flags.{flag_of};
 ghost use Rattle.sm_registers.specs.Effects as spec;
+ghost use Rattle.sm_registers.specs.Ranges.{WritesOwnPins};
 
 use crate::effect::{Effect, quiet, stall};
 use crate::jump::is_up;
@@ -22,7 +23,8 @@ pub(crate) fn wait_effect(
     registers: &Registers,
 ) -> Effect
     requires { index < 32 }
-    ensures { result ≡ spec.wait_effect polarity source index setup.now view.now registers.now }
+    ensures value { result ≡ spec.wait_effect polarity source index setup.now view.now registers.now }
+    ensures writes { WritesOwnPins result }
 {
     let bit = waited_bit(source, index, setup, view);
     let is_met = if polarity { bit } else { !bit };
@@ -70,7 +72,8 @@ pub(crate) fn irq_effect(
     registers: &Registers,
 ) -> Effect
     requires { index < 32 }
-    ensures { result ≡ spec.irq_effect clear waits index setup.now view.now registers.now }
+    ensures value { result ≡ spec.irq_effect clear waits index setup.now view.now registers.now }
+    ensures writes { WritesOwnPins result }
 {
     let flag = flag_bit(index, setup);
     if clear {

@@ -8,7 +8,7 @@ use Rattle.sm_registers.proofs.machine.Machine.tick.Goals as goal
 
 pub invariant_of-self : goal.invariant_of-self
 invariant_of-self g c = record {
-  placed = subst IsPlaced (sym (ap (λ x. x.0) c.tick_of.ensures))
+  placed = subst IsPlaced (sym (ap (λ x. x.0) c.tick_of.ensures.value))
       (placed_tick c.self.inside.setup c.args.view.now c.queues-queues.result c.self.inside.registers c.self.invariant.placed);
   fits = c.self.invariant.fits;
   tx_room = c.self.invariant.tx_room;
@@ -16,7 +16,7 @@ invariant_of-self g c = record {
 }
 
 pub returns-clause-take : goal.returns-clause-take
-returns-clause-take g c = λ t. some_front c.self.inside.fifos.tx (fair_takes c.self.inside.setup c.args.view.now c.queues-queues.result c.self.inside.registers c.self.inside.fifos c.tick_of.result (c.queues-queues.ensures ∙ sym (ap (λ m. queues_of m.ports.fifos) c.self.view_is)) c.tick_of.ensures t)
+returns-clause-take g c = λ t. some_front c.self.inside.fifos.tx (fair_takes c.self.inside.setup c.args.view.now c.queues-queues.result c.self.inside.registers c.self.inside.fifos c.tick_of.result (c.queues-queues.ensures ∙ sym (ap (λ m. queues_of m.ports.fifos) c.self.view_is)) c.tick_of.ensures.value t)
 
 pub returns-clause-word : goal.returns-clause-word
-returns-clause-word g c = λ t. has_room c.self.inside.fifos.rx_room c.self.inside.fifos.rx (fair_gives c.self.inside.setup c.args.view.now c.queues-queues.result c.self.inside.registers c.self.inside.fifos c.tick_of.result (c.queues-queues.ensures ∙ sym (ap (λ m. queues_of m.ports.fifos) c.self.view_is)) c.tick_of.ensures t)
+returns-clause-word g c = λ t. has_room c.self.inside.fifos.rx_room c.self.inside.fifos.rx (fair_gives c.self.inside.setup c.args.view.now c.queues-queues.result c.self.inside.registers c.self.inside.fifos c.tick_of.result (c.queues-queues.ensures ∙ sym (ap (λ m. queues_of m.ports.fifos) c.self.view_is)) c.tick_of.ensures.value t)
