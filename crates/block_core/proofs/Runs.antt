@@ -1,15 +1,13 @@
 -- The laws of a run, clock by clock.
-use Rattle.std.proofs.Common.{◌≡◌, ℕ, zero, suc, ◌+◌, List, refl, sym, ap, ◌∙◌, subst, arith}
+use Rattle.std.proofs.Common.{◌≡◌, ℕ, zero, suc, ◌+◌, List, refl, ap, ◌∙◌, arith}
 use Rattle.pin_matrix.specs.declared.setup.Setup.{Setup}
 use Rattle.pin_matrix.specs.Pads.{seen_of}
 use Rattle.dreq_pacing.specs.declared.due.Due.{Due}
-use Rattle.dreq_pacing.specs.declared.due.Requests.{Requests}
 use Rattle.dreq_pacing.specs.declared.line.Line.{Line}
-use Rattle.dreq_pacing.specs.Transfers.{Transfers}
 use Rattle.dreq_pacing.specs.Ports.{due_in, due_at, transfers_at, transfers_after}
 use Rattle.block_core.specs.Block.{Run, run_at, run_from, next, stepped}
 use Rattle.block_core.specs.History.{pad_at, pad_before}
-use Rattle.block_core.specs.Hosted.{Hosted, hosted_at, hosted_next, host_of, asked_at, due_of}
+use Rattle.block_core.specs.Hosted.{hosted_at, hosted_next, host_of, asked_at}
 
 pub clock-run_from : (start : Run) (host : ℕ → Due) (c : ℕ) → (run_from start host c).clock ≡ start.clock + c
 unfolding run_from next

@@ -1,10 +1,10 @@
 -- That the places of a block stay in step with its clock.
-use Rattle.std.proofs.Common.{◌≡◌, ℕ, ◌+◌, ◌≤◌, ◌<◌, ◌^◌, Bool, true, false, Option, Some, None, option_map, cond, slice_index_or, ◌∙◌, refl, subst, sym, ap, arith, rules}
+use Rattle.std.proofs.Common.{◌≡◌, ℕ, ◌+◌, ◌≤◌, ◌<◌, ◌^◌, Bool, true, false, Option, Some, None, option_map, cond, slice_index_or, ◌∙◌, refl, subst, sym, ap, arith}
 use Rattle.clock_divider.specs.Timing.{Timing, resumed}
 use Rattle.pin_matrix.specs.declared.machine.MachineSetup.{MachineSetup}
 use Rattle.sm_registers.specs.declared.view.View.{View}
 use Rattle.dreq_pacing.specs.declared.due.Due.{Due}
-use Rattle.block_core.specs.Slots.{Slot, first_slot, counted, timed_by, settled_slot, slot_after, place_after}
+use Rattle.block_core.specs.Slots.{Slot, first_slot, counted, settled_slot, place_after}
 use Rattle.block_core.specs.Kept.{IsInStep, IsInTime}
 
 pub first_in_step : (m : Option MachineSetup) (s : Option Slot) → s ≡ option_map first_slot m → IsInStep 0 s

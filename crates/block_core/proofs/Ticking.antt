@@ -1,6 +1,5 @@
 -- Each machine's divider and whether it is enabled, by the history of the lines.
-use Rattle.std.proofs.Common.{◌≡◌, ℕ, zero, suc, ◌+◌, ◌*◌, ◌<◌, ◌==◌, Bool, true, false, ◌&&◌, ◌↔◌, IsTrue, Option, Some, None, option_map, IfSome, List, [], ◌∷◌, map, cond, slice_index_or, refl, sym, ap, ◌∙◌, subst, arith, add-one}
-use Rattle.std.specs.List.{AllByRecursion}
+use Rattle.std.proofs.Common.{◌≡◌, ℕ, zero, suc, ◌<◌, ◌==◌, Bool, true, false, ◌&&◌, ◌↔◌, IsTrue, Option, Some, None, option_map, IfSome, List, [], ◌∷◌, map, cond, slice_index_or, refl, sym, ap, ◌∙◌, arith, add-one}
 use Rattle.std.proofs.lemmas.Bool.{and_parts}
 use Rattle.std.proofs.lemmas.Bool.Decides.{nat_tests}
 use Rattle.clock_divider.specs.Timing.{Timing, period_of, resumed, stepped}

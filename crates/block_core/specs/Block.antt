@@ -4,14 +4,15 @@
 --   Worked          with the number of clocks that were worked out singly
 --   stepped         the state after a clock
 --   next            the run after a clock
+--   TakesLastWrites that of the writes to each pin the last stands
 --   first_run       as a setup begins
 --   run_from        some clocks on
 --   run_at          the run of a setup in each clock
-use Rattle.std.specs.Prelude.{◌≡◌, ℕ, zero, suc, ◌+◌, ◌≤◌, Bool, false, Option, Some, None, option_map, List, [], ◌∷◌, ◌++◌, map, flat_map, slice_index_or, bit_or}
-use Rattle.irq_flags.specs.declared.flags.Flags.{Flags}
+use Rattle.std.specs.Prelude.{◌≡◌, ℕ, zero, suc, ◌+◌, ◌<◌, Option, None, option_map, List, [], ◌∷◌, map, flat_map, slice_index_or, bit_or}
+use Rattle.std.specs.Int.{bit_at}
 use Rattle.irq_flags.specs.Flags.{merged_flags}
 use Rattle.pin_matrix.specs.declared.setup.Setup.{Setup}
-use Rattle.pin_matrix.specs.Pins.{written, merged}
+use Rattle.pin_matrix.specs.Pins.{written, merged, last_of}
 use Rattle.pin_matrix.specs.Pads as pads
 use Rattle.pin_matrix.specs.Pads.{Synchroniser, pads_of, seen_of, first_synchroniser}
 use Rattle.sm_registers.specs.declared.view.View.{View}
@@ -90,6 +91,14 @@ stepped memory seen d b =
 -- what a machine sees of the pins in a clock
 abbrev pub seen_in : Due → Run → ℕ
 seen_in d r = seen_of r.synchroniser.bypass (pads_in d r.state) r.synchroniser.pad_2
+
+-- what the machines want in a clock of a run, in which the system does this
+abbrev pub wanted_in : Due → Run → List Intent
+wanted_in d r = intents_of (view_of r.memory (seen_in d r) r.state) d r.state.machines
+
+-- each pin has the bit that the last of some writes to it gives, and the old one where none does
+abbrev pub TakesLastWrites : (old new : ℕ) → List (ℕ × ℕ) → Type 0
+TakesLastWrites old new writes = (p : ℕ) → p < 32 → bit_at new p ≡ last_of p (bit_at old p) writes
 
 -- the run one clock on, in which the system does this
 unfoldable pub next : Due → Run → Run

@@ -1,5 +1,5 @@
 -- What is seen of a block's state: its sample, and what its machines ask of the system.
-use Rattle.std.specs.Prelude.{ℕ, Bool, true, false, not, Option, Some, None, List, map, slice_index_or}
+use Rattle.std.specs.Prelude.{ℕ, true, not, Option, Some, None, map, slice_index_or}
 use Rattle.sm_registers.specs.State.{shown_of}
 use Rattle.sm_registers.specs.declared.shown.Shown.{Shown}
 use Rattle.dreq_pacing.specs.declared.due.Requests.{Requests}

@@ -5,7 +5,7 @@
 --   has_tick        that the clock is a tick of it
 --   acted           its registers after the clock, and what it wants of its block
 --   slot_after      after the clock
-use Rattle.std.specs.Prelude.{ℕ, ◌+◌, Bool, true, false, ◌&&◌, Option, Some, None, option_map, if◌then◌else◌, slice_index_or}
+use Rattle.std.specs.Prelude.{ℕ, ◌+◌, Bool, true, false, ◌&&◌, Option, Some, None, if◌then◌else◌, slice_index_or}
 use Rattle.clock_divider.specs.Timing.{Timing, period_of, first, stepped, resumed}
 use Rattle.clock_divider.specs.Ticks.{is_tick}
 use Rattle.pin_matrix.specs.declared.machine.MachineSetup.{MachineSetup}

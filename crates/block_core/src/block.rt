@@ -1,6 +1,8 @@
 //! The block: four machines that share instruction memory, pins and IRQ flags.
 ghost use Rattle.std.specs.Prelude.{◌≡◌, ◌<◌, ◌≤◌, ◌^◌, ◌+◌, option_map, IfOk};
-ghost use Rattle.block_core.specs.Block.{first_run, next};
+ghost use Rattle.std.specs.List.{AllByRecursion};
+ghost use Rattle.pin_matrix.specs.Pins.{IsWrite};
+ghost use Rattle.block_core.specs.Block.{first_run, next, wanted_in, level_writes, direction_writes, TakesLastWrites};
 ghost use Rattle.block_core.specs.Kept.{IsInTime};
 ghost use Rattle.block_core.specs.Shown.{sample_of, requests_of, moved_of, shown_in, moved_in};
 ghost use Rattle.block_core.specs.Slots.{first_slot, place_after, place_intent};
@@ -88,6 +90,10 @@ impl<F: Fifo> Block<F> {
     pub fn clock(&mut self, due: &Due)
         requires { self.old.run.clock < 2 ^ 40 }
         ensures run { self.new.run ≡ next due.now self.old.run }
+        ensures levels { TakesLastWrites self.old.run.state.levels self.new.run.state.levels
+            (level_writes (wanted_in due.now self.old.run)) }
+        ensures directions { TakesLastWrites self.old.run.state.directions self.new.run.state.directions
+            (direction_writes (wanted_in due.now self.old.run)) }
         ensures calls { self.new.calls ≡ self.old.calls + 1 }
     {
         let outside = outside_after(self.outside, due);
@@ -180,6 +186,8 @@ fn step<F: Fifo>(slot: &mut Option<Slot<F>>, view: &View, due: &Due) -> Intent
     requires { IsInTime slot.old }
     ensures after { slot.new ≡ place_after view.now due.now slot.old }
     ensures intent { result ≡ place_intent view.now due.now slot.old }
+    ensures level { AllByRecursion IsWrite result.level }
+    ensures direction { AllByRecursion IsWrite result.direction }
 {
     match slot {
         Some(slot) => slot.clock(view, due),

@@ -1,13 +1,14 @@
 //! What becomes of pins and flags when all machines have said what they want in a clock.
 ghost use Rattle.std.specs.Prelude.{◌≡◌, [], ◌∷◌, map};
 ghost use Rattle.irq_flags.specs.Flags.{merged_flags};
-ghost use Rattle.pin_matrix.specs.Pins.{merged};
-ghost use Rattle.block_core.specs.Block.{level_writes, direction_writes, any_of};
+ghost use Rattle.std.specs.List.{AllByRecursion};
+ghost use Rattle.pin_matrix.specs.Pins.{IsWrite, merged};
+ghost use Rattle.block_core.specs.Block.{level_writes, direction_writes, any_of, TakesLastWrites};
 ghost use Rattle.block_core.specs.Block as spec;
 
 use dreq_pacing::Due;
 use irq_flags::Flags;
-use pin_matrix::merge4;
+use pin_matrix::{merge4, no_write_changes_nothing, the_last_write_stands};
 use sm_registers::Intent;
 
 /// The levels that the outside drives, after the lines of a clock.
@@ -29,7 +30,12 @@ pub(crate) fn levels_after(
     third: &Intent,
     fourth: &Intent,
 ) -> u32
-    ensures { result ≡ merged levels (level_writes (first.now ∷ second.now ∷ third.now ∷ fourth.now ∷ [])) }
+    requires first { AllByRecursion IsWrite first.now.level }
+    requires second { AllByRecursion IsWrite second.now.level }
+    requires third { AllByRecursion IsWrite third.now.level }
+    requires fourth { AllByRecursion IsWrite fourth.now.level }
+    ensures value { result ≡ merged levels (level_writes (first.now ∷ second.now ∷ third.now ∷ fourth.now ∷ [])) }
+    ensures last { TakesLastWrites levels result (level_writes (first.now ∷ second.now ∷ third.now ∷ fourth.now ∷ [])) }
 {
     let writes = [
         first.level[0],
@@ -41,6 +47,8 @@ pub(crate) fn levels_after(
         fourth.level[0],
         fourth.level[1],
     ];
+    the_last_write_stands();
+    no_write_changes_nothing();
     merge4(levels, &writes)
 }
 
@@ -52,7 +60,12 @@ pub(crate) fn directions_after(
     third: &Intent,
     fourth: &Intent,
 ) -> u32
-    ensures { result ≡ merged directions (direction_writes (first.now ∷ second.now ∷ third.now ∷ fourth.now ∷ [])) }
+    requires first { AllByRecursion IsWrite first.now.direction }
+    requires second { AllByRecursion IsWrite second.now.direction }
+    requires third { AllByRecursion IsWrite third.now.direction }
+    requires fourth { AllByRecursion IsWrite fourth.now.direction }
+    ensures value { result ≡ merged directions (direction_writes (first.now ∷ second.now ∷ third.now ∷ fourth.now ∷ [])) }
+    ensures last { TakesLastWrites directions result (direction_writes (first.now ∷ second.now ∷ third.now ∷ fourth.now ∷ [])) }
 {
     let writes = [
         first.direction[0],
@@ -64,6 +77,8 @@ pub(crate) fn directions_after(
         fourth.direction[0],
         fourth.direction[1],
     ];
+    the_last_write_stands();
+    no_write_changes_nothing();
     merge4(directions, &writes)
 }
 

@@ -28,7 +28,34 @@ const PUSHING_SEVEN: Keys = Keys {
     ..PLAIN
 };
 
-pub static PORTS: [Row; 13] = [
+/// The serial transmitter of the manual: pull side 1 [7]; set x, 7 side 0 [7]; out pins, 1; jmp x--, 2 [6].
+const TRANSMITTER: &[u16] = &[0x9fa0, 0xf727, 0x6001, 0x0642];
+
+pub static PORTS: [Row; 14] = [
+    Row {
+        shows: "a transmitter that waits for its first word holds its line high at once",
+        words: TRANSMITTER,
+        machines: &[Keys {
+            wrap_top: 3,
+            out: (0, 1),
+            side: (0, 1),
+            side_bits: 1,
+            side_opt: true,
+            ..PLAIN
+        }],
+        pins: LOW,
+        stimulus: "20 tx 0 0x41",
+        seen: &[
+            (0, Levels(1)),
+            (0, Sticky(0, 4)),
+            (28, Levels(1)),
+            (29, Levels(0)),
+            (36, Levels(0)),
+            (37, Levels(1)),
+            (44, Levels(1)),
+            (45, Levels(0)),
+        ],
+    },
     Row {
         shows: "a word is seen in the clock after it was written, and refills in the next",
         words: &[0x6001],

@@ -1,6 +1,8 @@
 //! One machine in a run of its block, with its divider.
 ghost use Rattle.std.specs.Prelude.{◌≡◌, ◌<◌, ◌^◌, ◌+◌, length, IsTrue, IsSome, IfOk, if◌then◌else◌, slice_index_or, false};
+ghost use Rattle.std.specs.List.{AllByRecursion};
 ghost use Rattle.clock_divider.specs.Timing as timing;
+ghost use Rattle.pin_matrix.specs.Pins.{IsWrite};
 ghost use Rattle.sm_registers.specs.State as spec_shown;
 ghost use Rattle.block_core.specs.Slots as spec;
 ghost use Rattle.block_core.specs.Slots.{lined, acted, settled_slot, slot_after, slot_intent};
@@ -58,6 +60,8 @@ impl<F: Fifo> Slot<F> {
         requires received { self.old.received < 2 ^ 40 }
         ensures after { self.new ≡ slot_after view.now due.now self.old }
         ensures intent { result ≡ slot_intent view.now due.now self.old }
+        ensures level { AllByRecursion IsWrite result.level }
+        ensures direction { AllByRecursion IsWrite result.direction }
     {
         self.obey(due);
         let intent = self.act(view);
@@ -95,6 +99,8 @@ impl<F: Fifo> Slot<F> {
         ensures after { self.new ≡ record self.old {
           machine = record self.old.machine { registers = (acted view.now self.old).0 };
         } }
+        ensures level { AllByRecursion IsWrite result.level }
+        ensures direction { AllByRecursion IsWrite result.direction }
         ensures take { IsTrue result.take → 0 < length self.new.machine.ports.fifos.tx }
         ensures word { IsSome result.word → length self.new.machine.ports.fifos.rx < self.new.machine.ports.fifos.rx_room }
     {

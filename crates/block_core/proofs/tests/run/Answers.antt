@@ -1,4 +1,4 @@
-use Rattle.std.proofs.Common.{◌≡◌, ℕ, ◌+◌, ap, ◌∙◌, refl}
+use Rattle.std.proofs.Common.{ℕ, ◌+◌, ap, ◌∙◌}
 use Rattle.dreq_pacing.specs.Ports.{Ports}
 use Rattle.block_core.specs.Block.{Run, next}
 use Rattle.block_core.proofs.tests.run.Goals as goal

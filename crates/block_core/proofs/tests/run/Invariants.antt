@@ -1,4 +1,4 @@
-use Rattle.std.proofs.Common.{◌≡◌, ◌≤◌, ℕ}
+use Rattle.std.proofs.Common.{◌≡◌}
 use Rattle.block_core.proofs.tests.run.Given as goal
 
 -- the ports and the block are at this clock

@@ -15,8 +15,8 @@ invariant_of-self g c = let kept = c.self.invariant in record {
 pub returns-clause-run : goal.returns-clause-run
 unfolding next stepped
 returns-clause-run g c = rw (
-  c.levels_after-self-inside.ensures,
-  c.directions_after-self-inside.ensures,
+  c.levels_after-self-inside.ensures.value,
+  c.directions_after-self-inside.ensures.value,
   c.merge_flags.ensures,
   c.step-first.ensures.after,
   c.step-second.ensures.after,
@@ -32,3 +32,29 @@ returns-clause-run g c = rw (
   c.outside_after-outside.ensures,
   ← c.self.view_is,
 ) refl
+
+pub returns-clause-levels : goal.returns-clause-levels
+returns-clause-levels g c p below =
+    rw (← c.self.view_is) (
+    rw (
+      c.step-first.ensures.intent,
+      c.step-second.ensures.intent,
+      c.step-third.ensures.intent,
+      c.step-fourth.ensures.intent,
+      c.seen-self-inside.ensures,
+      c.pad_of-pad.ensures,
+      c.outside_after-outside.ensures,
+    ) at c.levels_after-self-inside.ensures.last p below)
+
+pub returns-clause-directions : goal.returns-clause-directions
+returns-clause-directions g c p below =
+    rw (← c.self.view_is) (
+    rw (
+      c.step-first.ensures.intent,
+      c.step-second.ensures.intent,
+      c.step-third.ensures.intent,
+      c.step-fourth.ensures.intent,
+      c.seen-self-inside.ensures,
+      c.pad_of-pad.ensures,
+      c.outside_after-outside.ensures,
+    ) at c.directions_after-self-inside.ensures.last p below)
