@@ -1,12 +1,12 @@
 -- What a quiet call comes to, end by end.
-use Rattle.std.proofs.Common.{◌≡◌, ℕ, true, false, inl, inr, Option, Some, None, List, IfSome, refl, sym, ◌∙◌, ap, subst}
+use Rattle.std.proofs.Common.{◌≡◌, ℕ, true, false, inl, inr, Option, Some, None, List, IfSome, refl, sym, ◌∙◌, subst}
 use Rattle.pio_edge.specs.Edge.{Files, with_bytes}
 use Rattle.piotool.specs.declared.fault.Fault.{Fault}
 use Rattle.piotool.specs.declared.fault.Fault.TheVariants as fault
 use Rattle.clap.specs.Walk.{Text}
 use Rattle.command_line.specs.Words.{Asked, Asks, IsRefused, has_no_room}
 use Rattle.piotool.specs.Judged.{Judged, right, wrong, IfRight, judge}
-use Rattle.piotool.specs.Promise.{Call, CommandPasses}
+use Rattle.piotool.specs.Promise.{Call}
 use Rattle.piotool.specs.Complete.{Quiet, EndsByFiles}
 
 -- words ask for one thing

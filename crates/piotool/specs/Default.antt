@@ -2,7 +2,7 @@
 --   default_machine     the machine
 --   default_memory      the instruction memory
 --   default_setup       the block
-use Rattle.std.specs.Prelude.{ℕ, ◌%◌, ◌<◌, ◌≤◌, min, true, false, Some, None, List, [], ◌∷◌, map, slice_index, refl}
+use Rattle.std.specs.Prelude.{ℕ, ◌%◌, min, true, false, Some, None, List, [], ◌∷◌, map, slice_index, refl}
 use Rattle.std.specs.List.{range_with_len}
 use Rattle.std.proofs.Common.{lit<, lit≤}
 use Rattle.std.proofs.lemmas.Nat.{mod_below}

@@ -1,5 +1,5 @@
 -- What a command comes to, from its files alone: its text, or the first fault in the order of reading.
-use Rattle.std.specs.Prelude.{◌≡◌, ℕ, ◌++◌, nat_lt, if◌then◌else◌, Option, Some, None, IfSome, List, [], ◌∷◌, length, Result, Ok, Err}
+use Rattle.std.specs.Prelude.{◌≡◌, ℕ, nat_lt, if◌then◌else◌, Option, Some, None, IfSome, List, [], ◌∷◌, length, Result, Ok, Err}
 use Rattle.std.specs.FinMap.{get}
 use Rattle.pio_edge.specs.Edge.{Files, Rose}
 use Rattle.vcd_trace.specs.VcdText.{vcd_text}

@@ -1,11 +1,11 @@
 -- The end-to-end promise: which end a call has, what it wrote, and why.
-use Rattle.std.specs.Prelude.{◌≡◌, ℕ, ◌≤◌, Option, Some, None, IfSome, List, Result, MatchResult}
+use Rattle.std.specs.Prelude.{◌≡◌, ℕ, Option, Some, None, IfSome, List, Result, MatchResult}
 use Rattle.pio_edge.specs.Edge.{Files, Rose, with_bytes, TakesPrefix}
 use Rattle.piotool.specs.declared.fault.Fault.{Fault}
 use Rattle.piotool.specs.declared.fault.Fault.TheVariants as fault
 use Rattle.clap.specs.Walk.{Text}
-use Rattle.command_line.specs.Words.{Asked, Asks, IsRefused, run, dis}
-use Rattle.piotool.specs.Judged.{judge, right, wrong, IfRight}
+use Rattle.command_line.specs.Words.{Asked, Asks, IsRefused}
+use Rattle.piotool.specs.Judged.{judge, wrong, IfRight}
 
 -- the outside before and after a call: the files, what the output has taken, and the two counts of faults
 pub record Call : Type 0 where

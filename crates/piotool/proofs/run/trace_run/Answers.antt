@@ -1,5 +1,4 @@
 use Rattle.std.proofs.Common.{refl}
-use Rattle.block_core.specs.Hosted.{samples}
 use Rattle.piotool.specs.Judged.{trace_text}
 use Rattle.piotool.proofs.run.trace_run.Goals as goal
 

@@ -1,4 +1,4 @@
-use Rattle.std.proofs.Common.{◌≡◌, ℕ, ◌%◌, ◌<◌, min, refl, arith}
+use Rattle.std.proofs.Common.{◌≡◌, ◌%◌, min, refl, arith}
 use Rattle.std.proofs.Math.Nat.{mod-eq_of_lt}
 use Rattle.piotool.proofs.Setups.{same_machine}
 use Rattle.piotool.proofs.setup.default_machine.Goals as goal

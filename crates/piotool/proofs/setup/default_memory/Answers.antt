@@ -1,4 +1,4 @@
-use Rattle.std.proofs.Common.{ℕ, arith, rules, get_or}
+use Rattle.std.proofs.Common.{rules, get_or}
 use Rattle.std.proofs.lemmas.List.FromFn.{fill_by_all}
 use Rattle.piotool.proofs.setup.default_memory.Goals as goal
 

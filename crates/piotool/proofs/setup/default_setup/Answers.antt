@@ -1,4 +1,4 @@
-use Rattle.std.proofs.Common.{List, Option, Some, None, [], ◌∷◌, ap, ◌∙◌}
+use Rattle.std.proofs.Common.{Some, None, [], ◌∷◌, ap, ◌∙◌}
 use Rattle.pin_matrix.specs.declared.machine.MachineSetup.{MachineSetup}
 use Rattle.piotool.specs.Default.{default_setup}
 use Rattle.piotool.proofs.Setups.{same_setup}
