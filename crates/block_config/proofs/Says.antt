@@ -1,5 +1,5 @@
 -- The setup of what a setup says is the setup.
-use Rattle.std.proofs.Common.{◌≡◌, ℕ, ◌<◌, ◌≤◌, ◌-◌, ◌%◌, ◌+◌, suc, min, ◌==◌, ◌||◌, ◌&&◌, not, cond, Bool, true, false, Option, Some, None, option_map, List, [], ◌∷◌, map, length, slice_index_or, refl, ap, sym, ◌∙◌, arith}
+use Rattle.std.proofs.Common.{◌≡◌, ℕ, ◌≤◌, ◌%◌, ◌+◌, suc, min, ◌==◌, ◌||◌, ◌&&◌, not, cond, Bool, true, false, Option, Some, None, option_map, List, [], ◌∷◌, map, length, slice_index_or, refl, ap, sym, ◌∙◌, arith}
 use Rattle.std.proofs.Math.Nat.{mod-eq_of_lt}
 use Rattle.std.proofs.lemmas.Bool.{and_parts, eqb-true}
 use Rattle.pin_matrix.specs.Setups.{ids_are_places}
@@ -8,7 +8,7 @@ use Rattle.pin_matrix.specs.declared.machine.MachineSetup.{MachineSetup}
 use Rattle.pin_matrix.specs.declared.setup.Setup.{Setup}
 use Rattle.pin_matrix.specs.declared.span.Span.{Span}
 use Rattle.block_config.specs.Facts.{bits_of}
-use Rattle.block_config.specs.Block.{MachineKeys, SpanKeys, BlockKeys, keys_of_machine, keys_of_span, keys_of_block, machine_of, span_of, setup_of}
+use Rattle.block_config.specs.Block.{MachineKeys, BlockKeys, keys_of_machine, keys_of_span, keys_of_block, machine_of, span_of, setup_of}
 use Rattle.block_config.proofs.Alike.{same_machine, same_span, same_block}
 
 frac_in : (whole : Bool) (frac : ℕ) → (not whole || frac == 0) ≡ true → cond whole 0 frac ≡ frac

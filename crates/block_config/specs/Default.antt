@@ -2,7 +2,7 @@
 --   machine_keys     a machine that runs a program loaded at an address, with all else at its default
 --   default_block    what the setup says: the first program on machine 0
 --   default_setup_of the setup, or its fault
-use Rattle.std.specs.Prelude.{ℕ, ◌+◌, ◌==◌, Bool, true, false, if◌then◌else◌, unwrap_or, Option, Some, None, List, [], ◌∷◌, Result, Ok, codes}
+use Rattle.std.specs.Prelude.{ℕ, ◌+◌, true, false, if◌then◌else◌, unwrap_or, Option, Some, None, List, [], ◌∷◌, Result, Ok, codes}
 use Rattle.pio_assemble.specs.Program.{Assembled}
 use Rattle.block_config.specs.declared.fault.ConfigKind.TheVariants.{NoProgram, DoesNotFit}
 use Rattle.pin_matrix.specs.declared.setup.Setup.{Setup}

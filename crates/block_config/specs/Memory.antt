@@ -3,7 +3,7 @@
 --   fits_at     a program of these words can be loaded at an address
 --   word_at     the word that a loaded program has at an address
 --   loaded      the memory with a program in it
-use Rattle.std.specs.Prelude.{ℕ, ◌+◌, ◌-◌, ◌≤◌, nat_lt, nat_le, ◌&&◌, Bool, if◌then◌else◌, unwrap_or, Option, Some, None, IsSome, is_some, List, length, map, slice_index, slice_get, replicate}
+use Rattle.std.specs.Prelude.{ℕ, ◌+◌, ◌-◌, nat_lt, nat_le, ◌&&◌, Bool, if◌then◌else◌, unwrap_or, Option, Some, None, is_some, List, length, map, slice_index, slice_get, replicate}
 use Rattle.std.specs.List.{list_all, range_with_len}
 use Rattle.pio_encode.specs.Relocation.{relocated}
 

@@ -46,7 +46,8 @@ fn default_setups(rt: HostRuntime) -> Result<(), Fail> {
         match (default_setup(rt.alloc(), &programs), expected) {
             (Ok(setup), Ok(words)) => {
                 let first = usize::from(origin.unwrap_or(0));
-                assert_eq!(rt; setup.memory.get(first..first + words.len()), Some(words));
+                let rest = setup.memory.get(first..).ok_or("an address")?;
+                assert!(rt; rest.starts_with(words));
                 let machine = setup.machines[0].ok_or("machine 0")?;
                 assert_eq!(rt; usize::from(machine.start), first);
                 assert_eq!(rt; usize::from(machine.wrap_bottom), first);
