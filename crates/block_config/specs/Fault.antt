@@ -1,0 +1,42 @@
+-- The codes of a configuration's faults, and the paths of its keys (choice of this profile).
+--   code_of      the code of a kind
+--   kind_text    the code with what a message tells beside it
+--   table_path   the path of a table
+--   key_path     the path of a key of a table
+use Rattle.std.specs.Prelude.{ℕ, ◌++◌, List, codes, decimal}
+use Rattle.block_config.specs.declared.fault.ConfigKind.{ConfigKind}
+use Rattle.block_config.specs.declared.fault.ConfigKind.TheVariants.{NotToml, UnknownKey, WrongType, Range, NoProgram, NoLabel, Overlap, DoesNotFit, MachineTwice, BothJoins, Divider, Many, Missing}
+use Rattle.block_config.specs.declared.path.Table.{Table}
+use Rattle.block_config.specs.declared.path.Table.TheVariants.{Load, Machine, Pins, Span}
+
+-- the code of a kind
+abbrev pub code_of : ConfigKind → List ℕ
+code_of NotToml = codes "C1"
+code_of UnknownKey = codes "C2"
+code_of WrongType = codes "C3"
+code_of Range = codes "C4"
+code_of NoProgram = codes "C5"
+code_of NoLabel = codes "C6"
+code_of (Overlap address) = codes "C7"
+code_of DoesNotFit = codes "C8"
+code_of MachineTwice = codes "C9"
+code_of BothJoins = codes "C10"
+code_of Divider = codes "C11"
+code_of Many = codes "C12"
+code_of Missing = codes "C13"
+
+-- the code, and behind an overlap its address
+abbrev pub kind_text : ConfigKind → List ℕ
+kind_text (Overlap address) = codes "C7 " ++ decimal address
+kind_text kind = code_of kind
+
+-- the path of a table: those of an array have their place, counted from 0
+abbrev pub table_path : Table → List ℕ
+table_path (Load place) = codes "load[" ++ decimal place ++ codes "]"
+table_path (Machine place) = codes "machine[" ++ decimal place ++ codes "]"
+table_path Pins = codes "pins"
+table_path (Span place) = codes "span[" ++ decimal place ++ codes "]"
+
+-- the path of a key: its table's, a dot and its name
+abbrev pub key_path : Table → List ℕ → List ℕ
+key_path table key = table_path table ++ codes "." ++ key

@@ -1,0 +1,15 @@
+//! What a block starts from: a setup of a configuration (TOML) and the programs of a source.
+#![tactic(auto)]
+
+mod defaults;
+mod fault;
+mod laws;
+mod load;
+mod path;
+
+pub use defaults::default_setup;
+pub use fault::{ConfigFault, ConfigKind};
+pub use laws::a_setup_is_what_it_says;
+
+#[cfg(test)]
+mod tests;
