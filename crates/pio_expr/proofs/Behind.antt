@@ -1,0 +1,77 @@
+-- What a token does behind an operand.
+use Rattle.std.proofs.Common.{◌≡◌, ◌≢◌, ℕ, ◌+◌, Bool, true, false, List, [], ◌∷◌, ◌++◌, length, Option, Some, None, Result, Ok, Err, refl, ap, sym, ◌∙◌, subst, arith, rules, cond, append_assoc, append-nil}
+use Rattle.pio_lex.specs.declared.token.Token.{Token}
+use Rattle.pio_expr.specs.declared.expr.Item.{Item}
+use Rattle.pio_expr.specs.declared.expr.Item.TheVariants as item
+use Rattle.pio_expr.specs.declared.fault.ExprKind.TheVariants.{Syntax, Ambiguous}
+use Rattle.pio_expr.specs.declared.fault.ExprFault.{ExprFault}
+use Rattle.pio_expr.specs.declared.fault.ExprFault.TheVariants.{At}
+use Rattle.pio_expr.specs.declared.mark.Mark.{Mark}
+use Rattle.pio_expr.specs.declared.mark.Mark.TheVariants as mark
+use Rattle.pio_expr.specs.declared.turn.Turn.{Turn}
+use Rattle.pio_expr.specs.declared.turn.Turn.TheVariants.{Operation, Closed, End}
+use Rattle.pio_expr.specs.declared.waiting.Waiting.{Waiting}
+use Rattle.pio_expr.specs.declared.waiting.Waiting.TheVariants as waiting
+use Rattle.pio_expr.specs.Marks.{mark_at}
+use Rattle.pio_expr.specs.Grammar.{Place, Read, Reader, readers, then, next, written, closed, closed_by, alone, alone_by, chain_by, product_by, product_goes_on, sum_goes_on, product_operation, sum_operation}
+use Rattle.pio_expr.specs.Waiting.{Rest, rest, left, begins_level, IsSound}
+use Rattle.pio_expr.specs.Turns.{item_before, unless_product, unless_operation, operation_of, innermost, all_before, kept_before, written_by, kept_by, turn_by, turn_with, turn_without, close_by}
+use Rattle.pio_expr.proofs.Chains.{chain_on, chain_ends}
+use Rattle.pio_expr.proofs.Onward.{readers_onward, product_onward}
+use Rattle.pio_expr.proofs.Steps.{then_assoc}
+
+-- at the beginning of a parenthesis, what is read behind a unary goes on with a product, then with a sum
+unary_of_level : (source : List ℕ) (tokens : List Token) (ws : List Waiting) (p : Place) → begins_level ws ≡ true → (rest source tokens ws).unary p ≡ then (product_goes_on tokens (readers source tokens (left ws)).unary p) (rest source tokens ws).product
+unfolding rest
+unary_of_level source tokens [] p begins = refl
+unary_of_level source tokens (waiting.Paren ∷ below) p begins = refl
+unary_of_level source tokens (w ∷ below) p begins = cc
+
+product_of_level : (source : List ℕ) (tokens : List Token) (ws : List Waiting) (p : Place) → begins_level ws ≡ true → (rest source tokens ws).product p ≡ then (sum_goes_on tokens (readers source tokens (left ws)).unary p) (rest source tokens ws).level
+unfolding rest
+product_of_level source tokens [] p begins = refl
+product_of_level source tokens (waiting.Paren ∷ below) p begins = refl
+product_of_level source tokens (w ∷ below) p begins = cc
+
+product_ends : (source : List ℕ) (tokens : List Token) (ws : List Waiting) (p : Place) → product_operation (mark_at tokens p.at) ≡ None → begins_level ws ≡ true → (rest source tokens ws).unary p ≡ (rest source tokens ws).product p
+product_ends source tokens ws p none begins =
+    unary_of_level source tokens ws p begins ∙ ap (λ read. then read (rest source tokens ws).product) (chain_ends tokens product_operation (readers source tokens (left ws)).unary p none)
+
+sum_ends : (source : List ℕ) (tokens : List Token) (ws : List Waiting) (p : Place) → sum_operation (mark_at tokens p.at) ≡ None → begins_level ws ≡ true → (rest source tokens ws).product p ≡ (rest source tokens ws).level p
+sum_ends source tokens ws p none begins =
+    product_of_level source tokens ws p begins ∙ ap (λ read. then read (rest source tokens ws).level) (chain_ends tokens sum_operation (product_by tokens (readers source tokens (left ws)).unary) p none)
+
+no_product : (m : Mark) (i j : Item) → unless_product m i ≡ Some j → (product_operation m ≡ None) × (i ≡ j)
+no_product mark.Star i j e = cc
+no_product mark.Slash i j e = cc
+no_product _ i j e = (refl, search rules)
+
+no_operation : (m : Mark) (i j : Item) → unless_operation m i ≡ Some j → (product_operation m ≡ None) × (sum_operation m ≡ None) × (alone_by m ≡ alone_by mark.Other) × (i ≡ j)
+no_operation mark.Star i j e = cc
+no_operation mark.Slash i j e = cc
+no_operation mark.Plus i j e = cc
+no_operation mark.Minus i j e = cc
+no_operation _ i j e = (refl, refl, refl, search rules)
+
+-- behind an operation of a sum
+sum_written : (source : List ℕ) (tokens : List Token) (below : List Waiting) (n : ℕ) (i : Item) (p : Place) → product_operation (mark_at tokens p.at) ≡ None → begins_level below ≡ true → then (product_goes_on tokens (readers source tokens n).unary p) (λ place. (rest source tokens below).product (written i place)) ≡ (rest source tokens below).unary (written i p)
+sum_written source tokens below n i p none begins =
+    ap (λ read. then read (λ place. (rest source tokens below).product (written i place))) (chain_ends tokens product_operation (readers source tokens n).unary p none) ∙ sym (product_ends source tokens below (written i p) none begins)
+
+-- what is complete before a token is written
+pub one_before : (source : List ℕ) (tokens : List Token) (w : Waiting) (below : List Waiting) (i : Item) (p : Place) → item_before w (mark_at tokens p.at) ≡ Some i → IsSound (w ∷ below) → ((rest source tokens (w ∷ below)).unary p ≡ (rest source tokens below).unary (written i p)) × IsSound below
+unfolding rest
+one_before source tokens waiting.Paren below i p e sound = cc
+one_before source tokens waiting.Negate below i p e sound = (ap (λ j. (rest source tokens below).unary (written j p)) (search rules), sound)
+one_before source tokens waiting.Multiply below i p e sound = (ap (λ j. (rest source tokens below).unary (written j p)) (search rules), sound)
+one_before source tokens waiting.Divide below i p e sound = (ap (λ j. (rest source tokens below).unary (written j p)) (search rules), sound)
+one_before source tokens waiting.Add below i p e sound =
+    let h = no_product (mark_at tokens p.at) item.Add i e in
+    (sum_written source tokens below (left below) item.Add p h.0 sound.0 ∙ ap (λ j. (rest source tokens below).unary (written j p)) h.1, sound.1)
+one_before source tokens waiting.Subtract below i p e sound =
+    let h = no_product (mark_at tokens p.at) item.Subtract i e in
+    (sum_written source tokens below (left below) item.Subtract p h.0 sound.0 ∙ ap (λ j. (rest source tokens below).unary (written j p)) h.1, sound.1)
+one_before source tokens (waiting.Reverse at) below i p e sound =
+    let h = no_operation (mark_at tokens p.at) item.Reverse i e in
+    let q : Place = written item.Reverse p in
+    (ap (λ (f : ℕ → Reader). then (f at q) (rest source tokens below).level) h.2 ∙ sym (sum_ends source tokens below q h.1 sound.0) ∙ sym (product_ends source tokens below q h.0 sound.0) ∙ ap (λ j. (rest source tokens below).unary (written j p)) h.3, sound.1)

@@ -1,0 +1,13 @@
+//! The expressions of a pioasm source: how they are read, and what they are worth.
+#![tactic(auto)]
+
+mod arithmetic;
+mod expr;
+mod fault;
+mod mark;
+mod reading;
+mod turn;
+mod waiting;
+
+pub use expr::{Expr, Item};
+pub use fault::{ExprFault, ExprKind, ValueFault};
