@@ -15,29 +15,29 @@ use Rattle.pio_expr.specs.declared.waiting.Waiting.TheVariants as waiting
 use Rattle.pio_expr.specs.Marks.{mark_at}
 use Rattle.pio_expr.specs.Grammar.{Place, Read, Reader, readers, then, next, written, closed, closed_by, alone, alone_by, chain_by, product_by, product_goes_on, sum_goes_on, product_operation, sum_operation}
 use Rattle.pio_expr.specs.Waiting.{Rest, rest, left, begins_level, IsSound}
-use Rattle.pio_expr.specs.Turns.{item_before, unless_product, unless_operation, operation_of, innermost, all_before, kept_before, written_by, kept_by, turn_by, turn_with, turn_without, close_by}
+use Rattle.pio_expr.specs.Turns.{item_before, unless_product, unless_operation, operation_of, innermost, first_before, all_before, kept_before, written_by, kept_by, turn_by, turn_with, turn_without, close_by}
 use Rattle.pio_expr.proofs.Chains.{chain_on, chain_ends}
 use Rattle.pio_expr.proofs.Onward.{readers_onward, product_onward}
 use Rattle.pio_expr.proofs.Steps.{then_assoc}
 
 -- at the beginning of a parenthesis, what is read behind a unary goes on with a product, then with a sum
-unary_of_level : (source : List ℕ) (tokens : List Token) (ws : List Waiting) (p : Place) → begins_level ws ≡ true → (rest source tokens ws).unary p ≡ then (product_goes_on tokens (readers source tokens (left ws)).unary p) (rest source tokens ws).product
+pub unary_of_level : (source : List ℕ) (tokens : List Token) (ws : List Waiting) (p : Place) → begins_level ws ≡ true → (rest source tokens ws).unary p ≡ then (product_goes_on tokens (readers source tokens (left ws)).unary p) (rest source tokens ws).product
 unfolding rest
 unary_of_level source tokens [] p begins = refl
 unary_of_level source tokens (waiting.Paren ∷ below) p begins = refl
 unary_of_level source tokens (w ∷ below) p begins = cc
 
-product_of_level : (source : List ℕ) (tokens : List Token) (ws : List Waiting) (p : Place) → begins_level ws ≡ true → (rest source tokens ws).product p ≡ then (sum_goes_on tokens (readers source tokens (left ws)).unary p) (rest source tokens ws).level
+pub product_of_level : (source : List ℕ) (tokens : List Token) (ws : List Waiting) (p : Place) → begins_level ws ≡ true → (rest source tokens ws).product p ≡ then (sum_goes_on tokens (readers source tokens (left ws)).unary p) (rest source tokens ws).level
 unfolding rest
 product_of_level source tokens [] p begins = refl
 product_of_level source tokens (waiting.Paren ∷ below) p begins = refl
 product_of_level source tokens (w ∷ below) p begins = cc
 
-product_ends : (source : List ℕ) (tokens : List Token) (ws : List Waiting) (p : Place) → product_operation (mark_at tokens p.at) ≡ None → begins_level ws ≡ true → (rest source tokens ws).unary p ≡ (rest source tokens ws).product p
+pub product_ends : (source : List ℕ) (tokens : List Token) (ws : List Waiting) (p : Place) → product_operation (mark_at tokens p.at) ≡ None → begins_level ws ≡ true → (rest source tokens ws).unary p ≡ (rest source tokens ws).product p
 product_ends source tokens ws p none begins =
     unary_of_level source tokens ws p begins ∙ ap (λ read. then read (rest source tokens ws).product) (chain_ends tokens product_operation (readers source tokens (left ws)).unary p none)
 
-sum_ends : (source : List ℕ) (tokens : List Token) (ws : List Waiting) (p : Place) → sum_operation (mark_at tokens p.at) ≡ None → begins_level ws ≡ true → (rest source tokens ws).product p ≡ (rest source tokens ws).level p
+pub sum_ends : (source : List ℕ) (tokens : List Token) (ws : List Waiting) (p : Place) → sum_operation (mark_at tokens p.at) ≡ None → begins_level ws ≡ true → (rest source tokens ws).product p ≡ (rest source tokens ws).level p
 sum_ends source tokens ws p none begins =
     product_of_level source tokens ws p begins ∙ ap (λ read. then read (rest source tokens ws).level) (chain_ends tokens sum_operation (product_by tokens (readers source tokens (left ws)).unary) p none)
 
@@ -75,3 +75,39 @@ one_before source tokens (waiting.Reverse at) below i p e sound =
     let h = no_operation (mark_at tokens p.at) item.Reverse i e in
     let q : Place = written item.Reverse p in
     (ap (λ (f : ℕ → Reader). then (f at q) (rest source tokens below).level) h.2 ∙ sym (sum_ends source tokens below q h.1 sound.0) ∙ sym (product_ends source tokens below q h.0 sound.0) ∙ ap (λ j. (rest source tokens below).unary (written j p)) h.3, sound.1)
+
+-- more items at a place
+abbrev pub onto : List Item → Place → Place
+onto more p = record { at = p.at; items = p.items ++ more }
+
+-- what is read on when all that is complete before a token is written
+pub record IsWritten (source : List ℕ) (tokens : List Token) (ws : List Waiting) (m : Mark) (p : Place) : Type 0 where
+  pub same : (rest source tokens ws).unary p ≡ (rest source tokens (kept_before ws m)).unary (onto (all_before ws m) p)
+  pub sound : IsSound (kept_before ws m)
+  pub done : first_before (innermost (kept_before ws m)) m ≡ None
+
+all_none : (source : List ℕ) (tokens : List Token) (w : Waiting) (below : List Waiting) (m : Mark) (p : Place) → IsSound (w ∷ below) → item_before w m ≡ None → IsWritten source tokens (w ∷ below) m p
+unfolding all_before kept_before
+all_none source tokens w below m p sound e = record {
+  same = rw e (ap (λ xs. (rest source tokens (w ∷ below)).unary (record { at = p.at; items = xs })) (sym (append-nil p.items)));
+  sound = rw e sound;
+  done = rw e e
+}
+
+all_some : (source : List ℕ) (tokens : List Token) (w : Waiting) (below : List Waiting) (m : Mark) (i : Item) (p : Place) → item_before w m ≡ Some i → (rest source tokens (w ∷ below)).unary p ≡ (rest source tokens below).unary (written i p) → IsWritten source tokens below m (written i p) → IsWritten source tokens (w ∷ below) m p
+unfolding all_before kept_before
+all_some source tokens w below m i p e same more = record {
+  same = rw e (same ∙ more.same ∙ ap (λ xs. (rest source tokens (kept_before below m)).unary (record { at = p.at; items = xs })) (append_assoc p.items (i ∷ []) (all_before below m)));
+  sound = rw e more.sound;
+  done = rw e more.done
+}
+
+pub all_written : (source : List ℕ) (tokens : List Token) (ws : List Waiting) (m : Mark) (p : Place) → mark_at tokens p.at ≡ m → IsSound ws → IsWritten source tokens ws m p
+unfolding all_before kept_before
+all_written source tokens [] m p is sound = record { same = ap (λ xs. (rest source tokens []).unary (record { at = p.at; items = xs })) (sym (append-nil p.items)); sound = tt; done = refl }
+all_written source tokens (w ∷ below) m p is sound = by_item (item_before w m) refl (λ i q. all_written source tokens below m q) where
+  by_item : (o : Option Item) → item_before w m ≡ o → ((i : Item) (q : Place) → mark_at tokens q.at ≡ m → IsSound below → IsWritten source tokens below m q) → IsWritten source tokens (w ∷ below) m p
+  by_item None e more = all_none source tokens w below m p sound e
+  by_item (Some i) e more =
+      let one = one_before source tokens w below i p (ap (λ k. item_before w k) is ∙ e) sound in
+      all_some source tokens w below m i p e one.0 (more i (written i p) is one.1)

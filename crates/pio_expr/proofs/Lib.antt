@@ -5,3 +5,7 @@ pub mod Onward
 pub mod Steps
 pub mod Opening
 pub mod Behind
+pub mod Turning
+pub mod Operands
+pub mod Names
+pub mod Answered

@@ -2,14 +2,15 @@
 --   Rest          what the grammar reads on, behind an operand or for one
 --   rest          the same, of the openings and operations that wait, the innermost first
 --   IsSound       what can wait for what
-use Rattle.std.specs.Prelude.{◌≡◌, ℕ, ◌+◌, ◌-◌, Bool, true, false, List, [], ◌∷◌, ◌++◌, Option, Some, None, Result, Ok, Err, count_by}
+use Rattle.std.specs.Prelude.{◌≡◌, ℕ, ◌+◌, ◌-◌, ◌<◌, length, Bool, true, false, List, [], ◌∷◌, ◌++◌, Option, Some, None, Result, Ok, Err, count_by}
 use Rattle.pio_lex.specs.declared.token.Token.{Token}
 use Rattle.pio_expr.specs.declared.expr.Item.{Item}
 use Rattle.pio_expr.specs.declared.expr.Item.TheVariants as item
 use Rattle.pio_expr.specs.declared.fault.ExprFault.{ExprFault}
-use Rattle.pio_expr.specs.declared.fault.ExprFault.TheVariants.{At}
+use Rattle.pio_expr.specs.declared.fault.ExprFault.TheVariants.{Memory, At}
 use Rattle.pio_expr.specs.declared.mark.Mark.{Mark}
 use Rattle.pio_expr.specs.declared.mark.Mark.TheVariants as mark
+use Rattle.pio_expr.specs.declared.reading.Reading.{Reading}
 use Rattle.pio_expr.specs.declared.waiting.Waiting.{Waiting}
 use Rattle.pio_expr.specs.declared.waiting.Waiting.TheVariants as waiting
 use Rattle.pio_expr.specs.Grammar.{Place, Read, Reader, then, written, alone, closed, product_goes_on, sum_goes_on, readers, most_open}
@@ -93,3 +94,27 @@ IsSound (_ ∷ below) = IsSound below
 abbrev pub goes_on : Bool → Rest → Reader
 goes_on true what place = what.wants place
 goes_on false what place = what.unary place
+
+-- where a reading stands
+abbrev pub place_of : Reading → ℕ → Place
+place_of reading at = record { at = at; items = reading.items.items }
+
+-- what the grammar gives for the whole from here on
+abbrev pub answer_of : List ℕ → List Token → Reading → Bool → ℕ → Read
+answer_of source tokens reading wanted at = goes_on wanted (rest source tokens reading.waiting.items) (place_of reading at)
+
+-- behind an operand and a token: what is read on, or that the whole ends before the token
+abbrev pub GoesOn : List ℕ → List Token → Reading → ℕ → Reading → Option Bool → Type 0
+GoesOn source tokens old at new None = answer_of source tokens old false at ≡ Ok (place_of new at)
+GoesOn source tokens old at new (Some wanted) =
+    (answer_of source tokens old false at ≡ answer_of source tokens new wanted (at + 1)) × IsSound new.waiting.items × (at < length tokens)
+
+-- this fault is the answer, or memory was wanting
+abbrev pub IsFaultOf : {X : Type 0} → Result X ExprFault → ExprFault → Type 0
+IsFaultOf answer Memory = Unit {0}
+IsFaultOf answer (At place fault) = answer ≡ Err (At place fault)
+
+-- what was returned is the answer, or memory was wanting
+abbrev pub Answers : {X : Type 0} → Result X ExprFault → Result X ExprFault → Type 0
+Answers (Err Memory) answer = Unit {0}
+Answers found answer = answer ≡ found

@@ -5,9 +5,12 @@ mod arithmetic;
 mod expr;
 mod fault;
 mod mark;
+mod parse;
 mod reading;
+mod token_item;
 mod turn;
 mod waiting;
 
 pub use expr::{Expr, Item};
+pub use parse::parse_expr;
 pub use fault::{ExprFault, ExprKind, ValueFault};

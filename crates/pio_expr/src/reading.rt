@@ -1,12 +1,18 @@
 //! An expression that is read: what is written of it, and what waits.
-ghost use Rattle.std.specs.Prelude.{◌≡◌, ◌++◌, [], OnOk, IfErr};
+ghost use Rattle.std.specs.Prelude.{◌≡◌, ℕ, ◌+◌, ◌<◌, ◌++◌, [], List, length, slice_get, IfOk, OnOk, IfErr, true, false};
+ghost use Rattle.std.specs.List.{All};
+ghost use Rattle.pio_lex.specs.declared.token.Token.{Token};
+ghost use Rattle.pio_lex.specs.Tokens.{IsTokenOf};
+ghost use Rattle.pio_expr.specs.Marks.{mark_at};
 ghost use Rattle.pio_expr.specs.Turns.{innermost, is_reverse, is_level, first_before, all_before, kept_before, opened, sign_at, reverse_at, opening, turn_by, close_by, operation_of};
-ghost use Rattle.pio_expr.specs.Waiting.{openings};
+ghost use Rattle.pio_expr.specs.Waiting.{openings, IsSound, GoesOn, answer_of, IsFaultOf};
 
 use crate::mark::Mark;
+use crate::token_item::token_item;
 use crate::turn::Turn;
 use crate::waiting::Waiting;
 use crate::{ExprFault, ExprKind, Item};
+use pio_lex::Token;
 use std::alloc::Global;
 use std::collections::VecDeque;
 
@@ -33,8 +39,66 @@ impl Reading {
         }
     }
 
+    /// Reads a token where an operand is wanted; whether another is wanted behind it.
+    pub fn operand(
+        &mut self,
+        alloc: Global,
+        source: &[u8],
+        tokens: &[Token],
+        at: usize,
+        mark: Mark,
+    ) -> Result<bool, ExprFault>
+        requires tokens { All (IsTokenOf source.now) tokens.now }
+        requires mark { mark ≡ mark_at tokens.now at }
+        requires sound { IsSound self.old.waiting.items }
+        ensures ok { IfOk result (λ wanted. answer_of source.now tokens.now self.old true at
+            ≡ answer_of source.now tokens.now self.new wanted (at + 1)) }
+        ensures sound { OnOk result (IsSound self.new.waiting.items) }
+        ensures inside { OnOk result (at < length tokens.now) }
+        ensures fault { IfErr result
+            (λ fault. IsFaultOf (answer_of source.now tokens.now self.old true at) fault) }
+    {
+        let Some(token) = token_at(tokens, at) else {
+            return Err(fault(at, ExprKind::Syntax));
+        };
+        match self.opening(mark, at) {
+            Ok(Some(opening)) => {
+                self.waiting.push_front(opening)?;
+                Ok(true)
+            }
+            Ok(None) => {
+                self.items.push(token_item(alloc, source, &token)?)?;
+                Ok(false)
+            }
+            Err(fault) => Err(fault),
+        }
+    }
+
+    /// Reads a token behind an operand; whether an operand is wanted behind it, or nothing where the expression ends before it.
+    pub fn behind(&mut self, mark: Mark, at: usize) -> Result<Option<bool>, ExprFault>
+        requires sound { IsSound self.old.waiting.items }
+        ensures ok { (source : List ℕ) (tokens : List Token) → mark_at tokens at ≡ mark
+            → IfOk result (GoesOn source tokens self.old at self.new) }
+        ensures fault { (source : List ℕ) (tokens : List Token) → mark_at tokens at ≡ mark
+            → IfErr result (λ fault. IsFaultOf (answer_of source tokens self.old false at) fault) }
+    {
+        self.write_before(mark)?;
+        match self.turn(mark, at) {
+            Ok(Turn::Operation(operation)) => {
+                self.waiting.push_front(operation)?;
+                Ok(Some(true))
+            }
+            Ok(Turn::Closed) => {
+                let _ = self.waiting.pop_front();
+                Ok(Some(false))
+            }
+            Ok(Turn::End) => Ok(None),
+            Err(fault) => Err(fault),
+        }
+    }
+
     /// What a token opens where an operand is wanted: nothing, where it is a value.
-    pub fn opening(&self, mark: Mark, at: usize) -> Result<Option<Waiting>, ExprFault>
+    fn opening(&self, mark: Mark, at: usize) -> Result<Option<Waiting>, ExprFault>
         ensures { result ≡ opening mark at self.now.waiting.items }
     {
         match mark {
@@ -117,6 +181,12 @@ impl Reading {
             (None, Some(_)) => close(mark, at),
         }
     }
+}
+
+fn token_at(tokens: &[Token], at: usize) -> Option<Token>
+    ensures { result ≡ slice_get tokens.now at }
+{
+    tokens.get(at).copied()
 }
 
 fn close(mark: Mark, at: usize) -> Result<Turn, ExprFault>
