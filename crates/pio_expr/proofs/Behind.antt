@@ -1,24 +1,17 @@
 -- What a token does behind an operand.
-use Rattle.std.proofs.Common.{◌≡◌, ◌≢◌, ℕ, ◌+◌, Bool, true, false, List, [], ◌∷◌, ◌++◌, length, Option, Some, None, Result, Ok, Err, refl, ap, sym, ◌∙◌, subst, arith, rules, cond, append_assoc, append-nil}
+use Rattle.std.proofs.Common.{◌≡◌, ℕ, true, List, [], ◌∷◌, ◌++◌, Option, Some, None, refl, ap, sym, ◌∙◌, rules, append_assoc, append-nil}
 use Rattle.pio_lex.specs.declared.token.Token.{Token}
 use Rattle.pio_expr.specs.declared.expr.Item.{Item}
 use Rattle.pio_expr.specs.declared.expr.Item.TheVariants as item
-use Rattle.pio_expr.specs.declared.fault.ExprKind.TheVariants.{Syntax, Ambiguous}
-use Rattle.pio_expr.specs.declared.fault.ExprFault.{ExprFault}
-use Rattle.pio_expr.specs.declared.fault.ExprFault.TheVariants.{At}
 use Rattle.pio_expr.specs.declared.mark.Mark.{Mark}
 use Rattle.pio_expr.specs.declared.mark.Mark.TheVariants as mark
-use Rattle.pio_expr.specs.declared.turn.Turn.{Turn}
-use Rattle.pio_expr.specs.declared.turn.Turn.TheVariants.{Operation, Closed, End}
 use Rattle.pio_expr.specs.declared.waiting.Waiting.{Waiting}
 use Rattle.pio_expr.specs.declared.waiting.Waiting.TheVariants as waiting
 use Rattle.pio_expr.specs.Marks.{mark_at}
-use Rattle.pio_expr.specs.Grammar.{Place, Read, Reader, readers, then, next, written, closed, closed_by, alone, alone_by, chain_by, product_by, product_goes_on, sum_goes_on, product_operation, sum_operation}
-use Rattle.pio_expr.specs.Waiting.{Rest, rest, left, begins_level, IsSound}
-use Rattle.pio_expr.specs.Turns.{item_before, unless_product, unless_operation, operation_of, innermost, first_before, all_before, kept_before, written_by, kept_by, turn_by, turn_with, turn_without, close_by}
-use Rattle.pio_expr.proofs.Chains.{chain_on, chain_ends}
-use Rattle.pio_expr.proofs.Onward.{readers_onward, product_onward}
-use Rattle.pio_expr.proofs.Steps.{then_assoc}
+use Rattle.pio_expr.specs.Grammar.{Place, Reader, readers, then, written, alone_by, product_by, product_goes_on, sum_goes_on, product_operation, sum_operation}
+use Rattle.pio_expr.specs.Waiting.{rest, left, begins_level, IsSound}
+use Rattle.pio_expr.specs.Turns.{item_before, unless_product, unless_operation, innermost, first_before, all_before, kept_before}
+use Rattle.pio_expr.proofs.Chains.{chain_ends}
 
 -- at the beginning of a parenthesis, what is read behind a unary goes on with a product, then with a sum
 pub unary_of_level : (source : List ℕ) (tokens : List Token) (ws : List Waiting) (p : Place) → begins_level ws ≡ true → (rest source tokens ws).unary p ≡ then (product_goes_on tokens (readers source tokens (left ws)).unary p) (rest source tokens ws).product
@@ -91,7 +84,7 @@ unfolding all_before kept_before
 all_none source tokens w below m p sound e = record {
   same = rw e (ap (λ xs. (rest source tokens (w ∷ below)).unary (record { at = p.at; items = xs })) (sym (append-nil p.items)));
   sound = rw e sound;
-  done = rw e e
+  done = rw e e;
 }
 
 all_some : (source : List ℕ) (tokens : List Token) (w : Waiting) (below : List Waiting) (m : Mark) (i : Item) (p : Place) → item_before w m ≡ Some i → (rest source tokens (w ∷ below)).unary p ≡ (rest source tokens below).unary (written i p) → IsWritten source tokens below m (written i p) → IsWritten source tokens (w ∷ below) m p
@@ -99,7 +92,7 @@ unfolding all_before kept_before
 all_some source tokens w below m i p e same more = record {
   same = rw e (same ∙ more.same ∙ ap (λ xs. (rest source tokens (kept_before below m)).unary (record { at = p.at; items = xs })) (append_assoc p.items (i ∷ []) (all_before below m)));
   sound = rw e more.sound;
-  done = rw e more.done
+  done = rw e more.done;
 }
 
 pub all_written : (source : List ℕ) (tokens : List Token) (ws : List Waiting) (m : Mark) (p : Place) → mark_at tokens p.at ≡ m → IsSound ws → IsWritten source tokens ws m p

@@ -1,14 +1,12 @@
 -- A chain takes all that it can: the number of its steps, which is that of the tokens, never ends it. And no rule steps back.
-use Rattle.std.proofs.Common.{◌≡◌, ◌≢◌, ℕ, zero, suc, ◌+◌, ◌-◌, ◌<◌, ◌≤◌, List, [], ◌∷◌, ◌++◌, length, Option, Some, None, Result, Ok, Err, refl, ap, sym, ◌∙◌, subst, arith, rules, slice_get}
+use Rattle.std.proofs.Common.{◌≡◌, ℕ, zero, suc, ◌+◌, ◌≤◌, List, length, Option, Some, None, Ok, Err, refl, ap, sym, ◌∙◌, arith}
 use Rattle.std.proofs.lemmas.Option.{slice_get_past}
 use Rattle.pio_lex.specs.declared.token.Token.{Token}
 use Rattle.pio_expr.specs.declared.expr.Item.{Item}
-use Rattle.pio_expr.specs.declared.expr.Item.TheVariants as item
-use Rattle.pio_expr.specs.declared.fault.ExprFault.{ExprFault}
 use Rattle.pio_expr.specs.declared.mark.Mark.{Mark}
 use Rattle.pio_expr.specs.declared.mark.Mark.TheVariants as mark
 use Rattle.pio_expr.specs.Marks.{mark_at, mark_by}
-use Rattle.pio_expr.specs.Grammar.{Place, Read, Reader, then, next, written, chain, chain_by, product_operation, sum_operation, product_by, product_goes_on, sum_by, sum_goes_on}
+use Rattle.pio_expr.specs.Grammar.{Place, Read, Reader, then, next, written, chain, chain_by}
 
 -- what was read stands at this place or behind it
 abbrev pub Reaches : ℕ → Read → Type 0
@@ -67,7 +65,7 @@ any_number tokens operation_of operand (suc m) zero place other on few many =
     ends tokens operation_of operand (suc m) place (ap operation_of (no_mark tokens place.at (omega (arith, many))) ∙ other)
 any_number tokens operation_of operand (suc m) (suc n) place other on few many =
     same_steps (λ operation behind. chain tokens operation_of operand m (written operation behind)) (λ operation behind. chain tokens operation_of operand n (written operation behind)) operand (operation_of (mark_at tokens place.at)) place on
-      (λ operation behind h. any_number tokens operation_of operand m n (written operation behind) other on (omega (arith, few, h)) (omega (arith, many, h)))
+    (λ operation behind h. any_number tokens operation_of operand m n (written operation behind) other on (omega (arith, few, h)) (omega (arith, many, h)))
 
 -- a whole chain: no operation, or one, its operand and a whole chain
 pub chain_on : (tokens : List Token) (operation_of : Mark → Option Item) (operand : Reader) (place : Place) → operation_of mark.Other ≡ None → Onward operand → chain tokens operation_of operand (length tokens) place ≡ chain_by operand (λ operation behind. chain tokens operation_of operand (length tokens) (written operation behind)) (operation_of (mark_at tokens place.at)) place
@@ -77,7 +75,7 @@ chain_on tokens operation_of operand place other on = by_number (length tokens) 
   by_number zero few = let none : operation_of (mark_at tokens place.at) ≡ None = ap operation_of (no_mark tokens place.at (omega (arith, few))) ∙ other in rw none refl
   by_number (suc n) few =
       same_steps (λ operation behind. chain tokens operation_of operand n (written operation behind)) (λ operation behind. chain tokens operation_of operand (suc n) (written operation behind)) operand (operation_of (mark_at tokens place.at)) place on
-        (λ operation behind h. any_number tokens operation_of operand n (suc n) (written operation behind) other on (omega (arith, few, h)) (omega (arith, few, h)))
+      (λ operation behind h. any_number tokens operation_of operand n (suc n) (written operation behind) other on (omega (arith, few, h)) (omega (arith, few, h)))
 
 pub chain_ends : (tokens : List Token) (operation_of : Mark → Option Item) (operand : Reader) (place : Place) → operation_of (mark_at tokens place.at) ≡ None → chain tokens operation_of operand (length tokens) place ≡ Ok place
 chain_ends tokens operation_of operand place none = ends tokens operation_of operand (length tokens) place none

@@ -1,5 +1,5 @@
 -- A name's text is ASCII.
-use Rattle.std.proofs.Common.{◌≡◌, ℕ, zero, suc, ◌+◌, ◌<◌, ◌≤◌, Bool, true, false, List, [], ◌∷◌, length, take, drop, refl, ap, sym, ◌∙◌, subst, arith, rules, nat_lt, lit<, IsTrue, slice_index, slice_range}
+use Rattle.std.proofs.Common.{◌≡◌, ℕ, ◌<◌, Bool, true, false, List, length, take, drop, refl, subst, arith, nat_lt, lit<, IsTrue, slice_index}
 use Rattle.std.specs.List.{list_all}
 use Rattle.std.specs.Str.{IsAscii, IsUtf8}
 use Rattle.std.proofs.lemmas.List.Sums.{AllPass-from_list_all}
@@ -13,11 +13,8 @@ use Rattle.pio_lex.specs.declared.token.TokenKind.TheVariants as kind
 use Rattle.pio_lex.specs.Bytes.{is_name_byte}
 use Rattle.pio_lex.specs.Tokens.{IsTokenOf}
 use Rattle.pio_lex.specs.Spellings.{IsSpelling}
-use Rattle.pio_expr.specs.declared.expr.Item.{Item}
 use Rattle.pio_expr.specs.declared.mark.Mark.TheVariants as mark
-use Rattle.pio_expr.specs.declared.expr.Item.TheVariants as item
 use Rattle.pio_expr.specs.Marks.{mark_of}
-use Rattle.pio_expr.specs.Grammar.{item_by}
 
 small : (b : ℕ) → is_name_byte b ≡ true → b < 128
 small b h = grind (arith, common_steps)

@@ -1,11 +1,11 @@
 -- No rule of the grammar steps back.
-use Rattle.std.proofs.Common.{◌≡◌, ℕ, zero, suc, ◌+◌, ◌≤◌, List, length, Option, Some, None, Result, Ok, Err, arith}
+use Rattle.std.proofs.Common.{ℕ, zero, suc, ◌+◌, List, length, Option, Some, None, Ok, arith}
 use Rattle.pio_lex.specs.declared.token.Token.{Token}
 use Rattle.pio_expr.specs.declared.expr.Item.TheVariants as item
 use Rattle.pio_expr.specs.declared.mark.Mark.{Mark}
 use Rattle.pio_expr.specs.declared.mark.Mark.TheVariants as mark
 use Rattle.pio_expr.specs.Marks.{mark_at}
-use Rattle.pio_expr.specs.Grammar.{Place, Read, Reader, Readers, readers, readers_by, value_by, unary_by, level_by, then, next, written, value_read, closed, closed_by, alone, alone_by, product_by, product_goes_on, sum_by, sum_goes_on, product_operation, sum_operation}
+use Rattle.pio_expr.specs.Grammar.{Place, Reader, Readers, readers, readers_by, value_by, unary_by, level_by, next, written, value_read, closed, closed_by, alone, alone_by, product_by, product_goes_on, sum_by, sum_goes_on, product_operation, sum_operation}
 use Rattle.pio_expr.proofs.Chains.{Reaches, Onward, reaches_then, reaches_sooner, chain_onward}
 
 closed_on : (m : Mark) (place : Place) → Reaches place.at (closed_by m place)
@@ -58,7 +58,7 @@ rules_on : (source : List ℕ) (tokens : List Token) (deeper : Option Readers) �
 rules_on source tokens deeper h = record {
   value = λ place. value_on source tokens (mark_at tokens place.at) deeper place h;
   unary = λ place. unary_on source tokens (mark_at tokens place.at) deeper place h;
-  level = λ place. level_on source tokens (mark_at tokens place.at) deeper (readers_by source tokens deeper).unary place h (λ p. unary_on source tokens (mark_at tokens p.at) deeper p h)
+  level = λ place. level_on source tokens (mark_at tokens place.at) deeper (readers_by source tokens deeper).unary place h (λ p. unary_on source tokens (mark_at tokens p.at) deeper p h);
 }
 
 pub readers_onward : (source : List ℕ) (tokens : List Token) (n : ℕ) → AreOnward (readers source tokens n)

@@ -1,5 +1,5 @@
 -- What reading a token where an operand is wanted leaves to read.
-use Rattle.std.proofs.Common.{◌≡◌, ◌≢◌, ℕ, ◌+◌, ◌<◌, ◌≤◌, Bool, true, false, List, [], ◌∷◌, ◌++◌, length, Option, Some, None, Result, Ok, Err, refl, ap, sym, ◌∙◌, subst, arith, rules, cond, nat_lt, slice_get, get_or}
+use Rattle.std.proofs.Common.{◌≡◌, ℕ, ◌+◌, ◌<◌, Bool, true, false, List, [], ◌∷◌, ◌++◌, length, Option, Some, None, Result, Ok, Err, refl, ap, sym, ◌∙◌, subst, cond, nat_lt, slice_get}
 use Rattle.std.proofs.lemmas.Bool.{ltb-true, ltb-false}
 use Rattle.std.proofs.lemmas.Option.{slice_get_within, get_or_from_slice_get}
 use Rattle.std.specs.List.{All}
@@ -16,9 +16,9 @@ use Rattle.pio_expr.specs.declared.turn.Turn.TheVariants.{Operation, Closed, End
 use Rattle.pio_expr.specs.declared.waiting.Waiting.{Waiting}
 use Rattle.pio_expr.specs.declared.waiting.Waiting.TheVariants as waiting
 use Rattle.pio_expr.specs.Marks.{mark_at, mark_of, mark_by}
-use Rattle.pio_expr.specs.Grammar.{Place, Read, next, value_read, items_by, item_by, most_open}
+use Rattle.pio_expr.specs.Grammar.{Place, next, value_read, items_by, item_by, most_open}
 use Rattle.pio_expr.specs.Waiting.{rest, openings, IsSound, IsFaultOf}
-use Rattle.pio_expr.specs.Turns.{innermost, is_level, is_reverse, opened, sign_at, reverse_at, opening, first_before, all_before, kept_before, turn_by, operation_of}
+use Rattle.pio_expr.specs.Turns.{innermost, is_level, is_reverse, opened, opening, first_before, all_before, kept_before, turn_by, operation_of}
 use Rattle.pio_expr.proofs.Chains.{no_mark}
 use Rattle.pio_expr.proofs.Opening.{Opens, opening_is}
 use Rattle.pio_expr.proofs.Behind.{all_written}
@@ -108,8 +108,8 @@ turn_inside tokens kept m at turn is f goes = by_less (nat_lt at (length tokens)
       let other : m ≡ mark.Other = sym is ∙ no_mark tokens at (ltb-false at (length tokens) h) in
       let g : goes_on_turn turn ≡ false = ap goes_on_turn (f ∙ ap (λ k. turn_by (operation_of k) (innermost kept) k at) other) ∙ no_turn (innermost kept) at in
       absurd (true_false (sym goes ∙ g)) where
-    true_false : true ≡ false → ⊥
-    true_false e = cc
+        true_false : true ≡ false → ⊥
+        true_false e = cc
 
 pub operation_inside : (tokens : List Token) (kept : List Waiting) (m : Mark) (at : ℕ) (w : Waiting) → mark_at tokens at ≡ m → Ok (Operation w) ≡ turn_by (operation_of m) (innermost kept) m at → at < length tokens
 unfolding goes_on_turn

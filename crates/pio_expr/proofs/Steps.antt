@@ -1,20 +1,14 @@
 -- What one token does to what is left to read.
-use Rattle.std.proofs.Common.{◌≡◌, ◌≢◌, ℕ, zero, suc, ◌+◌, ◌-◌, ◌<◌, ◌≤◌, Bool, true, false, List, [], ◌∷◌, ◌++◌, length, Option, Some, None, Result, Ok, Err, refl, ap, sym, ◌∙◌, subst, arith, rules, nat_lt, cond}
+use Rattle.std.proofs.Common.{◌≡◌, ◌≢◌, ℕ, zero, suc, Bool, true, false, List, [], ◌∷◌, Option, Some, None, Ok, Err, refl, ap, sym, ◌∙◌}
 use Rattle.pio_lex.specs.declared.token.Token.{Token}
-use Rattle.pio_expr.specs.declared.expr.Item.{Item}
-use Rattle.pio_expr.specs.declared.expr.Item.TheVariants as item
-use Rattle.pio_expr.specs.declared.fault.ExprKind.TheVariants.{Syntax, TooDeep, Ambiguous}
-use Rattle.pio_expr.specs.declared.fault.ExprFault.TheVariants.{At}
 use Rattle.pio_expr.specs.declared.mark.Mark.{Mark}
 use Rattle.pio_expr.specs.declared.mark.Mark.TheVariants as mark
 use Rattle.pio_expr.specs.declared.waiting.Waiting.{Waiting}
 use Rattle.pio_expr.specs.declared.waiting.Waiting.TheVariants as waiting
 use Rattle.pio_expr.specs.Marks.{mark_at}
-use Rattle.pio_expr.specs.Grammar.{Place, Read, Reader, Readers, readers, readers_by, value_by, unary_by, level_by, then, next, written, value_read, closed, closed_by, alone, alone_by, chain_by, product_by, product_goes_on, sum_by, sum_goes_on, product_operation, sum_operation, most_open}
-use Rattle.pio_expr.specs.Waiting.{Rest, rest, openings, left, begins_level, IsSound, rest_of_level}
-use Rattle.pio_expr.specs.Turns.{item_before, operation_of, innermost, is_level, is_reverse}
-use Rattle.pio_expr.proofs.Chains.{chain_on, chain_ends}
-use Rattle.pio_expr.proofs.Onward.{AreOnward, readers_onward, product_onward}
+use Rattle.pio_expr.specs.Grammar.{Place, Read, Reader, Readers, readers, readers_by, value_by, unary_by, level_by, then, product_goes_on, sum_by, sum_goes_on, most_open}
+use Rattle.pio_expr.specs.Waiting.{rest, left, rest_of_level}
+use Rattle.pio_expr.specs.Turns.{innermost, is_reverse}
 
 pub then_assoc : (read : Read) (f g : Reader) → then (then read f) g ≡ then read (λ p. then (f p) g)
 then_assoc (Ok place) f g = refl
@@ -39,16 +33,18 @@ unary_at source tokens n m p is = ap (λ (r : Readers). r.unary p) (readers_at s
 pub level_at : (source : List ℕ) (tokens : List Token) (n : ℕ) (m : Mark) (p : Place) → mark_at tokens p.at ≡ m → (readers source tokens n).level p ≡ level_by source tokens m (deeper_of source tokens n) (readers source tokens n).unary p
 level_at source tokens n m p is =
     ap (λ (r : Readers). r.level p) (readers_at source tokens n) ∙ ap (λ k. level_by source tokens k (deeper_of source tokens n) (readers_by source tokens (deeper_of source tokens n)).unary p) is
-      ∙ ap (λ (r : Readers). level_by source tokens m (deeper_of source tokens n) r.unary p) (sym (readers_at source tokens n))
+    ∙ ap (λ (r : Readers). level_by source tokens m (deeper_of source tokens n) r.unary p) (sym (readers_at source tokens n))
 
 -- a parenthesis that doesn't begin with `::` begins with a unary
 level_unary : (source : List ℕ) (tokens : List Token) (n : ℕ) (level : Reader) (m : Mark) (p : Place) → mark_at tokens p.at ≡ m → m ≢ mark.Reverse → (rest_of_level source tokens n level).wants p ≡ then ((readers source tokens n).unary p) (rest_of_level source tokens n level).unary
 level_unary source tokens n level m p is other = ap (λ read. then read level) (level_at source tokens n m p is ∙ by_mark m other) ∙ joined where
   unary : Reader
   unary = (readers source tokens n).unary
+
   by_mark : (k : Mark) → k ≢ mark.Reverse → level_by source tokens k (deeper_of source tokens n) (readers source tokens n).unary p ≡ sum_by tokens (readers source tokens n).unary p
   by_mark mark.Reverse never = absurd (never refl)
   by_mark _ never = refl
+
   joined : then (sum_by tokens (readers source tokens n).unary p) level ≡ then ((readers source tokens n).unary p) (rest_of_level source tokens n level).unary
   joined = by_read ((readers source tokens n).unary p) where
     by_read : (read : Read) → then (then (then read (product_goes_on tokens (readers source tokens n).unary)) (sum_goes_on tokens (readers source tokens n).unary)) level ≡ then read (rest_of_level source tokens n level).unary
@@ -80,6 +76,7 @@ wants_plain source tokens ws m p is other plain = by_top (is_reverse (innermost 
   by_mark mark.Reverse never not = absurd (never refl)
   by_mark mark.Minus never not = absurd (not refl)
   by_mark _ never not = refl
+
   by_top : (b : Bool) → is_reverse (innermost ws) ≡ b → (rest source tokens ws).wants p ≡ then (value_by source tokens m (deeper_of source tokens (left ws)) p) (rest source tokens ws).unary
   by_top true e = wants_value source tokens ws p e ∙ ap (λ read. then read (rest source tokens ws).unary) (value_at source tokens (left ws) m p is)
   by_top false e = wants_unary source tokens ws m p is other e ∙ ap (λ read. then read (rest source tokens ws).unary) (unary_at source tokens (left ws) m p is ∙ by_mark m other plain)

@@ -1,11 +1,9 @@
 -- What a token does behind an operand, where nothing is left to write before it.
-use Rattle.std.proofs.Common.{◌≡◌, ◌≢◌, ℕ, ◌+◌, Bool, true, false, List, [], ◌∷◌, ◌++◌, length, drop, Option, Some, None, Result, Ok, Err, refl, ap, sym, ◌∙◌, subst, arith, rules, cond}
+use Rattle.std.proofs.Common.{◌≡◌, ℕ, true, List, [], ◌∷◌, drop, Some, None, Result, Ok, Err, refl, ap, ◌∙◌}
 use Rattle.pio_lex.specs.declared.token.Token.{Token}
 use Rattle.pio_expr.specs.declared.expr.Item.{Item}
 use Rattle.pio_expr.specs.declared.expr.Item.TheVariants as item
-use Rattle.pio_expr.specs.declared.fault.ExprKind.TheVariants.{Syntax, Ambiguous}
 use Rattle.pio_expr.specs.declared.fault.ExprFault.{ExprFault}
-use Rattle.pio_expr.specs.declared.fault.ExprFault.TheVariants.{At}
 use Rattle.pio_expr.specs.declared.mark.Mark.{Mark}
 use Rattle.pio_expr.specs.declared.mark.Mark.TheVariants as mark
 use Rattle.pio_expr.specs.declared.turn.Turn.{Turn}
@@ -13,13 +11,13 @@ use Rattle.pio_expr.specs.declared.turn.Turn.TheVariants.{Operation, Closed, End
 use Rattle.pio_expr.specs.declared.waiting.Waiting.{Waiting}
 use Rattle.pio_expr.specs.declared.waiting.Waiting.TheVariants as waiting
 use Rattle.pio_expr.specs.Marks.{mark_at}
-use Rattle.pio_expr.specs.Grammar.{Place, Read, Reader, readers, then, next, written, closed, closed_by, alone, alone_by, chain_by, product_by, product_goes_on, sum_goes_on, product_operation, sum_operation}
-use Rattle.pio_expr.specs.Waiting.{Rest, rest, left, begins_level, IsSound}
-use Rattle.pio_expr.specs.Turns.{item_before, operation_of, innermost, first_before, turn_by, turn_with, turn_without, close_by}
-use Rattle.pio_expr.proofs.Chains.{Onward, chain_on, chain_ends}
+use Rattle.pio_expr.specs.Grammar.{Place, Read, Reader, readers, then, next, written, closed_by, alone_by, chain_by, product_by, product_goes_on, sum_goes_on, product_operation, sum_operation}
+use Rattle.pio_expr.specs.Waiting.{rest, left, begins_level, IsSound}
+use Rattle.pio_expr.specs.Turns.{item_before, operation_of, innermost, first_before, turn_by}
+use Rattle.pio_expr.proofs.Chains.{Onward, chain_on}
 use Rattle.pio_expr.proofs.Onward.{readers_onward, product_onward}
 use Rattle.pio_expr.proofs.Steps.{then_assoc}
-use Rattle.pio_expr.proofs.Behind.{unary_of_level, product_of_level, product_ends, sum_ends}
+use Rattle.pio_expr.proofs.Behind.{product_of_level, product_ends, sum_ends}
 
 -- what is read on behind a turn
 abbrev pub Turns : List ℕ → List Token → List Waiting → Place → Result Turn ExprFault → Type 0
@@ -32,16 +30,16 @@ Turns source tokens ws p (Err fault) = (rest source tokens ws).unary p ≡ Err f
 product_more : (tokens : List Token) (unary : Reader) (k : Reader) (i : Item) (p : Place) → Onward unary → product_operation (mark_at tokens p.at) ≡ Some i → then (product_goes_on tokens unary p) k ≡ then (unary (next p)) (λ q. then (product_goes_on tokens unary (written i q)) k)
 product_more tokens unary k i p on e =
     ap (λ read. then read k) (chain_on tokens product_operation unary p refl on ∙ ap (λ o. chain_by unary (λ operation q. product_goes_on tokens unary (written operation q)) o p) e)
-      ∙ then_assoc (unary (next p)) (λ q. product_goes_on tokens unary (written i q)) k
+    ∙ then_assoc (unary (next p)) (λ q. product_goes_on tokens unary (written i q)) k
 
 -- an operation of a sum goes on behind its operand
 sum_more : (tokens : List Token) (unary : Reader) (k : Reader) (i : Item) (p : Place) → Onward unary → sum_operation (mark_at tokens p.at) ≡ Some i → then (sum_goes_on tokens unary p) k ≡ then (unary (next p)) (λ q. then (product_goes_on tokens unary q) (λ r. then (sum_goes_on tokens unary (written i r)) k))
 sum_more tokens unary k i p on e =
     ap (λ read. then read k) (chain_on tokens sum_operation (product_by tokens unary) p refl (product_onward tokens unary on) ∙ ap (λ o. chain_by (product_by tokens unary) (λ operation q. sum_goes_on tokens unary (written operation q)) o p) e)
-      ∙ by_read (unary (next p)) where
-  by_read : (read : Read) → then (then (then read (product_goes_on tokens unary)) (λ q. sum_goes_on tokens unary (written i q))) k ≡ then read (λ q. then (product_goes_on tokens unary q) (λ r. then (sum_goes_on tokens unary (written i r)) k))
-  by_read (Ok q) = then_assoc (product_goes_on tokens unary q) (λ r. sum_goes_on tokens unary (written i r)) k
-  by_read (Err fault) = refl
+    ∙ by_read (unary (next p)) where
+      by_read : (read : Read) → then (then (then read (product_goes_on tokens unary)) (λ q. sum_goes_on tokens unary (written i q))) k ≡ then read (λ q. then (product_goes_on tokens unary q) (λ r. then (sum_goes_on tokens unary (written i r)) k))
+      by_read (Ok q) = then_assoc (product_goes_on tokens unary q) (λ r. sum_goes_on tokens unary (written i r)) k
+      by_read (Err fault) = refl
 
 star_is : (source : List ℕ) (tokens : List Token) (ws : List Waiting) (p : Place) → mark_at tokens p.at ≡ mark.Star → begins_level ws ≡ true → (rest source tokens ws).unary p ≡ (rest source tokens (waiting.Multiply ∷ ws)).wants (next p)
 unfolding rest
@@ -64,7 +62,7 @@ plus_shape source tokens (w ∷ below) p e = cc
 plus_is : (source : List ℕ) (tokens : List Token) (ws : List Waiting) (p : Place) → mark_at tokens p.at ≡ mark.Plus → begins_level ws ≡ true → (rest source tokens ws).unary p ≡ (rest source tokens (waiting.Add ∷ ws)).wants (next p)
 plus_is source tokens ws p is begins =
     product_ends source tokens ws p (ap product_operation is) begins ∙ product_of_level source tokens ws p begins
-      ∙ sum_more tokens (readers source tokens (left ws)).unary (rest source tokens ws).level item.Add p (readers_onward source tokens (left ws)).unary (ap sum_operation is) ∙ plus_shape source tokens ws p begins
+    ∙ sum_more tokens (readers source tokens (left ws)).unary (rest source tokens ws).level item.Add p (readers_onward source tokens (left ws)).unary (ap sum_operation is) ∙ plus_shape source tokens ws p begins
 
 minus_shape : (source : List ℕ) (tokens : List Token) (ws : List Waiting) (p : Place) → begins_level ws ≡ true → then ((readers source tokens (left ws)).unary (next p)) (λ q. then (product_goes_on tokens (readers source tokens (left ws)).unary q) (λ r. then (sum_goes_on tokens (readers source tokens (left ws)).unary (written item.Subtract r)) (rest source tokens ws).level)) ≡ (rest source tokens (waiting.Subtract ∷ ws)).wants (next p)
 unfolding rest
@@ -75,20 +73,22 @@ minus_shape source tokens (w ∷ below) p e = cc
 minus_is : (source : List ℕ) (tokens : List Token) (ws : List Waiting) (p : Place) → mark_at tokens p.at ≡ mark.Minus → begins_level ws ≡ true → (rest source tokens ws).unary p ≡ (rest source tokens (waiting.Subtract ∷ ws)).wants (next p)
 minus_is source tokens ws p is begins =
     product_ends source tokens ws p (ap product_operation is) begins ∙ product_of_level source tokens ws p begins
-      ∙ sum_more tokens (readers source tokens (left ws)).unary (rest source tokens ws).level item.Subtract p (readers_onward source tokens (left ws)).unary (ap sum_operation is) ∙ minus_shape source tokens ws p begins
+    ∙ sum_more tokens (readers source tokens (left ws)).unary (rest source tokens ws).level item.Subtract p (readers_onward source tokens (left ws)).unary (ap sum_operation is) ∙ minus_shape source tokens ws p begins
 
 -- behind a sum, an operation of a product
 inner_star : (source : List ℕ) (tokens : List Token) (below : List Waiting) (p : Place) → mark_at tokens p.at ≡ mark.Star → ((rest source tokens (waiting.Add ∷ below)).unary p ≡ (rest source tokens (waiting.Multiply ∷ waiting.Add ∷ below)).wants (next p)) × ((rest source tokens (waiting.Subtract ∷ below)).unary p ≡ (rest source tokens (waiting.Multiply ∷ waiting.Subtract ∷ below)).wants (next p))
 unfolding rest
-inner_star source tokens below p is =
-    (product_more tokens (readers source tokens (left below)).unary (rest source tokens (waiting.Add ∷ below)).product item.Multiply p (readers_onward source tokens (left below)).unary (ap product_operation is),
-     product_more tokens (readers source tokens (left below)).unary (rest source tokens (waiting.Subtract ∷ below)).product item.Multiply p (readers_onward source tokens (left below)).unary (ap product_operation is))
+inner_star source tokens below p is = (
+  product_more tokens (readers source tokens (left below)).unary (rest source tokens (waiting.Add ∷ below)).product item.Multiply p (readers_onward source tokens (left below)).unary (ap product_operation is),
+  product_more tokens (readers source tokens (left below)).unary (rest source tokens (waiting.Subtract ∷ below)).product item.Multiply p (readers_onward source tokens (left below)).unary (ap product_operation is),
+)
 
 inner_slash : (source : List ℕ) (tokens : List Token) (below : List Waiting) (p : Place) → mark_at tokens p.at ≡ mark.Slash → ((rest source tokens (waiting.Add ∷ below)).unary p ≡ (rest source tokens (waiting.Divide ∷ waiting.Add ∷ below)).wants (next p)) × ((rest source tokens (waiting.Subtract ∷ below)).unary p ≡ (rest source tokens (waiting.Divide ∷ waiting.Subtract ∷ below)).wants (next p))
 unfolding rest
-inner_slash source tokens below p is =
-    (product_more tokens (readers source tokens (left below)).unary (rest source tokens (waiting.Add ∷ below)).product item.Divide p (readers_onward source tokens (left below)).unary (ap product_operation is),
-     product_more tokens (readers source tokens (left below)).unary (rest source tokens (waiting.Subtract ∷ below)).product item.Divide p (readers_onward source tokens (left below)).unary (ap product_operation is))
+inner_slash source tokens below p is = (
+  product_more tokens (readers source tokens (left below)).unary (rest source tokens (waiting.Add ∷ below)).product item.Divide p (readers_onward source tokens (left below)).unary (ap product_operation is),
+  product_more tokens (readers source tokens (left below)).unary (rest source tokens (waiting.Subtract ∷ below)).product item.Divide p (readers_onward source tokens (left below)).unary (ap product_operation is),
+)
 
 -- behind a whole expression
 level_ends : (source : List ℕ) (tokens : List Token) (ws : List Waiting) (m : Mark) (p : Place) → mark_at tokens p.at ≡ m → operation_of m ≡ None → begins_level ws ≡ true → (rest source tokens ws).unary p ≡ (rest source tokens ws).level p
@@ -97,6 +97,7 @@ level_ends source tokens ws m p is none begins = product_ends source tokens ws p
   no_product mark.Star e f = cc
   no_product mark.Slash e f = cc
   no_product _ e f = ap product_operation f
+
   no_sum : (m : Mark) → operation_of m ≡ None → mark_at tokens p.at ≡ m → sum_operation (mark_at tokens p.at) ≡ None
   no_sum mark.Plus e f = cc
   no_sum mark.Minus e f = cc

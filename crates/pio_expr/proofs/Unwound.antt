@@ -1,9 +1,9 @@
 -- One step of writing what is complete before a token.
-use Rattle.std.proofs.Common.{◌≡◌, ℕ, List, [], ◌∷◌, ◌++◌, drop, Option, Some, None, refl, ap, sym, ◌∙◌, append_assoc, arith, rules, IsNone}
+use Rattle.std.proofs.Common.{◌≡◌, List, [], ◌∷◌, drop, Some, None, refl}
 use Rattle.pio_expr.specs.declared.expr.Item.{Item}
 use Rattle.pio_expr.specs.declared.mark.Mark.{Mark}
 use Rattle.pio_expr.specs.declared.waiting.Waiting.{Waiting}
-use Rattle.pio_expr.specs.Turns.{innermost, first_before, all_before, kept_before, written_by, kept_by, item_before}
+use Rattle.pio_expr.specs.Turns.{innermost, first_before, all_before, kept_before}
 
 pub one_written : (ws below : List Waiting) (m : Mark) (i : Item) → first_before (innermost ws) m ≡ Some i → below ≡ drop 1 ws → all_before ws m ≡ i ∷ all_before below m
 unfolding all_before

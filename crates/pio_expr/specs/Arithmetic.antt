@@ -1,5 +1,5 @@
 -- What the operations of an expression give: whole numbers, each result a signed number of 32 bits (choice of this profile).
-use Rattle.std.specs.Prelude.{ℕ, zero, ℤ, ◌^◌, pos, negsuc, ◌+ℤ◌, ◌-ℤ◌, ◌*ℤ◌, neg_ℤ, int_div, nat_lt, Bool, Result, Ok, Err, if◌then◌else◌}
+use Rattle.std.specs.Prelude.{zero, ℤ, ◌^◌, pos, negsuc, ◌+ℤ◌, ◌-ℤ◌, ◌*ℤ◌, neg_ℤ, int_div, nat_lt, Bool, Result, Ok, Err, if◌then◌else◌}
 use Rattle.shift_engine.specs.Reverse.{reversed_signed}
 use Rattle.pio_expr.specs.declared.fault.ValueFault.{ValueFault}
 use Rattle.pio_expr.specs.declared.fault.ValueFault.TheVariants.{DivZero, Overflow}

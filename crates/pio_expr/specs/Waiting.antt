@@ -2,14 +2,12 @@
 --   Rest          what the grammar reads on, behind an operand or for one
 --   rest          the same, of the openings and operations that wait, the innermost first
 --   IsSound       what can wait for what
-use Rattle.std.specs.Prelude.{◌≡◌, ℕ, ◌+◌, ◌-◌, ◌<◌, length, Bool, true, false, List, [], ◌∷◌, ◌++◌, Option, Some, None, Result, Ok, Err, count_by}
+use Rattle.std.specs.Prelude.{◌≡◌, ℕ, ◌+◌, ◌-◌, ◌<◌, length, Bool, true, false, List, [], ◌∷◌, Option, Some, None, Result, Ok, Err, count_by}
 use Rattle.pio_lex.specs.declared.token.Token.{Token}
 use Rattle.pio_expr.specs.declared.expr.Item.{Item}
 use Rattle.pio_expr.specs.declared.expr.Item.TheVariants as item
 use Rattle.pio_expr.specs.declared.fault.ExprFault.{ExprFault}
 use Rattle.pio_expr.specs.declared.fault.ExprFault.TheVariants.{Memory, At}
-use Rattle.pio_expr.specs.declared.mark.Mark.{Mark}
-use Rattle.pio_expr.specs.declared.mark.Mark.TheVariants as mark
 use Rattle.pio_expr.specs.declared.reading.Reading.{Reading}
 use Rattle.pio_expr.specs.declared.waiting.Waiting.{Waiting}
 use Rattle.pio_expr.specs.declared.waiting.Waiting.TheVariants as waiting
@@ -103,11 +101,11 @@ place_of reading at = record { at = at; items = reading.items.items }
 abbrev pub answer_of : List ℕ → List Token → Reading → Bool → ℕ → Read
 answer_of source tokens reading wanted at = goes_on wanted (rest source tokens reading.waiting.items) (place_of reading at)
 
--- behind an operand and a token: what is read on, or that the whole ends before the token
-abbrev pub GoesOn : List ℕ → List Token → Reading → ℕ → Reading → Option Bool → Type 0
-GoesOn source tokens old at new None = answer_of source tokens old false at ≡ Ok (place_of new at)
-GoesOn source tokens old at new (Some wanted) =
-    (answer_of source tokens old false at ≡ answer_of source tokens new wanted (at + 1)) × IsSound new.waiting.items × (at < length tokens)
+-- behind one more token: what is read on, or that the whole ends before the token
+abbrev pub GoesOn : List ℕ → List Token → Reading → Bool → ℕ → Reading → Option Bool → Type 0
+GoesOn source tokens old wanted at new None = answer_of source tokens old wanted at ≡ Ok (place_of new at)
+GoesOn source tokens old wanted at new (Some next) =
+    (answer_of source tokens old wanted at ≡ answer_of source tokens new next (at + 1)) × IsSound new.waiting.items × (at < length tokens)
 
 -- this fault is the answer, or memory was wanting
 abbrev pub IsFaultOf : {X : Type 0} → Result X ExprFault → ExprFault → Type 0

@@ -12,5 +12,5 @@ mod turn;
 mod waiting;
 
 pub use expr::{Expr, Item};
-pub use parse::parse_expr;
 pub use fault::{ExprFault, ExprKind, ValueFault};
+pub use parse::parse_expr;

@@ -1,11 +1,10 @@
 //! From tokens to an expression.
-ghost use Rattle.std.specs.Prelude.{◌≡◌, ◌≤◌, Ok, Err, length};
+ghost use Rattle.std.specs.Prelude.{◌≤◌, length};
 ghost use Rattle.std.specs.List.{All};
 ghost use Rattle.pio_lex.specs.Tokens.{IsTokenOf};
 ghost use Rattle.pio_expr.specs.Grammar.{expression_at};
 ghost use Rattle.pio_expr.specs.Waiting.{Answers};
 
-use crate::mark::mark_at;
 use crate::reading::Reading;
 use crate::{Expr, ExprFault};
 use pio_lex::Token;
@@ -29,18 +28,10 @@ pub fn parse_expr(
     let mut wanted = true;
     let mut at = from;
     loop {
-        let mark = mark_at(tokens, at);
-        if wanted {
-            match reading.operand(alloc, source, tokens, at, mark) {
-                Ok(next) => wanted = next,
-                Err(fault) => return Err(fault),
-            }
-        } else {
-            match reading.behind(mark, at) {
-                Ok(Some(next)) => wanted = next,
-                Ok(None) => return Ok((Expr::new(reading.items), at)),
-                Err(fault) => return Err(fault),
-            }
+        match reading.step(alloc, source, tokens, at, wanted) {
+            Ok(Some(next)) => wanted = next,
+            Ok(None) => return Ok((Expr::new(reading.items), at)),
+            Err(fault) => return Err(fault),
         }
         at += 1;
     }

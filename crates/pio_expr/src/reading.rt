@@ -7,7 +7,7 @@ ghost use Rattle.pio_expr.specs.Marks.{mark_at};
 ghost use Rattle.pio_expr.specs.Turns.{innermost, is_reverse, is_level, first_before, all_before, kept_before, opened, sign_at, reverse_at, opening, turn_by, close_by, operation_of};
 ghost use Rattle.pio_expr.specs.Waiting.{openings, IsSound, GoesOn, answer_of, IsFaultOf};
 
-use crate::mark::Mark;
+use crate::mark::{Mark, mark_at};
 use crate::token_item::token_item;
 use crate::turn::Turn;
 use crate::waiting::Waiting;
@@ -39,8 +39,33 @@ impl Reading {
         }
     }
 
+    /// Reads one more token; whether an operand is wanted behind it, or nothing where the expression ends before it.
+    pub fn step(
+        &mut self,
+        alloc: Global,
+        source: &[u8],
+        tokens: &[Token],
+        at: usize,
+        wanted: bool,
+    ) -> Result<Option<bool>, ExprFault>
+        requires tokens { All (IsTokenOf source.now) tokens.now }
+        requires sound { IsSound self.old.waiting.items }
+        ensures ok { IfOk result (GoesOn source.now tokens.now self.old wanted at self.new) }
+        ensures fault { IfErr result
+            (λ fault. IsFaultOf (answer_of source.now tokens.now self.old wanted at) fault) }
+    {
+        let mark = mark_at(tokens, at);
+        if !wanted {
+            return self.behind(mark, at);
+        }
+        match self.operand(alloc, source, tokens, at, mark) {
+            Ok(next) => Ok(Some(next)),
+            Err(fault) => Err(fault),
+        }
+    }
+
     /// Reads a token where an operand is wanted; whether another is wanted behind it.
-    pub fn operand(
+    fn operand(
         &mut self,
         alloc: Global,
         source: &[u8],
@@ -75,10 +100,10 @@ impl Reading {
     }
 
     /// Reads a token behind an operand; whether an operand is wanted behind it, or nothing where the expression ends before it.
-    pub fn behind(&mut self, mark: Mark, at: usize) -> Result<Option<bool>, ExprFault>
+    fn behind(&mut self, mark: Mark, at: usize) -> Result<Option<bool>, ExprFault>
         requires sound { IsSound self.old.waiting.items }
         ensures ok { (source : List ℕ) (tokens : List Token) → mark_at tokens at ≡ mark
-            → IfOk result (GoesOn source tokens self.old at self.new) }
+            → IfOk result (GoesOn source tokens self.old false at self.new) }
         ensures fault { (source : List ℕ) (tokens : List Token) → mark_at tokens at ≡ mark
             → IfErr result (λ fault. IsFaultOf (answer_of source tokens self.old false at) fault) }
     {
@@ -147,7 +172,10 @@ impl Reading {
     fn openings(&self) -> usize
         ensures { result ≡ openings self.now.waiting.items }
     {
-        self.waiting.iter().filter(|waiting| waiting.opens()).count()
+        self.waiting
+            .iter()
+            .filter(|waiting| waiting.opens())
+            .count()
     }
 
     fn innermost(&self) -> Option<Waiting>

@@ -1,7 +1,6 @@
 use Rattle.std.proofs.Common.{◌≡◌, ◌∙◌, ◌+◌, ◌-◌, ℕ, ap, sym, take, drop, arith}
 use Rattle.pio_lex.specs.declared.token.TokenKind.TheVariants as kind
 use Rattle.pio_expr.specs.declared.expr.Item.TheVariants as item
-use Rattle.pio_expr.specs.Grammar.{item_by}
 use Rattle.pio_expr.proofs.Names.{name_is_text, name_of_value}
 use Rattle.pio_expr.proofs.token_item.token_item.Goals as goal
 
@@ -14,5 +13,5 @@ returns-in_ok-from_utf8_lossy-in_default c =
     let g = rw (back t.first t.length) at c.in_ok-from_utf8_lossy-in_default.ensures.ok in
     record {
       ok = rw name (ap (λ xs. item.Name xs) (c.new.ensures ∙ g h ∙ ap (λ n. take n (drop t.first c.args.source.now)) (sym (back t.first t.length))));
-      memory = tt
+      memory = tt;
     }

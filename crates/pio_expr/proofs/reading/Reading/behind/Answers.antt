@@ -1,4 +1,4 @@
-use Rattle.std.proofs.Common.{◌≡◌, ◌++◌, ◌∷◌, [], ◌∙◌, ap, sym, rules, Ok, Err, Some, None}
+use Rattle.std.proofs.Common.{◌≡◌, ◌∙◌, rules, Ok, Err}
 use Rattle.pio_expr.specs.declared.turn.Turn.TheVariants.{Operation, Closed, End}
 use Rattle.pio_expr.specs.Turns.{turn_by, operation_of, innermost}
 use Rattle.pio_expr.proofs.Operands.{behind_same, behind_turn, operation_inside, closed_inside, fault_is}

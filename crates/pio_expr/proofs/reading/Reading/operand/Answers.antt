@@ -1,7 +1,5 @@
-use Rattle.std.proofs.Common.{◌≡◌, ◌++◌, ◌∷◌, [], ◌∙◌, ap, sym, rules, Ok, Err, Some, None, slice_get}
-use Rattle.pio_expr.specs.Grammar.{Place}
+use Rattle.std.proofs.Common.{◌≡◌, ◌∙◌, sym, rules, Ok, Err, Some, None, slice_get}
 use Rattle.pio_expr.specs.Turns.{opening}
-use Rattle.pio_expr.specs.Waiting.{rest}
 use Rattle.pio_expr.proofs.Operands.{opening_fault, opening_more, opening_value, opening_inside, opening_none, value_token, token_items, token_of_all, opening_outside}
 use Rattle.pio_expr.proofs.reading.Reading.operand.Goals as goal
 

@@ -12,7 +12,7 @@ loop-item-preserved c =
     let first : first_before (innermost ws) m ≡ Some i = search rules in
     record {
       items = rw (c.in_ok-push.ensures.items) (append_assoc c.loop-item.self.items.items (i ∷ []) _ ∙ ap (λ xs. c.loop-item.self.items.items ++ xs) (sym (one_written ws below m i first c.pop_front.ensures.rest)) ∙ c.loop-item.invariant.items);
-      waiting = sym (one_kept ws below m i first c.pop_front.ensures.rest) ∙ c.loop-item.invariant.waiting
+      waiting = sym (one_kept ws below m i first c.pop_front.ensures.rest) ∙ c.loop-item.invariant.waiting;
     }
 
 pub returns-clause-items : goal.returns-clause-items
