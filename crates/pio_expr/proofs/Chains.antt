@@ -1,0 +1,81 @@
+-- A chain takes all that it can: the number of its steps, which is that of the tokens, never ends it. And no rule steps back.
+use Rattle.std.proofs.Common.{◌≡◌, ℕ, zero, suc, ◌+◌, ◌≤◌, List, length, Option, Some, None, Ok, Err, refl, ap, sym, ◌∙◌, arith}
+use Rattle.std.proofs.lemmas.Option.{slice_get_past}
+use Rattle.pio_lex.specs.declared.token.Token.{Token}
+use Rattle.pio_expr.specs.declared.expr.Item.{Item}
+use Rattle.pio_expr.specs.declared.mark.Mark.{Mark}
+use Rattle.pio_expr.specs.declared.mark.Mark.TheVariants as mark
+use Rattle.pio_expr.specs.Marks.{mark_at, mark_by}
+use Rattle.pio_expr.specs.Grammar.{Place, Read, Reader, then, next, written, chain, chain_by}
+
+-- what was read stands at this place or behind it
+abbrev pub Reaches : ℕ → Read → Type 0
+Reaches from (Ok place) = from ≤ place.at
+Reaches from (Err fault) = Unit {0}
+
+-- a rule doesn't step back
+abbrev pub Onward : Reader → Type 0
+Onward reader = (place : Place) → Reaches place.at (reader place)
+
+pub reaches_then : (from : ℕ) (read : Read) (reader : Reader) → Reaches from read → Onward reader → Reaches from (then read reader)
+reaches_then from (Ok place) reader h on = reaches_on from place.at (reader place) h (on place) where
+  reaches_on : (a b : ℕ) (read : Read) → a ≤ b → Reaches b read → Reaches a read
+  reaches_on a b (Ok place) h k = omega (arith, h, k)
+  reaches_on a b (Err fault) h k = tt
+reaches_then from (Err fault) reader h on = tt
+
+pub reaches_sooner : (a b : ℕ) (read : Read) → a ≤ b → Reaches b read → Reaches a read
+reaches_sooner a b (Ok place) h k = omega (arith, h, k)
+reaches_sooner a b (Err fault) h k = tt
+
+chain_step_onward : (at : ℕ) (operand : Reader) (rest : Item → Reader) (o : Option Item) (place : Place) → Onward operand → ((operation : Item) → Onward (rest operation)) → Reaches place.at (chain_by operand rest o place)
+chain_step_onward at operand rest None place on more = omega arith
+chain_step_onward at operand rest (Some operation) place on more =
+    reaches_then place.at (operand (next place)) (rest operation) (reaches_sooner place.at (place.at + 1) (operand (next place)) (omega arith) (on (next place))) (more operation)
+
+pub chain_onward : (tokens : List Token) (operation_of : Mark → Option Item) (operand : Reader) (n : ℕ) → Onward operand → Onward (chain tokens operation_of operand n)
+unfolding chain
+chain_onward tokens operation_of operand zero on place = omega arith
+chain_onward tokens operation_of operand (suc n) on place =
+    chain_step_onward 0 operand (λ operation behind. chain tokens operation_of operand n (written operation behind)) (operation_of (mark_at tokens place.at)) place on (λ operation behind. chain_onward tokens operation_of operand n on (written operation behind))
+
+-- behind the last token stands none
+pub no_mark : (tokens : List Token) (at : ℕ) → length tokens ≤ at → mark_at tokens at ≡ mark.Other
+unfolding mark_at
+no_mark tokens at h = ap mark_by (slice_get_past tokens at h)
+
+same_steps : (rest1 rest2 : Item → Reader) (operand : Reader) (o : Option Item) (place : Place) → Onward operand → ((operation : Item) (behind : Place) → place.at + 1 ≤ behind.at → rest1 operation behind ≡ rest2 operation behind) → chain_by operand rest1 o place ≡ chain_by operand rest2 o place
+same_steps rest1 rest2 operand None place on same = refl
+same_steps rest1 rest2 operand (Some operation) place on same = by_operand (operand (next place)) (on (next place)) where
+  by_operand : (read : Read) → Reaches (place.at + 1) read → then read (rest1 operation) ≡ then read (rest2 operation)
+  by_operand (Ok behind) h = same operation behind h
+  by_operand (Err fault) h = refl
+
+ends : (tokens : List Token) (operation_of : Mark → Option Item) (operand : Reader) (n : ℕ) (place : Place) → operation_of (mark_at tokens place.at) ≡ None → chain tokens operation_of operand n place ≡ Ok place
+unfolding chain
+ends tokens operation_of operand zero place none = refl
+ends tokens operation_of operand (suc n) place none = rw none refl
+
+-- the number of steps doesn't matter, where it reaches the last token
+any_number : (tokens : List Token) (operation_of : Mark → Option Item) (operand : Reader) (m n : ℕ) (place : Place) → operation_of mark.Other ≡ None → Onward operand → length tokens ≤ m + place.at → length tokens ≤ n + place.at → chain tokens operation_of operand m place ≡ chain tokens operation_of operand n place
+unfolding chain
+any_number tokens operation_of operand zero n place other on few many =
+    sym (ends tokens operation_of operand n place (ap operation_of (no_mark tokens place.at (omega (arith, few))) ∙ other))
+any_number tokens operation_of operand (suc m) zero place other on few many =
+    ends tokens operation_of operand (suc m) place (ap operation_of (no_mark tokens place.at (omega (arith, many))) ∙ other)
+any_number tokens operation_of operand (suc m) (suc n) place other on few many =
+    same_steps (λ operation behind. chain tokens operation_of operand m (written operation behind)) (λ operation behind. chain tokens operation_of operand n (written operation behind)) operand (operation_of (mark_at tokens place.at)) place on
+    (λ operation behind h. any_number tokens operation_of operand m n (written operation behind) other on (omega (arith, few, h)) (omega (arith, many, h)))
+
+-- a whole chain: no operation, or one, its operand and a whole chain
+pub chain_on : (tokens : List Token) (operation_of : Mark → Option Item) (operand : Reader) (place : Place) → operation_of mark.Other ≡ None → Onward operand → chain tokens operation_of operand (length tokens) place ≡ chain_by operand (λ operation behind. chain tokens operation_of operand (length tokens) (written operation behind)) (operation_of (mark_at tokens place.at)) place
+unfolding chain
+chain_on tokens operation_of operand place other on = by_number (length tokens) (omega arith) where
+  by_number : (n : ℕ) → length tokens ≤ n → chain tokens operation_of operand n place ≡ chain_by operand (λ operation behind. chain tokens operation_of operand n (written operation behind)) (operation_of (mark_at tokens place.at)) place
+  by_number zero few = let none : operation_of (mark_at tokens place.at) ≡ None = ap operation_of (no_mark tokens place.at (omega (arith, few))) ∙ other in rw none refl
+  by_number (suc n) few =
+      same_steps (λ operation behind. chain tokens operation_of operand n (written operation behind)) (λ operation behind. chain tokens operation_of operand (suc n) (written operation behind)) operand (operation_of (mark_at tokens place.at)) place on
+      (λ operation behind h. any_number tokens operation_of operand n (suc n) (written operation behind) other on (omega (arith, few, h)) (omega (arith, few, h)))
+
+pub chain_ends : (tokens : List Token) (operation_of : Mark → Option Item) (operand : Reader) (place : Place) → operation_of (mark_at tokens place.at) ≡ None → chain tokens operation_of operand (length tokens) place ≡ Ok place
+chain_ends tokens operation_of operand place none = ends tokens operation_of operand (length tokens) place none

@@ -1,0 +1,11 @@
+pub mod Checked
+pub mod Unwound
+pub mod Chains
+pub mod Onward
+pub mod Steps
+pub mod Opening
+pub mod Behind
+pub mod Turning
+pub mod Operands
+pub mod Names
+pub mod Answered

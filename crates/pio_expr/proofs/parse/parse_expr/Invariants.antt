@@ -1,0 +1,14 @@
+use Rattle.std.proofs.Common.{◌≡◌, ◌+◌, ◌-◌, ◌≤◌, length}
+use Rattle.pio_expr.specs.Grammar.{expression_at, read_items}
+use Rattle.pio_expr.specs.Waiting.{answer_of, IsSound}
+use Rattle.pio_expr.proofs.parse.parse_expr.Given as goal
+
+abbrev pub invariant-loop-next : goal.invariant-loop-next
+invariant-loop-next l = record {
+  within : l.at ≤ length l.tokens;
+  sound : IsSound l.reading.waiting.items;
+  same : expression_at l.source l.tokens l.from ≡ read_items (answer_of l.source l.tokens l.reading l.wanted l.at);
+}
+
+abbrev pub decreases-loop-next : goal.decreases-loop-next
+decreases-loop-next l = length l.tokens + 1 - l.at

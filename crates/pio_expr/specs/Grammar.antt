@@ -1,0 +1,172 @@
+-- How an expression is read from its tokens (Pico SDK manual, section 3.3.2; what it leaves open is a choice of this profile):
+--   sum     := product {(+|-) product}
+--   product := unary {(*|/) unary}
+--   unary   := - unary | value
+--   value   := number | NAME | ( level )
+--   level   := :: value | sum
+-- Each `{..}` takes what it can. At most 64 of `(`, `-` before a unary, and `::` are open at once. A `::` beside a sign or an
+-- operation in its parenthesis is ambiguous. What is met first is the answer.
+--   Place, Reader      where reading stands, and one rule of the grammar
+--   chain              what goes on behind an operand, by operators of one rank
+--   Readers            the rules, by how many more openings are allowed
+--   expression_at      the expression that begins at a token
+use Rattle.std.specs.Prelude.{ℕ, zero, suc, ◌+◌, pos, List, [], ◌∷◌, ◌++◌, length, Option, Some, None, Result, Ok, Err, slice_get, slice_range}
+use Rattle.pio_lex.specs.declared.token.TokenKind.{TokenKind}
+use Rattle.pio_lex.specs.declared.token.TokenKind.TheVariants as kind
+use Rattle.pio_lex.specs.declared.token.Token.{Token}
+use Rattle.pio_expr.specs.declared.expr.Item.{Item}
+use Rattle.pio_expr.specs.declared.expr.Item.TheVariants as item
+use Rattle.pio_expr.specs.declared.fault.ExprKind.{ExprKind}
+use Rattle.pio_expr.specs.declared.fault.ExprKind.TheVariants.{Syntax, TooDeep, Ambiguous}
+use Rattle.pio_expr.specs.declared.fault.ExprFault.{ExprFault}
+use Rattle.pio_expr.specs.declared.fault.ExprFault.TheVariants.{At}
+use Rattle.pio_expr.specs.declared.mark.Mark.{Mark}
+use Rattle.pio_expr.specs.declared.mark.Mark.TheVariants as mark
+use Rattle.pio_expr.specs.Marks.{mark_at}
+
+-- a place among the tokens, with the items that were read so far
+pub record Place : Type 0 where
+  pub at : ℕ
+  pub items : List Item
+
+-- what reading gives: the place behind what was read, or the first fault
+abbrev pub Read : Type 0
+Read = Result Place ExprFault
+
+-- one rule of the grammar, from a place on
+abbrev pub Reader : Type 0
+Reader = Place → Read
+
+-- one rule behind another
+abbrev pub then : Read → Reader → Read
+then (Ok place) reader = reader place
+then (Err fault) reader = Err fault
+
+-- the next token
+abbrev pub next : Place → Place
+next place = record { at = place.at + 1; items = place.items }
+
+-- one more item
+abbrev pub written : Item → Place → Place
+written item place = record { at = place.at; items = place.items ++ item ∷ [] }
+
+-- a fault of the token at a place
+abbrev pub refused : ExprKind → Place → Read
+refused fault place = Err (At place.at fault)
+
+-- the item of a token that is a value by itself: a number, or a name as it stands in the source
+abbrev pub item_by : List ℕ → TokenKind → ℕ → ℕ → Item
+item_by source (kind.Number value) first size = item.Number (pos value)
+item_by source _ first size = item.Name (slice_range source first (first + size))
+
+abbrev pub items_by : List ℕ → Option Token → List Item
+items_by source (Some token) = item_by source token.kind token.first token.length ∷ []
+items_by source None = []
+
+-- the value at a place
+unfoldable pub value_read : List ℕ → List Token → Place → Place
+value_read source tokens place = record { at = place.at + 1; items = place.items ++ items_by source (slice_get tokens place.at) }
+
+-- the operations of a product, and those of a sum
+abbrev pub product_operation : Mark → Option Item
+product_operation mark.Star = Some item.Multiply
+product_operation mark.Slash = Some item.Divide
+product_operation _ = None
+
+abbrev pub sum_operation : Mark → Option Item
+sum_operation mark.Plus = Some item.Add
+sum_operation mark.Minus = Some item.Subtract
+sum_operation _ = None
+
+-- the end, where no operation stands, or an operation, its right operand and what goes on behind
+abbrev pub chain_by : Reader → (Item → Reader) → Option Item → Reader
+chain_by operand rest None place = Ok place
+chain_by operand rest (Some operation) place = then (operand (next place)) (rest operation)
+
+-- what stands behind an operand: operations, each with its right operand, and written behind it; at most this many
+unfoldable pub chain : List Token → (Mark → Option Item) → Reader → ℕ → Reader
+chain tokens operation_of operand zero place = Ok place
+chain tokens operation_of operand (suc n) place =
+    chain_by operand (λ operation behind. chain tokens operation_of operand n (written operation behind)) (operation_of (mark_at tokens place.at)) place
+
+-- `{(*|/) unary}` and `{(+|-) product}`, behind a first operand
+abbrev pub product_goes_on : List Token → Reader → Reader
+product_goes_on tokens unary = chain tokens product_operation unary (length tokens)
+
+abbrev pub product_by : List Token → Reader → Reader
+product_by tokens unary place = then (unary place) (product_goes_on tokens unary)
+
+abbrev pub sum_goes_on : List Token → Reader → Reader
+sum_goes_on tokens unary = chain tokens sum_operation (product_by tokens unary) (length tokens)
+
+abbrev pub sum_by : List Token → Reader → Reader
+sum_by tokens unary place = then (product_by tokens unary place) (sum_goes_on tokens unary)
+
+-- the `)` of a parenthesis
+abbrev pub closed_by : Mark → Reader
+closed_by mark.Close place = Ok (next place)
+closed_by _ place = refused Syntax place
+
+abbrev pub closed : List Token → Reader
+closed tokens place = closed_by (mark_at tokens place.at) place
+
+-- a `::`, which stands at a token, is alone in its parenthesis: no operation follows
+abbrev pub alone_by : Mark → ℕ → Reader
+alone_by mark.Star at place = Err (At at Ambiguous)
+alone_by mark.Slash at place = Err (At at Ambiguous)
+alone_by mark.Plus at place = Err (At at Ambiguous)
+alone_by mark.Minus at place = Err (At at Ambiguous)
+alone_by _ at place = Ok place
+
+abbrev pub alone : List Token → ℕ → Reader
+alone tokens at place = alone_by (mark_at tokens place.at) at (written item.Reverse place)
+
+-- the rules of the grammar, as far as they may open
+pub record Readers : Type 0 where
+  pub value : Reader
+  pub unary : Reader
+  pub level : Reader
+
+-- `number | NAME | ( level )`; the rules behind one more opening are `None` where there may be none
+abbrev pub value_by : List ℕ → List Token → Mark → Option Readers → Reader
+value_by source tokens mark.Value deeper place = Ok (value_read source tokens place)
+value_by source tokens mark.Open None place = refused TooDeep place
+value_by source tokens mark.Open (Some rules) place = then (rules.level (next place)) (closed tokens)
+value_by source tokens _ deeper place = refused Syntax place
+
+-- `- unary | value`; a `::` here stands beside a sign or an operation
+abbrev pub unary_by : List ℕ → List Token → Mark → Option Readers → Reader
+unary_by source tokens mark.Minus None place = refused TooDeep place
+unary_by source tokens mark.Minus (Some rules) place = then (rules.unary (next place)) (λ behind. Ok (written item.Negate behind))
+unary_by source tokens mark.Reverse None place = refused TooDeep place
+unary_by source tokens mark.Reverse (Some rules) place = refused Ambiguous place
+unary_by source tokens mark deeper place = value_by source tokens mark deeper place
+
+-- `:: value | sum`
+abbrev pub level_by : List ℕ → List Token → Mark → Option Readers → Reader → Reader
+level_by source tokens mark.Reverse None unary place = refused TooDeep place
+level_by source tokens mark.Reverse (Some rules) unary place = then (rules.value (next place)) (alone tokens place.at)
+level_by source tokens mark deeper unary place = sum_by tokens unary place
+
+abbrev pub readers_by : List ℕ → List Token → Option Readers → Readers
+readers_by source tokens deeper =
+    let unary : Reader = λ place. unary_by source tokens (mark_at tokens place.at) deeper place in
+    record { value = λ place. value_by source tokens (mark_at tokens place.at) deeper place; unary = unary; level = λ place. level_by source tokens (mark_at tokens place.at) deeper unary place }
+
+-- the rules where this many openings are allowed
+unfoldable pub readers : List ℕ → List Token → ℕ → Readers
+readers source tokens zero = readers_by source tokens None
+readers source tokens (suc n) = readers_by source tokens (Some (readers source tokens n))
+
+-- the most openings at once (choice of this profile)
+abbrev pub most_open : ℕ
+most_open = 64
+
+-- the items of an expression, and the place behind it
+abbrev pub read_items : Read → Result (List Item × ℕ) ExprFault
+read_items (Ok place) = Ok (place.items, place.at)
+read_items (Err fault) = Err fault
+
+-- the expression that begins at a token, with the place of the token behind it, or its first fault
+unfoldable pub expression_at : List ℕ → List Token → ℕ → Result (List Item × ℕ) ExprFault
+expression_at source tokens from = read_items ((readers source tokens most_open).level (record { at = from; items = [] }))

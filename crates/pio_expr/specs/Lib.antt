@@ -1,0 +1,5 @@
+pub mod Marks
+pub mod Grammar
+pub mod Arithmetic
+pub mod Waiting
+pub mod Turns

@@ -1,0 +1,45 @@
+//! The operations of expressions, on signed numbers of 32 bits.
+ghost use Rattle.std.specs.Prelude.{◌≡◌};
+ghost use Rattle.pio_expr.specs.Arithmetic.{sum_of, difference_of, product_of, quotient_of, negated, reversed};
+
+use crate::ValueFault;
+use shift_engine::reverse_bits_signed;
+
+pub fn add(left: i32, right: i32) -> Result<i32, ValueFault>
+    ensures { result ≡ sum_of left right }
+{
+    left.checked_add(right).ok_or(ValueFault::Overflow)
+}
+
+pub fn subtract(left: i32, right: i32) -> Result<i32, ValueFault>
+    ensures { result ≡ difference_of left right }
+{
+    left.checked_sub(right).ok_or(ValueFault::Overflow)
+}
+
+pub fn multiply(left: i32, right: i32) -> Result<i32, ValueFault>
+    ensures { result ≡ product_of left right }
+{
+    left.checked_mul(right).ok_or(ValueFault::Overflow)
+}
+
+pub fn divide(left: i32, right: i32) -> Result<i32, ValueFault>
+    ensures { result ≡ quotient_of left right }
+{
+    if right == 0 {
+        return Err(ValueFault::DivZero);
+    }
+    left.checked_div(right).ok_or(ValueFault::Overflow)
+}
+
+pub fn negate(number: i32) -> Result<i32, ValueFault>
+    ensures { result ≡ negated number }
+{
+    number.checked_neg().ok_or(ValueFault::Overflow)
+}
+
+pub fn reverse(number: i32) -> i32
+    ensures { result ≡ reversed number }
+{
+    reverse_bits_signed(number)
+}

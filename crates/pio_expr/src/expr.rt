@@ -1,0 +1,53 @@
+//! An expression: its numbers, names and operations in postfix order.
+ghost use Rattle.std.specs.Prelude.{◌≡◌};
+
+use pio_encode::Name;
+use std::marker::Model;
+
+/// One item of an expression in postfix order. An operation takes what stands before it.
+#[derive(Debug, PartialEq, Eq, Drop)]
+pub enum Item {
+    /// 0 to 2147483647, as it was written.
+    Number(i32),
+    /// The value of a symbol.
+    Name(Name),
+    Add,
+    Subtract,
+    Multiply,
+    /// The quotient, cut off toward zero.
+    Divide,
+    /// What a sign `-` makes of the value behind it.
+    Negate,
+    /// The 32 bits in the opposite order, `::`.
+    Reverse,
+}
+
+/// An expression, seen as the list of its items in postfix order.
+#[derive(Debug, Drop)]
+pub struct Expr {
+    items: Vec<Item>,
+}
+
+impl Model for Expr {
+    ghost use Rattle.std.specs.Prelude.{List};
+    ghost use Rattle.pio_expr.specs.declared.expr.Item.{Item};
+
+    ghost Value = { List Item };
+
+    ghost view = { λ e. e.items.items };
+}
+
+impl Expr {
+    pub(crate) fn new(items: Vec<Item>) -> Self
+        ensures { result ≡ items.items }
+    {
+        Expr { items }
+    }
+
+    /// Its items, in postfix order.
+    pub fn items(&self) -> &[Item]
+        ensures { result.now ≡ self.now }
+    {
+        &self.items
+    }
+}

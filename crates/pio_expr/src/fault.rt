@@ -1,0 +1,74 @@
+//! Why there is no expression, and why an expression has no value.
+ghost use Rattle.std.specs.Prelude.{◌≡◌};
+ghost use Rattle.pio_expr.specs.declared.fault.ExprFault.TheVariants as expr_fault;
+ghost use Rattle.pio_expr.specs.declared.fault.ValueFault.TheVariants as value_fault;
+
+use pio_encode::Name;
+use std::alloc::{AllocError, AllocFailed};
+
+/// What is wrong at a token of an expression.
+#[derive(Clone, Copy, Debug, PartialEq, Eq)]
+pub enum ExprKind {
+    /// No expression goes on with this token, or ends before it.
+    Syntax,
+    /// This token is the 65th parenthesis or sign that is open at once.
+    TooDeep,
+    /// This `::` stands beside a sign or an operation in its parenthesis.
+    Ambiguous,
+}
+
+/// Why `parse_expr` gave no expression.
+#[derive(Debug, PartialEq, Eq, Drop)]
+pub enum ExprFault {
+    /// Memory ran out.
+    Memory,
+    /// The first fault of the expression, at this token, counted from 0: their number, where they end too early.
+    At { place: usize, kind: ExprKind },
+}
+
+impl From<AllocError> for ExprFault {
+    ghost from_gives = { λ _ fault. fault ≡ expr_fault.Memory };
+
+    fn from(_error: AllocError) -> Self {
+        ExprFault::Memory
+    }
+}
+
+impl<T: Drop> From<AllocFailed<T>> for ExprFault {
+    ghost from_gives = { λ _ fault. fault ≡ expr_fault.Memory };
+
+    fn from(_error: AllocFailed<T>) -> Self {
+        ExprFault::Memory
+    }
+}
+
+/// Why an expression has no value.
+#[derive(Debug, PartialEq, Eq, Drop)]
+pub enum ValueFault {
+    /// Memory ran out.
+    Memory,
+    /// A name of no symbol.
+    Unknown(Name),
+    /// A name that is looked up while its own value is being worked out.
+    Cycle(Name),
+    /// A division by zero.
+    DivZero,
+    /// A result that is no signed number of 32 bits.
+    Overflow,
+}
+
+impl From<AllocError> for ValueFault {
+    ghost from_gives = { λ _ fault. fault ≡ value_fault.Memory };
+
+    fn from(_error: AllocError) -> Self {
+        ValueFault::Memory
+    }
+}
+
+impl<T: Drop> From<AllocFailed<T>> for ValueFault {
+    ghost from_gives = { λ _ fault. fault ≡ value_fault.Memory };
+
+    fn from(_error: AllocFailed<T>) -> Self {
+        ValueFault::Memory
+    }
+}

@@ -1,0 +1,16 @@
+//! The expressions of a pioasm source: how they are read, and what they are worth.
+#![tactic(auto)]
+
+mod arithmetic;
+mod expr;
+mod fault;
+mod mark;
+mod parse;
+mod reading;
+mod token_item;
+mod turn;
+mod waiting;
+
+pub use expr::{Expr, Item};
+pub use fault::{ExprFault, ExprKind, ValueFault};
+pub use parse::parse_expr;

@@ -1,0 +1,48 @@
+//! What a token is to an expression.
+ghost use Rattle.std.specs.Prelude.{◌≡◌, slice_get};
+ghost use Rattle.pio_expr.specs.Marks.{mark_at, mark_of};
+
+use pio_lex::{Token, TokenKind};
+
+/// What a token is to an expression.
+#[derive(Clone, Copy)]
+pub enum Mark {
+    /// A number or a name.
+    Value,
+    Open,
+    Close,
+    Plus,
+    Minus,
+    Star,
+    Slash,
+    Reverse,
+    /// Another token, or none.
+    Other,
+}
+
+/// What the token at a place is.
+#[tactic(auto, unfolding(crate::specs::Marks::mark_at))]
+pub fn mark_at(tokens: &[Token], at: usize) -> Mark
+    ensures { result ≡ mark_at tokens.now at }
+{
+    match tokens.get(at) {
+        Some(token) => mark_of(token.kind),
+        None => Mark::Other,
+    }
+}
+
+fn mark_of(kind: TokenKind) -> Mark
+    ensures { result ≡ mark_of kind }
+{
+    match kind {
+        TokenKind::Number(_) | TokenKind::Name => Mark::Value,
+        TokenKind::OpenParen => Mark::Open,
+        TokenKind::CloseParen => Mark::Close,
+        TokenKind::Plus => Mark::Plus,
+        TokenKind::Minus => Mark::Minus,
+        TokenKind::Star => Mark::Star,
+        TokenKind::Slash => Mark::Slash,
+        TokenKind::DoubleColon => Mark::Reverse,
+        _ => Mark::Other,
+    }
+}

@@ -1,0 +1,14 @@
+//! What a token does behind an operand.
+
+use crate::waiting::Waiting;
+
+/// What a token does behind an operand.
+#[derive(Clone, Copy)]
+pub enum Turn {
+    /// It is an operation; its right operand is wanted.
+    Operation(Waiting),
+    /// It closes a parenthesis, whose value is an operand.
+    Closed,
+    /// It isn't part of the expression.
+    End,
+}
