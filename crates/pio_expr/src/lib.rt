@@ -14,3 +14,8 @@ mod waiting;
 pub use expr::{Expr, Item};
 pub use fault::{ExprFault, ExprKind, ValueFault};
 pub use parse::parse_expr;
+
+#[cfg(test)]
+mod rows;
+#[cfg(test)]
+mod tests;
