@@ -1,5 +1,5 @@
 //! Rows of machines that meet in a block: pins, flags, dividers, synchronisers.
-use crate::rows::Seen::{Flags, Levels, Sticky, Tx};
+use crate::rows::Seen::{Flags, Got, Levels, Sticky, Tx};
 use crate::rows::{Keys, LOW, PLAIN, PULLING, Pins, Row};
 
 /// A pin up and down, forever.
@@ -10,7 +10,7 @@ const TOGGLING: Keys = Keys {
     ..PLAIN
 };
 
-pub static BLOCK: [Row; 17] = [
+pub static BLOCK: [Row; 23] = [
     Row {
         shows: "a divider of 2.5 ticks in clocks 0, 2, 5, 7 and 10",
         words: TOGGLE,
@@ -332,5 +332,93 @@ pub static BLOCK: [Row; 17] = [
             (2, Levels(1)),
             (2, Sticky(0, 0)),
         ],
+    },
+    Row {
+        shows: "a restart while a machine is disabled sets the phase in which it goes on",
+        words: TOGGLE,
+        machines: &[Keys {
+            divider: (2, 128),
+            ..TOGGLING
+        }],
+        pins: LOW,
+        stimulus: "version 2\n1 disable 0\n3 restart 0\n4 enable 0",
+        seen: &[
+            (0, Levels(1)),
+            (4, Levels(1)),
+            (5, Levels(0)),
+            (7, Levels(0)),
+            (8, Levels(1)),
+            (9, Levels(1)),
+            (10, Levels(0)),
+        ],
+    },
+    Row {
+        shows: "a restart in a disabled clock counts from there",
+        words: TOGGLE,
+        machines: &[Keys {
+            divider: (4, 0),
+            ..TOGGLING
+        }],
+        pins: LOW,
+        stimulus: "version 2\n1 disable 0\n5 restart 0\n6 enable 0",
+        seen: &[
+            (8, Levels(1)),
+            (9, Levels(0)),
+            (12, Levels(0)),
+            (13, Levels(1)),
+        ],
+    },
+    Row {
+        shows: "a machine may be restarted and disabled in one clock",
+        words: TOGGLE,
+        machines: &[Keys {
+            divider: (4, 0),
+            ..TOGGLING
+        }],
+        pins: LOW,
+        stimulus: "version 2\n2 restart 0\n2 disable 0\n6 enable 0",
+        seen: &[
+            (5, Levels(1)),
+            (6, Levels(0)),
+            (9, Levels(0)),
+            (10, Levels(1)),
+        ],
+    },
+    Row {
+        shows: "a disabled machine keeps its delay",
+        // set pins, 1 [3]; set pins, 0
+        words: &[0xe301, 0xe000],
+        machines: &[TOGGLING],
+        pins: LOW,
+        stimulus: "version 2\n2 disable 0\n7 enable 0",
+        seen: &[(0, Levels(1)), (8, Levels(1)), (9, Levels(0))],
+    },
+    Row {
+        shows: "a WAIT on a pin by its own number sees it two clocks late too",
+        // wait 1 gpio 0; set pins, 1
+        words: &[0x2080, 0xe001],
+        machines: &[Keys {
+            wrap_top: 1,
+            set: (1, 1),
+            ..PLAIN
+        }],
+        pins: LOW,
+        stimulus: "5 pin 0 1",
+        seen: &[(7, Levels(0)), (8, Levels(2))],
+    },
+    Row {
+        shows: "an IN of the pins begins at the input base",
+        // in pins, 1
+        words: &[0x4001],
+        machines: &[Keys {
+            wrap_top: 0,
+            in_base: 3,
+            autopush: true,
+            push_threshold: 1,
+            ..PLAIN
+        }],
+        pins: Pins { high: 8, ..LOW },
+        stimulus: "2 rx 0",
+        seen: &[(1, Got(0, 0)), (2, Got(0, 0x8000_0000))],
     },
 ];

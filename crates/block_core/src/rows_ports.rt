@@ -31,7 +31,7 @@ const PUSHING_SEVEN: Keys = Keys {
 /// The serial transmitter of the manual: pull side 1 [7]; set x, 7 side 0 [7]; out pins, 1; jmp x--, 2 [6].
 const TRANSMITTER: &[u16] = &[0x9fa0, 0xf727, 0x6001, 0x0642];
 
-pub static PORTS: [Row; 14] = [
+pub static PORTS: [Row; 15] = [
     Row {
         shows: "a transmitter that waits for its first word holds its line high at once",
         words: TRANSMITTER,
@@ -249,11 +249,24 @@ pub static PORTS: [Row; 14] = [
         ],
     },
     Row {
-        shows: "a drained word is got, and a read of the empty RX behind it leaves it",
+        shows: "a drained word is got",
         words: PUSH_ONCE,
         machines: &[PUSHING_SEVEN],
         pins: LOW,
-        stimulus: "0 drain 0 1\n3 rx 0",
+        stimulus: "0 drain 0 1",
+        seen: &[
+            (1, Got(0, 0)),
+            (2, Got(0, 7)),
+            (2, Rx(0, 0)),
+            (5, Sticky(0, 0)),
+        ],
+    },
+    Row {
+        shows: "a read of the empty RX leaves the word that was got before",
+        words: PUSH_ONCE,
+        machines: &[PUSHING_SEVEN],
+        pins: LOW,
+        stimulus: "0 drain 0 1\n2 rx 0\n3 rx 0",
         seen: &[
             (1, Got(0, 0)),
             (2, Got(0, 7)),
