@@ -4,9 +4,10 @@ ghost use Rattle.std.specs.List.{AllByRecursion};
 ghost use Rattle.dreq_pacing.specs.Lines.{IsLine, IsSchedule, NoneBetween, lines_in, leading, has_line};
 ghost use Rattle.dreq_pacing.specs.Due.{quiet, with_lines};
 ghost use Rattle.dreq_pacing.specs.Ports as spec;
-ghost use Rattle.dreq_pacing.specs.Ports.{IsFirst, due_in, asked, acts_in};
+ghost use Rattle.dreq_pacing.specs.Ports.{IsFirst, due_in, transfers_after, asked, acts_in, moves_in};
 
 use crate::due::{Due, Requests};
+use crate::laws::a_quiet_clock_changes_nothing;
 use crate::line::Line;
 use crate::schedule::Schedule;
 use crate::transfer::{Moved, Pacer};
@@ -58,7 +59,6 @@ impl<'a> HostPorts<'a> {
 
     /// What the system does in a clock, given the requests at its start. Clocks may be left out in which nothing
     /// happens: no line stands in them, and no transfer moves.
-    #[tactic(auto, unfolding(crate::specs::Ports::due_in, crate::specs::Ports::transfers_after))]
     pub fn at(&mut self, clock: u64, requests: &Requests) -> Due
         requires next { self.old.next ≤ clock }
         requires lines { NoneBetween self.old.lines self.old.next clock }
@@ -66,7 +66,33 @@ impl<'a> HostPorts<'a> {
         ensures due { result ≡ due_in self.old.lines clock requests.now self.old.transfers }
         ensures after { self.new ≡ asked clock requests.now self.old }
     {
+        a_quiet_clock_changes_nothing();
         let here = self.take_lines(clock);
+        if here.is_empty() && !self.moves(clock, requests) {
+            return Due::quiet();
+        }
+        self.act(clock, here, requests)
+    }
+
+    /// Whether a transfer moves in a clock in which no line stands.
+    fn moves(&self, clock: u64, requests: &Requests) -> bool
+        ensures { result ≡ moves_in clock requests.now self.now.transfers }
+    {
+        self.first.moves(0, clock, requests)
+            || self.second.moves(1, clock, requests)
+            || self.third.moves(2, clock, requests)
+            || self.fourth.moves(3, clock, requests)
+    }
+
+    /// What these lines of the clock do, and what transfers move in it.
+    #[tactic(auto, unfolding(crate::specs::Ports::due_in, crate::specs::Ports::transfers_after))]
+    fn act(&mut self, clock: u64, here: &'a [Line], requests: &Requests) -> Due
+        requires here { here.now ≡ lines_in clock self.old.lines }
+        requires fine { AllByRecursion IsLine here.now }
+        requires clock { clock < 2 ^ 40 }
+        ensures due { result ≡ due_in self.old.lines clock requests.now self.old.transfers }
+        ensures after { self.new ≡ record self.old { transfers = transfers_after self.old.lines clock requests.now self.old.transfers } }
+    {
         let lined = due_of(here);
         let first = self.first.turn(0, clock, here, &lined, requests);
         let second = self.second.turn(1, clock, here, &lined, requests);

@@ -78,6 +78,32 @@ impl<'a> Pacer<'a> {
         self.step(clock, tx_ready, rx_ready)
     }
 
+    /// Whether a word moves in the clock, where no line acts in it.
+    pub fn moves(&self, machine: usize, clock: u64, requests: &Requests) -> bool
+        requires { machine < 4 }
+        ensures { result ≡ moves machine clock requests.now self.now }
+    {
+        self.feed_moves(clock, requests.tx[machine])
+            || self.drain_moves(clock, requests.rx[machine])
+    }
+
+    /// Whether the feed moves a word in the clock.
+    fn feed_moves(&self, clock: u64, ready: bool) -> bool
+        ensures { result ≡ spec.feed_moves clock ready self.now.feed }
+    {
+        ready && self.due <= clock && !self.words.is_empty()
+    }
+
+    /// Whether the drain moves a word in the clock.
+    fn drain_moves(&self, clock: u64, ready: bool) -> bool
+        ensures { result ≡ spec.drain_moves clock ready self.now.drain }
+    {
+        match self.drain {
+            Some(drain) => ready && drain.due <= clock,
+            None => false,
+        }
+    }
+
     /// The least clock from this one on in which a word moves, while the requests stay as they are and no line acts.
     pub fn next_move(&self, machine: usize, clock: u64, requests: &Requests) -> Option<u64>
         requires { machine < 4 }
