@@ -1,5 +1,5 @@
 //! From tokens to an expression.
-ghost use Rattle.std.specs.Prelude.{◌≤◌, length};
+ghost use Rattle.std.specs.Prelude.{◌<◌, ◌≤◌, length, IfOk};
 ghost use Rattle.std.specs.List.{All};
 ghost use Rattle.pio_lex.specs.Tokens.{IsTokenOf};
 ghost use Rattle.pio_expr.specs.Grammar.{expression_at};
@@ -23,6 +23,9 @@ pub fn parse_expr(
     requires from { from ≤ length tokens.now }
     // The expression or the fault is the grammar's, unless memory runs out.
     ensures value { Answers result (expression_at source.now tokens.now from) }
+    // It has a token at least, and ends among the tokens.
+    ensures some { IfOk result (λ read. from < read.1) }
+    ensures within { IfOk result (λ read. read.1 ≤ length tokens.now) }
 {
     let mut reading = Reading::new(alloc);
     let mut wanted = true;

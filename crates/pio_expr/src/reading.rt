@@ -1,5 +1,5 @@
 //! An expression that is read: what is written of it, and what waits.
-ghost use Rattle.std.specs.Prelude.{◌≡◌, ℕ, ◌+◌, ◌<◌, ◌++◌, [], List, length, slice_get, IfOk, OnOk, IfErr, true, false};
+ghost use Rattle.std.specs.Prelude.{◌≡◌, ℕ, ◌+◌, ◌<◌, ◌++◌, [], List, length, slice_get, IfOk, OnOk, IfErr, None, true, false};
 ghost use Rattle.std.specs.List.{All};
 ghost use Rattle.pio_lex.specs.declared.token.Token.{Token};
 ghost use Rattle.pio_lex.specs.Tokens.{IsTokenOf};
@@ -51,6 +51,7 @@ impl Reading {
         requires tokens { All (IsTokenOf source.now) tokens.now }
         requires sound { IsSound self.old.waiting.items }
         ensures ok { IfOk result (GoesOn source.now tokens.now self.old wanted at self.new) }
+        ensures ends { IfOk result (λ next. next ≡ None → wanted ≡ false) }
         ensures fault { IfErr result
             (λ fault. IsFaultOf (answer_of source.now tokens.now self.old wanted at) fault) }
     {

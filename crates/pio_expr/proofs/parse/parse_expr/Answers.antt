@@ -1,9 +1,12 @@
+use Rattle.std.proofs.Common.{arith}
 use Rattle.pio_expr.proofs.Answered.{all_left}
 use Rattle.pio_expr.proofs.parse.parse_expr.Goals as goal
 
 pub loop-next-init : goal.loop-next-init
 loop-next-init c = record {
   within = c.requires.from;
+  onward = omega arith;
+  begun = λ e. cc;
   sound = rw (c.new-reading.ensures.waiting) tt;
   same = rw (c.new-reading.ensures.waiting, c.new-reading.ensures.items) (all_left c.args.source.now c.args.tokens.now c.args.from);
 }

@@ -1,4 +1,4 @@
-use Rattle.std.proofs.Common.{◌≡◌, ◌+◌, ◌-◌, ◌≤◌, length}
+use Rattle.std.proofs.Common.{◌≡◌, ◌+◌, ◌-◌, ◌<◌, ◌≤◌, false, length}
 use Rattle.pio_expr.specs.Grammar.{expression_at, read_items}
 use Rattle.pio_expr.specs.Waiting.{answer_of, IsSound}
 use Rattle.pio_expr.proofs.parse.parse_expr.Given as goal
@@ -6,6 +6,8 @@ use Rattle.pio_expr.proofs.parse.parse_expr.Given as goal
 abbrev pub invariant-loop-next : goal.invariant-loop-next
 invariant-loop-next l = record {
   within : l.at ≤ length l.tokens;
+  onward : l.from ≤ l.at;
+  begun : l.wanted ≡ false → l.from < l.at;
   sound : IsSound l.reading.waiting.items;
   same : expression_at l.source l.tokens l.from ≡ read_items (answer_of l.source l.tokens l.reading l.wanted l.at);
 }
