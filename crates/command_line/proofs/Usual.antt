@@ -31,17 +31,26 @@ range_read most text e =
 
 -- ---- run
 
-run_asks : (name source : Text) (stimulus : Option Text) (clocks : Text)
-    → asked_of (run_words name source stimulus clocks) ≡ Some (run source stimulus (min (number_in clocks) clock_limit))
+run_asks : (name source : Text) (config stimulus : Option Text) (clocks : Text)
+    → asked_of (run_words name source config stimulus clocks) ≡ Some (run source config stimulus (min (number_in clocks) clock_limit))
 unfolding clap_on_literals tool asked_of
-run_asks name source None clocks = refl
-run_asks name source (Some stimulus) clocks = refl
+run_asks name source None None clocks = refl
+run_asks name source None (Some stimulus) clocks = refl
+run_asks name source (Some config) None clocks = refl
+run_asks name source (Some config) (Some stimulus) clocks = refl
 
-run_takes : (name source : Text) (stimulus : Option Text) (clocks : Text) → is_unsigned_in 0 clock_limit clocks ≡ true
-    → takes tool (run_words name source stimulus clocks) ≡ true
+-- the test of the number, and the tests of five arguments that pass
+with_the_others : (in_range : Bool) → in_range ≡ true → (in_range && true && true && true && true && true) ≡ true
+with_the_others true e = refl
+with_the_others false e = e
+
+run_takes : (name source : Text) (config stimulus : Option Text) (clocks : Text) → is_unsigned_in 0 clock_limit clocks ≡ true
+    → takes tool (run_words name source config stimulus clocks) ≡ true
 unfolding clap_on_literals tool
-run_takes name source None clocks e = rw e refl
-run_takes name source (Some stimulus) clocks e = rw e refl
+run_takes name source None None clocks e = with_the_others _ e
+run_takes name source None (Some stimulus) clocks e = with_the_others _ e
+run_takes name source (Some config) None clocks e = with_the_others _ e
+run_takes name source (Some config) (Some stimulus) clocks e = with_the_others _ e
 
 -- kinds with nothing behind them, at so many levels
 within : ℕ → Kinds → Kinds
@@ -62,15 +71,17 @@ abbrev fault_where : Bool → Kinds
 fault_where in_range = if in_range then [] else kind.ValueValidation ∷ []
 
 -- the words have no fault but the number's, which clap's definition meets five levels down
-run_computes : (name source : Text) (stimulus : Option Text) (clocks : Text)
-    → fault_of tool (run_words name source stimulus clocks) ≡ within 5 (fault_where (is_unsigned_in 0 clock_limit clocks))
+run_computes : (name source : Text) (config stimulus : Option Text) (clocks : Text)
+    → fault_of tool (run_words name source config stimulus clocks) ≡ within 5 (fault_where (is_unsigned_in 0 clock_limit clocks))
 unfolding clap_on_literals tool within
-run_computes name source None clocks = refl
-run_computes name source (Some stimulus) clocks = refl
+run_computes name source None None clocks = refl
+run_computes name source None (Some stimulus) clocks = refl
+run_computes name source (Some config) None clocks = refl
+run_computes name source (Some config) (Some stimulus) clocks = refl
 
-run_fault : (name source : Text) (stimulus : Option Text) (clocks : Text) (b : Bool) → is_unsigned_in 0 clock_limit clocks ≡ b
-    → fault_of tool (run_words name source stimulus clocks) ≡ fault_where b
-run_fault name source stimulus clocks b e = run_computes name source stimulus clocks ∙ within_is 5 _ ∙ ap fault_where e
+run_fault : (name source : Text) (config stimulus : Option Text) (clocks : Text) (b : Bool) → is_unsigned_in 0 clock_limit clocks ≡ b
+    → fault_of tool (run_words name source config stimulus clocks) ≡ fault_where b
+run_fault name source config stimulus clocks b e = run_computes name source config stimulus clocks ∙ within_is 5 _ ∙ ap fault_where e
 
 not_empty : (kinds : Kinds) → kinds ≡ kind.ValueValidation ∷ [] → kinds ≢ []
 not_empty kinds one none = cc
@@ -79,15 +90,15 @@ taken_by : (words : List Text) (a : Asked) → takes tool words ≡ true → ask
 taken_by words a taken asked room = record { takes = taken; room = λ b is. cc }
 
 pub run_words_law : RunWords
-run_words_law name source stimulus clocks = go (is_unsigned_in 0 clock_limit clocks) refl
+run_words_law name source config stimulus clocks = go (is_unsigned_in 0 clock_limit clocks) refl
   where
     go : (b : Bool) → is_unsigned_in 0 clock_limit clocks ≡ b
-        → AskWhere b (run_words name source stimulus clocks) (run source stimulus (number_of clocks))
+        → AskWhere b (run_words name source config stimulus clocks) (run source config stimulus (number_of clocks))
     go true e =
-        let asked = run_asks name source stimulus clocks ∙ ap (λ n. Some (run source stimulus n)) (range_read clock_limit clocks e) in
-        let takes = run_takes name source stimulus clocks e in
-        (taken_by _ _ takes asked refl, record { taken = run_fault name source stimulus clocks true e; asked = asked })
-    go false e = inl (not_empty _ (run_fault name source stimulus clocks false e))
+        let asked = run_asks name source config stimulus clocks ∙ ap (λ n. Some (run source config stimulus n)) (range_read clock_limit clocks e) in
+        let takes = run_takes name source config stimulus clocks e in
+        (taken_by _ _ takes asked refl, record { taken = run_fault name source config stimulus clocks true e; asked = asked })
+    go false e = inl (not_empty _ (run_fault name source config stimulus clocks false e))
 
 -- ---- dis
 

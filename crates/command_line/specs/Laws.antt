@@ -15,19 +15,22 @@ abbrev pub AskWhere : Bool → List Text → Asked → Type 0
 AskWhere true words a = IsTaken words × Asks words a
 AskWhere false words a = IsRefused words
 
--- `run --source=S [--stimulus=T] --clocks=N`, of a program of any name
-abbrev pub run_words : Text → Text → Option Text → Text → List Text
-run_words name source None clocks =
-    name ∷ codes "run" ∷ (codes "--source=" ++ source) ∷ (codes "--clocks=" ++ clocks) ∷ []
-run_words name source (Some stimulus) clocks =
-    name ∷ codes "run" ∷ (codes "--source=" ++ source) ∷ (codes "--stimulus=" ++ stimulus)
-    ∷ (codes "--clocks=" ++ clocks) ∷ []
+-- an option `--name=X`, where it is given
+abbrev pub given : Text → Option Text → List Text
+given option None = []
+given option (Some text) = (option ++ text) ∷ []
 
--- they ask for N clocks of S under T, or under none, exactly where N is a whole number in range, whatever S and T are
+-- `run --source=S [--config=C] [--stimulus=T] --clocks=N`, of a program of any name
+abbrev pub run_words : Text → Text → Option Text → Option Text → Text → List Text
+run_words name source config stimulus clocks =
+    name ∷ codes "run" ∷ (codes "--source=" ++ source) ∷ (given (codes "--config=") config
+    ++ given (codes "--stimulus=") stimulus ++ (codes "--clocks=" ++ clocks) ∷ [])
+
+-- they ask for N clocks of S under C and T, or under none, exactly where N is a whole number in range, whatever S, C and T are
 abbrev pub RunWords : Type 0
-RunWords = (name source : Text) (stimulus : Option Text) (clocks : Text)
-    → AskWhere (is_unsigned_in 0 clock_limit clocks) (run_words name source stimulus clocks)
-    (run source stimulus (number_of clocks))
+RunWords = (name source : Text) (config stimulus : Option Text) (clocks : Text)
+    → AskWhere (is_unsigned_in 0 clock_limit clocks) (run_words name source config stimulus clocks)
+    (run source config stimulus (number_of clocks))
 
 -- `dis --side=n [--opt] -- FILE`, of a program of any name, where n is one digit
 abbrev pub dis_words : Text → Text → ℕ → Bool → List Text

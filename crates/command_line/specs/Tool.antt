@@ -29,6 +29,10 @@ up_to most rule = record rule { parser = Some (Unsigned 0 most) }
 abbrev pub source_rule : Rule
 source_rule = required (option_rule (codes "source"))
 
+-- `--config C`: the name of a configuration, which need not be given
+abbrev pub config_rule : Rule
+config_rule = option_rule (codes "config")
+
 -- `--stimulus T`: the name of a stimulus, which need not be given
 abbrev pub stimulus_rule : Rule
 stimulus_rule = option_rule (codes "stimulus")
@@ -49,9 +53,9 @@ side_rule = record (up_to side_limit (option_rule (codes "side"))) { defaults = 
 abbrev pub opt_rule : Rule
 opt_rule = record (new_rule (codes "opt")) { long = Some (codes "opt"); action = Some SetTrue }
 
--- `run --source S [--stimulus T] --clocks N`
+-- `run --source S [--config C] [--stimulus T] --clocks N`
 abbrev pub run_app : App
-run_app = with_rule (with_rule (with_rule (new_app (codes "run")) source_rule) stimulus_rule) clocks_rule
+run_app = with_rule (with_rule (with_rule (with_rule (new_app (codes "run")) source_rule) config_rule) stimulus_rule) clocks_rule
 
 -- `dis FILE [--side n] [--opt]`
 abbrev pub dis_app : App

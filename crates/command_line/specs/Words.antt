@@ -15,15 +15,15 @@ use Rattle.command_line.specs.declared.order.Order.TheVariants.{Run, Dis}
 use Rattle.command_line.specs.declared.order.WordsFault.{WordsFault}
 use Rattle.command_line.specs.declared.order.WordsFault.TheVariants.{Usage, Memory}
 
--- a subcommand with its arguments: source, stimulus if there is one, and clocks; or file, side-set bits and whether their value
--- is optional
+-- a subcommand with its arguments: source, configuration and stimulus if there are some, and clocks; or file, side-set bits and
+-- whether their value is optional
 pub data Asked : Type 0 where
-  run : Text → Option Text → ℕ → Asked
+  run : Text → Option Text → Option Text → ℕ → Asked
   dis : Text → ℕ → Bool → Asked
 
 -- what an order asks for
 abbrev pub asked_by : Order → Asked
-asked_by (Run source stimulus clocks) = run source.now (option_map (λ t. t.now) stimulus) clocks
+asked_by (Run source config stimulus clocks) = run source.now (option_map (λ t. t.now) config) (option_map (λ t. t.now) stimulus) clocks
 asked_by (Dis file side opt) = dis file.now side opt
 
 -- ---- what clap's matches of a subcommand ask for
@@ -50,7 +50,7 @@ flag_at id rows = bytes_eq (text_at id rows) (codes "true")
 -- the arguments of `run`
 abbrev pub run_asked : List Row → Asked
 run_asked rows =
-    run (text_at (codes "source") rows) (first_of (codes "stimulus") rows)
+    run (text_at (codes "source") rows) (first_of (codes "config") rows) (first_of (codes "stimulus") rows)
     (number_at clock_limit (codes "clocks") rows)
 
 -- the arguments of `dis`
@@ -67,14 +67,14 @@ asked_of words = option_map (λ met. subcommand_asked met.0 met.1) (subcommand_o
 
 -- the clocks are in range, and so are the side-set bits with the one of `--opt`
 abbrev pub IsWithinRange : Asked → Type 0
-IsWithinRange (run source stimulus clocks) = clocks ≤ clock_limit
+IsWithinRange (run source config stimulus clocks) = clocks ≤ clock_limit
 IsWithinRange (dis file side opt) = side + (if opt then 1 else 0) ≤ side_limit
 
 -- ---- when there are matches, and when not
 
 -- `--opt` takes one of the five side-set bits, so not beside `--side 5` (RP2040 Datasheet, section 3.5.1)
 abbrev pub has_no_room : Asked → Bool
-has_no_room (run source stimulus clocks) = false
+has_no_room (run source config stimulus clocks) = false
 has_no_room (dis file side opt) = side == side_limit && opt
 
 -- clap gives matches of `tool` for the words, and they ask for this
@@ -98,7 +98,7 @@ HasCause words Memory = ⊤
 
 -- how many clocks a command works out at most
 abbrev pub clocks_asked : Asked → ℕ
-clocks_asked (run source stimulus clocks) = clocks
+clocks_asked (run source config stimulus clocks) = clocks
 clocks_asked (dis file side opt) = 0
 
 -- how many clocks words ask for at most

@@ -1,7 +1,7 @@
 //! The arguments of the subcommands, one function each.
 ghost use Rattle.std.specs.Prelude.{◌≡◌, false};
 ghost use Rattle.clap.specs.Walk.{rule_of};
-ghost use Rattle.command_line.specs.Tool.{clocks_rule, file_rule, opt_rule, option_rule, side_rule, source_rule, stimulus_rule};
+ghost use Rattle.command_line.specs.Tool.{clocks_rule, config_rule, file_rule, opt_rule, option_rule, side_rule, source_rule, stimulus_rule};
 
 use crate::order::{MOST_CLOCKS, MOST_SIDE_BITS};
 use clap::builder::ValueParser;
@@ -24,6 +24,14 @@ pub fn source<'a>(alloc: Global) -> Arg<'a>
     option(alloc, "source")
         .required(true)
         .help("The program, in pioasm")
+}
+
+/// `--config C`: the configuration's name, any text, where one is given.
+pub fn config<'a>(alloc: Global) -> Arg<'a>
+    ensures rule { rule_of result ≡ config_rule }
+    ensures local { result.global ≡ false }
+{
+    option(alloc, "config").help("What the block starts from, in TOML")
 }
 
 /// `--stimulus T`: the stimulus's name, any text, where one is given.

@@ -36,6 +36,7 @@ fn run<'a>(alloc: Global) -> Result<Command<'a>, AllocError>
     Command::new(alloc, "run")
         .about("Traces the pins of a program clock by clock, as a value-change dump")
         .arg(arguments::source(alloc))?
+        .arg(arguments::config(alloc))?
         .arg(arguments::stimulus(alloc))?
         .arg(arguments::clocks(alloc))
 }

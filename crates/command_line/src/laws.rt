@@ -1,7 +1,8 @@
 //! Laws above clap's definition of a parse: what words as the usage has them ask for. Both functions do nothing.
 ghost use Rattle.command_line.specs.Laws.{DisWords, RunWords};
 
-/// `run --source=S [--stimulus=T] --clocks=N` asks for N clocks of S under T exactly where N is a whole number in range.
+/// `run --source=S [--config=C] [--stimulus=T] --clocks=N` asks for N clocks of S under C and T exactly where N is a whole
+/// number in range.
 pub fn run_words()
     ensures { RunWords }
 {}

@@ -9,9 +9,11 @@ pub const MOST_SIDE_BITS: u64 = 5;
 /// What the words of a call ask for.
 #[derive(Clone, Copy, Debug, PartialEq)]
 pub enum Order<'a> {
-    /// The trace of so many clocks (0 to 10^12) of the program in a source, under a stimulus where one is named.
+    /// The trace of so many clocks (0 to 10^12) of the programs in a source, under a configuration and a stimulus where
+    /// they are named.
     Run {
         source: &'a str,
+        config: Option<&'a str>,
         stimulus: Option<&'a str>,
         clocks: u64,
     },

@@ -59,6 +59,7 @@ fn run_order<'a>(matches: &ArgMatches<'a>) -> Order<'a>
 {
     Order::Run {
         source: text(matches, "source"),
+        config: option_text(matches, "config"),
         stimulus: option_text(matches, "stimulus"),
         clocks: number(matches, "clocks", MOST_CLOCKS),
     }

@@ -27,8 +27,8 @@ static RUNS: [(&[&str], &str, u64); 10] = [
     (&["run", "--source=", "--clocks", "8"], "", 8),
 ];
 
-/// Words that ask for 8 clocks of `a.pio` under a stimulus, and its name.
-static DRIVEN: [(&[&str], &str); 6] = [
+/// Words that ask for 8 clocks of `a.pio`, and the names of their configuration and stimulus.
+static DRIVEN: [(&[&str], Option<&str>, Option<&str>); 10] = [
     (
         &[
             "run",
@@ -39,7 +39,8 @@ static DRIVEN: [(&[&str], &str); 6] = [
             "--clocks",
             "8",
         ],
-        "t",
+        None,
+        Some("t"),
     ),
     (
         &[
@@ -51,20 +52,62 @@ static DRIVEN: [(&[&str], &str); 6] = [
             "--source",
             "a.pio",
         ],
-        "t",
+        None,
+        Some("t"),
     ),
     (
         &["run", "--source=a.pio", "--clocks=8", "--stimulus=a=b"],
-        "a=b",
+        None,
+        Some("a=b"),
     ),
     (
         &["run", "--source=a.pio", "--stimulus=--clocks", "--clocks=8"],
-        "--clocks",
+        None,
+        Some("--clocks"),
     ),
-    (&["run", "--source=a.pio", "--stimulus=", "--clocks=8"], ""),
+    (
+        &["run", "--source=a.pio", "--stimulus=", "--clocks=8"],
+        None,
+        Some(""),
+    ),
     (
         &["run", "--source=a.pio", "--stimulus", "a.pio", "--clocks=8"],
-        "a.pio",
+        None,
+        Some("a.pio"),
+    ),
+    (
+        &["run", "--source=a.pio", "--config", "c", "--clocks=8"],
+        Some("c"),
+        None,
+    ),
+    (
+        &["run", "--config=", "--source=a.pio", "--clocks=8"],
+        Some(""),
+        None,
+    ),
+    (
+        &[
+            "run",
+            "--source=a.pio",
+            "--config=c",
+            "--stimulus=t",
+            "--clocks=8",
+        ],
+        Some("c"),
+        Some("t"),
+    ),
+    (
+        &[
+            "run",
+            "--stimulus",
+            "c",
+            "--clocks=8",
+            "--config",
+            "t",
+            "--source=a.pio",
+        ],
+        Some("t"),
+        Some("c"),
     ),
 ];
 
@@ -83,7 +126,7 @@ static LISTINGS: [(&[&str], &str, u8, bool); 10] = [
 ];
 
 /// Words that ask for nothing.
-static REFUSED: [&[&str]; 40] = [
+static REFUSED: [&[&str]; 43] = [
     &[],
     &["--help"],
     &["-h"],
@@ -101,9 +144,16 @@ static REFUSED: [&[&str]; 40] = [
     &["run", "--source", "a.pio", "--clocks"],
     &["run", "a.pio", "--clocks", "8"],
     &["run", "--source", "a.pio", "--clocks", "8", "b.pio"],
+    &["run", "--source", "a.pio", "--clocks", "8", "--config"],
+    &["run", "--config", "c.toml", "--clocks", "8"],
     &[
-        "run", "--source", "a.pio", "--clocks", "8", "--config", "c.toml",
+        "run",
+        "--source=a",
+        "--clocks=8",
+        "--config=c",
+        "--config=c",
     ],
+    &["dis", "w.hex", "--config", "c.toml"],
     &[
         "run", "--source", "a.pio", "--source", "b.pio", "--clocks", "8",
     ],
@@ -147,6 +197,7 @@ fn runs(rt: HostRuntime) -> Result<(), Fail> {
     for &(words, source, clocks) in &RUNS {
         let order = Order::Run {
             source,
+            config: None,
             stimulus: None,
             clocks,
         };
@@ -157,10 +208,11 @@ fn runs(rt: HostRuntime) -> Result<(), Fail> {
 
 #[test]
 fn driven_runs(rt: HostRuntime) -> Result<(), Fail> {
-    for &(words, stimulus) in &DRIVEN {
+    for &(words, config, stimulus) in &DRIVEN {
         let order = Order::Run {
             source: "a.pio",
-            stimulus: Some(stimulus),
+            config,
+            stimulus,
             clocks: 8,
         };
         assert!(rt; gives(rt.alloc(), words, Ok(order))?, "{words:?}");
