@@ -4,3 +4,4 @@ pub mod Answer
 pub mod Block
 pub mod Memory
 pub mod Default
+pub mod Config

@@ -58,6 +58,10 @@ quiet_ends words c f a (Some (fault.Source line kind)) q =
     let same = one_asked words q.ends.0 a q.ends.1 q.asks in
     let faulty = of_told (λ g. judge g q.ends.0 ≡ wrong (fault.Source line kind)) c.files f q.told q.ends.2.0 in
     subst (λ (b : Asked). EndsByFiles c (judge f b) (Some (fault.Source line kind))) same (of_wrong c (judge f q.ends.0) (fault.Source line kind) faulty)
+quiet_ends words c f a (Some (fault.Config key kind)) q =
+    let same = one_asked words q.ends.0 a q.ends.1 q.asks in
+    let faulty = of_told (λ g. judge g q.ends.0 ≡ wrong (fault.Config key kind)) c.files f q.told q.ends.2.0 in
+    subst (λ (b : Asked). EndsByFiles c (judge f b) (Some (fault.Config key kind))) same (of_wrong c (judge f q.ends.0) (fault.Config key kind) faulty)
 quiet_ends words c f a (Some (fault.Stim line kind)) q =
     let same = one_asked words q.ends.0 a q.ends.1 q.asks in
     let faulty = of_told (λ g. judge g q.ends.0 ≡ wrong (fault.Stim line kind)) c.files f q.told q.ends.2.0 in

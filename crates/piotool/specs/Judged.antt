@@ -15,7 +15,10 @@ use Rattle.dreq_pacing.specs.declared.fault.StimFault.TheVariants.{Memory, At}
 use Rattle.dreq_pacing.specs.Reading.{stimulus_of}
 use Rattle.block_core.specs.Block.{Run, first_run}
 use Rattle.block_core.specs.Hosted.{samples}
-use Rattle.piotool.specs.Default.{default_setup}
+use Rattle.pin_matrix.specs.declared.setup.Setup.{Setup}
+use Rattle.block_config.specs.Answer as config
+use Rattle.block_config.specs.Config.{config_setup_of}
+use Rattle.block_config.specs.Default.{default_setup_of}
 use Rattle.command_line.specs.Words.{Asked, run, dis}
 use Rattle.word_file.specs.declared.fault.WordFault.{WordFault}
 use Rattle.word_file.specs.Reading.{word_file}
@@ -40,6 +43,7 @@ IfRight (wrong e) P = ⊥
 abbrev pub limit : File → ℕ
 limit file.Source = 262144
 limit file.Words = 262144
+limit file.Config = 262144
 limit file.Stimulus = 33554432
 
 -- a file's bytes, if it is there and within its limit
@@ -65,6 +69,20 @@ judged_words (Err refusal) = wrong (fault.Words refusal.line refusal.kind)
 unfoldable pub words_at : Files → List ℕ → Judged (List ℕ)
 words_at files name = and_then (read_at file.Words (get files name)) (λ bytes. judged_words (word_file bytes))
 
+-- a setup, or its fault
+abbrev pub judged_setup : Result Setup config.Refusal → Judged Setup
+judged_setup (Ok setup) = right setup
+judged_setup (Err refusal) = wrong (fault.Config refusal.key refusal.kind)
+
+-- what the configuration with this name makes of programs
+unfoldable pub config_at : Files → List ℕ → List Assembled → Judged Setup
+config_at files name programs = and_then (read_at file.Config (get files name)) (λ bytes. judged_setup (config_setup_of bytes programs))
+
+-- the same, and the default setup where none is named
+abbrev pub setup_at : Files → Option (List ℕ) → List Assembled → Judged Setup
+setup_at files None programs = judged_setup (default_setup_of programs)
+setup_at files (Some name) programs = config_at files name programs
+
 -- a reading of a stimulus, or its fault; want of memory is none of its answers
 abbrev pub judged_stimulus : Result (List Line) StimFault → Judged (List Line)
 judged_stimulus (Ok lines) = right lines
@@ -80,19 +98,15 @@ abbrev pub schedule_at : Files → Option (List ℕ) → Judged (List Line)
 schedule_at files None = right []
 schedule_at files (Some name) = stimulus_at files name
 
--- the programs of a source and the lines of a stimulus, in this order
-unfoldable pub prepared_at : Files → List ℕ → Option (List ℕ) → Judged (List Assembled × List Line)
-prepared_at files source stimulus =
-    and_then (source_at files source) (λ programs. and_then (schedule_at files stimulus) (λ lines. right (programs, lines)))
+-- the setup of a source's programs and the lines of a stimulus, in this order
+unfoldable pub prepared_at : Files → List ℕ → Option (List ℕ) → Option (List ℕ) → Judged (Setup × List Line)
+prepared_at files source config stimulus =
+    and_then (source_at files source) (λ programs. and_then (setup_at files config programs) (λ setup.
+    and_then (schedule_at files stimulus) (λ lines. right (setup, lines))))
 
 -- the text of so many clocks from a start, beside the lines of a stimulus
 unfoldable pub trace_text : Run → List Line → ℕ → List ℕ
 trace_text start lines clocks = vcd_text (samples start lines clocks)
-
--- the text of a run of the first program
-abbrev pub run_text : List Assembled → List Line → ℕ → List ℕ
-run_text [] lines clocks = []
-run_text (program ∷ others) lines clocks = trace_text (first_run (default_setup program)) lines clocks
 
 -- a stage passes with a value: the shelf had no fault, and where the files are told they come to it
 abbrev pub StagePasses : {X : Type 0} → Option Files → ℕ → ℕ → (Files → Judged X) → X → Type 0
@@ -108,6 +122,6 @@ StageFails files before now comes_to e = (now ≡ before) × IfSome files (λ f.
 
 -- what a command comes to
 unfoldable pub judge : Files → Asked → Judged (List ℕ)
-judge files (run source stimulus clocks) =
-    and_then (prepared_at files source stimulus) (λ prepared. right (run_text prepared.0 prepared.1 clocks))
+judge files (run source config stimulus clocks) =
+    and_then (prepared_at files source config stimulus) (λ prepared. right (trace_text (first_run prepared.0) prepared.1 clocks))
 judge files (dis name side opt) = and_then (words_at files name) (λ words. right (word_lines (rule_for side opt) words))

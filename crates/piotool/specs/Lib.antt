@@ -1,4 +1,3 @@
-pub mod Default
 pub mod Run
 pub mod Judged
 pub mod Told

@@ -3,6 +3,8 @@ use Rattle.std.specs.Prelude.{◌≡◌, ℕ, ◌⊎◌, ◌++◌, Option, Some,
 use Rattle.pio_edge.specs.Edge.{Rose, with_bytes, TakesPrefix}
 use Rattle.pio_assemble.specs.declared.fault.SourceKind.{SourceKind}
 use Rattle.pio_assemble.specs.Fault.{code_of}
+use Rattle.block_config.specs.declared.fault.ConfigKind.{ConfigKind}
+use Rattle.block_config.specs.Fault.{kind_text}
 use Rattle.word_file.specs.declared.fault.WordKind.{WordKind}
 use Rattle.word_file.specs.Fault.{code_of as word_code}
 use Rattle.dreq_pacing.specs.declared.fault.StimKind.{StimKind}
@@ -20,6 +22,7 @@ status_of (Some (fault.Shelf role)) = 4
 status_of (Some (fault.TooLong role)) = 1
 status_of (Some (fault.Words line kind)) = 1
 status_of (Some (fault.Source line kind)) = 1
+status_of (Some (fault.Config key kind)) = 1
 status_of (Some (fault.Stim line kind)) = 1
 status_of (Some fault.Out) = 5
 status_of (Some fault.Memory) = 6
@@ -28,6 +31,7 @@ status_of (Some fault.Memory) = 6
 abbrev pub file_word : File → List ℕ
 file_word file.Source = codes "source"
 file_word file.Words = codes "words"
+file_word file.Config = codes "config"
 file_word file.Stimulus = codes "stimulus"
 
 -- the line of a file that wasn't fetched
@@ -50,6 +54,13 @@ words_line line kind = line_fault (codes "piotool: words line ") line (word_code
 abbrev pub source_line : ℕ → SourceKind → List ℕ
 source_line line kind = line_fault (codes "piotool: source line ") line (code_of kind)
 
+-- the line of a key of the configuration, and of its fault
+abbrev pub key_line : List ℕ → List ℕ → List ℕ
+key_line key text = codes "piotool: config " ++ key ++ codes ": " ++ text ++ codes "\n"
+
+abbrev pub config_line : List ℕ → ConfigKind → List ℕ
+config_line key kind = key_line key (kind_text kind)
+
 -- the line of a stimulus's fault
 abbrev pub stimulus_line : ℕ → StimKind → List ℕ
 stimulus_line line kind = line_fault (codes "piotool: stimulus line ") line (stim_code kind)
@@ -61,6 +72,7 @@ fault_line (fault.Shelf role) = shelf_line role
 fault_line (fault.TooLong role) = long_line role
 fault_line (fault.Words line kind) = words_line line kind
 fault_line (fault.Source line kind) = source_line line kind
+fault_line (fault.Config key kind) = config_line key kind
 fault_line (fault.Stim line kind) = stimulus_line line kind
 fault_line fault.Out = codes "piotool: out\n"
 fault_line fault.Memory = codes "piotool: memory\n"

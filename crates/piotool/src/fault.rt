@@ -1,7 +1,9 @@
 //! Everything that keeps a command from its text, with the line and the status that tell it.
 
+use block_config::ConfigKind;
 use dreq_pacing::StimKind;
 use pio_assemble::SourceKind;
+use pio_encode::Name;
 use word_file::WordKind;
 
 /// A file that a command reads.
@@ -11,6 +13,8 @@ pub enum File {
     Source,
     /// A file of words.
     Words,
+    /// The configuration.
+    Config,
     /// The stimulus.
     Stimulus,
 }
@@ -28,6 +32,8 @@ pub enum Fault {
     Words(usize, WordKind),
     /// The first fault of the source: its line, from 1 on and 0 where no place is told, and its kind.
     Source(usize, SourceKind),
+    /// The first fault of the configuration, or of the setup without one: the path of its key, and its kind.
+    Config(Name, ConfigKind),
     /// The first fault of the stimulus: its line, from 1 on, and its kind.
     Stim(usize, StimKind),
     /// The output failed.

@@ -5,6 +5,10 @@
 mod dis;
 mod fault;
 mod fetch;
+#[cfg(test)]
+mod rows;
+#[cfg(test)]
+mod rows_config;
 mod run;
 mod setup;
 mod source;

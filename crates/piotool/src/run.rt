@@ -1,35 +1,40 @@
-//! The command `run`: the trace of the first clocks of a source's program, beside a stimulus.
-ghost use Rattle.std.specs.Prelude.{◌≡◌, ◌+◌, ◌≤◌, ◌^◌, false, map, option_map, MatchResult};
+//! The command `run`: the trace of the first clocks of a block that a source and a configuration set up, beside a stimulus.
+ghost use Rattle.std.specs.Prelude.{◌≡◌, ◌+◌, ◌≤◌, ◌^◌, false, option_map, MatchResult};
 ghost use Rattle.block_core.specs.Block.{first_run};
-ghost use Rattle.pio_assemble.specs.Program.{assembled_of};
 ghost use Rattle.command_line.specs.Words.{run as run_asked};
-ghost use Rattle.piotool.specs.Default as default;
 ghost use Rattle.piotool.specs.Judged.{prepared_at, trace_text, StagePasses, StageFails};
 ghost use Rattle.piotool.specs.Run.{Writes, MayWrite};
 ghost use Rattle.piotool.specs.Promise.{call_of, CommandEnds};
 
 use crate::fault::Fault;
-use crate::setup::default_setup;
+use crate::setup::read_setup;
 use crate::source::read_source;
 use crate::stimulus::read_schedule;
 use block_core::Block;
 use dreq_pacing::Schedule;
 use fifo_pair::RingFifo;
 use idle_engine::{a_stopped_run_leaves_a_first_part, simulate};
-use pio_assemble::Program;
+use pin_matrix::Setup;
 use pio_edge::{Shelf, Sink, SinkFailed};
 use std::alloc::Global;
 use std::sync::ledger::Ledger;
 use step_count::Steps;
 use vcd_trace::{TraceFailed, VcdTrace};
 
-/// Writes the trace of so many clocks of the first program of a source, beside a stimulus where one is named. All
-/// memory is taken before the first piece is put.
+/// The names of the files that a run reads.
+#[derive(Clone, Copy, Debug)]
+pub struct RunFiles<'a> {
+    pub source: &'a str,
+    pub config: Option<&'a str>,
+    pub stimulus: Option<&'a str>,
+}
+
+/// Writes the trace of so many clocks of the block that a source sets up, by a configuration or by default, beside a
+/// stimulus where one is named. All memory is taken before the first piece is put.
 #[tactic(auto, unfolding(crate::specs::Judged::judge))]
 pub fn run<F: Shelf, O: Sink, L: Ledger>(
     alloc: Global,
-    source: &str,
-    stimulus: Option<&str>,
+    files: RunFiles,
     clocks: u64,
     shelf: &mut F,
     out: &mut O,
@@ -39,42 +44,41 @@ pub fn run<F: Shelf, O: Sink, L: Ledger>(
     ensures ends { CommandEnds
         (call_of (F.holds shelf.old) (F.faults shelf.old) (F.faults shelf.new)
         (O.taken out.old) (O.taken out.new) (O.faults out.old) (O.faults out.new))
-        (run_asked source.now (option_map (λ t. t.now) stimulus.entry) clocks) result }
+        (run_asked files.entry.source.now (option_map (λ t. t.now) files.entry.config) (option_map (λ t. t.now) files.entry.stimulus) clocks)
+        result }
     ensures same { F.holds shelf.new ≡ F.holds shelf.old }
     ensures steps { steps.new ≤ steps.old + clocks }
 {
-    let (programs, schedule) = prepare(alloc, shelf, source, stimulus)?;
-    match programs.first() {
-        Some(program) => write_run(alloc, program, &schedule, clocks, out, steps),
-        None => Ok(()),
-    }
+    let (setup, schedule) = prepare(alloc, shelf, files)?;
+    write_run(alloc, &setup, &schedule, clocks, out, steps)
 }
 
-/// The programs of the source, and then the lines of the stimulus.
+/// The setup of the source's programs, and then the lines of the stimulus.
 #[tactic(auto, unfolding(crate::specs::Judged::prepared_at))]
 fn prepare<F: Shelf>(
     alloc: Global,
     shelf: &mut F,
-    source: &str,
-    stimulus: Option<&str>,
-) -> Result<(Vec<Program>, Schedule), Fault>
+    files: RunFiles,
+) -> Result<(Setup, Schedule), Fault>
     ensures same { F.holds shelf.new ≡ F.holds shelf.old }
     ensures stage { MatchResult result
         (λ p. StagePasses (F.holds shelf.old) (F.faults shelf.old) (F.faults shelf.new)
-        (λ f. prepared_at f source.now (option_map (λ t. t.now) stimulus.entry)) (map assembled_of p.0.items, p.1))
+        (λ f. prepared_at f files.entry.source.now (option_map (λ t. t.now) files.entry.config) (option_map (λ t. t.now) files.entry.stimulus))
+        (p.0, p.1))
         (StageFails (F.holds shelf.old) (F.faults shelf.old) (F.faults shelf.new)
-        (λ f. prepared_at f source.now (option_map (λ t. t.now) stimulus.entry))) }
+        (λ f. prepared_at f files.entry.source.now (option_map (λ t. t.now) files.entry.config) (option_map (λ t. t.now) files.entry.stimulus))) }
 {
-    let programs = read_source(alloc, shelf, source)?;
-    let schedule = read_schedule(alloc, shelf, stimulus)?;
-    Ok((programs, schedule))
+    let programs = read_source(alloc, shelf, files.source)?;
+    let setup = read_setup(alloc, shelf, files.config, &programs)?;
+    let schedule = read_schedule(alloc, shelf, files.stimulus)?;
+    Ok((setup, schedule))
 }
 
-/// Writes the text of so many clocks of a program, or answers want of memory before it has put anything.
+/// Writes the text of so many clocks from a setup, or answers want of memory before it has put anything.
 #[tactic(auto, unfolding(crate::specs::Judged::trace_text))]
 fn write_run<O: Sink, L: Ledger>(
     alloc: Global,
-    program: &Program,
+    setup: &Setup,
     schedule: &Schedule,
     clocks: u64,
     out: &mut O,
@@ -82,10 +86,10 @@ fn write_run<O: Sink, L: Ledger>(
 ) -> Result<(), Fault>
     requires { clocks ≤ 10 ^ 12 }
     ensures ends { MayWrite (O.taken out.old) (O.taken out.new) (O.faults out.old) (O.faults out.new)
-        (trace_text (first_run (default.default_setup (assembled_of program.now))) schedule.now clocks) result }
+        (trace_text (first_run setup.now) schedule.now clocks) result }
     ensures steps { steps.new ≤ steps.old + clocks }
 {
-    match Block::<RingFifo>::new(alloc, &default_setup(alloc, program)) {
+    match Block::<RingFifo>::new(alloc, setup) {
         Ok(mut block) => write_trace(&mut block, schedule, clocks, out, steps),
         Err(_) => Err(Fault::Memory),
     }

@@ -5,6 +5,7 @@ ghost use Rattle.piotool.specs.Told as spec;
 ghost use Rattle.piotool.specs.Told.{fault_line, file_word};
 
 use crate::fault::{Fault, File};
+use block_config::ConfigKind;
 use dreq_pacing::StimKind;
 use itoa::Buffer;
 use pio_assemble::SourceKind;
@@ -17,7 +18,8 @@ pub fn status_of(fault: &Option<Fault>) -> u8
 {
     match fault {
         None => 0,
-        Some(Fault::TooLong(_) | Fault::Words(..) | Fault::Source(..) | Fault::Stim(..)) => 1,
+        Some(Fault::TooLong(_) | Fault::Words(..) | Fault::Source(..)) => 1,
+        Some(Fault::Config(..) | Fault::Stim(..)) => 1,
         Some(Fault::Usage) => 2,
         Some(Fault::Shelf(_)) => 4,
         Some(Fault::Out) => 5,
@@ -37,6 +39,7 @@ pub fn put_fault<E: Sink>(err: &mut E, fault: &Fault) -> Result<(), SinkFailed>
         Fault::TooLong(file) => put_long_fault(err, *file),
         Fault::Words(line, kind) => put_words_fault(err, *line, *kind),
         Fault::Source(line, kind) => put_source_fault(err, *line, kind),
+        Fault::Config(key, kind) => put_config_fault(err, key.as_bytes(), *kind),
         Fault::Stim(line, kind) => put_stimulus_fault(err, *line, *kind),
         Fault::Out => put_text(err, "piotool: out\n"),
         Fault::Memory => put_text(err, "piotool: memory\n"),
@@ -97,6 +100,52 @@ fn put_source_fault<E: Sink>(err: &mut E, line: usize, kind: &SourceKind) -> Res
     put_line_fault(err, "piotool: source line ", line, kind.code())
 }
 
+/// Puts the line of a configuration's fault: the path of its key, its code, and the address where two loads overlap.
+fn put_config_fault<E: Sink>(err: &mut E, key: &[u8], kind: ConfigKind) -> Result<(), SinkFailed>
+    ensures bytes { Takes (E.taken err.old) (spec.config_line key.now kind) (E.taken err.new) result }
+    ensures cause { PutCounts (E.faults err.old) (E.faults err.new) result }
+{
+    match kind {
+        ConfigKind::Overlap(address) => put_overlap(err, key, address),
+        other => put_key_fault(err, key, other.code()),
+    }
+}
+
+/// Puts the line of loads that overlap.
+fn put_overlap<E: Sink>(err: &mut E, key: &[u8], address: u8) -> Result<(), SinkFailed>
+    ensures bytes { Takes (E.taken err.old) (spec.config_line key.now (ConfigKind.Overlap address)) (E.taken err.new) result }
+    ensures cause { PutCounts (E.faults err.old) (E.faults err.new) result }
+{
+    let mut number = Buffer::new();
+    put_all(
+        err,
+        &[
+            "piotool: config ".as_bytes(),
+            key,
+            ": C7 ".as_bytes(),
+            number.format(address).as_bytes(),
+            "\n".as_bytes(),
+        ],
+    )
+}
+
+/// Puts the line of a key's fault.
+fn put_key_fault<E: Sink>(err: &mut E, key: &[u8], code: &str) -> Result<(), SinkFailed>
+    ensures bytes { Takes (E.taken err.old) (spec.key_line key.now code.now) (E.taken err.new) result }
+    ensures cause { PutCounts (E.faults err.old) (E.faults err.new) result }
+{
+    put_all(
+        err,
+        &[
+            "piotool: config ".as_bytes(),
+            key,
+            ": ".as_bytes(),
+            code.as_bytes(),
+            "\n".as_bytes(),
+        ],
+    )
+}
+
 /// Puts the line of a stimulus's fault.
 fn put_stimulus_fault<E: Sink>(err: &mut E, line: usize, kind: StimKind) -> Result<(), SinkFailed>
     ensures bytes { Takes (E.taken err.old) (spec.stimulus_line line kind) (E.taken err.new) result }
@@ -135,6 +184,7 @@ fn word_of(file: File) -> &'static str
     match file {
         File::Source => "source",
         File::Words => "words",
+        File::Config => "config",
         File::Stimulus => "stimulus",
     }
 }

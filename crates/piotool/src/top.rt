@@ -8,7 +8,7 @@ ghost use Rattle.piotool.specs.Promise.{call_of, CommandEnds, EndsAs, WorkEnds};
 
 use crate::dis::dis;
 use crate::fault::Fault;
-use crate::run::run;
+use crate::run::{RunFiles, run};
 use crate::told::{put_fault, status_of};
 use command_line::{Order, WordsFault, read};
 use pio_edge::{Shelf, Sink};
@@ -84,10 +84,18 @@ fn work<F: Shelf, O: Sink, L: Ledger>(
         Ok(
             Order::Run {
                 source,
+                config,
                 stimulus,
                 clocks,
             },
-        ) => run(alloc, source, stimulus, clocks, shelf, out, steps),
+        ) => {
+            let files = RunFiles {
+                source,
+                config,
+                stimulus,
+            };
+            run(alloc, files, clocks, shelf, out, steps)
+        }
         Ok(Order::Dis { file, side, opt }) => dis(alloc, file, side, opt, shelf, out),
         Err(WordsFault::Usage) => Err(Fault::Usage),
         Err(WordsFault::Memory) => Err(Fault::Memory),
