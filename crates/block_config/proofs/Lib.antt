@@ -1,2 +1,13 @@
+pub mod Gather
+pub mod Found
+pub mod Covered
+pub mod Parsed
+pub mod Known
+pub mod Placing
+pub mod Masks
+pub mod Each
+pub mod Ranges
 pub mod Alike
 pub mod Says
+pub mod Outside
+pub mod Apart

@@ -1,5 +1,5 @@
 -- The setup of what a setup says is the setup.
-use Rattle.std.proofs.Common.{◌≡◌, ℕ, ◌≤◌, ◌%◌, ◌+◌, suc, min, ◌==◌, ◌||◌, ◌&&◌, not, cond, Bool, true, false, Option, Some, None, option_map, List, [], ◌∷◌, map, length, slice_index_or, refl, ap, sym, ◌∙◌, arith}
+use Rattle.std.proofs.Common.{◌≡◌, ℕ, ◌≤◌, ◌%◌, ◌+◌, suc, min, ◌==◌, ◌||◌, ◌&&◌, not, cond, Bool, true, false, Option, Some, None, option_map, Result, Ok, Err, List, [], ◌∷◌, map, length, slice_index_or, refl, ap, sym, ◌∙◌, arith}
 use Rattle.std.proofs.Math.Nat.{mod-eq_of_lt}
 use Rattle.std.proofs.lemmas.Bool.{and_parts, eqb-true}
 use Rattle.pin_matrix.specs.Setups.{ids_are_places}
@@ -9,6 +9,9 @@ use Rattle.pin_matrix.specs.declared.setup.Setup.{Setup}
 use Rattle.pin_matrix.specs.declared.span.Span.{Span}
 use Rattle.block_config.specs.Facts.{bits_of}
 use Rattle.block_config.specs.Block.{MachineKeys, BlockKeys, keys_of_machine, keys_of_span, keys_of_block, machine_of, span_of, setup_of}
+use Rattle.block_config.specs.declared.fault.ConfigFault.{ConfigFault}
+use Rattle.block_config.specs.declared.fault.ConfigFault.TheVariants.{Memory, At}
+use Rattle.block_config.specs.Answer.{Refusal, Refuses, made}
 use Rattle.block_config.proofs.Alike.{same_machine, same_span, same_block}
 
 frac_in : (whole : Bool) (frac : ℕ) → (not whole || frac == 0) ≡ true → cond whole 0 frac ≡ frac
@@ -92,3 +95,12 @@ setup_of-keys s four = same_block s.memory _ s.machines s.high s.level s.out s.b
 -- a setup that says this is the setup of it
 pub says : (s : Setup) (k : BlockKeys) → length s.machines ≡ 4 → keys_of_block s ≡ k → s ≡ setup_of k
 says s k four e = sym (setup_of-keys s four) ∙ ap setup_of e
+
+-- the setup of what a setup says, where something was computed
+pub answered : (s : Setup) (k : Result BlockKeys Refusal) → length s.machines ≡ 4 → k ≡ Ok (keys_of_block s) → made setup_of k ≡ Ok s
+answered s k four e = rw e (ap Ok (setup_of-keys s four))
+
+-- a fault of a block is one of its setup
+pub refuses_setup : (fault : ConfigFault) (k : Result BlockKeys Refusal) → Refuses fault k → Refuses fault (made setup_of k)
+refuses_setup Memory k e = tt
+refuses_setup (At key kind) k e = rw e refl

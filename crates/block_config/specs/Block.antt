@@ -71,6 +71,7 @@ pub record BlockKeys : Type 0 where
   pub bypass : ℕ
   pub spans : List SpanKeys
 
+-- what a machine's setup says
 abbrev pub keys_of_machine : MachineSetup → MachineKeys
 keys_of_machine m = record {
   id = m.id;
@@ -102,6 +103,7 @@ keys_of_machine m = record {
   status_n = m.status_n;
 }
 
+-- what a span says
 abbrev pub keys_of_span : Span → SpanKeys
 keys_of_span s = record {
   name = s.name;
@@ -116,6 +118,7 @@ keys_of_span s = record {
   stalls = s.stalls;
 }
 
+-- what a block's setup says
 abbrev pub keys_of_block : Setup → BlockKeys
 keys_of_block s = record {
   memory = s.memory;
@@ -209,16 +212,19 @@ unfolding machine_of
 in_last None = refl
 in_last (Some m) = refl
 
+-- the same of the last two
 in_third : (c d : Option MachineKeys) → ids_are_places 2 (option_map (machine_of 2) c ∷ option_map (machine_of 3) d ∷ []) ≡ true
 unfolding machine_of
 in_third None d = in_last d
 in_third (Some m) d = in_last d
 
+-- the same of the last three
 in_second : (b c d : Option MachineKeys) → ids_are_places 1 (option_map (machine_of 1) b ∷ option_map (machine_of 2) c ∷ option_map (machine_of 3) d ∷ []) ≡ true
 unfolding machine_of
 in_second None c d = in_third c d
 in_second (Some m) c d = in_third c d
 
+-- the same of all four
 pub in_all : (a b c d : Option MachineKeys) → ids_are_places 0 (option_map (machine_of 0) a ∷ option_map (machine_of 1) b ∷ option_map (machine_of 2) c ∷ option_map (machine_of 3) d ∷ []) ≡ true
 unfolding machine_of
 in_all None b c d = in_second b c d

@@ -1,9 +1,140 @@
--- stub
-use Rattle.std.specs.Prelude.{ℕ, List, Result}
+-- What a block starts from by a configuration (TOML 1.1) and the programs of a source (choice of this profile).
+--   document_of     the table that the bytes are
+--   Sections        its arrays of tables and its table of pins
+--   sections_at     that it has these and no other key
+--   config_block    what the setup says: the first fault is the answer
+--   config_setup_of the setup, or its fault
+use Rattle.std.specs.Prelude.{ℕ, nat_le, is_some, Bool, if◌then◌else◌, Option, Some, None, List, [], ◌∷◌, Result, Ok, Err, codes}
+use Rattle.std.specs.Str.{is_utf8}
+use Rattle.toml.specs.Data.{Data, Items, no_items, Members, get_member, as_array, as_table}
+use Rattle.toml.specs.Parse.{parse_document}
 use Rattle.pio_assemble.specs.Program.{Assembled}
 use Rattle.pin_matrix.specs.declared.setup.Setup.{Setup}
-use Rattle.block_config.specs.Answer.{Refusal}
-use Rattle.block_config.specs.Default.{default_setup_of}
+use Rattle.block_config.specs.declared.fault.ConfigKind.{ConfigKind}
+use Rattle.block_config.specs.declared.fault.ConfigKind.TheVariants.{NotToml, UnknownKey, WrongType, Many}
+use Rattle.block_config.specs.declared.path.Section.TheVariants.{Pins}
+use Rattle.block_config.specs.Answer.{Refusal, refused, made}
+use Rattle.block_config.specs.Arrays.{count_items, all_items}
+use Rattle.block_config.specs.Block.{MachineKeys, SpanKeys, BlockKeys, setup_of}
+use Rattle.block_config.specs.Loads.{all_loads, memory_of}
+use Rattle.block_config.specs.Machines.{machines_from, section_at}
+use Rattle.block_config.specs.Memory.{no_words}
+use Rattle.block_config.specs.Pins.{PinTable, pin_table_at}
+use Rattle.block_config.specs.Programs.{Loaded}
+use Rattle.block_config.specs.SpanTable.{all_spans}
+use Rattle.block_config.specs.Tables.{and_then, on_key, are_known}
+use Rattle.block_config.specs.Values.{or_fault}
 
-unfoldable pub config_setup_of : List ℕ → List Assembled → Result Setup Refusal
-config_setup_of bytes programs = default_setup_of programs
+-- the table that the bytes are: TOML is UTF-8
+abbrev pub document_of : List ℕ → Option Members
+document_of bytes = if is_utf8 bytes then parse_document bytes else None
+
+-- every key of a configuration
+abbrev pub top_names : List (List ℕ)
+top_names = codes "load" ∷ codes "machine" ∷ codes "pins" ∷ codes "span" ∷ []
+
+-- an array all of whose elements are tables
+abbrev pub tables_in : Option Items → Result Items ConfigKind
+tables_in None = Err WrongType
+tables_in (Some ds) = if all_items (λ d. is_some (as_table d)) ds then Ok ds else Err WrongType
+
+-- an array of tables, empty where it is absent
+abbrev pub tables_of : Option Data → Result Items ConfigKind
+tables_of None = Ok no_items
+tables_of (Some d) = tables_in (as_array d)
+
+-- the array of tables of a key
+abbrev pub tables_at : Members → List ℕ → Result Items Refusal
+tables_at t key = on_key key (tables_of (get_member key t))
+
+-- a table that may be absent
+abbrev pub some_table : Option Members → Result (Option Members) ConfigKind
+some_table None = Err WrongType
+some_table (Some t) = Ok (Some t)
+
+-- the table of a value
+abbrev pub table_of : Option Data → Result (Option Members) ConfigKind
+table_of None = Ok None
+table_of (Some d) = some_table (as_table d)
+
+-- at most 64 spans
+abbrev pub few_spans : Items → Result Items Refusal
+few_spans spans = if nat_le (count_items spans) 64 then Ok spans else refused (codes "span") Many
+
+-- the arrays of tables of a configuration, and its table of pins
+pub record Sections : Type 0 where
+  pub loads : Items
+  pub machines : Items
+  pub pins : Option Members
+  pub spans : Items
+
+-- the table of pins
+abbrev pub pins_at : Members → Result (Option Members) Refusal
+pins_at t = on_key (codes "pins") (table_of (get_member (codes "pins") t))
+
+-- the tables of spans
+abbrev pub spans_at : Members → Result Items Refusal
+spans_at t = and_then (tables_at t (codes "span")) few_spans
+
+-- the sections of a table whose keys are known
+abbrev pub sections_of : Members → Result Sections Refusal
+sections_of t =
+    and_then (tables_at t (codes "load")) (λ loads. and_then (tables_at t (codes "machine")) (λ machines.
+    and_then (pins_at t) (λ pins. and_then (spans_at t) (λ spans.
+    Ok (record { loads = loads; machines = machines; pins = pins; spans = spans })))))
+
+-- the sections of a table
+abbrev pub sections_at : Members → Result Sections Refusal
+sections_at t = if are_known top_names t then sections_of t else refused (codes "top") UnknownKey
+
+-- every key of the table of pins
+abbrev pub pin_names : List (List ℕ)
+pin_names = codes "high" ∷ codes "level" ∷ codes "out" ∷ codes "bypass" ∷ []
+
+-- the pins of the table, none where it is absent
+abbrev pub pins_in : Option Members → Result PinTable Refusal
+pins_in None = Ok (record { high = 0; level = 0; out = 0; bypass = 0 })
+pins_in (Some t) = section_at Pins pin_names t (pin_table_at t)
+
+-- no machine is configured
+abbrev pub no_machines : List (Option MachineKeys)
+no_machines = None ∷ None ∷ None ∷ None ∷ []
+
+-- a block of its parts
+abbrev pub block_with : List ℕ → List (Option MachineKeys) → PinTable → List SpanKeys → BlockKeys
+block_with memory machines pins spans = record {
+  memory = memory;
+  machines = machines;
+  high = pins.high;
+  level = pins.level;
+  out = pins.out;
+  bypass = pins.bypass;
+  spans = spans;
+}
+
+-- a block over its loads: machines come first, then pins, then spans
+abbrev pub block_over : Sections → List Loaded → Result BlockKeys Refusal
+block_over s loads =
+    and_then (machines_from 0 no_machines loads s.machines) (λ machines. and_then (pins_in s.pins) (λ pins.
+    and_then (all_spans machines loads s.spans) (λ spans. Ok (block_with (memory_of no_words loads) machines pins spans))))
+
+-- a block of its sections: loads come first
+abbrev pub block_of_sections : List Assembled → Sections → Result BlockKeys Refusal
+block_of_sections programs s = and_then (all_loads programs s.loads) (block_over s)
+
+-- the table, unless the bytes are no TOML
+abbrev pub parsed : Option Members → Result Members Refusal
+parsed None = refused (codes "file") NotToml
+parsed (Some t) = Ok t
+
+-- the block of a configuration's table
+abbrev pub block_of_table : List Assembled → Members → Result BlockKeys Refusal
+block_of_table programs t = and_then (sections_at t) (block_of_sections programs)
+
+-- what a configuration of these bytes says, over the programs of a source
+abbrev pub config_block : List ℕ → List Assembled → Result BlockKeys Refusal
+config_block bytes programs = and_then (parsed (document_of bytes)) (block_of_table programs)
+
+-- the setup that says it
+abbrev pub config_setup_of : List ℕ → List Assembled → Result Setup Refusal
+config_setup_of bytes programs = made setup_of (config_block bytes programs)

@@ -19,9 +19,11 @@ joins_at false rx = refl
 abbrev pub bits_of : ℕ → ℕ
 bits_of n = suc ((n - 1) % 32)
 
+-- it is 1 at least
 pub some_bits : (n : ℕ) → 1 ≤ bits_of n
 some_bits n = zero-lt-suc ((n - 1) % 32)
 
+-- it is 32 at most
 pub few_bits : (n : ℕ) → bits_of n ≤ 32
 few_bits n = mod_below (n - 1) 32 (lit< tt)
 

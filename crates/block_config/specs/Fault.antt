@@ -1,13 +1,13 @@
 -- The codes of a configuration's faults, and the paths of its keys (choice of this profile).
 --   code_of      the code of a kind
 --   kind_text    the code with what a message tells beside it
---   table_path   the path of a table
+--   section_path   the path of a table
 --   key_path     the path of a key of a table
 use Rattle.std.specs.Prelude.{ℕ, ◌++◌, List, codes, decimal}
 use Rattle.block_config.specs.declared.fault.ConfigKind.{ConfigKind}
 use Rattle.block_config.specs.declared.fault.ConfigKind.TheVariants.{NotToml, UnknownKey, WrongType, Range, NoProgram, NoLabel, Overlap, DoesNotFit, MachineTwice, BothJoins, Divider, Many, Missing}
-use Rattle.block_config.specs.declared.path.Table.{Table}
-use Rattle.block_config.specs.declared.path.Table.TheVariants.{Load, Machine, Pins, Span}
+use Rattle.block_config.specs.declared.path.Section.{Section}
+use Rattle.block_config.specs.declared.path.Section.TheVariants.{Load, Machine, Pins, Span}
 
 -- the code of a kind
 abbrev pub code_of : ConfigKind → List ℕ
@@ -31,12 +31,12 @@ kind_text (Overlap address) = codes "C7 " ++ decimal address
 kind_text kind = code_of kind
 
 -- the path of a table: those of an array have their place, counted from 0
-abbrev pub table_path : Table → List ℕ
-table_path (Load place) = codes "load[" ++ decimal place ++ codes "]"
-table_path (Machine place) = codes "machine[" ++ decimal place ++ codes "]"
-table_path Pins = codes "pins"
-table_path (Span place) = codes "span[" ++ decimal place ++ codes "]"
+abbrev pub section_path : Section → List ℕ
+section_path (Load place) = codes "load[" ++ decimal place ++ codes "]"
+section_path (Machine place) = codes "machine[" ++ decimal place ++ codes "]"
+section_path Pins = codes "pins"
+section_path (Span place) = codes "span[" ++ decimal place ++ codes "]"
 
 -- the path of a key: its table's, a dot and its name
-abbrev pub key_path : Table → List ℕ → List ℕ
-key_path table key = table_path table ++ codes "." ++ key
+abbrev pub key_path : Section → List ℕ → List ℕ
+key_path section key = section_path section ++ codes "." ++ key

@@ -1,21 +1,131 @@
-//! The setup of a configuration.
-ghost use Rattle.std.specs.Prelude.{map};
+//! Where a run starts by a configuration.
+ghost use Rattle.std.specs.Prelude.{◌≡◌, map};
 ghost use Rattle.pio_assemble.specs.Program.{assembled_of};
-ghost use Rattle.block_config.specs.Answer.{Answers};
+ghost use Rattle.toml.specs.View.{items_view, table_view};
+ghost use Rattle.block_config.specs.Answer.{Answers, Gives, made};
+ghost use Rattle.block_config.specs.Block.{keys_of_block, keys_of_span};
+ghost use Rattle.block_config.specs.Config as spec;
 ghost use Rattle.block_config.specs.Config.{config_setup_of};
+ghost use Rattle.block_config.specs.Default.{quiet_block};
+ghost use Rattle.block_config.specs.LoadView.{loaded_of};
+ghost use Rattle.block_config.specs.Loads.{memory_of};
+ghost use Rattle.block_config.specs.Machines.{machines_from};
+ghost use Rattle.block_config.specs.Memory.{no_words};
+ghost use Rattle.block_config.specs.PinView.{pin_view};
+ghost use Rattle.block_config.specs.SectionView.{sections_view};
 
-use crate::fault::ConfigFault;
-use pin_matrix::Setup;
+use crate::fault::{ConfigFault, ConfigKind};
+use crate::loads::{memory_of, read_loads};
+use crate::machines::place_machines;
+use crate::path::fault_at;
+use crate::pin_section::read_pins;
+use crate::pins::PinLists;
+use crate::programs::Load;
+use crate::sections::{Sections, sections_at};
+use crate::spans::read_spans;
+use pin_matrix::{Setup, Span, Spans};
 use pio_assemble::Program;
 use std::alloc::Global;
+use toml::{Table, Value};
 
-pub fn read_config(
-    _alloc: Global,
-    bytes: &[u8],
-    programs: &[Program],
-) -> Result<Setup, ConfigFault>
+/// The setup of a configuration (TOML) over the programs of a source, or the configuration's first fault: that it is no
+/// TOML stands on `file`, an unknown section on `top`, and else a fault stands on its key, as `machine[0].fraction`.
+/// Sections are read in the order load, machine, pins, span, and keys in the order of the tables' description.
+#[tactic(auto, using(crate::proofs::Says::answered, crate::proofs::Says::refuses_setup))]
+pub fn read_config(alloc: Global, bytes: &[u8], programs: &[Program]) -> Result<Setup, ConfigFault>
     ensures value { Answers result (config_setup_of bytes.now (map assembled_of programs.now)) }
 {
-    let _ = (bytes.len(), programs.len());
-    Err(ConfigFault::Memory)
+    match read_block(alloc, bytes, programs) {
+        Ok(setup) => Ok(setup),
+        Err(fault) => Err(fault),
+    }
+}
+
+/// The setup, by what it says.
+fn read_block(alloc: Global, bytes: &[u8], programs: &[Program]) -> Result<Setup, ConfigFault>
+    ensures { Gives keys_of_block result (spec.config_block bytes.now (map assembled_of programs.now)) }
+{
+    match document_of(alloc, bytes) {
+        Ok(table) => block_of_table(alloc, &table, programs),
+        Err(fault) => Err(fault),
+    }
+}
+
+/// The table that the bytes are.
+fn document_of(alloc: Global, bytes: &[u8]) -> Result<Table, ConfigFault>
+    ensures { Gives table_view result (spec.parsed (spec.document_of bytes.now)) }
+{
+    match toml::table_from_slice(alloc, bytes) {
+        Ok(table) => Ok(table),
+        Err(error) if error.is_memory() => Err(ConfigFault::Memory),
+        Err(_) => Err(fault_at(alloc, "file", ConfigKind::NotToml)),
+    }
+}
+
+/// The setup of a configuration's table.
+fn block_of_table(alloc: Global, table: &Table, programs: &[Program]) -> Result<Setup, ConfigFault>
+    ensures { Gives keys_of_block result (spec.block_of_table (map assembled_of programs.now) (table_view table.now)) }
+{
+    match sections_at(alloc, table) {
+        Ok(sections) => block_of_sections(alloc, &sections, programs),
+        Err(fault) => Err(fault),
+    }
+}
+
+/// The setup of the sections.
+fn block_of_sections(
+    alloc: Global,
+    sections: &Sections,
+    programs: &[Program],
+) -> Result<Setup, ConfigFault>
+    ensures { Gives keys_of_block result (spec.block_of_sections (map assembled_of programs.now) (sections_view sections.now)) }
+{
+    match read_loads(alloc, programs, sections.loads) {
+        Ok(loads) => block_over(alloc, sections, &loads),
+        Err(fault) => Err(fault),
+    }
+}
+
+/// The setup over the loads.
+fn block_over(alloc: Global, sections: &Sections, loads: &[Load]) -> Result<Setup, ConfigFault>
+    ensures { Gives keys_of_block result (spec.block_over (sections_view sections.now) (map loaded_of loads.now)) }
+{
+    let setup = match bare_block(alloc, loads, sections.machines) {
+        Ok(setup) => setup,
+        Err(fault) => return Err(fault),
+    };
+    let pins = match read_pins(alloc, sections.pins) {
+        Ok(pins) => pins,
+        Err(fault) => return Err(fault),
+    };
+    match read_spans(alloc, &setup.machines, loads, sections.spans) {
+        Ok(spans) => Ok(block_with(&setup, &pins, spans)),
+        Err(fault) => Err(fault),
+    }
+}
+
+/// The memory and the machines.
+fn bare_block(alloc: Global, loads: &[Load], values: &[Value]) -> Result<Setup, ConfigFault>
+    ensures { Gives keys_of_block result (made (quiet_block (memory_of no_words (map loaded_of loads.now))) (machines_from 0 spec.no_machines (map loaded_of loads.now) (items_view values.now))) }
+{
+    let mut setup = Setup::of(memory_of(loads), Spans::new(Vec::new(alloc)));
+    match place_machines(alloc, loads, values, &mut setup) {
+        Ok(()) => Ok(setup),
+        Err(fault) => Err(fault),
+    }
+}
+
+/// A block with these pins and spans.
+fn block_with(setup: &Setup, pins: &PinLists, spans: Vec<Span>) -> Setup
+    ensures { keys_of_block result ≡ spec.block_with setup.now.memory (keys_of_block setup.now).machines (pin_view pins.now) (map keys_of_span spans.items) }
+{
+    Setup {
+        memory: setup.memory,
+        machines: setup.machines,
+        high: pins.high,
+        level: pins.level,
+        out: pins.out,
+        bypass: pins.bypass,
+        spans: Spans::new(spans),
+    }
 }

@@ -1,9 +1,27 @@
-//! A law of the definitions, on a function that does nothing.
-ghost use Rattle.std.specs.Prelude.{◌≡◌, length};
-ghost use Rattle.block_config.specs.Block.{keys_of_block, setup_of};
+//! Laws of the definitions, each on a function that does nothing.
+ghost use Rattle.std.specs.Prelude.{◌≡◌, ℕ, ◌<◌, List, Ok, false, length, slice_index};
+ghost use Rattle.toml.specs.Data.{Items};
+ghost use Rattle.pio_assemble.specs.Program.{Assembled};
 ghost use Rattle.pin_matrix.specs.declared.setup.Setup as setup;
+ghost use Rattle.block_config.specs.Apart.{AreApart};
+ghost use Rattle.block_config.specs.Block.{keys_of_block, setup_of};
+ghost use Rattle.block_config.specs.Loads.{all_loads, is_covered, memory_of};
+ghost use Rattle.block_config.specs.Memory.{no_words};
+ghost use Rattle.block_config.specs.Programs.{Loaded};
 
 /// A setup is what it says: of the plain numbers of a setup, the definitions make that setup again.
 pub fn a_setup_is_what_it_says()
     ensures { (s : setup.Setup) → length s.machines ≡ 4 → setup_of (keys_of_block s) ≡ s }
+{}
+
+/// No address is covered by two of a configuration's loads.
+pub fn loads_share_no_address()
+    ensures { (programs : List Assembled) (tables : Items) (loads : List Loaded)
+        → all_loads programs tables ≡ Ok loads → AreApart loads }
+{}
+
+/// Memory is 0x0000 where no load has a word.
+pub fn memory_outside_all_loads_is_0()
+    ensures { (loads : List Loaded) (address : ℕ) → address < 32 → is_covered loads address ≡ false
+        → slice_index (memory_of no_words loads) address ≡ 0 }
 {}

@@ -1,17 +1,48 @@
 //! What a block starts from: a setup of a configuration (TOML) and the programs of a source.
 #![tactic(auto)]
 
+mod arrays;
 mod config;
 mod defaults;
 mod fault;
+mod keys;
+mod label;
 mod laws;
 mod load;
+mod load_table;
+mod loads;
+mod machine;
+mod machine_parts;
+mod machine_table;
+mod machines;
 mod path;
+mod pin_section;
+mod pins;
+mod programs;
+mod running;
+mod sections;
+mod span_name;
+mod span_parts;
+mod span_table;
+mod spans;
+mod stalls;
+mod table;
+mod value;
 
 pub use config::read_config;
 pub use defaults::default_setup;
 pub use fault::{ConfigFault, ConfigKind};
-pub use laws::a_setup_is_what_it_says;
+pub use laws::{a_setup_is_what_it_says, loads_share_no_address, memory_outside_all_loads_is_0};
 
 #[cfg(test)]
+mod config_rows;
+#[cfg(test)]
+mod config_tests;
+#[cfg(test)]
+mod machine_rows;
+#[cfg(test)]
+mod span_rows;
+#[cfg(test)]
 mod tests;
+#[cfg(test)]
+mod toml_rows;

@@ -1,7 +1,7 @@
 //! The path of a key in a fault: `load[0].at` (choice of this profile).
 ghost use Rattle.std.specs.Prelude.{◌≡◌, Some};
 ghost use Rattle.block_config.specs.Answer.{Tells};
-ghost use Rattle.block_config.specs.Fault.{key_path, table_path};
+ghost use Rattle.block_config.specs.Fault.{key_path, section_path};
 
 use crate::fault::{ConfigFault, ConfigKind};
 use pio_encode::Name;
@@ -10,22 +10,22 @@ use std::fmt;
 
 /// A table of a configuration; those of an array count from 0.
 #[derive(Clone, Copy, Debug, PartialEq, Eq)]
-pub enum Table {
+pub enum Section {
     Load(usize),
     Machine(usize),
     Pins,
     Span(usize),
 }
 
-impl fmt::Display for Table {
-    ghost output = { λ table. Some (table_path table) };
+impl fmt::Display for Section {
+    ghost output = { λ section. Some (section_path section) };
 
     fn fmt<W: fmt::Write>(&self, f: &mut fmt::Formatter<W>) -> fmt::Result {
         match self {
-            Table::Load(place) => write!(f, "load[{place}]"),
-            Table::Machine(place) => write!(f, "machine[{place}]"),
-            Table::Pins => f.write_str("pins"),
-            Table::Span(place) => write!(f, "span[{place}]"),
+            Section::Load(place) => write!(f, "load[{place}]"),
+            Section::Machine(place) => write!(f, "machine[{place}]"),
+            Section::Pins => f.write_str("pins"),
+            Section::Span(place) => write!(f, "span[{place}]"),
         }
     }
 }
@@ -44,10 +44,10 @@ pub fn fault_at(alloc: Global, path: &str, kind: ConfigKind) -> ConfigFault
 }
 
 /// A fault of a table, which stands on no one key.
-pub fn fault_of_table(alloc: Global, table: Table, kind: ConfigKind) -> ConfigFault
-    ensures { Tells result (table_path table) kind }
+pub fn fault_of_section(alloc: Global, section: Section, kind: ConfigKind) -> ConfigFault
+    ensures { Tells result (section_path section) kind }
 {
-    match format!(in alloc; "{table}") {
+    match format!(in alloc; "{section}") {
         Ok(text) => ConfigFault::At {
             key: Name::new(text),
             kind,
@@ -57,10 +57,10 @@ pub fn fault_of_table(alloc: Global, table: Table, kind: ConfigKind) -> ConfigFa
 }
 
 /// A fault of a key.
-pub fn fault_of_key(alloc: Global, table: Table, key: &str, kind: ConfigKind) -> ConfigFault
-    ensures { Tells result (key_path table key.now) kind }
+pub fn fault_of_key(alloc: Global, section: Section, key: &str, kind: ConfigKind) -> ConfigFault
+    ensures { Tells result (key_path section key.now) kind }
 {
-    match format!(in alloc; "{table}.{key}") {
+    match format!(in alloc; "{section}.{key}") {
         Ok(text) => ConfigFault::At {
             key: Name::new(text),
             kind,

@@ -2,7 +2,7 @@
 //! faults.
 ghost use Rattle.std.specs.Prelude.{◌≤◌, unwrap_or};
 
-use crate::path::{Table, fault_of_key, fault_of_table};
+use crate::path::{Section, fault_of_key, fault_of_section};
 use crate::{ConfigFault, ConfigKind, default_setup};
 use pio_assemble::{Program, assemble};
 use std::alloc::Global;
@@ -80,19 +80,19 @@ fn fault_texts(rt: HostRuntime) -> Result<(), Fail> {
     let alloc = rt.alloc();
     let faults = [
         (
-            fault_of_key(alloc, Table::Load(1), "at", ConfigKind::Overlap(3)),
+            fault_of_key(alloc, Section::Load(1), "at", ConfigKind::Overlap(3)),
             "load[1].at: C7 3",
         ),
         (
-            fault_of_key(alloc, Table::Machine(0), "fraction", ConfigKind::Divider),
+            fault_of_key(alloc, Section::Machine(0), "fraction", ConfigKind::Divider),
             "machine[0].fraction: C11",
         ),
         (
-            fault_of_key(alloc, Table::Span(63), "max", ConfigKind::Range),
+            fault_of_key(alloc, Section::Span(63), "max", ConfigKind::Range),
             "span[63].max: C4",
         ),
         (
-            fault_of_table(alloc, Table::Pins, ConfigKind::UnknownKey),
+            fault_of_section(alloc, Section::Pins, ConfigKind::UnknownKey),
             "pins: C2",
         ),
     ];

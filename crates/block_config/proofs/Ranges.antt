@@ -1,0 +1,72 @@
+-- Numbers that were read are in their keys' ranges.
+use Rattle.std.proofs.Common.{◌≡◌, ℕ, ℤ, pos, negsuc, ◌+◌, ◌<◌, ◌≤◌, nat_le, ◌&&◌, cond, Bool, true, false, Option, Some, None, List, [], ◌∷◌, ◌++◌, Result, Ok, Err, map, length, get_or, unwrap_or, append_assoc, length-append, slice_index, refl, ap, sym, ◌∙◌, arith}
+use Rattle.std.proofs.lemmas.Bool.{and_parts, cases_Bool}
+use Rattle.std.proofs.lemmas.Bool.Decides.{nat_tests}
+use Rattle.toml.specs.Data.{Data, Members, get_member, as_integer}
+use Rattle.block_config.specs.declared.fault.ConfigKind.{ConfigKind}
+use Rattle.block_config.specs.declared.fault.ConfigKind.TheVariants.{Range, WrongType, Missing}
+use Rattle.block_config.specs.declared.keys.NumberKey.{NumberKey}
+use Rattle.block_config.specs.Answer.{Refusal}
+use Rattle.block_config.specs.Keys.{Numbered, described}
+use Rattle.block_config.specs.Values.{or_fault, in_range, range_of, number_in, number_of}
+use Rattle.block_config.specs.Tables.{and_then, on_key, number_at, each_at, AreWithin}
+
+pub record Goes {X Y E : Type 0} (r : Result X E) (next : X → Result Y E) (y : Y) : Type 0 where
+  pub value : X
+  pub found : r ≡ Ok value
+  pub rest : next value ≡ Ok y
+
+pub goes_on : {X Y E : Type 0} (r : Result X E) (next : X → Result Y E) (y : Y) → and_then r next ≡ Ok y → Goes r next y
+goes_on (Ok x) next y e = record { value = x; found = refl; rest = e }
+goes_on (Err e') next y e = cc
+
+abbrev pub IsIn : ℕ → ℕ → ℕ → Type 0
+IsIn low high n = (low ≤ n) × (n ≤ high)
+
+in_tested : (low high m n : ℕ) (a b : Bool) → nat_le low m ≡ a → nat_le m high ≡ b → cond (a && b) (Ok m) (Err Range) ≡ Ok n → IsIn low high n
+in_tested low high m n true true p q e =
+    let same : m ≡ n = cc in
+    (grind (arith, nat_tests), grind (arith, nat_tests))
+in_tested low high m n true false p q e = cc
+in_tested low high m n false b p q e = cc
+
+in_ranged : (low high : ℕ) (z : ℤ) (n : ℕ) → in_range low high z ≡ Ok n → IsIn low high n
+in_ranged low high (pos m) n e = in_tested low high m n (nat_le low m) (nat_le m high) refl refl e
+in_ranged low high (negsuc m) n e = cc
+
+in_read : (low high : ℕ) (z : Option ℤ) (n : ℕ) → range_of low high z ≡ Ok n → IsIn low high n
+in_read low high (Some z) n e = in_ranged low high z n e
+in_read low high None n e = cc
+
+in_default : (low high : ℕ) (d : Option ℕ) (n : ℕ) → low ≤ unwrap_or d low → unwrap_or d low ≤ high → or_fault Missing d ≡ Ok n → IsIn low high n
+in_default low high (Some d) n a b e = let same : d ≡ n = cc in (omega arith, omega arith)
+in_default low high None n a b e = cc
+
+in_value : (k : NumberKey) (d : Option Data) (n : ℕ) → number_of (described k) d ≡ Ok n → IsIn k.low k.high n
+in_value k None n e = in_default k.low k.high k.default n k.low_default k.high_default e
+in_value k (Some d) n e = in_read k.low k.high (as_integer d) n e
+
+pub off_key : {X : Type 0} (name : List ℕ) (r : Result X ConfigKind) (x : X) → on_key name r ≡ Ok x → r ≡ Ok x
+off_key name (Ok y) x e = ap Ok cc
+off_key name (Err kind) x e = cc
+
+index_behind : (front rest : List ℕ) (v : ℕ) → get_or (front ++ v ∷ rest) (length front) 0 ≡ v
+index_behind [] rest v = refl
+index_behind (x ∷ front) rest v = index_behind front rest v
+
+within_step : (k : Numbered) (ks : List Numbered) (v : ℕ) (rest vs front : List ℕ) (place : ℕ) → vs ≡ v ∷ rest → length front ≡ place → IsIn k.low k.high v
+    → AreWithin (place + 1) ks ((front ++ v ∷ []) ++ rest) → AreWithin place (k ∷ ks) (front ++ vs)
+within_step k ks v rest vs front place all l here more =
+    let there : slice_index (front ++ v ∷ rest) place ≡ v = rw (← l) (index_behind front rest v) in
+    let others : AreWithin (place + 1) ks (front ++ v ∷ rest) = rw append_assoc at more in
+    rw (all, there) (here.0, here.1, others)
+
+pub are_within : (t : Members) (ks : List NumberKey) (vs front : List ℕ) (place : ℕ) → length front ≡ place → each_at (number_at t) (map described ks) ≡ Ok vs → AreWithin place (map described ks) (front ++ vs)
+unfolding each_at
+are_within t [] vs front place l e = tt
+are_within t (k ∷ ks) vs front place l e =
+    let first = goes_on (number_at t (described k)) (λ v. and_then (each_at (number_at t) (map described ks)) (λ vs. Ok (v ∷ vs))) vs e in
+    let others = goes_on (each_at (number_at t) (map described ks)) (λ vs. Ok (first.value ∷ vs)) vs first.rest in
+    let here : IsIn k.low k.high first.value = in_value k (get_member k.name.now t) first.value (off_key k.name.now _ first.value first.found) in
+    within_step (described k) (map described ks) first.value others.value vs front place (cc) l here
+    (are_within t ks others.value (front ++ first.value ∷ []) (place + 1) (simp length-append (omega arith)) others.found)

@@ -1,0 +1,27 @@
+use Rattle.std.proofs.Common.{[], refl, sym, arith}
+use Rattle.toml.specs.View.{table_view}
+use Rattle.block_config.specs.Keys.{described}
+use Rattle.block_config.specs.Tables.{each_at, number_at, refusal_of}
+use Rattle.block_config.proofs.Each.{each_more, each_fails, each_ends}
+use Rattle.block_config.proofs.Ranges.{are_within}
+use Rattle.block_config.proofs.table.numbers_at.Goals as goal
+
+pub returns-in-Err-clause-value : goal.returns-in-Err-clause-value
+returns-in-Err-clause-value c =
+    let t = table_view c.args.table.now in
+    sym (each_fails described (number_at t) c.args.keys.now c.loop-key.key-index c.key-item.result c.key-item.result (refusal_of c.in-Err.lack) c.loop-key.numbers.items _ c.loop-key.invariant.1 c.loop-key-test.true c.key-item.is (sym c.in-Err.ensures.value))
+
+pub loop-key-preserved : goal.loop-key-preserved
+loop-key-preserved c =
+    let t = table_view c.args.table.now in
+    (omega arith, rw c.push.ensures.items (each_more described (number_at t) c.args.keys.now c.loop-key.key-index c.key-item.result c.key-item.result c.in-Ok.number c.loop-key.numbers.items _ c.loop-key.invariant.1 c.loop-key-test.true c.key-item.is (sym c.in-Ok.ensures.value)))
+
+pub returns-clause-value : goal.returns-clause-value
+returns-clause-value c =
+    let t = table_view c.args.table.now in
+    sym (each_ends described (number_at t) c.args.keys.now c.loop-key.key-index c.loop-key.numbers.items _ c.loop-key.invariant.1 c.loop-key-test.false)
+
+pub returns-clause-within : goal.returns-clause-within
+returns-clause-within c =
+    let t = table_view c.args.table.now in
+    are_within t c.args.keys.now c.loop-key.numbers.items [] 0 refl (each_ends described (number_at t) c.args.keys.now c.loop-key.key-index c.loop-key.numbers.items _ c.loop-key.invariant.1 c.loop-key-test.false)

@@ -1,0 +1,50 @@
+-- The table of pins (choice of this profile): lists of pins, each 0 to 31, as numbers in which bit i stands for pin i.
+--   all_numbers   each element is a number
+--   mask_from     the pins of a list, beside those of a number
+--   mask_at       the pins of a key; an element of another type comes before one out of range
+--   PinTable      the four lists
+use Rattle.std.specs.Prelude.{ℕ, ◌^◌, ◌&&◌, bit_or, Bool, true, if◌then◌else◌, is_some, Option, Some, None, List, [], ◌∷◌, Result, Ok, Err, codes}
+use Rattle.toml.specs.Data.{Data, Items, no_items, item, Members, get_member, as_array, as_integer}
+use Rattle.block_config.specs.declared.fault.ConfigKind.{ConfigKind}
+use Rattle.block_config.specs.declared.fault.ConfigKind.TheVariants.{WrongType}
+use Rattle.block_config.specs.Answer.{Refusal}
+use Rattle.block_config.specs.Values.{number_in}
+use Rattle.block_config.specs.Tables.{and_then, on_key}
+
+-- each element is a number
+abbrev pub all_numbers : Items → Bool
+all_numbers no_items = true
+all_numbers (item d ds) = is_some (as_integer d) && all_numbers ds
+
+-- the pins of a list, beside those of a number
+unfoldable pub mask_from : ℕ → Items → Result ℕ ConfigKind
+mask_from mask no_items = Ok mask
+mask_from mask (item d ds) = and_then (number_in 0 31 d) (λ pin. mask_from (bit_or mask (2 ^ pin)) ds)
+
+-- the pins of an array; an element of another type comes before one out of range
+abbrev pub mask_in : Option Items → Result ℕ ConfigKind
+mask_in None = Err WrongType
+mask_in (Some ds) = if all_numbers ds then mask_from 0 ds else Err WrongType
+
+-- the pins of a value, none where it is absent
+abbrev pub mask_of : Option Data → Result ℕ ConfigKind
+mask_of None = Ok 0
+mask_of (Some d) = mask_in (as_array d)
+
+-- the pins of a key
+abbrev pub mask_at : Members → List ℕ → Result ℕ Refusal
+mask_at t key = on_key key (mask_of (get_member key t))
+
+-- the four lists
+pub record PinTable : Type 0 where
+  pub high : ℕ
+  pub level : ℕ
+  pub out : ℕ
+  pub bypass : ℕ
+
+-- the lists of a table, in this order
+abbrev pub pin_table_at : Members → Result PinTable Refusal
+pin_table_at t =
+    and_then (mask_at t (codes "high")) (λ high. and_then (mask_at t (codes "level")) (λ level.
+    and_then (mask_at t (codes "out")) (λ out. and_then (mask_at t (codes "bypass")) (λ bypass.
+    Ok (record { high = high; level = level; out = out; bypass = bypass })))))

@@ -1,0 +1,58 @@
+-- Reading a table of a configuration by the list of its keys, in order (choice of this profile).
+--   and_then     what follows on a value, unless there is a fault
+--   on_key       what is wrong with a value is told of its key
+--   number_at, flag_at   the value of a table's key
+--   each_at      the values of keys in order, or the first fault
+--   AreWithin    values are in the ranges of keys
+--   are_known    a table has no key but these
+use Rattle.std.specs.Prelude.{ℕ, ◌+◌, ◌≤◌, slice_index, Bool, true, ◌&&◌, List, [], ◌∷◌, Result, Ok, Err}
+use Rattle.std.specs.List.{list_any}
+use Rattle.std.specs.Str.{bytes_eq}
+use Rattle.toml.specs.Data.{Members, no_members, member, get_member}
+use Rattle.block_config.specs.declared.fault.ConfigKind.{ConfigKind}
+use Rattle.block_config.specs.declared.table.Lack.{Lack}
+use Rattle.block_config.specs.Answer.{Refusal, refused}
+use Rattle.block_config.specs.Keys.{Numbered, Flagged}
+use Rattle.block_config.specs.Values.{number_of, flag_of}
+
+-- what follows on a value, unless there is a fault
+abbrev pub and_then : {X Y E : Type 0} → Result X E → (X → Result Y E) → Result Y E
+and_then (Ok x) next = next x
+and_then (Err e) next = Err e
+
+-- what is wrong with a value is told of its key
+abbrev pub on_key : {X : Type 0} → List ℕ → Result X ConfigKind → Result X Refusal
+on_key name (Ok x) = Ok x
+on_key name (Err kind) = refused name kind
+
+-- what the code tells of a key
+abbrev pub refusal_of : Lack → Refusal
+refusal_of l = record { key = l.key.now; kind = l.kind }
+
+-- what was returned, with what it holds seen by a view
+abbrev pub seen : {X Y : Type 0} → (X → Y) → Result X Lack → Result Y Refusal
+seen f (Ok x) = Ok (f x)
+seen f (Err l) = Err (refusal_of l)
+
+-- the number of a key
+abbrev pub number_at : Members → Numbered → Result ℕ Refusal
+number_at t k = on_key k.name (number_of k (get_member k.name t))
+
+-- the flag of a key
+abbrev pub flag_at : Members → Flagged → Result Bool Refusal
+flag_at t k = on_key k.name (flag_of k (get_member k.name t))
+
+-- the values of keys in order, or the first fault
+unfoldable pub each_at : {K V : Type 0} → (K → Result V Refusal) → List K → Result (List V) Refusal
+each_at read [] = Ok []
+each_at read (k ∷ ks) = and_then (read k) (λ v. and_then (each_at read ks) (λ vs. Ok (v ∷ vs)))
+
+-- the values from a place on are in the ranges of these keys
+abbrev pub AreWithin : ℕ → List Numbered → List ℕ → Type 0
+AreWithin place [] values = Unit {0}
+AreWithin place (k ∷ ks) values = (k.low ≤ slice_index values place) × (slice_index values place ≤ k.high) × AreWithin (place + 1) ks values
+
+-- a table has no key but these
+abbrev pub are_known : List (List ℕ) → Members → Bool
+are_known names no_members = true
+are_known names (member key d rest) = list_any (bytes_eq key) names && are_known names rest

@@ -1,0 +1,136 @@
+//! The sections of a configuration: its arrays of tables and its table of pins.
+ghost use Rattle.std.specs.Prelude.{◌≡◌, Some, is_some, option_map};
+ghost use Rattle.std.specs.List.{list_all};
+ghost use Rattle.toml.specs.Data.{as_table};
+ghost use Rattle.toml.specs.View.{items_view, table_view, view};
+ghost use Rattle.block_config.specs.Answer.{Gives};
+ghost use Rattle.block_config.specs.Arrays.{all_items};
+ghost use Rattle.block_config.specs.Config as spec;
+ghost use Rattle.block_config.specs.SectionView.{sections_view};
+ghost use Rattle.block_config.specs.Tables.{seen};
+ghost use Rattle.block_config.specs.Values.{map_ok};
+
+use crate::arrays::count_of;
+use crate::fault::{ConfigFault, ConfigKind};
+use crate::path::fault_at;
+use crate::table::{Lack, are_known, value_at};
+use std::alloc::Global;
+use toml::{Table, Value};
+
+const NAMES: [&str; 4] = ["load", "machine", "pins", "span"];
+
+/// The sections of a configuration; an array that is absent is empty.
+#[derive(Clone, Copy, Debug)]
+pub struct Sections<'t> {
+    pub loads: &'t [Value],
+    pub machines: &'t [Value],
+    pub pins: Option<&'t Table>,
+    pub spans: &'t [Value],
+}
+
+/// The sections of a configuration's table.
+pub fn sections_at<'t>(alloc: Global, table: &'t Table) -> Result<Sections<'t>, ConfigFault>
+    ensures { Gives sections_view result (spec.sections_at (table_view table.entry.now)) }
+{
+    if !are_known(table, &NAMES) {
+        return Err(fault_at(alloc, "top", ConfigKind::UnknownKey));
+    }
+    match sections_of(table) {
+        Ok(sections) => Ok(sections),
+        Err(lack) => Err(fault_at(alloc, lack.key, lack.kind)),
+    }
+}
+
+/// The sections of a table whose keys are known.
+fn sections_of<'t>(table: &'t Table) -> Result<Sections<'t>, Lack>
+    ensures { seen sections_view result ≡ spec.sections_of (table_view table.entry.now) }
+{
+    let loads = tables_at(table, "load")?;
+    let machines = tables_at(table, "machine")?;
+    let pins = pins_at(table)?;
+    let spans = spans_at(table)?;
+    Ok(Sections {
+        loads,
+        machines,
+        pins,
+        spans,
+    })
+}
+
+/// The tables of spans, at most 64.
+fn spans_at<'t>(table: &'t Table) -> Result<&'t [Value], Lack>
+    ensures { seen (λ vs. items_view vs.now) result ≡ spec.spans_at (table_view table.entry.now) }
+{
+    let spans = tables_at(table, "span")?;
+    if count_of(spans) > 64 {
+        return Err(Lack {
+            key: "span",
+            kind: ConfigKind::Many,
+        });
+    }
+    Ok(spans)
+}
+
+/// The table of pins.
+fn pins_at<'t>(table: &'t Table) -> Result<Option<&'t Table>, Lack>
+    ensures { seen (option_map (λ t. table_view t.now)) result ≡ spec.pins_at (table_view table.entry.now) }
+{
+    match value_at(table, "pins") {
+        Some(value) => match value.as_table() {
+            Some(pins) => Ok(Some(pins)),
+            None => Err(Lack {
+                key: "pins",
+                kind: ConfigKind::WrongType,
+            }),
+        },
+        None => Ok(None),
+    }
+}
+
+/// The array of tables of a key.
+fn tables_at<'t>(table: &'t Table, key: &'static str) -> Result<&'t [Value], Lack>
+    ensures { seen (λ vs. items_view vs.now) result ≡ spec.tables_at (table_view table.entry.now) key.entry.now }
+{
+    match tables_of(value_at(table, key)) {
+        Ok(tables) => Ok(tables),
+        Err(kind) => Err(Lack { key, kind }),
+    }
+}
+
+/// The tables of a value, none where it is absent.
+fn tables_of<'t>(value: Option<&'t Value>) -> Result<&'t [Value], ConfigKind>
+    ensures { map_ok (λ vs. items_view vs.now) result ≡ spec.tables_of (option_map (λ v. view v.now) value.entry) }
+{
+    match value {
+        Some(value) => match value.as_array() {
+            Some(values) => tables_in(values),
+            None => Err(ConfigKind::WrongType),
+        },
+        None => Ok(&[]),
+    }
+}
+
+/// The tables of an array.
+fn tables_in<'t>(values: &'t [Value]) -> Result<&'t [Value], ConfigKind>
+    ensures { map_ok (λ vs. items_view vs.now) result ≡ spec.tables_in (Some (items_view values.entry.now)) }
+{
+    if all_tables(values) {
+        Ok(values)
+    } else {
+        Err(ConfigKind::WrongType)
+    }
+}
+
+/// Whether each element is a table.
+fn all_tables(values: &[Value]) -> bool
+    ensures { result ≡ all_items (λ d. is_some (as_table d)) (items_view values.now) }
+{
+    are_tables(values)
+}
+
+/// Whether each element is a table.
+fn are_tables(values: &[Value]) -> bool
+    ensures { result ≡ list_all (λ v. is_some (as_table (view v))) values.now }
+{
+    values.iter().all(|value| value.is_table())
+}

@@ -1,0 +1,147 @@
+//! The labels at which a span's stalls don't count, as addresses.
+ghost use Rattle.std.specs.Prelude.{◌≡◌, ◌≤◌, ◌<◌, ◌==◌, ◌||◌, Some, is_some, length, option_map, IfOk, IsTrue};
+ghost use Rattle.std.specs.List.{list_all};
+ghost use Rattle.pin_matrix.specs.Spans.{are_addresses, is_in_ticks};
+ghost use Rattle.toml.specs.Data.{as_str};
+ghost use Rattle.toml.specs.View.{items_view, table_view, view};
+ghost use Rattle.block_config.specs.Arrays.{all_items, count_items};
+ghost use Rattle.block_config.specs.LoadView.{loaded_of};
+ghost use Rattle.block_config.specs.SpanTable as spec;
+ghost use Rattle.block_config.specs.Tables.{seen};
+ghost use Rattle.block_config.specs.Values.{map_ok};
+
+use crate::arrays::count_of;
+use crate::fault::ConfigKind;
+use crate::label::label_of;
+use crate::programs::Load;
+use crate::table::{Lack, value_at};
+use arrayvec::ArrayVec;
+use pin_matrix::SpanUnit;
+use toml::{Table, Value};
+
+/// The addresses of a table's stalls, at labels of the program that is loaded so.
+pub fn stalls_at(
+    table: &Table,
+    unit: SpanUnit,
+    load: Option<Load>,
+) -> Result<ArrayVec<u8, 16>, Lack>
+    ensures value { seen (λ v. v.items) result ≡ spec.stalls_at unit (option_map loaded_of load.entry) (table_view table.now) }
+    ensures in_memory { IfOk result (λ v. IsTrue (are_addresses v.items)) }
+    ensures in_ticks { IfOk result (λ v. IsTrue (is_in_ticks unit || length v.items == 0)) }
+{
+    match stalls_of(value_at(table, "stalls"), unit, load) {
+        Ok(addresses) => Ok(addresses),
+        Err(kind) => Err(Lack {
+            key: "stalls",
+            kind,
+        }),
+    }
+}
+
+/// The addresses of a value, none where it is absent.
+fn stalls_of(
+    value: Option<&Value>,
+    unit: SpanUnit,
+    load: Option<Load>,
+) -> Result<ArrayVec<u8, 16>, ConfigKind>
+    ensures value { map_ok (λ v. v.items) result ≡ spec.stalls_of unit (option_map loaded_of load.entry) (option_map (λ v. view v.now) value.entry) }
+    ensures in_memory { IfOk result (λ v. IsTrue (are_addresses v.items)) }
+    ensures in_ticks { IfOk result (λ v. IsTrue (is_in_ticks unit || length v.items == 0)) }
+{
+    match value {
+        Some(value) => match value.as_array() {
+            Some(values) => stalls_in(values, unit, load),
+            None => Err(ConfigKind::WrongType),
+        },
+        None => Ok(ArrayVec::new()),
+    }
+}
+
+/// The addresses of an array.
+fn stalls_in(
+    values: &[Value],
+    unit: SpanUnit,
+    load: Option<Load>,
+) -> Result<ArrayVec<u8, 16>, ConfigKind>
+    ensures value { map_ok (λ v. v.items) result ≡ spec.stalls_in unit (option_map loaded_of load.entry) (Some (items_view values.now)) }
+    ensures in_memory { IfOk result (λ v. IsTrue (are_addresses v.items)) }
+    ensures in_ticks { IfOk result (λ v. IsTrue (is_in_ticks unit || length v.items == 0)) }
+{
+    if !all_texts(values) {
+        return Err(ConfigKind::WrongType);
+    }
+    let count = count_of(values);
+    if count > 16 {
+        return Err(ConfigKind::Many);
+    }
+    if in_ticks(unit) || count == 0 {
+        stall_addresses(values, load)
+    } else {
+        Err(ConfigKind::Range)
+    }
+}
+
+fn in_ticks(unit: SpanUnit) -> bool
+    ensures { result ≡ is_in_ticks unit }
+{
+    match unit {
+        SpanUnit::Ticks => true,
+        SpanUnit::Clocks => false,
+    }
+}
+
+/// Whether each element is a text.
+fn all_texts(values: &[Value]) -> bool
+    ensures { result ≡ all_items (λ d. is_some (as_str d)) (items_view values.now) }
+{
+    are_texts(values)
+}
+
+/// Whether each element is a text.
+fn are_texts(values: &[Value]) -> bool
+    ensures { result ≡ list_all (λ v. is_some (as_str (view v))) values.now }
+{
+    values.iter().all(|value| value.is_str())
+}
+
+/// The addresses of all elements.
+fn stall_addresses(values: &[Value], load: Option<Load>) -> Result<ArrayVec<u8, 16>, ConfigKind>
+    requires { count_items (items_view values.now) ≤ 16 }
+    ensures value { map_ok (λ v. v.items) result ≡ spec.stall_addresses (option_map loaded_of load.entry) (items_view values.now) }
+    ensures in_memory { IfOk result (λ v. IsTrue (are_addresses v.items)) }
+    ensures count { IfOk result (λ v. length v.items ≡ count_items (items_view values.now)) }
+{
+    let mut addresses = ArrayVec::new();
+    for place in 0..values.len() {
+        match stall_of(load, &values[place]) {
+            Ok(address) => addresses.push(address),
+            Err(kind) => return Err(kind),
+        }
+    }
+    Ok(addresses)
+}
+
+/// The address of an element.
+fn stall_of(load: Option<Load>, value: &Value) -> Result<u8, ConfigKind>
+    ensures value { result ≡ spec.stall_of (option_map loaded_of load.entry) (as_str (view value.now)) }
+    ensures in_memory { IfOk result (λ a. a < 32) }
+{
+    match value.as_str() {
+        Some(name) => label_in(load, name.as_bytes()),
+        None => Err(ConfigKind::WrongType),
+    }
+}
+
+/// The address of a label.
+fn label_in(load: Option<Load>, name: &[u8]) -> Result<u8, ConfigKind>
+    ensures value { result ≡ spec.label_in (option_map loaded_of load.entry) name.now }
+    ensures in_memory { IfOk result (λ a. a < 32) }
+{
+    let Some(load) = load else {
+        return Err(ConfigKind::NoLabel);
+    };
+    match label_of(load.program, name) {
+        Some(place) => Ok(load.address + place),
+        None => Err(ConfigKind::NoLabel),
+    }
+}
