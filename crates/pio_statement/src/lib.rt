@@ -1,0 +1,21 @@
+//! The statements of a pioasm source: what one line says, or its first fault.
+#![tactic(auto)]
+
+mod code;
+mod condition;
+mod directive;
+mod fault;
+mod form;
+mod instruction;
+mod line;
+mod operand;
+mod option;
+mod reading;
+mod statement;
+mod token;
+mod value;
+
+pub use fault::{StatementFault, StatementKind};
+pub use instruction::{Form, Instruction, IrqMode, Suffix};
+pub use line::{line_end, read_statement};
+pub use statement::{Code, Statement};
