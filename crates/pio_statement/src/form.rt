@@ -110,7 +110,13 @@ fn in_bits(
 {
     let (from, behind) = in_source(tokens, at)?;
     let (count, behind) = expression(alloc, source, tokens, past_comma(tokens, behind))?;
-    Ok((Form::In { source: from, count }, behind))
+    Ok((
+        Form::In {
+            source: from,
+            count,
+        },
+        behind,
+    ))
 }
 
 /// `out dst, E`

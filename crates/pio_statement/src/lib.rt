@@ -19,3 +19,10 @@ pub use fault::{StatementFault, StatementKind};
 pub use instruction::{Form, Instruction, IrqMode, Suffix};
 pub use line::{line_end, read_statement};
 pub use statement::{Code, Statement};
+
+#[cfg(test)]
+mod rows;
+#[cfg(test)]
+mod tests;
+#[cfg(test)]
+mod texts;

@@ -5,9 +5,7 @@ ghost use Rattle.pio_statement.specs.Operands as spec;
 
 use crate::StatementFault;
 use crate::token::keyword_at;
-use pio_encode::{
-    InSource, MovDestination, MovSource, OutDestination, SetDestination, WaitSource,
-};
+use pio_encode::{InSource, MovDestination, MovSource, OutDestination, SetDestination, WaitSource};
 use pio_lex::{Keyword, Token};
 
 /// What a WAIT looks at: `gpio pin irq`.
