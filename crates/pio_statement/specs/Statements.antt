@@ -7,7 +7,7 @@ use Rattle.pio_lex.specs.declared.keyword.Keyword.TheVariants as keyword
 use Rattle.pio_lex.specs.declared.token.TokenKind.{TokenKind}
 use Rattle.pio_lex.specs.declared.token.TokenKind.TheVariants as kind
 use Rattle.pio_lex.specs.declared.token.Token.{Token}
-use Rattle.pio_statement.specs.declared.fault.StatementKind.TheVariants.{Directive as UnknownDirective, Syntax}
+use Rattle.pio_statement.specs.declared.fault.StatementKind.TheVariants.{Syntax}
 use Rattle.pio_statement.specs.declared.statement.Code.{Code}
 use Rattle.pio_statement.specs.declared.statement.Statement.{Statement}
 use Rattle.pio_statement.specs.declared.statement.Statement.TheVariants as statement
@@ -56,7 +56,8 @@ lone_word_at source tokens at = do
   word ← word_at source tokens at
   Ok (statement.Code word.0, word.1)
 
--- a directive's statement, behind its name; the rest of a line behind `.lang_opt` is no token
+-- a directive's statement, behind its name; the rest of a line behind `.lang_opt` is no token, and an unknown directive is
+-- told of the whole line
 abbrev pub directive_at : List ℕ → List Token → Directive → ℕ → Read Statement
 directive_at source tokens directive.Program at = program_at source tokens at
 directive_at source tokens directive.Define at = define_at source tokens at
@@ -67,7 +68,7 @@ directive_at source tokens directive.Wrap at = Ok (statement.Wrap, at)
 directive_at source tokens directive.Word at = lone_word_at source tokens at
 directive_at source tokens directive.LangOpt at = Ok (statement.LangOpt, at)
 directive_at source tokens directive.PioVersion at = pio_version_at source tokens at
-directive_at source tokens directive.Other at = Err UnknownDirective
+directive_at source tokens directive.Other at = Err Syntax
 
 -- an instruction or a word, unless the line ends
 abbrev pub some_code : List ℕ → List Token → ℕ → Read (Option Code)

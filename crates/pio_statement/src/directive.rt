@@ -5,9 +5,9 @@ ghost use Rattle.pio_statement.specs.Answer.{Answers};
 ghost use Rattle.pio_statement.specs.Statements as spec;
 
 use crate::code::word;
-use crate::option::{opt, pindirs, public};
+use crate::optional::{opt, pindirs, public};
 use crate::value::{expression, name};
-use crate::{Statement, StatementFault, StatementKind};
+use crate::{Statement, StatementFault};
 use pio_lex::{Directive, Token};
 use std::alloc::Global;
 
@@ -32,7 +32,7 @@ pub fn directive(
         Directive::Word => lone_word(alloc, source, tokens, at),
         Directive::LangOpt => Ok((Statement::LangOpt, at)),
         Directive::PioVersion => pio_version(alloc, source, tokens, at),
-        Directive::Other => Err(StatementFault::Found(StatementKind::Directive)),
+        Directive::Other => Err(StatementFault::SYNTAX),
     }
 }
 

@@ -9,7 +9,7 @@ use crate::condition::{condition, past_condition};
 use crate::operand::{
     in_source, mov_destination, mov_source, out_destination, set_destination, wait_source,
 };
-use crate::option::{blocking, if_empty, if_full, irq_mode, operation, relative};
+use crate::optional::{blocking, if_empty, if_full, irq_mode, operation, relative};
 use crate::token::{keyword_at, past_comma};
 use crate::value::expression;
 use crate::{Form, StatementFault};

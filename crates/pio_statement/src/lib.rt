@@ -7,9 +7,10 @@ mod directive;
 mod fault;
 mod form;
 mod instruction;
+mod laws;
 mod line;
 mod operand;
-mod option;
+mod optional;
 mod reading;
 mod statement;
 mod token;
@@ -17,6 +18,7 @@ mod value;
 
 pub use fault::{StatementFault, StatementKind};
 pub use instruction::{Form, Instruction, IrqMode, Suffix};
+pub use laws::a_line_has_one_answer;
 pub use line::{line_end, read_statement};
 pub use statement::{Code, Statement};
 
