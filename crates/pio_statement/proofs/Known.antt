@@ -1,5 +1,5 @@
 -- No reader tells of an unknown directive, which is told of the whole line.
-use Rattle.std.proofs.Common.{◌≡◌, ℕ, ◌+◌, List, Bool, true, false, Option, Some, None, Result, Ok, Err, slice_get, if◌then◌else◌}
+use Rattle.std.proofs.Common.{ℕ, ◌+◌, List, Bool, true, false, Option, Some, None, Result, Ok, Err, slice_get, if◌then◌else◌}
 use Rattle.pio_lex.specs.declared.keyword.Keyword.{Keyword}
 use Rattle.pio_lex.specs.declared.keyword.Keyword.TheVariants as keyword
 use Rattle.pio_lex.specs.declared.directive.Directive.{Directive}

@@ -1,5 +1,5 @@
 -- Behind the last token there is no expression.
-use Rattle.std.proofs.Common.{◌≡◌, ℕ, zero, suc, ◌≤◌, List, [], length, refl, ap, Option, Some, None, Result, Ok, Err, arith, slice_get}
+use Rattle.std.proofs.Common.{◌≡◌, ℕ, zero, suc, ◌≤◌, List, [], length, refl, ap, Option, Some, None, Err}
 use Rattle.std.proofs.lemmas.Option.{slice_get_past}
 use Rattle.pio_lex.specs.declared.token.Token.{Token}
 use Rattle.pio_expr.specs.declared.fault.ExprKind.TheVariants.{Syntax}

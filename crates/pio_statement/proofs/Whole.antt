@@ -1,7 +1,6 @@
 -- A statement takes its whole line, and an unknown directive is told exactly where one stands on the line.
-use Rattle.std.proofs.Common.{◌≡◌, ℕ, List, Bool, true, false, if◌then◌else◌, Result, Ok, Err, ap, sym, refl}
+use Rattle.std.proofs.Common.{◌≡◌, ℕ, List, Bool, true, false, if◌then◌else◌, Ok, Err, ap, sym, refl}
 use Rattle.pio_lex.specs.declared.token.Token.{Token}
-use Rattle.pio_statement.specs.declared.fault.StatementKind.{StatementKind}
 use Rattle.pio_statement.specs.declared.fault.StatementKind.TheVariants as fault
 use Rattle.pio_statement.specs.declared.statement.Statement.{Statement}
 use Rattle.pio_statement.specs.Answer.{Read, ◌>>=◌}

@@ -2,9 +2,8 @@
 --   Read         a value and the place of the token behind it, or the fault
 --   ◌>>=◌        what is read behind it, unless there is a fault
 --   Answers      what a function returned is what is read, unless memory ran out
-use Rattle.std.specs.Prelude.{◌≡◌, ℕ, Option, Some, None, Result, Ok, Err}
+use Rattle.std.specs.Prelude.{◌≡◌, ℕ, Result, Ok, Err}
 use Rattle.pio_statement.specs.declared.fault.StatementKind.{StatementKind}
-use Rattle.pio_statement.specs.declared.fault.StatementKind.TheVariants.{Syntax}
 use Rattle.pio_statement.specs.declared.fault.StatementFault.{StatementFault}
 use Rattle.pio_statement.specs.declared.fault.StatementFault.TheVariants.{Memory, Found}
 

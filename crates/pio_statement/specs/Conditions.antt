@@ -1,4 +1,5 @@
--- The condition of a JMP (Pico SDK manual, section 3.3.6): `!x  x--  !y  y--  x!=y  pin  !osre`, or none. `~` equals `!`.
+-- The condition of a JMP (Pico SDK manual, section 3.3.6): `!x  x--  !y  y--  x!=y  pin  !osre`, or none.
+-- `~` equals `!` (choice of this profile).
 --   condition_at       a condition, with the place behind it
 --   past_condition     the place behind the comma behind a condition; both may be left out
 use Rattle.std.specs.Prelude.{ℕ, ◌+◌, List, Option, Some, None, Ok, Err}

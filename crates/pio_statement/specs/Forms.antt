@@ -1,5 +1,5 @@
 -- The forms of the instructions, behind their first word (Pico SDK manual, section 3.3.6). E is an expression.
-use Rattle.std.specs.Prelude.{ℕ, List, true, false, Bool, Option, Some, None, Ok, Err}
+use Rattle.std.specs.Prelude.{ℕ, List, false, Bool, Option, Some, None, Ok, Err}
 use Rattle.pio_lex.specs.declared.keyword.Keyword.{Keyword}
 use Rattle.pio_lex.specs.declared.keyword.Keyword.TheVariants as keyword
 use Rattle.pio_lex.specs.declared.token.Token.{Token}

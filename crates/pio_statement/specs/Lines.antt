@@ -1,4 +1,5 @@
--- A line and its statement: the statement takes the whole line, and an unknown directive on it goes before any other fault.
+-- A line and its statement: the statement takes the whole line, and an unknown directive on it goes before any other
+-- fault (choice of this profile).
 --   line_end           the place behind a line
 --   has_unknown        an unknown directive stands on the line
 --   statement_at       the statement of the line that begins at a token, with the place behind the line, or its fault
@@ -42,7 +43,7 @@ is_unknown _ = false
 unfoldable pub has_unknown : List Token → ℕ → Bool
 has_unknown tokens from = list_any (λ token. is_unknown token.kind) (slice_range tokens from (line_end tokens from))
 
--- a statement takes the whole line
+-- a statement takes the whole line; it ends on its line, since no reader takes a Newline
 abbrev pub whole : List Token → Statement × ℕ → ℕ → Read Statement
 whole tokens read end = if ends_at tokens read.1 then Ok (read.0, end) else Err Syntax
 
