@@ -1,0 +1,3 @@
+pub mod Outside
+pub mod Known
+pub mod Whole

@@ -1,0 +1,118 @@
+-- Reading single tokens, names and expressions.
+--   kind_at        what stands at a place, if a token does
+--   ends_at        a line ends at a place
+--   past_comma     the place behind a comma, which may be left out
+--   past_colon, past_close      the place behind a `:` or a `]`
+--   past_open, past_side        the place behind a `[` or `side`, if one stands there
+--   keyword_at, name_at, expression      what is read at a place, with the place behind it
+use Rattle.std.specs.Prelude.{ℕ, ◌+◌, List, Bool, true, false, Option, Some, None, Result, Ok, Err, slice_get, slice_range}
+use Rattle.pio_lex.specs.declared.keyword.Keyword.{Keyword}
+use Rattle.pio_lex.specs.declared.keyword.Keyword.TheVariants as keyword
+use Rattle.pio_lex.specs.declared.token.TokenKind.{TokenKind}
+use Rattle.pio_lex.specs.declared.token.TokenKind.TheVariants as kind
+use Rattle.pio_lex.specs.declared.token.Token.{Token}
+use Rattle.pio_expr.specs.declared.expr.Item.{Item}
+use Rattle.pio_expr.specs.declared.fault.ExprKind.{ExprKind}
+use Rattle.pio_expr.specs.declared.fault.ExprKind.TheVariants as expr_kind
+use Rattle.pio_expr.specs.declared.fault.ExprFault.{ExprFault}
+use Rattle.pio_expr.specs.declared.fault.ExprFault.TheVariants as expr_fault
+use Rattle.pio_expr.specs.Grammar.{expression_at}
+use Rattle.pio_statement.specs.declared.fault.StatementKind.{StatementKind}
+use Rattle.pio_statement.specs.declared.fault.StatementKind.TheVariants.{Syntax, TooDeep, Ambiguous}
+use Rattle.pio_statement.specs.Answer.{Read}
+
+-- what the token at a place is, if there is one
+abbrev pub kind_by : Option Token → Option TokenKind
+kind_by (Some token) = Some token.kind
+kind_by None = None
+
+unfoldable pub kind_at : List Token → ℕ → Option TokenKind
+kind_at tokens at = kind_by (slice_get tokens at)
+
+-- a line ends with its Newline, or with the tokens
+abbrev pub ends_by : Option TokenKind → Bool
+ends_by (Some kind.Newline) = true
+ends_by None = true
+ends_by _ = false
+
+unfoldable pub ends_at : List Token → ℕ → Bool
+ends_at tokens at = ends_by (kind_at tokens at)
+
+-- the place behind a comma, which may be left out
+abbrev pub past_comma_by : Option TokenKind → ℕ → ℕ
+past_comma_by (Some kind.Comma) at = at + 1
+past_comma_by _ at = at
+
+unfoldable pub past_comma : List Token → ℕ → ℕ
+past_comma tokens at = past_comma_by (kind_at tokens at) at
+
+-- the place behind a `:`
+abbrev pub past_colon_by : Option TokenKind → ℕ → Result ℕ StatementKind
+past_colon_by (Some kind.Colon) at = Ok (at + 1)
+past_colon_by _ at = Err Syntax
+
+unfoldable pub past_colon : List Token → ℕ → Result ℕ StatementKind
+past_colon tokens at = past_colon_by (kind_at tokens at) at
+
+-- the place behind a `]`
+abbrev pub past_close_by : Option TokenKind → ℕ → Result ℕ StatementKind
+past_close_by (Some kind.CloseBracket) at = Ok (at + 1)
+past_close_by _ at = Err Syntax
+
+unfoldable pub past_close : List Token → ℕ → Result ℕ StatementKind
+past_close tokens at = past_close_by (kind_at tokens at) at
+
+-- the keyword at a place, if one stands there, with the place behind it
+abbrev pub keyword_by : Option TokenKind → ℕ → Option (Keyword × ℕ)
+keyword_by (Some (kind.Keyword word)) at = Some (word, at + 1)
+keyword_by _ at = None
+
+unfoldable pub keyword_at : List Token → ℕ → Option (Keyword × ℕ)
+keyword_at tokens at = keyword_by (kind_at tokens at) at
+
+-- the place behind a `[`, if one stands there
+abbrev pub past_open_by : Option TokenKind → ℕ → Option ℕ
+past_open_by (Some kind.OpenBracket) at = Some (at + 1)
+past_open_by _ at = None
+
+unfoldable pub past_open : List Token → ℕ → Option ℕ
+past_open tokens at = past_open_by (kind_at tokens at) at
+
+abbrev pub behind_side : Keyword → ℕ → Option ℕ
+behind_side keyword.Side behind = Some behind
+behind_side _ behind = None
+
+-- the place behind the word `side`, if it stands there
+abbrev pub past_side_by : Option (Keyword × ℕ) → Option ℕ
+past_side_by (Some (word, behind)) = behind_side word behind
+past_side_by None = None
+
+unfoldable pub past_side : List Token → ℕ → Option ℕ
+past_side tokens at = past_side_by (keyword_at tokens at)
+
+-- a name, which is no keyword, as it stands in the source
+abbrev pub name_of : List ℕ → TokenKind → ℕ → ℕ → ℕ → Read (List ℕ)
+name_of source kind.Name first size at = Ok (slice_range source first (first + size), at + 1)
+name_of source _ first size at = Err Syntax
+
+abbrev pub name_by : List ℕ → Option Token → ℕ → Read (List ℕ)
+name_by source (Some token) at = name_of source token.kind token.first token.length at
+name_by source None at = Err Syntax
+
+unfoldable pub name_at : List ℕ → List Token → ℕ → Read (List ℕ)
+name_at source tokens at = name_by source (slice_get tokens at) at
+
+-- what is told of a fault of an expression; `expression_at` never wants memory
+abbrev pub told_by : ExprKind → StatementKind
+told_by expr_kind.Syntax = Syntax
+told_by expr_kind.TooDeep = TooDeep
+told_by expr_kind.Ambiguous = Ambiguous
+
+abbrev pub told : {X : Type 0} → Result X ExprFault → Result X StatementKind
+told (Ok read) = Ok read
+told (Err (expr_fault.At place fault)) = Err (told_by fault)
+told (Err expr_fault.Memory) = Err Syntax
+
+-- the expression at a place
+unfoldable pub expression : List ℕ → List Token → ℕ → Read (List Item)
+expression source tokens at = told (expression_at source tokens at)
