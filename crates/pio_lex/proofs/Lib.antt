@@ -8,3 +8,4 @@ pub mod Readings
 pub mod Answers
 pub mod Spelled
 pub mod Longest
+pub mod Function

@@ -25,3 +25,13 @@ Tells (Found at cause) line kind = (at ≡ line) × (cause ≡ kind)
 abbrev pub Refuses : {X : Type 0} → Result X LexFault → ℕ → LexKind → Type 0
 Refuses (Ok found) line kind = ⊥
 Refuses (Err fault) line kind = Tells fault line kind
+
+-- a fault that was returned is the one that is read
+abbrev pub IsRead : LexFault → Result (List Token) LexFault → Type 0
+IsRead Memory read = Unit {0}
+IsRead (Found line kind) read = read ≡ Err (Found line kind)
+
+-- what was returned, seen by view, is what is read, unless memory was wanting
+abbrev pub Answers : {X : Type 0} → (X → List Token) → Result X LexFault → Result (List Token) LexFault → Type 0
+Answers view (Ok found) read = read ≡ Ok (view found)
+Answers view (Err fault) read = IsRead fault read

@@ -6,4 +6,5 @@ pub mod Gaps
 pub mod Spellings
 pub mod Pieces
 pub mod Tokens
+pub mod Reading
 pub mod Answers

@@ -4,7 +4,8 @@ ghost use Rattle.std.specs.List.{All};
 ghost use Rattle.pio_lex.specs.declared.fault.LexKind.{LexKind};
 ghost use Rattle.pio_lex.specs.declared.token.Token.{Token};
 ghost use Rattle.pio_lex.specs.Tokens.{IsTokens, IsTokenOf, IsFirstFault, AreInOrder, tokens_of, last_kind};
-ghost use Rattle.pio_lex.specs.Answers.{IsFaultOf, Gives, Refuses};
+ghost use Rattle.pio_lex.specs.Answers.{Answers, IsFaultOf, Gives, Refuses};
+ghost use Rattle.pio_lex.specs.Reading.{reading_of};
 
 use crate::bytes::newlines;
 use crate::piece::{Piece, next_piece};
@@ -24,6 +25,8 @@ pub fn tokens(alloc: Global, source: &[u8]) -> Result<Vec<Token>, LexFault>
     // A source that has a fault gets it, unless memory runs out.
     ensures fault_only { (line : ℕ) (kind : LexKind) → IsFirstFault source.now line kind
         → Refuses result line kind }
+    // The tokens or the fault are those of the source's reading, unless memory runs out.
+    ensures value { Answers (λ v. v.items) result (reading_of source.now) }
     // Each token stands behind the one before.
     ensures in_order { IfOk result (λ v. AreInOrder 0 v.items (length source.now)) }
     // Each token is what its text spells, within the source and on its line.

@@ -1,4 +1,5 @@
 use Rattle.pio_lex.proofs.Answers.{gives, refuses, each_spelled}
+use Rattle.pio_lex.proofs.Function.{answers}
 use Rattle.pio_lex.proofs.lexer.tokens.Goals as goal
 
 pub returns-clause-only : goal.returns-clause-only
@@ -9,3 +10,6 @@ returns-clause-fault_only c line kind is = refuses (λ v. v.items) c.read.result
 
 pub returns-clause-each : goal.returns-clause-each
 returns-clause-each c = each_spelled (λ v. v.items) c.read.result c.args.source.now c.read.ensures.ok
+
+pub returns-clause-value : goal.returns-clause-value
+returns-clause-value c = answers (λ v. v.items) c.read.result c.args.source.now c.read.ensures.ok c.read.ensures.fault
