@@ -22,6 +22,7 @@ inverted_of keyword.Y = Some YZero
 inverted_of keyword.Osre = Some OsrNotEmpty
 inverted_of _ = None
 
+-- the condition at a place behind `!` or `~`
 unfoldable pub inverted_at : List Token → ℕ → Read Condition
 inverted_at tokens at = operand inverted_of tokens at
 
@@ -30,6 +31,7 @@ abbrev pub differs_of : Keyword → Option Condition
 differs_of keyword.Y = Some XNotY
 differs_of _ = None
 
+-- the condition at a place behind `x!=`
 unfoldable pub differs_at : List Token → ℕ → Read Condition
 differs_at tokens at = operand differs_of tokens at
 
@@ -39,6 +41,7 @@ behind_x_by tokens (Some kind.MinusMinus) at = Ok (XDecrement, at + 1)
 behind_x_by tokens (Some kind.NotEqual) at = differs_at tokens (at + 1)
 behind_x_by tokens _ at = Err Syntax
 
+-- the condition at a place behind `x`
 unfoldable pub behind_x : List Token → ℕ → Read Condition
 behind_x tokens at = behind_x_by tokens (kind_at tokens at) at
 
@@ -47,6 +50,7 @@ abbrev pub behind_y_by : Option TokenKind → ℕ → Read Condition
 behind_y_by (Some kind.MinusMinus) at = Ok (YDecrement, at + 1)
 behind_y_by _ at = Err Syntax
 
+-- the condition at a place behind `y`
 unfoldable pub behind_y : List Token → ℕ → Read Condition
 behind_y tokens at = behind_y_by (kind_at tokens at) at
 
@@ -57,6 +61,7 @@ behind_word tokens keyword.Y at = behind_y tokens at
 behind_word tokens keyword.Pin at = Ok (Pin, at)
 behind_word tokens _ at = Err Syntax
 
+-- a condition by its first token: none begins with another
 abbrev pub condition_by : List Token → Option TokenKind → ℕ → Read Condition
 condition_by tokens (Some kind.Bang) at = inverted_at tokens (at + 1)
 condition_by tokens (Some kind.Tilde) at = inverted_at tokens (at + 1)

@@ -99,6 +99,7 @@ form_by source tokens keyword.Irq at = irq_at source tokens at
 form_by source tokens keyword.Set at = set_at source tokens at
 form_by source tokens _ at = Err Syntax
 
+-- a form, if a word stands there
 abbrev pub form_behind : List ℕ → List Token → Option (Keyword × ℕ) → Read Form
 form_behind source tokens (Some (word, behind)) = form_by source tokens word behind
 form_behind source tokens None = Err Syntax

@@ -49,6 +49,7 @@ delay_first source tokens at = do
   delay ← delay_at source tokens at
   with_side source tokens delay.0 (past_side tokens delay.1) delay.1
 
+-- side-set and delay, by which of the two begins
 abbrev pub suffix_by : List ℕ → List Token → Option ℕ → Option ℕ → ℕ → Read Suffix
 suffix_by source tokens (Some behind) bracket at = side_first source tokens behind
 suffix_by source tokens None (Some behind) at = delay_first source tokens behind
@@ -76,11 +77,13 @@ abbrev pub code_directive : List ℕ → List Token → Directive → ℕ → Re
 code_directive source tokens directive.Word at = word_at source tokens at
 code_directive source tokens _ at = Err Syntax
 
+-- an instruction as code
 abbrev pub instruction_code : List ℕ → List Token → ℕ → Read Code
 instruction_code source tokens at = do
   instruction ← instruction_at source tokens at
   Ok (code.Instruction instruction.0, instruction.1)
 
+-- code by its first token
 abbrev pub code_by : List ℕ → List Token → Option TokenKind → ℕ → Read Code
 code_by source tokens (Some (kind.Directive directive)) at = code_directive source tokens directive (at + 1)
 code_by source tokens _ at = instruction_code source tokens at

@@ -35,6 +35,7 @@ abbrev pub is_other : Directive → Bool
 is_other directive.Other = true
 is_other _ = false
 
+-- a token is a directive of no known name
 abbrev pub is_unknown : TokenKind → Bool
 is_unknown (kind.Directive directive) = is_other directive
 is_unknown _ = false
@@ -47,6 +48,7 @@ has_unknown tokens from = list_any (λ token. is_unknown token.kind) (slice_rang
 abbrev pub whole : List Token → Statement × ℕ → ℕ → Read Statement
 whole tokens read end = if ends_at tokens read.1 then Ok (read.0, end) else Err Syntax
 
+-- the statement of a line without an unknown directive
 unfoldable pub known_at : List ℕ → List Token → ℕ → Read Statement
 known_at source tokens from = do
   read ← statement_from source tokens from

@@ -105,22 +105,27 @@ abbrev pub if_full_of : Keyword → Option Bool
 if_full_of keyword.IfFull = Some true
 if_full_of _ = None
 
+-- `ifempty`
 abbrev pub if_empty_of : Keyword → Option Bool
 if_empty_of keyword.IfEmpty = Some true
 if_empty_of _ = None
 
+-- `rel`
 abbrev pub relative_of : Keyword → Option Bool
 relative_of keyword.Rel = Some true
 relative_of _ = None
 
+-- `opt`
 abbrev pub opt_of : Keyword → Option Bool
 opt_of keyword.Opt = Some true
 opt_of _ = None
 
+-- `pindirs`
 abbrev pub pindirs_of : Keyword → Option Bool
 pindirs_of keyword.Pindirs = Some true
 pindirs_of _ = None
 
+-- `public`
 abbrev pub public_of : Keyword → Option Bool
 public_of keyword.Public = Some true
 public_of _ = None
@@ -130,6 +135,7 @@ abbrev pub placed : {X : Type 0} → Option X → ℕ → Read X
 placed (Some word) behind = Ok (word, behind)
 placed None behind = Err Syntax
 
+-- an operand by the word that stands there, if one does
 abbrev pub operand_by : {X : Type 0} → (Keyword → Option X) → Option (Keyword × ℕ) → Read X
 operand_by table (Some (word, behind)) = placed (table word) behind
 operand_by table None = Err Syntax
@@ -143,6 +149,7 @@ abbrev pub taken : {X : Type 0} → Option X → ℕ → X → ℕ → X × ℕ
 taken (Some word) behind default at = (word, behind)
 taken None behind default at = (default, at)
 
+-- the same of a word that may be left out
 abbrev pub optional_by : {X : Type 0} → (Keyword → Option X) → X → Option (Keyword × ℕ) → ℕ → X × ℕ
 optional_by table default (Some (word, behind)) at = taken (table word) behind default at
 optional_by table default None at = (default, at)
@@ -155,42 +162,55 @@ optional table default tokens at = optional_by table default (keyword_at tokens 
 unfoldable pub wait_source_at : List Token → ℕ → Read WaitSource
 wait_source_at tokens at = operand wait_source_of tokens at
 
+-- what an IN reads, at a place
 unfoldable pub in_source_at : List Token → ℕ → Read InSource
 in_source_at tokens at = operand in_source_of tokens at
 
+-- where an OUT writes
 unfoldable pub out_destination_at : List Token → ℕ → Read OutDestination
 out_destination_at tokens at = operand out_destination_of tokens at
 
+-- where a MOV writes
 unfoldable pub mov_destination_at : List Token → ℕ → Read MovDestination
 mov_destination_at tokens at = operand mov_destination_of tokens at
 
+-- what a MOV reads
 unfoldable pub mov_source_at : List Token → ℕ → Read MovSource
 mov_source_at tokens at = operand mov_source_of tokens at
 
+-- where a SET writes
 unfoldable pub set_destination_at : List Token → ℕ → Read SetDestination
 set_destination_at tokens at = operand set_destination_of tokens at
 
+-- what an IRQ does; it raises where nothing is said
 unfoldable pub irq_mode_at : List Token → ℕ → IrqMode × ℕ
 irq_mode_at tokens at = optional irq_mode_of Raise tokens at
 
+-- whether it stalls; it does where nothing is said
 unfoldable pub blocking_at : List Token → ℕ → Bool × ℕ
 blocking_at tokens at = optional blocking_of true tokens at
 
+-- `iffull`, or nothing
 unfoldable pub if_full_at : List Token → ℕ → Bool × ℕ
 if_full_at tokens at = optional if_full_of false tokens at
 
+-- `ifempty`, or nothing
 unfoldable pub if_empty_at : List Token → ℕ → Bool × ℕ
 if_empty_at tokens at = optional if_empty_of false tokens at
 
+-- `rel`, or nothing
 unfoldable pub relative_at : List Token → ℕ → Bool × ℕ
 relative_at tokens at = optional relative_of false tokens at
 
+-- `opt`, or nothing
 unfoldable pub opt_at : List Token → ℕ → Bool × ℕ
 opt_at tokens at = optional opt_of false tokens at
 
+-- `pindirs`, or nothing
 unfoldable pub pindirs_at : List Token → ℕ → Bool × ℕ
 pindirs_at tokens at = optional pindirs_of false tokens at
 
+-- `public`, or nothing
 unfoldable pub public_at : List Token → ℕ → Bool × ℕ
 public_at tokens at = optional public_of false tokens at
 
@@ -201,5 +221,6 @@ operation_by (Some kind.Tilde) at = (Invert, at + 1)
 operation_by (Some kind.DoubleColon) at = (Reverse, at + 1)
 operation_by _ at = (Plain, at)
 
+-- the operation of a MOV, at a place
 unfoldable pub operation_at : List Token → ℕ → MovOperation × ℕ
 operation_at tokens at = operation_by (kind_at tokens at) at

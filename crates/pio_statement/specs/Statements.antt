@@ -76,6 +76,7 @@ some_code source tokens at = do
   code ← code_at source tokens at
   Ok (Some code.0, code.1)
 
+-- what stands behind a label: code, or nothing
 unfoldable pub labelled_at : List ℕ → List Token → ℕ → Read (Option Code)
 labelled_at source tokens at = if ends_at tokens at then Ok (None, at) else some_code source tokens at
 

@@ -26,6 +26,7 @@ abbrev pub kind_by : Option Token → Option TokenKind
 kind_by (Some token) = Some token.kind
 kind_by None = None
 
+-- what stands at a place
 unfoldable pub kind_at : List Token → ℕ → Option TokenKind
 kind_at tokens at = kind_by (slice_get tokens at)
 
@@ -35,6 +36,7 @@ ends_by (Some kind.Newline) = true
 ends_by None = true
 ends_by _ = false
 
+-- a line ends at a place
 unfoldable pub ends_at : List Token → ℕ → Bool
 ends_at tokens at = ends_by (kind_at tokens at)
 
@@ -43,6 +45,7 @@ abbrev pub past_comma_by : Option TokenKind → ℕ → ℕ
 past_comma_by (Some kind.Comma) at = at + 1
 past_comma_by _ at = at
 
+-- the place behind a comma, if one stands at a place
 unfoldable pub past_comma : List Token → ℕ → ℕ
 past_comma tokens at = past_comma_by (kind_at tokens at) at
 
@@ -51,6 +54,7 @@ abbrev pub past_colon_by : Option TokenKind → ℕ → Result ℕ StatementKind
 past_colon_by (Some kind.Colon) at = Ok (at + 1)
 past_colon_by _ at = Err Syntax
 
+-- the place behind the `:` at a place
 unfoldable pub past_colon : List Token → ℕ → Result ℕ StatementKind
 past_colon tokens at = past_colon_by (kind_at tokens at) at
 
@@ -59,6 +63,7 @@ abbrev pub past_close_by : Option TokenKind → ℕ → Result ℕ StatementKind
 past_close_by (Some kind.CloseBracket) at = Ok (at + 1)
 past_close_by _ at = Err Syntax
 
+-- the place behind the `]` at a place
 unfoldable pub past_close : List Token → ℕ → Result ℕ StatementKind
 past_close tokens at = past_close_by (kind_at tokens at) at
 
@@ -67,6 +72,7 @@ abbrev pub keyword_by : Option TokenKind → ℕ → Option (Keyword × ℕ)
 keyword_by (Some (kind.Keyword word)) at = Some (word, at + 1)
 keyword_by _ at = None
 
+-- the keyword at a place
 unfoldable pub keyword_at : List Token → ℕ → Option (Keyword × ℕ)
 keyword_at tokens at = keyword_by (kind_at tokens at) at
 
@@ -75,9 +81,11 @@ abbrev pub past_open_by : Option TokenKind → ℕ → Option ℕ
 past_open_by (Some kind.OpenBracket) at = Some (at + 1)
 past_open_by _ at = None
 
+-- the place behind the `[` at a place
 unfoldable pub past_open : List Token → ℕ → Option ℕ
 past_open tokens at = past_open_by (kind_at tokens at) at
 
+-- the place behind a word, if it is `side`
 abbrev pub behind_side : Keyword → ℕ → Option ℕ
 behind_side keyword.Side behind = Some behind
 behind_side _ behind = None
@@ -87,6 +95,7 @@ abbrev pub past_side_by : Option (Keyword × ℕ) → Option ℕ
 past_side_by (Some (word, behind)) = behind_side word behind
 past_side_by None = None
 
+-- the place behind the `side` at a place
 unfoldable pub past_side : List Token → ℕ → Option ℕ
 past_side tokens at = past_side_by (keyword_at tokens at)
 
@@ -95,10 +104,12 @@ abbrev pub name_of : List ℕ → TokenKind → ℕ → ℕ → ℕ → Read (Li
 name_of source kind.Name first size at = Ok (slice_range source first (first + size), at + 1)
 name_of source _ first size at = Err Syntax
 
+-- a name, if a token stands there
 abbrev pub name_by : List ℕ → Option Token → ℕ → Read (List ℕ)
 name_by source (Some token) at = name_of source token.kind token.first token.length at
 name_by source None at = Err Syntax
 
+-- the name at a place
 unfoldable pub name_at : List ℕ → List Token → ℕ → Read (List ℕ)
 name_at source tokens at = name_by source (slice_get tokens at) at
 
@@ -108,6 +119,7 @@ told_by expr_kind.Syntax = Syntax
 told_by expr_kind.TooDeep = TooDeep
 told_by expr_kind.Ambiguous = Ambiguous
 
+-- an expression, or what is told of its fault
 abbrev pub told : {X : Type 0} → Result X ExprFault → Result X StatementKind
 told (Ok read) = Ok read
 told (Err (expr_fault.At place fault)) = Err (told_by fault)

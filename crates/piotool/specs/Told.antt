@@ -54,10 +54,11 @@ words_line line kind = line_fault (codes "piotool: words line ") line (word_code
 abbrev pub source_line : ℕ → SourceKind → List ℕ
 source_line line kind = line_fault (codes "piotool: source line ") line (code_of kind)
 
--- the line of a key of the configuration, and of its fault
+-- the line of a key of the configuration, with this text behind it
 abbrev pub key_line : List ℕ → List ℕ → List ℕ
 key_line key text = codes "piotool: config " ++ key ++ codes ": " ++ text ++ codes "\n"
 
+-- the line of a configuration's fault
 abbrev pub config_line : List ℕ → ConfigKind → List ℕ
 config_line key kind = key_line key (kind_text kind)
 
