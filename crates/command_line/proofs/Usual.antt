@@ -13,8 +13,8 @@ use Rattle.clap.specs.declared.error.kind.ErrorKind.TheVariants as kind
 use Rattle.clap.proofs.OnLiterals.{clap_on_literals}
 use Rattle.clap.proofs.WalkLemmas.{both}
 use Rattle.command_line.specs.Tool.{clock_limit, side_limit, tool}
-use Rattle.command_line.specs.Words.{Asked, IsTaken, run, dis, asked_of, number_in, has_no_room}
-use Rattle.command_line.specs.Laws.{number_of, run_words, dis_words, AskWhere, RunWords, DisWords}
+use Rattle.command_line.specs.Words.{Asked, IsTaken, asm, run, dis, asked_of, number_in, has_no_room}
+use Rattle.command_line.specs.Laws.{number_of, asm_words, run_words, dis_words, AskWhere, AsmWords, RunWords, DisWords}
 
 -- ---- a number in range
 
@@ -100,13 +100,24 @@ run_words_law name source config stimulus clocks = go (is_unsigned_in 0 clock_li
         (taken_by _ _ takes asked refl, record { taken = run_fault name source config stimulus clocks true e; asked = asked })
     go false e = inl (not_empty _ (run_fault name source config stimulus clocks false e))
 
--- ---- dis
-
--- what clap's definition gives for the words with this digit
+-- what clap's definition gives for words
 record Gives (words : List Text) (a : Asked) : Type 0 where
   asked : asked_of words ≡ Some a
   takes : takes tool words ≡ true
   passes : fault_of tool words ≡ []
+
+-- ---- asm
+
+asm_gives : (name file : Text) → Gives (asm_words name file) (asm file)
+unfolding clap_on_literals tool asked_of
+asm_gives name file = record { asked = refl; takes = refl; passes = refl }
+
+pub asm_words_law : AsmWords
+asm_words_law name file =
+    let g = asm_gives name file in
+    (taken_by _ _ g.takes g.asked refl, record { taken = g.passes; asked = g.asked })
+
+-- ---- dis
 
 dis_gives : (name file : Text) (side : ℕ) (opt : Bool) → side ≤ side_limit → Gives (dis_words name file side opt) (dis file side opt)
 unfolding clap_on_literals tool asked_of

@@ -4,7 +4,7 @@ use Rattle.std.specs.Str.Parse.{digits_value, without_leading_plus}
 use Rattle.clap.specs.ValueTests.{is_unsigned_in}
 use Rattle.clap.specs.Walk.{Text}
 use Rattle.command_line.specs.Tool.{clock_limit, side_limit}
-use Rattle.command_line.specs.Words.{Asked, Asks, IsRefused, IsTaken, dis, run}
+use Rattle.command_line.specs.Words.{Asked, Asks, IsRefused, IsTaken, asm, dis, run}
 
 -- the number of decimal digits, where a plus may stand first
 abbrev pub number_of : Text → ℕ
@@ -14,6 +14,14 @@ number_of text = digits_value 10 (without_leading_plus text)
 abbrev pub AskWhere : Bool → List Text → Asked → Type 0
 AskWhere true words a = IsTaken words × Asks words a
 AskWhere false words a = IsRefused words
+
+-- `asm -- FILE`, of a program of any name
+abbrev pub asm_words : Text → Text → List Text
+asm_words name file = name ∷ codes "asm" ∷ codes "--" ∷ file ∷ []
+
+-- they ask for the listing of FILE, whatever FILE is
+abbrev pub AsmWords : Type 0
+AsmWords = (name file : Text) → AskWhere true (asm_words name file) (asm file)
 
 -- an option `--name=X`, where it is given
 abbrev pub given : Text → Option Text → List Text

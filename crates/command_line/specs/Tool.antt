@@ -53,6 +53,10 @@ side_rule = record (up_to side_limit (option_rule (codes "side"))) { defaults = 
 abbrev pub opt_rule : Rule
 opt_rule = record (new_rule (codes "opt")) { long = Some (codes "opt"); action = Some SetTrue }
 
+-- `asm FILE`
+abbrev pub asm_app : App
+asm_app = with_rule (new_app (codes "asm")) file_rule
+
 -- `run --source S [--config C] [--stimulus T] --clocks N`
 abbrev pub run_app : App
 run_app = with_rule (with_rule (with_rule (with_rule (new_app (codes "run")) source_rule) config_rule) stimulus_rule) clocks_rule
@@ -69,4 +73,4 @@ bare_app = record (new_app (codes "piotool")) {
 
 -- `piotool` with its subcommands
 unfoldable pub tool : App
-tool = with_subcommand (with_subcommand bare_app run_app.top) dis_app.top
+tool = with_subcommand (with_subcommand (with_subcommand bare_app asm_app.top) run_app.top) dis_app.top

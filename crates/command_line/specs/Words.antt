@@ -11,18 +11,20 @@ use Rattle.clap.specs.Takes.{takes}
 use Rattle.clap.specs.Faults.{fault_of}
 use Rattle.command_line.specs.Tool.{clock_limit, side_limit, tool}
 use Rattle.command_line.specs.declared.order.Order.{Order}
-use Rattle.command_line.specs.declared.order.Order.TheVariants.{Run, Dis}
+use Rattle.command_line.specs.declared.order.Order.TheVariants.{Asm, Run, Dis}
 use Rattle.command_line.specs.declared.order.WordsFault.{WordsFault}
 use Rattle.command_line.specs.declared.order.WordsFault.TheVariants.{Usage, Memory}
 
--- a subcommand with its arguments: source, configuration and stimulus if there are some, and clocks; or file, side-set bits and
+-- a subcommand with its arguments: file; source, configuration and stimulus if there are some, and clocks; or file, side-set bits and
 -- whether their value is optional
 pub data Asked : Type 0 where
+  asm : Text → Asked
   run : Text → Option Text → Option Text → ℕ → Asked
   dis : Text → ℕ → Bool → Asked
 
 -- what an order asks for
 abbrev pub asked_by : Order → Asked
+asked_by (Asm file) = asm file.now
 asked_by (Run source config stimulus clocks) = run source.now (option_map (λ t. t.now) config) (option_map (λ t. t.now) stimulus) clocks
 asked_by (Dis file side opt) = dis file.now side opt
 
@@ -47,6 +49,10 @@ number_at most id rows = min (option_map_or number_in (one_of id rows) 0) most
 abbrev pub flag_at : Text → List Row → Bool
 flag_at id rows = bytes_eq (text_at id rows) (codes "true")
 
+-- the arguments of `asm`
+abbrev pub asm_asked : List Row → Asked
+asm_asked rows = asm (text_at (codes "file") rows)
+
 -- the arguments of `run`
 abbrev pub run_asked : List Row → Asked
 run_asked rows =
@@ -59,7 +65,8 @@ dis_asked rows = dis (text_at (codes "file") rows) (number_at side_limit (codes 
 
 -- the arguments of the subcommand of this name
 abbrev pub subcommand_asked : Text → List Row → Asked
-subcommand_asked name rows = if bytes_eq name (codes "run") then run_asked rows else dis_asked rows
+subcommand_asked name rows =
+    if bytes_eq name (codes "asm") then asm_asked rows else if bytes_eq name (codes "run") then run_asked rows else dis_asked rows
 
 -- what the matches that clap's definition gives for `tool` and the words ask for
 unfoldable pub asked_of : List Text → Option Asked
@@ -67,6 +74,7 @@ asked_of words = option_map (λ met. subcommand_asked met.0 met.1) (subcommand_o
 
 -- the clocks are in range, and so are the side-set bits with the one of `--opt`
 abbrev pub IsWithinRange : Asked → Type 0
+IsWithinRange (asm file) = ⊤
 IsWithinRange (run source config stimulus clocks) = clocks ≤ clock_limit
 IsWithinRange (dis file side opt) = side + (if opt then 1 else 0) ≤ side_limit
 
@@ -74,6 +82,7 @@ IsWithinRange (dis file side opt) = side + (if opt then 1 else 0) ≤ side_limit
 
 -- `--opt` takes one of the five side-set bits, so not beside `--side 5` (RP2040 Datasheet, section 3.5.1)
 abbrev pub has_no_room : Asked → Bool
+has_no_room (asm file) = false
 has_no_room (run source config stimulus clocks) = false
 has_no_room (dis file side opt) = side == side_limit && opt
 
@@ -98,6 +107,7 @@ HasCause words Memory = ⊤
 
 -- how many clocks a command works out at most
 abbrev pub clocks_asked : Asked → ℕ
+clocks_asked (asm file) = 0
 clocks_asked (run source config stimulus clocks) = clocks
 clocks_asked (dis file side opt) = 0
 

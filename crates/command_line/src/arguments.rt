@@ -53,15 +53,15 @@ pub fn clocks<'a>(alloc: Global) -> Arg<'a>
         .help("How many clocks to trace, up to 10^12")
 }
 
-/// `FILE`: the name of a file of words, any text.
-pub fn file<'a>(alloc: Global) -> Arg<'a>
+/// `FILE`: the name of a file, any text.
+pub fn file<'a>(alloc: Global, help: &'a str) -> Arg<'a>
     ensures rule { rule_of result ≡ file_rule }
     ensures local { result.global ≡ false }
 {
     Arg::new(alloc, "file")
         .required(true)
         .action(ArgAction::Set)
-        .help("The words, four hexadecimal digits a line")
+        .help(help)
 }
 
 /// `--side n`: 0 to 5 side-set bits, 0 where it isn't given.

@@ -2,7 +2,7 @@
 ghost use Rattle.std.specs.Prelude.{◌≡◌, IfOk, false};
 ghost use Rattle.clap.specs.Simple.{app_of, with_subcommand};
 ghost use Rattle.clap.specs.declared.builder.command.Command.TheViews.{out-Command as fields_of};
-ghost use Rattle.command_line.specs.Tool.{bare_app, dis_app, run_app, tool as tool_app};
+ghost use Rattle.command_line.specs.Tool.{asm_app, bare_app, dis_app, run_app, tool as tool_app};
 
 use crate::arguments;
 use clap::Command;
@@ -15,6 +15,7 @@ pub fn tool<'a>(alloc: Global) -> Result<Command<'a>, AllocError>
     ensures local { IfOk result (λ c. (fields_of c).has_globals ≡ false) }
 {
     let command = bare(alloc);
+    let command = add(command, asm(alloc)?)?;
     let command = add(command, run(alloc)?)?;
     let command = add(command, dis(alloc)?)?;
     Ok(command)
@@ -25,8 +26,17 @@ fn bare<'a>(alloc: Global) -> Command<'a>
     ensures local { (fields_of result).has_globals ≡ false }
 {
     Command::new(alloc, "piotool")
-        .about("Simulates programs of the RP2040's PIO")
+        .about("Assembles and simulates programs of the RP2040's PIO")
         .subcommand_required(true)
+}
+
+fn asm<'a>(alloc: Global) -> Result<Command<'a>, AllocError>
+    ensures app { IfOk result (λ c. app_of c ≡ asm_app) }
+    ensures local { IfOk result (λ c. (fields_of c).has_globals ≡ false) }
+{
+    Command::new(alloc, "asm")
+        .about("Writes the words of each program, with what they mean")
+        .arg(arguments::file(alloc, "The programs, in pioasm"))
 }
 
 fn run<'a>(alloc: Global) -> Result<Command<'a>, AllocError>
@@ -47,7 +57,7 @@ fn dis<'a>(alloc: Global) -> Result<Command<'a>, AllocError>
 {
     Command::new(alloc, "dis")
         .about("Writes the instruction that each word means")
-        .arg(arguments::file(alloc))?
+        .arg(arguments::file(alloc, "The words, four hexadecimal digits a line"))?
         .arg(arguments::side(alloc))?
         .arg(arguments::opt(alloc))
 }

@@ -1,5 +1,10 @@
-//! Laws above clap's definition of a parse: what words as the usage has them ask for. Both functions do nothing.
-ghost use Rattle.command_line.specs.Laws.{DisWords, RunWords};
+//! Laws above clap's definition of a parse: what words as the usage has them ask for. The functions do nothing.
+ghost use Rattle.command_line.specs.Laws.{AsmWords, DisWords, RunWords};
+
+/// `asm -- FILE` asks for the listing of FILE.
+pub fn asm_words()
+    ensures { AsmWords }
+{}
 
 /// `run --source=S [--config=C] [--stimulus=T] --clocks=N` asks for N clocks of S under C and T exactly where N is a whole
 /// number in range.

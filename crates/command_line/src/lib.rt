@@ -11,6 +11,6 @@ mod reading;
 #[cfg(test)]
 mod tests;
 
-pub use laws::{dis_words, run_words};
+pub use laws::{asm_words, dis_words, run_words};
 pub use order::{Order, WordsFault};
 pub use reading::read;

@@ -9,6 +9,10 @@ pub const MOST_SIDE_BITS: u64 = 5;
 /// What the words of a call ask for.
 #[derive(Clone, Copy, Debug, PartialEq)]
 pub enum Order<'a> {
+    /// The listing of the programs in a source.
+    Asm {
+        file: &'a str,
+    },
     /// The trace of so many clocks (0 to 10^12) of the programs in a source, under a configuration and a stimulus where
     /// they are named.
     Run {

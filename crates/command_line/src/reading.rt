@@ -4,7 +4,7 @@ ghost use Rattle.clap.specs.Matches.{found_of, has_subcommand};
 ghost use Rattle.clap.specs.Simple.{subcommand_rows_of};
 ghost use Rattle.clap.specs.Walk.{rows_of};
 ghost use Rattle.std.specs.Option.{option_map};
-ghost use Rattle.command_line.specs.Words.{Asks, HasCause, IsTaken, IsWithinRange, asked_by, dis_asked};
+ghost use Rattle.command_line.specs.Words.{Asks, HasCause, IsTaken, IsWithinRange, asked_by, asm_asked, dis_asked};
 ghost use Rattle.command_line.specs.Words.{has_no_room as has_no_room_of, run_asked, subcommand_asked};
 
 use crate::getters::{flag, number, option_text, text};
@@ -33,7 +33,7 @@ fn has_no_room(order: Order<'_>) -> bool
     ensures { result ≡ has_no_room_of (asked_by order.entry) }
 {
     match order {
-        Order::Run { .. } => false,
+        Order::Asm { .. } | Order::Run { .. } => false,
         Order::Dis { side, opt, .. } => u64::from(side) == MOST_SIDE_BITS && opt,
     }
 }
@@ -47,10 +47,20 @@ fn order_of<'a>(matches: &ArgMatches<'a>) -> Order<'a>
     let Some((name, found)) = matches.subcommand() else {
         unreachable!()
     };
-    if name == "run" {
+    if name == "asm" {
+        asm_order(found)
+    } else if name == "run" {
         run_order(found)
     } else {
         dis_order(found)
+    }
+}
+
+fn asm_order<'a>(matches: &ArgMatches<'a>) -> Order<'a>
+    ensures { asked_by result ≡ asm_asked (rows_of (found_of matches.now)) }
+{
+    Order::Asm {
+        file: text(matches, "file"),
     }
 }
 

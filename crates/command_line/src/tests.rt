@@ -125,8 +125,16 @@ static LISTINGS: [(&[&str], &str, u8, bool); 10] = [
     (&["dis", "--", "--opt"], "--opt", 0, false),
 ];
 
+/// Words, and the source whose listing they ask for.
+static SOURCES: [(&[&str], &str); 4] = [
+    (&["asm", "a.pio"], "a.pio"),
+    (&["asm", "asm"], "asm"),
+    (&["asm", ""], ""),
+    (&["asm", "--", "-a.pio"], "-a.pio"),
+];
+
 /// Words that ask for nothing.
-static REFUSED: [&[&str]; 43] = [
+static REFUSED: [&[&str]; 46] = [
     &[],
     &["--help"],
     &["-h"],
@@ -135,7 +143,10 @@ static REFUSED: [&[&str]; 43] = [
     &["run", "--help"],
     &["dis", "-h"],
     &["--version"],
-    &["asm", "a.pio"],
+    &["asm"],
+    &["asm", "a.pio", "b.pio"],
+    &["asm", "--source", "a.pio"],
+    &["asm", "a.pio", "--clocks", "8"],
     &["Run", "--source", "a.pio", "--clocks", "8"],
     &["--source", "a.pio", "--clocks", "8"],
     &["run"],
@@ -215,6 +226,15 @@ fn driven_runs(rt: HostRuntime) -> Result<(), Fail> {
             stimulus,
             clocks: 8,
         };
+        assert!(rt; gives(rt.alloc(), words, Ok(order))?, "{words:?}");
+    }
+    Ok(())
+}
+
+#[test]
+fn sources(rt: HostRuntime) -> Result<(), Fail> {
+    for &(words, file) in &SOURCES {
+        let order = Order::Asm { file };
         assert!(rt; gives(rt.alloc(), words, Ok(order))?, "{words:?}");
     }
     Ok(())
