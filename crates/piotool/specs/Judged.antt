@@ -19,7 +19,8 @@ use Rattle.pin_matrix.specs.declared.setup.Setup.{Setup}
 use Rattle.block_config.specs.Answer as config
 use Rattle.block_config.specs.Config.{config_setup_of}
 use Rattle.block_config.specs.Default.{default_setup_of}
-use Rattle.command_line.specs.Words.{Asked, run, dis}
+use Rattle.command_line.specs.Words.{Asked, asm, run, dis}
+use Rattle.program_listing.specs.Listing.{listing_text}
 use Rattle.word_file.specs.declared.fault.WordFault.{WordFault}
 use Rattle.word_file.specs.Reading.{word_file}
 use Rattle.word_file.specs.Listing.{word_lines, rule_for}
@@ -122,6 +123,7 @@ StageFails files before now comes_to e = (now ≡ before) × IfSome files (λ f.
 
 -- what a command comes to
 unfoldable pub judge : Files → Asked → Judged (List ℕ)
+judge files (asm name) = and_then (source_at files name) (λ programs. right (listing_text programs))
 judge files (run source config stimulus clocks) =
     and_then (prepared_at files source config stimulus) (λ prepared. right (trace_text (first_run prepared.0) prepared.1 clocks))
 judge files (dis name side opt) = and_then (words_at files name) (λ words. right (word_lines (rule_for side opt) words))

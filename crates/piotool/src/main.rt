@@ -1,7 +1,8 @@
-//! piotool: traces what a program of the RP2040's PIO does to its pins, clock by clock.
+//! piotool: assembles programs of the RP2040's PIO, and traces what they do to its pins, clock by clock.
 //! Here real files, standard output and standard error are handed to the one call that does everything.
 #![tactic(auto)]
 
+mod asm;
 mod dis;
 mod fault;
 mod fetch;

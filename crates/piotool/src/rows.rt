@@ -59,7 +59,7 @@ const THIRTY_THREE_WORDS: &str =
 // The changes of the square wave, from the datasheet's example: up in clock 1, two clocks long, every four clocks.
 const EIGHT_CLOCKS: &str = "#1\n1!\n#3\n0!\n#5\n1!\n#7\n0!\n#8\n";
 
-pub static ROWS: [Row; 35] = [
+pub static ROWS: [Row; 38] = [
     Row {
         name: "a square wave of eight clocks",
         words: RUN_8,
@@ -497,5 +497,43 @@ pub static ROWS: [Row; 35] = [
         status: 1,
         out: Text::Nothing,
         err: "piotool: stimulus line 1: T1\n",
+    },
+    Row {
+        name: "a listing",
+        words: &["piotool", "asm", "s"],
+        source: Some(SQUARE_WAVE),
+        config: None,
+        stimulus: None,
+        out_fails: &[],
+        err_fails: &[],
+        status: 0,
+        out: Text::Lines(
+            "program squarewave origin none side 0 wrap 0 3\n00 e081 set pindirs, 1\n01 e101 set pins, 1 [1]\n02 e000 set pins, 0\n03 0001 jmp 1\n",
+        ),
+        err: "",
+    },
+    Row {
+        name: "a listing of a faulty source",
+        words: &["piotool", "asm", "s"],
+        source: Some("set pins, 1\n"),
+        config: None,
+        stimulus: None,
+        out_fails: &[],
+        err_fails: &[],
+        status: 1,
+        out: Text::Nothing,
+        err: "piotool: source line 0: S1\n",
+    },
+    Row {
+        name: "a listing whose second piece fails with two bytes taken",
+        words: &["piotool", "asm", "s"],
+        source: Some(SQUARE_WAVE),
+        config: None,
+        stimulus: None,
+        out_fails: &[(2, 2)],
+        err_fails: &[],
+        status: 5,
+        out: Text::Lines("program sq"),
+        err: "piotool: out\n",
     },
 ];

@@ -6,6 +6,7 @@ ghost use Rattle.piotool.specs.Told.{TellsFault};
 ghost use Rattle.piotool.specs.Complete.{FilesDecide};
 ghost use Rattle.piotool.specs.Promise.{call_of, CommandEnds, EndsAs, WorkEnds};
 
+use crate::asm::asm;
 use crate::dis::dis;
 use crate::fault::Fault;
 use crate::run::{RunFiles, run};
@@ -81,6 +82,7 @@ fn work<F: Shelf, O: Sink, L: Ledger>(
     ensures steps { steps.new ≤ steps.old + most_clocks (map string_bytes words.now) }
 {
     match read(alloc, words) {
+        Ok(Order::Asm { file }) => asm(alloc, file, shelf, out),
         Ok(
             Order::Run {
                 source,
