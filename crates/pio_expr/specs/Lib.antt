@@ -3,3 +3,4 @@ pub mod Grammar
 pub mod Arithmetic
 pub mod Waiting
 pub mod Turns
+pub mod Values
