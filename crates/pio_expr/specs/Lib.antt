@@ -4,3 +4,4 @@ pub mod Arithmetic
 pub mod Waiting
 pub mod Turns
 pub mod Values
+pub mod Views

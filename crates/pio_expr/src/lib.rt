@@ -7,6 +7,8 @@ mod fault;
 mod mark;
 mod parse;
 mod reading;
+mod symbol;
+mod symbols;
 mod token_item;
 mod turn;
 mod waiting;
@@ -14,6 +16,7 @@ mod waiting;
 pub use expr::{Expr, Item};
 pub use fault::{ExprFault, ExprKind, ValueFault};
 pub use parse::parse_expr;
+pub use symbol::Symbol;
 
 #[cfg(test)]
 mod rows;

@@ -1,0 +1,101 @@
+//! The symbols of a file, with look-ups by name.
+ghost use Rattle.std.specs.Prelude.{◌≡◌, ◌+◌, ◌<◌, ◌^◌, length, option_map, OnOk, OnErr};
+ghost use Rattle.pio_expr.specs.Values.{found_in, found, in_program, no_symbols, begun, IsNew, with_symbol};
+ghost use Rattle.pio_expr.specs.Views.{named_in, symbol_seen};
+
+use crate::Symbol;
+use indexmap::IndexMap;
+use pio_encode::Name;
+use std::alloc::{AllocError, Global};
+use std::marker::Model;
+
+/// Symbols by name, in the order in which they were set.
+type ByName = IndexMap<String, Symbol>;
+
+/// The symbols of a file, seen as those of its globals and those of the present program.
+#[derive(Drop)]
+pub struct Symbols {
+    alloc: Global,
+    globals: ByName,
+    program: Option<ByName>,
+}
+
+impl Model for Symbols {
+    ghost use Rattle.pio_expr.specs.Values.{Scope};
+
+    ghost Value = { Scope };
+
+    ghost use Rattle.std.specs.Prelude.{option_map};
+    ghost use Rattle.pio_expr.specs.Views.{named_in};
+
+    ghost view = { λ s. record {
+        globals = named_in s.globals.entries;
+        program = option_map (λ m. named_in m.entries) s.program;
+    } };
+}
+
+impl Symbols {
+    /// No symbols.
+    pub fn new(alloc: Global) -> Self
+        ensures { result ≡ no_symbols }
+    {
+        Symbols {
+            alloc,
+            globals: IndexMap::new(alloc),
+            program: None,
+        }
+    }
+
+    /// Begins a program without symbols.
+    pub fn next_program(&mut self)
+        ensures { self.new ≡ begun self.old }
+    {
+        self.program = Some(IndexMap::new(self.alloc));
+    }
+
+    /// Adds a symbol.
+    pub fn set(&mut self, name: &Name, symbol: Symbol) -> Result<(), AllocError>
+        requires { IsNew self.old name.now }
+        ensures ok { OnOk result (self.new ≡ with_symbol self.old name.now symbol) }
+        ensures err { OnErr result (self.new ≡ self.old) }
+    {
+        let text = String::from_str(self.alloc, name.as_str())?;
+        match &mut self.program {
+            Some(symbols) => symbols.insert(text, symbol)?,
+            None => self.globals.insert(text, symbol)?,
+        };
+        Ok(())
+    }
+
+    /// The place and the symbol of a name, looked up in the program first, or among the globals alone.
+    pub fn found(&self, local: bool, name: &Name) -> Option<(usize, &Symbol)>
+        ensures { option_map symbol_seen result ≡ found self.now local name.now }
+    {
+        let first = self.globals.len();
+        if local {
+            if let Some(symbols) = &self.program {
+                if let Some(symbol) = found_in(first, symbols, name) {
+                    return Some(symbol);
+                }
+            }
+        }
+        found_in(0, &self.globals, name)
+    }
+
+    /// The symbol at this place stands in the program.
+    pub fn in_program(&self, place: usize) -> bool
+        ensures { result ≡ in_program self.now place }
+    {
+        self.globals.len() <= place
+    }
+}
+
+/// The symbol of a name, where the places begin at `first`.
+fn found_in<'a>(first: usize, symbols: &'a ByName, name: &Name) -> Option<(usize, &'a Symbol)>
+    requires { first < 2 ^ 63 }
+    ensures { option_map symbol_seen result ≡ found_in first (named_in symbols.now.entries) name.now }
+{
+    let _small = symbols.len();
+    let (index, _, symbol) = symbols.get_full(name.as_str())?;
+    Some((first + index, symbol))
+}
