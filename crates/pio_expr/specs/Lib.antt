@@ -5,3 +5,4 @@ pub mod Waiting
 pub mod Turns
 pub mod Values
 pub mod Views
+pub mod Frames

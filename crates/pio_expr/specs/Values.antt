@@ -39,7 +39,7 @@ Found = Option (ℕ × Symbol)
 -- the first symbol of a name in a list that begins at a place
 unfoldable pub found_in : ℕ → Symbols → List ℕ → Found
 found_in place [] name = None
-found_in place (s ∷ symbols) name = if bytes_eq s.0 name then Some (place, s.1) else found_in (place + 1) symbols name
+found_in place (s ∷ symbols) name = if bytes_eq name s.0 then Some (place, s.1) else found_in (place + 1) symbols name
 
 -- the symbol of a program, or else the global
 abbrev pub or_global : Symbols → List ℕ → Found → Found

@@ -4,6 +4,7 @@
 mod arithmetic;
 mod expr;
 mod fault;
+mod frame;
 mod mark;
 mod parse;
 mod reading;

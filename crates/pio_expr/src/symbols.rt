@@ -1,6 +1,6 @@
 //! The symbols of a file, with look-ups by name.
-ghost use Rattle.std.specs.Prelude.{◌≡◌, ◌+◌, ◌<◌, ◌^◌, length, option_map, OnOk, OnErr};
-ghost use Rattle.pio_expr.specs.Values.{found_in, found, in_program, no_symbols, begun, IsNew, with_symbol};
+ghost use Rattle.std.specs.Prelude.{◌≡◌, ◌<◌, ◌^◌, length, [], ◌∷◌, ◌++◌, option_map, OnOk, OnErr, None, if◌then◌else◌};
+ghost use Rattle.pio_expr.specs.Values.{found_in, found, program_of, in_program, no_symbols, begun, IsNew, with_symbol};
 ghost use Rattle.pio_expr.specs.Views.{named_in, symbol_seen};
 
 use crate::Symbol;
@@ -59,27 +59,31 @@ impl Symbols {
         ensures ok { OnOk result (self.new ≡ with_symbol self.old name.now symbol) }
         ensures err { OnErr result (self.new ≡ self.old) }
     {
-        let text = String::from_str(self.alloc, name.as_str())?;
         match &mut self.program {
-            Some(symbols) => symbols.insert(text, symbol)?,
-            None => self.globals.insert(text, symbol)?,
-        };
-        Ok(())
+            Some(symbols) => add(self.alloc, symbols, name, symbol),
+            None => add(self.alloc, &mut self.globals, name, symbol),
+        }
     }
 
     /// The place and the symbol of a name, looked up in the program first, or among the globals alone.
     pub fn found(&self, local: bool, name: &Name) -> Option<(usize, &Symbol)>
         ensures { option_map symbol_seen result ≡ found self.now local name.now }
     {
-        let first = self.globals.len();
-        if local {
-            if let Some(symbols) = &self.program {
-                if let Some(symbol) = found_in(first, symbols, name) {
-                    return Some(symbol);
-                }
-            }
+        match self.found_in_program(local, name) {
+            Some(symbol) => Some(symbol),
+            None => found_in(0, &self.globals, name),
         }
-        found_in(0, &self.globals, name)
+    }
+
+    /// The place and the symbol of a name in the program, where it is looked up there.
+    fn found_in_program(&self, local: bool, name: &Name) -> Option<(usize, &Symbol)>
+        ensures { option_map symbol_seen result ≡ (if local
+            then found_in (length self.now.globals) (program_of self.now) name.now else None) }
+    {
+        match (&self.program, local) {
+            (Some(symbols), true) => found_in(self.globals.len(), symbols, name),
+            _ => None,
+        }
     }
 
     /// The symbol at this place stands in the program.
@@ -88,6 +92,22 @@ impl Symbols {
     {
         self.globals.len() <= place
     }
+}
+
+/// Adds a symbol at the end.
+fn add(
+    alloc: Global,
+    symbols: &mut ByName,
+    name: &Name,
+    symbol: Symbol,
+) -> Result<(), AllocError>
+    requires { found_in 0 (named_in symbols.old.entries) name.now ≡ None }
+    ensures ok { OnOk result (named_in symbols.new.entries
+        ≡ named_in symbols.old.entries ++ (name.now, symbol) ∷ []) }
+    ensures err { OnErr result (named_in symbols.new.entries ≡ named_in symbols.old.entries) }
+{
+    symbols.insert(String::from_str(alloc, name.as_str())?, symbol)?;
+    Ok(())
 }
 
 /// The symbol of a name, where the places begin at `first`.
