@@ -9,3 +9,5 @@ pub mod Turning
 pub mod Operands
 pub mod Names
 pub mod Answered
+pub mod Lookups
+pub mod Workings

@@ -4,7 +4,7 @@
 --   looked_up          what a name is then: a number, a fault, or a define whose value is wanted first
 --   IsKept             each kept value comes from those kept before it
 --   Agrees             values of names that are those which a frame uses
-use Rattle.std.specs.Prelude.{◌≡◌, ℕ, ◌+◌, ◌-◌, ◌<◌, ℤ, pos, Bool, true, false, List, [], ◌∷◌, ◌++◌, length, take, Option, Some, None, Result, Ok, Err, nat_eq, slice_get, if◌then◌else◌}
+use Rattle.std.specs.Prelude.{◌≡◌, ℕ, ◌+◌, ◌-◌, ◌<◌, ℤ, pos, Bool, true, false, List, [], ◌∷◌, ◌++◌, length, take, Option, Some, None, Result, Ok, Err, nat_eq, option_map, slice_get, if◌then◌else◌}
 use Rattle.std.specs.List.{list_any, IsDistinct}
 use Rattle.std.specs.Map.{lookup, keys_of}
 use Rattle.pio_expr.specs.declared.expr.Item.{Item}
@@ -19,6 +19,11 @@ use Rattle.pio_expr.specs.declared.frame.Named.TheVariants as named
 use Rattle.pio_expr.specs.declared.frame.Pause.{Pause}
 use Rattle.pio_expr.specs.declared.frame.Pause.TheVariants.{Waits, Done}
 use Rattle.pio_expr.specs.Values.{Symbols, Scope, found, by_symbol, in_program, program_of, count_of, is_among, number_of, worked_out}
+
+-- names are looked up in the program first: from the place of a symbol of the program, or where no symbol's expression is asked
+abbrev pub is_local : Scope → Option ℕ → Bool
+is_local scope (Some place) = in_program scope place
+is_local scope None = true
 
 -- the places whose values are known, the oldest first
 abbrev pub Kept : Type 0
@@ -83,13 +88,16 @@ abbrev pub Rests : (List ℕ → Result Look ValueFault) → Frame → Result Pa
 Rests look frame (Ok (Waits place expr)) = RestsAt look frame.rest.now place expr.now
 Rests look frame _ = Unit {0}
 
--- the expression of the define at a place; no items, where there is none
-abbrev pub items_by : Option (List ℕ × Symbol) → List Item
-items_by (Some (name, Define items)) = items
+-- the symbol at a place, and its expression: no items, where it is no define
+abbrev pub symbol_at : Scope → ℕ → Option Symbol
+symbol_at scope place = option_map (λ s. s.1) (slice_get (scope.globals ++ program_of scope) place)
+
+abbrev pub items_by : Option Symbol → List Item
+items_by (Some (Define items)) = items
 items_by _ = []
 
-abbrev pub items_at : Scope → ℕ → List Item
-items_at scope place = items_by (slice_get (scope.globals ++ program_of scope) place)
+unfoldable pub items_at : Scope → ℕ → List Item
+items_at scope place = items_by (symbol_at scope place)
 
 -- the value of a define by the kept ones
 abbrev pub by_kept : List ℕ → Option ℤ → Result ℤ ValueFault
@@ -100,5 +108,9 @@ abbrev pub kept_value : Scope → Kept → Bool → List ℕ → Result ℤ Valu
 kept_value scope kept local name = by_symbol (λ n. n) (λ place items. by_kept name (kept_at kept place)) name (found scope local name)
 
 -- each kept value is that of its define, by the values kept before it
-unfoldable pub IsKept : Scope → Kept → Type 0
-IsKept scope kept = (i : ℕ) (place : ℕ) (value : ℤ) → slice_get kept i ≡ Some (place, value) → worked_out (kept_value scope (take i kept) (in_program scope place)) (items_at scope place) [] ≡ Ok value
+pub record IsKeptAt (scope : Scope) (before : Kept) (place : ℕ) (value : ℤ) : Type 0 where
+  pub within : place < count_of scope
+  pub gives : worked_out (kept_value scope before (in_program scope place)) (items_at scope place) [] ≡ Ok value
+
+abbrev pub IsKept : Scope → Kept → Type 0
+IsKept scope kept = (i : ℕ) (place : ℕ) (value : ℤ) → slice_get kept i ≡ Some (place, value) → IsKeptAt scope (take i kept) place value

@@ -6,3 +6,4 @@ pub mod Turns
 pub mod Values
 pub mod Views
 pub mod Frames
+pub mod Work

@@ -3,8 +3,8 @@ ghost use Rattle.std.specs.Prelude.{◌≡◌, List, [], ℕ, ℤ, Result, Ok, O
 ghost use Rattle.std.specs.HashSet.{contains};
 ghost use Rattle.std.specs.Prelude.{nat_eq};
 ghost use Rattle.pio_expr.specs.declared.fault.ValueFault.{ValueFault};
-ghost use Rattle.pio_expr.specs.Values.{number_of, left_by, first_of, behind_first, worked_out, in_program};
-ghost use Rattle.pio_expr.specs.Frames.{looked_up, looked_at, Looks, Agrees, Shows, Rests};
+ghost use Rattle.pio_expr.specs.Values.{number_of, left_by, first_of, behind_first, worked_out};
+ghost use Rattle.pio_expr.specs.Frames.{is_local, looked_up, looked_at, Looks, Agrees, Shows, Rests};
 
 use crate::arithmetic::{add, divide, multiply, negate, reverse, subtract};
 use crate::symbols::Symbols;
@@ -46,6 +46,26 @@ pub enum Pause<'a> {
 }
 
 impl<'a> Frame<'a> {
+    /// The expression of the symbol at this place, or of none; nothing is worked out yet.
+    pub fn new(
+        alloc: Global,
+        symbols: &Symbols,
+        place: Option<usize>,
+        items: &'a [Item],
+    ) -> Self
+        ensures place { result.place ≡ place }
+        ensures local { result.local ≡ is_local symbols.now place }
+        ensures rest { result.rest.now ≡ items.now }
+        ensures numbers { result.numbers.items ≡ [] }
+    {
+        Frame {
+            place,
+            local: is_local(symbols, place),
+            rest: items,
+            numbers: VecDeque::new(alloc),
+        }
+    }
+
     /// Works its items out, up to the end or to a name whose value isn't kept.
     pub fn run(
         &mut self,
@@ -63,15 +83,28 @@ impl<'a> Frame<'a> {
         ensures local { self.new.local ≡ self.old.local }
     {
         while let Some((item, rest)) = self.rest.split_first() {
-            let named = match look_at(alloc, symbols, kept, under, self.local, item)? {
-                Named::Number(number) => number,
-                Named::Define(place, items) => return Ok(Pause::Waits(place, items)),
+            let named = match look_at(alloc, symbols, kept, under, self.local, item) {
+                Ok(Named::Number(number)) => number,
+                Ok(Named::Define(place, items)) => return Ok(Pause::Waits(place, items)),
+                Err(fault) => return Err(fault),
             };
-            let number = apply(item, named, &mut self.numbers)?;
-            self.numbers.push_front(number)?;
+            match apply(item, named, &mut self.numbers) {
+                Ok(number) => self.numbers.push_front(number)?,
+                Err(fault) => return Err(fault),
+            }
             self.rest = rest;
         }
         Ok(Pause::Done(take(&mut self.numbers)))
+    }
+}
+
+/// The names of the expression at this place are looked up in the program first.
+fn is_local(symbols: &Symbols, place: Option<usize>) -> bool
+    ensures { result ≡ is_local symbols.now place }
+{
+    match place {
+        Some(place) => symbols.in_program(place),
+        None => true,
     }
 }
 

@@ -13,6 +13,7 @@ mod symbols;
 mod token_item;
 mod turn;
 mod waiting;
+mod work;
 
 pub use expr::{Expr, Item};
 pub use fault::{ExprFault, ExprKind, ValueFault};

@@ -15,7 +15,6 @@ type ByName = IndexMap<String, Symbol>;
 /// The symbols of a file, seen as those of its globals and those of the present program.
 #[derive(Drop)]
 pub struct Symbols {
-    alloc: Global,
     globals: ByName,
     program: Option<ByName>,
 }
@@ -40,28 +39,27 @@ impl Symbols {
         ensures { result ≡ no_symbols }
     {
         Symbols {
-            alloc,
             globals: IndexMap::new(alloc),
             program: None,
         }
     }
 
     /// Begins a program without symbols.
-    pub fn next_program(&mut self)
+    pub fn next_program(&mut self, alloc: Global)
         ensures { self.new ≡ begun self.old }
     {
-        self.program = Some(IndexMap::new(self.alloc));
+        self.program = Some(IndexMap::new(alloc));
     }
 
     /// Adds a symbol.
-    pub fn set(&mut self, name: &Name, symbol: Symbol) -> Result<(), AllocError>
+    pub fn set(&mut self, alloc: Global, name: &Name, symbol: Symbol) -> Result<(), AllocError>
         requires { IsNew self.old name.now }
         ensures ok { OnOk result (self.new ≡ with_symbol self.old name.now symbol) }
         ensures err { OnErr result (self.new ≡ self.old) }
     {
         match &mut self.program {
-            Some(symbols) => add(self.alloc, symbols, name, symbol),
-            None => add(self.alloc, &mut self.globals, name, symbol),
+            Some(symbols) => add(alloc, symbols, name, symbol),
+            None => add(alloc, &mut self.globals, name, symbol),
         }
     }
 
@@ -80,9 +78,12 @@ impl Symbols {
         ensures { option_map symbol_seen result ≡ (if local
             then found_in (length self.now.globals) (program_of self.now) name.now else None) }
     {
-        match (&self.program, local) {
-            (Some(symbols), true) => found_in(self.globals.len(), symbols, name),
-            _ => None,
+        if !local {
+            return None;
+        }
+        match &self.program {
+            Some(symbols) => found_in(self.globals.len(), symbols, name),
+            None => None,
         }
     }
 
