@@ -11,3 +11,5 @@ pub mod Names
 pub mod Answered
 pub mod Lookups
 pub mod Workings
+pub mod Finding
+pub mod Keeping

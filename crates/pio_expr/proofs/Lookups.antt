@@ -8,7 +8,7 @@ use Rattle.pio_expr.specs.declared.symbol.Symbol.{Symbol}
 use Rattle.pio_expr.specs.Values.{found_in}
 use Rattle.pio_expr.specs.Views.{named_in}
 
-some_same : {X : Type 0} {x y : X} → Some x ≡ Some y → x ≡ y
+pub some_same : {X : Type 0} {x y : X} → Some x ≡ Some y → x ≡ y
 some_same {X} {x} {y} h = ap (unwrap_or_x x) h where
   unwrap_or_x : X → Option X → X
   unwrap_or_x d (Some v) = v
@@ -29,7 +29,7 @@ unfolding found_in
 none_kept name first [] h = refl
 none_kept name first (e ∷ es) h = by (bytes_eq name (string_bytes e.0)) refl (none_kept name (first + 1) es) where
   by : (b : Bool) → bytes_eq name (string_bytes e.0) ≡ b → (found_in (first + 1) (named_in es) name ≡ None → lookup (λ k. bytes_eq name (string_bytes k)) es ≡ None) → lookup (λ k. bytes_eq name (string_bytes k)) (e ∷ es) ≡ None
-  by true t rest = let no : Some (first, e.1) ≡ None = rw t at h in cc
+  by true t rest = let no : Some (first, e.1) ≡ None {T = ℕ × Symbol} = rw t at h in cc
   by false t rest = rw t (rest (rw t at h))
 
 -- the first key that is the name, with its place

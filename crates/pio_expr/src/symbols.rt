@@ -74,6 +74,7 @@ impl Symbols {
     }
 
     /// The place and the symbol of a name in the program, where it is looked up there.
+    #[tactic(auto, unfolding(crate::specs::Values::found_in))]
     fn found_in_program(&self, local: bool, name: &Name) -> Option<(usize, &Symbol)>
         ensures { option_map symbol_seen result ≡ (if local
             then found_in (length self.now.globals) (program_of self.now) name.now else None) }

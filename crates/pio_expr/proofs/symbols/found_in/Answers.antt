@@ -1,5 +1,7 @@
-use Rattle.std.proofs.Common.{◌≡◌, ◌∙◌, ap, sym, None, Some, option_map}
+use Rattle.std.proofs.Common.{◌≡◌, ◌∙◌, ap, sym, None, Some, option_map, string_bytes}
 use Rattle.std.proofs.lemmas.List.Quantifiers.{position-Some}
+use Rattle.std.specs.Map.{keys_of}
+use Rattle.std.specs.Str.{bytes_eq}
 use Rattle.pio_expr.specs.Views.{symbol_seen}
 use Rattle.pio_expr.proofs.Lookups.{none_found, first_found}
 use Rattle.pio_expr.proofs.symbols.found_in.Goals as goal
@@ -10,5 +12,7 @@ returns-in_err-index c =
 
 pub returns : goal.returns
 returns c =
-    let there = position-Some _ _ c.in_ok-index.index c.in_ok-index.field-0-1.now (sym c.in_ok-index.ensures.index) in
-    sym (first_found c.args.name.now c.args.first c.args.symbols.now.entries c.in_ok-index.index c.in_ok-index.field-0-1.now c.in_ok-index.symbol.now c.in_ok-index.ensures.entry ? ?)
+    let es = c.args.symbols.now.entries in
+    let key = c.in_ok-index.field-0-1.now in
+    let there = position-Some (λ k. bytes_eq c.as_str.result.now (string_bytes k)) (keys_of es) c.in_ok-index.index key (sym c.in_ok-index.ensures.index) in
+    sym (first_found c.args.name.now c.args.first es c.in_ok-index.index key c.in_ok-index.symbol.now c.in_ok-index.ensures.entry ? ?)

@@ -1,0 +1,44 @@
+use Rattle.std.proofs.Common.{rules, ◌≡◌, List, [], ◌∷◌, ℕ, ℤ, Result, Ok, Err, nat_eq, ap, sym, ◌∙◌, rules}
+use Rattle.std.specs.HashSet.{contains}
+use Rattle.pio_expr.specs.Values.{number_of, left_by, worked_out}
+use Rattle.pio_expr.specs.Frames.{looked_up, looked_at, number}
+use Rattle.pio_expr.proofs.Workings.{item_number, item_fault, goes_on, ends_in, at_end, shows_fault, looks_fault}
+use Rattle.pio_expr.proofs.frame.Frame.run.Goals as goal
+
+pub returns-in-Err-clause-shows : goal.returns-in-Err-clause-shows
+returns-in-Err-clause-shows c named agrees =
+    let it = c.in-Some.item.now in
+    let ns = c.loop-item.self.numbers.items in
+    let look = looked_up c.args.symbols.now c.args.kept.now.entries (contains nat_eq c.args.under.now) c.args.self.now.local in
+    shows_fault named c.loop-item.self c.in-Err.fault _ (λ other.
+      c.loop-item.invariant.goes named agrees ∙ ap (λ items. worked_out named items ns) c.in-Some.ensures.cases.0
+      ∙ ends_in named it c.in-Some.rest.now ns c.in-Err.fault (item_fault look named it c.in-Err.fault ns agrees (looks_fault _ _ other (rw c.loop-item.invariant.local at c.in-Err.ensures))))
+
+pub returns-in-Err-apply-clause-shows : goal.returns-in-Err-apply-clause-shows
+returns-in-Err-apply-clause-shows c named agrees =
+    let it = c.in-Some.item.now in
+    let ns = c.loop-item.self.numbers.items in
+    let look = looked_up c.args.symbols.now c.args.kept.now.entries (contains nat_eq c.args.under.now) c.args.self.now.local in
+    let looked : looked_at look it ≡ Ok (number c.in-Ok-Number.number) = rw c.loop-item.invariant.local at c.in-Ok-Number.ensures in
+    shows_fault named _ c.in-Err-apply.fault _ (λ other.
+      c.loop-item.invariant.goes named agrees ∙ ap (λ items. worked_out named items ns) c.in-Some.ensures.cases.0
+      ∙ ends_in named it c.in-Some.rest.now ns c.in-Err-apply.fault (item_number look named it c.in-Ok-Number.number ns agrees looked ∙ sym c.in-Err-apply.ensures.number))
+
+pub loop-item-preserved : goal.loop-item-preserved
+loop-item-preserved c =
+    let it = c.in-Some.item.now in
+    let ns = c.loop-item.self.numbers.items in
+    let look = looked_up c.args.symbols.now c.args.kept.now.entries (contains nat_eq c.args.under.now) c.args.self.now.local in
+    let looked : looked_at look it ≡ Ok (number c.in-Ok-Number.number) = rw c.loop-item.invariant.local at c.in-Ok-Number.ensures in
+    record {
+      goes = λ named agrees. c.loop-item.invariant.goes named agrees ∙ ap (λ items. worked_out named items ns) c.in-Some.ensures.cases.0
+        ∙ goes_on named it c.in-Some.rest.now ns c.in-Ok.number (item_number look named it c.in-Ok-Number.number ns agrees looked ∙ sym c.in-Ok.ensures.number)
+        ∙ ap (λ xs. worked_out named c.in-Some.rest.now (c.in-Ok.number ∷ xs)) (sym c.in-Ok.ensures.left) ∙ ap (λ xs. worked_out named c.in-Some.rest.now xs) (sym c.in_ok-push_front.ensures.items);
+      place = c.loop-item.invariant.place;
+      local = c.loop-item.invariant.local;
+    }
+
+pub returns-clause-shows : goal.returns-clause-shows
+returns-clause-shows c named agrees =
+    let ns = c.loop-item.self.numbers.items in
+    c.loop-item.invariant.goes named agrees ∙ ap (λ items. worked_out named items ns) ? ∙ at_end named ns ∙ ap Ok (sym c.take.ensures.value) ∙ ?
