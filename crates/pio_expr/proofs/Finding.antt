@@ -28,16 +28,16 @@ abbrev StandsAt : Symbols → ℕ → ℕ → Symbol → Type 0
 StandsAt symbols first place s = (i : ℕ) × (place ≡ first + i) × (symbol_in symbols i ≡ Some s)
 
 stands_at : (first : ℕ) (symbols : Symbols) (name : List ℕ) (place : ℕ) (s : Symbol) → found_in first symbols name ≡ Some (place, s) → StandsAt symbols first place s
-unfolding found_in, symbol_in
+unfolding found_in symbol_in
 stands_at first [] name place s h = cc
 stands_at first (x ∷ symbols) name place s h = by (bytes_eq name x.0) refl (stands_at (first + 1) symbols name place s) where
   further : StandsAt symbols (first + 1) place s → StandsAt (x ∷ symbols) first place s
-  further there = (suc there.0, (there.1 ∙ omega arith, there.2))
+  further there = (suc there.0, omega (arith, there.1), there.2)
   by : (b : Bool) → bytes_eq name x.0 ≡ b → (found_in (first + 1) symbols name ≡ Some (place, s) → StandsAt symbols (first + 1) place s) → StandsAt (x ∷ symbols) first place s
   by true t rest =
       let same : (first, x.1) ≡ (place, s) = some_same (rw t at h) in
       let p : first ≡ place = ap (λ y. y.0) same in
-      (0, (omega (arith, p), ap (λ y. Some y.1) same))
+      (0, omega (arith, p), ap (λ y. Some y.1) same)
   by false t rest = further (rest (rw t at h))
 
 globally : (scope : Scope) (name : List ℕ) (place : ℕ) (s : Symbol) → found_in 0 scope.globals name ≡ Some (place, s) → symbol_at scope place ≡ Some s

@@ -1,6 +1,7 @@
 -- Values that are kept are those of the definition, whatever symbols are under way beside them.
-use Rattle.std.proofs.Common.{◌≡◌, ℕ, zero, suc, ◌+◌, ◌<◌, ◌≤◌, ℤ, pos, Bool, true, false, List, [], ◌∷◌, ◌++◌, length, take, Option, Some, None, Result, Ok, Err, refl, ap, sym, subst, ◌∙◌, ◌⊎◌, inl, inr, cond, ◌||◌, arith, nat_eq, slice_get, lit<}
+use Rattle.std.proofs.Common.{◌≡◌, ℕ, zero, suc, ◌+◌, ◌<◌, ◌≤◌, ℤ, pos, Bool, true, false, List, [], ◌∷◌, ◌++◌, length, take, Option, Some, None, Result, Ok, Err, refl, ap, sym, subst, ◌∙◌, ◌⊎◌, inl, inr, cond, ◌||◌, arith, nat_eq, slice_get, lit<, true≢false}
 use Rattle.std.proofs.lemmas.Bool.{eqb-true}
+use Rattle.std.proofs.Math.Seq.{take-length}
 use Rattle.pio_expr.specs.declared.expr.Item.{Item}
 use Rattle.pio_expr.specs.declared.expr.Item.TheVariants as item
 use Rattle.pio_expr.specs.declared.symbol.Symbol.{Symbol}
@@ -151,5 +152,17 @@ exact scope kept is zero = exact_none scope kept
 exact scope kept is (suc m) = exact_more scope kept is m (exact scope kept is m)
 
 -- and the value of a define that is kept
+kept_from : (scope : Scope) (kept : Kept) → IsKept scope kept → (m n place : ℕ) (v : ℤ) → m ≤ suc n → kept_at (take m kept) place ≡ Some v → worked_out (name_value n scope (place ∷ []) (in_program scope place)) (items_at scope place) [] ≡ Ok v
+kept_from scope kept is zero n place v le h = let no : None ≡ Some v = h in cc
+kept_from scope kept is (suc m) n place v le h = by (newest kept m place v h) (kept_from scope kept is m n place v (omega (arith, le))) where
+  by : Newest kept m place v → (kept_at (take m kept) place ≡ Some v → worked_out (name_value n scope (place ∷ []) (in_program scope place)) (items_at scope place) [] ≡ Ok v) → worked_out (name_value n scope (place ∷ []) (in_program scope place)) (items_at scope place) [] ≡ Ok v
+  by (inl there) rest = rest there
+  by (inr there) rest = newest_exact scope kept is m (exact scope kept is m) n place (items_at scope place) [] v (omega (arith, le)) (λ q e. absurd (true≢false (sym e))) refl there.0 there.1
+
 pub kept_exact : (scope : Scope) (kept : Kept) → IsKept scope kept → (n place : ℕ) (v : ℤ) → length kept ≤ suc n → kept_at kept place ≡ Some v → worked_out (name_value n scope (place ∷ []) (in_program scope place)) (items_at scope place) [] ≡ Ok v
-kept_exact scope kept is n place v le h = ?
+kept_exact scope kept is n place v le h = kept_from scope kept is (length kept) n place v le (ap (λ es. kept_at es place) (take-length kept) ∙ h)
+
+-- all that is kept is of names
+pub all_exact : (scope : Scope) (kept : Kept) → IsKept scope kept → (n : ℕ) (under : List ℕ) (local : Bool) (name : List ℕ) (v : ℤ) → length kept ≤ n → Apart under kept → kept_value scope kept local name ≡ Ok v → name_value n scope under local name ≡ Ok v
+all_exact scope kept is n under local name v le apart h =
+    exact scope kept is (length kept) n under local name v le (λ q e. ap (λ es. kept_at es q) (take-length kept) ∙ apart q e) (ap (λ es. kept_value scope es local name) (take-length kept) ∙ h)

@@ -13,3 +13,6 @@ pub mod Lookups
 pub mod Workings
 pub mod Finding
 pub mod Keeping
+pub mod Agreeing
+pub mod Framing
+pub mod Stepping

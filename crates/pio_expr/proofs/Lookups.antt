@@ -29,7 +29,7 @@ unfolding found_in
 none_kept name first [] h = refl
 none_kept name first (e ∷ es) h = by (bytes_eq name (string_bytes e.0)) refl (none_kept name (first + 1) es) where
   by : (b : Bool) → bytes_eq name (string_bytes e.0) ≡ b → (found_in (first + 1) (named_in es) name ≡ None → lookup (λ k. bytes_eq name (string_bytes k)) es ≡ None) → lookup (λ k. bytes_eq name (string_bytes k)) (e ∷ es) ≡ None
-  by true t rest = let no : Some (first, e.1) ≡ None {T = ℕ × Symbol} = rw t at h in cc
+  by true t rest = let it : Option (ℕ × Symbol) = Some (first, e.1) in let no : it ≡ None = rw t at h in cc
   by false t rest = rw t (rest (rw t at h))
 
 -- the first key that is the name, with its place
@@ -45,3 +45,9 @@ first_found name first (e ∷ es) (suc i) k s h t before =
     let other : bytes_eq name (string_bytes e.0) ≡ false = before 0 (omega arith) in
     let count : (first + 1) + i ≡ first + suc i = omega arith in
     rw other (first_found name (first + 1) es i k s h t (λ j l. before (suc j) (omega (arith, l))) ∙ ap (λ n. Some (n, s)) count)
+
+-- the key at a place
+pub own_key : (es : List (String Global × Symbol)) (i : ℕ) (k : String Global) (s : Symbol) → slice_get es i ≡ Some (k, s) → get_or (keys_of es) i k ≡ k
+own_key [] i k s h = cc
+own_key (e ∷ es) zero k s h = ap (λ p. p.0) (some_same h)
+own_key (e ∷ es) (suc i) k s h = own_key es i k s h

@@ -1,5 +1,5 @@
 -- One item of an expression, for values of names that agree with what a frame uses.
-use Rattle.std.proofs.Common.{◌≡◌, ℕ, ℤ, List, [], ◌∷◌, Result, Ok, Err, refl, ap, sym, ◌∙◌}
+use Rattle.std.proofs.Common.{◌≡◌, ℕ, ℤ, List, [], ◌∷◌, Result, Ok, Err, length, arith, refl, ap, sym, ◌∙◌}
 use Rattle.pio_expr.specs.declared.expr.Item.{Item}
 use Rattle.pio_expr.specs.declared.expr.Item.TheVariants as item
 use Rattle.pio_expr.specs.declared.fault.ValueFault.{ValueFault}
@@ -55,3 +55,7 @@ looks_fault (Unknown name) look other h = h
 looks_fault (Cycle name) look other h = h
 looks_fault DivZero look other h = h
 looks_fault Overflow look other h = h
+
+pub none_left : (items : List Item) → length items ≡ 0 → items ≡ []
+none_left [] h = refl
+none_left (i ∷ items) h = absurd (omega (arith, h))

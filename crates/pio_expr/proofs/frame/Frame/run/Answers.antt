@@ -1,8 +1,8 @@
-use Rattle.std.proofs.Common.{rules, ◌≡◌, List, [], ◌∷◌, ℕ, ℤ, Result, Ok, Err, nat_eq, ap, sym, ◌∙◌, rules}
+use Rattle.std.proofs.Common.{rules, ◌≡◌, List, [], ◌∷◌, ℕ, ℤ, Result, Ok, Err, nat_eq, ap, sym, ◌∙◌, to_z, of_z, w32}
 use Rattle.std.specs.HashSet.{contains}
-use Rattle.pio_expr.specs.Values.{number_of, left_by, worked_out}
+use Rattle.pio_expr.specs.Values.{first_of, number_of, left_by, worked_out}
 use Rattle.pio_expr.specs.Frames.{looked_up, looked_at, number}
-use Rattle.pio_expr.proofs.Workings.{item_number, item_fault, goes_on, ends_in, at_end, shows_fault, looks_fault}
+use Rattle.pio_expr.proofs.Workings.{item_number, item_fault, goes_on, ends_in, at_end, none_left, shows_fault, looks_fault}
 use Rattle.pio_expr.proofs.frame.Frame.run.Goals as goal
 
 pub returns-in-Err-clause-shows : goal.returns-in-Err-clause-shows
@@ -19,21 +19,23 @@ returns-in-Err-apply-clause-shows c named agrees =
     let it = c.in-Some.item.now in
     let ns = c.loop-item.self.numbers.items in
     let look = looked_up c.args.symbols.now c.args.kept.now.entries (contains nat_eq c.args.under.now) c.args.self.now.local in
-    let looked : looked_at look it ≡ Ok (number c.in-Ok-Number.number) = rw c.loop-item.invariant.local at c.in-Ok-Number.ensures in
+    let looked : looked_at look it ≡ Ok (number c.in-Ok-Number.number) = rw (c.loop-item.invariant.local, c.in-Ok-Number.field-0-is) at c.in-Ok-Number.ensures in
+    let gives : number_of (λ _. Ok c.in-Ok-Number.number) it ns ≡ Err c.in-Err-apply.fault = search rules in
     shows_fault named _ c.in-Err-apply.fault _ (λ other.
       c.loop-item.invariant.goes named agrees ∙ ap (λ items. worked_out named items ns) c.in-Some.ensures.cases.0
-      ∙ ends_in named it c.in-Some.rest.now ns c.in-Err-apply.fault (item_number look named it c.in-Ok-Number.number ns agrees looked ∙ sym c.in-Err-apply.ensures.number))
+      ∙ ends_in named it c.in-Some.rest.now ns c.in-Err-apply.fault (item_number look named it c.in-Ok-Number.number ns agrees looked ∙ gives))
 
 pub loop-item-preserved : goal.loop-item-preserved
 loop-item-preserved c =
     let it = c.in-Some.item.now in
     let ns = c.loop-item.self.numbers.items in
     let look = looked_up c.args.symbols.now c.args.kept.now.entries (contains nat_eq c.args.under.now) c.args.self.now.local in
-    let looked : looked_at look it ≡ Ok (number c.in-Ok-Number.number) = rw c.loop-item.invariant.local at c.in-Ok-Number.ensures in
+    let looked : looked_at look it ≡ Ok (number c.in-Ok-Number.number) = rw (c.loop-item.invariant.local, c.in-Ok-Number.field-0-is) at c.in-Ok-Number.ensures in
+    let gives : number_of (λ _. Ok c.in-Ok-Number.number) it ns ≡ Ok c.in-Ok.number = search rules in
     record {
       goes = λ named agrees. c.loop-item.invariant.goes named agrees ∙ ap (λ items. worked_out named items ns) c.in-Some.ensures.cases.0
-        ∙ goes_on named it c.in-Some.rest.now ns c.in-Ok.number (item_number look named it c.in-Ok-Number.number ns agrees looked ∙ sym c.in-Ok.ensures.number)
-        ∙ ap (λ xs. worked_out named c.in-Some.rest.now (c.in-Ok.number ∷ xs)) (sym c.in-Ok.ensures.left) ∙ ap (λ xs. worked_out named c.in-Some.rest.now xs) (sym c.in_ok-push_front.ensures.items);
+        ∙ goes_on named it c.in-Some.rest.now ns c.in-Ok.number (item_number look named it c.in-Ok-Number.number ns agrees looked ∙ gives)
+        ∙ ap (λ xs. worked_out named c.in-Some.rest.now (c.in-Ok.number ∷ xs)) (sym c.in-Ok.ensures.left) ∙ ap (λ xs. worked_out named c.in-Some.rest.now xs) (sym c.in_ok-push_front-in-Ok.ensures.items);
       place = c.loop-item.invariant.place;
       local = c.loop-item.invariant.local;
     }
@@ -41,4 +43,5 @@ loop-item-preserved c =
 pub returns-clause-shows : goal.returns-clause-shows
 returns-clause-shows c named agrees =
     let ns = c.loop-item.self.numbers.items in
-    c.loop-item.invariant.goes named agrees ∙ ap (λ items. worked_out named items ns) ? ∙ at_end named ns ∙ ap Ok (sym c.take.ensures.value) ∙ ?
+    let value : Ok (first_of ns) ≡ Ok (to_z w32 (of_z w32 c.take.result)) = search rules in
+    c.loop-item.invariant.goes named agrees ∙ ap (λ items. worked_out named items ns) (none_left _ c.in_default.ensures.cases) ∙ at_end named ns ∙ value
