@@ -16,3 +16,4 @@ pub mod Keeping
 pub mod Agreeing
 pub mod Framing
 pub mod Stepping
+pub mod Ending

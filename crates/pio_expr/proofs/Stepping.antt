@@ -16,7 +16,7 @@ use Rattle.pio_expr.specs.declared.fault.ValueFault.{ValueFault}
 use Rattle.pio_expr.specs.declared.fault.ValueFault.TheVariants.{Memory, Unknown, Cycle, DivZero, Overflow}
 use Rattle.pio_expr.specs.declared.frame.Frame.{Frame}
 use Rattle.pio_expr.specs.declared.work.Work.{Work}
-use Rattle.pio_expr.specs.Values.{Scope, Found, found, by_symbol, in_program, count_of, is_among, worked_out, name_value, value_at}
+use Rattle.pio_expr.specs.Values.{Scope, Found, found, by_symbol, in_program, count_of, is_among, worked_out, name_value, value_at, HasFault}
 use Rattle.pio_expr.specs.Frames.{Kept, kept_at, kept_value, is_local, items_at, symbol_at, Look, number, wanted, look_by, looked_up, Agrees, IsKept, IsKeptAt, RestsAt}
 use Rattle.pio_expr.specs.Work.{placed, places_of, items_of, IsOwn, IsFrame, AwaitedAt, IsAwaited, AreFrames, IsLowest, seen_of, AreSeen, frames_of, Stands, left_to_do, Steps, Waited, Finished, IsNewlyKept}
 use Rattle.pio_expr.proofs.Finding.{items_of_symbol, found_stands, place_within}
@@ -48,10 +48,19 @@ defined scope kept own items old r st run =
     ap (λ l. worked_out (name_value n scope places l) (items_of scope items old.top.place) []) (sym st.frames.0.local)
     ∙ run (name_value n scope places old.top.local) (agrees_value scope kept n places old.top.local st.is_kept (omega (arith, fit, keys)) (apart kept places st.seen.distinct))
 
+fault_is : (scope : Scope) (kept : Kept) (own : Option ℕ) (items : List Item) (old : Work) (fault : ValueFault) → Stands scope kept own items old
+    → ((named : List ℕ → Result ℤ ValueFault) → Agrees (looked_up scope kept (λ q. list_any (nat_eq q) old.begun.keys) old.top.local) named → worked_out named old.top.rest.now old.top.numbers.items ≡ Err fault) → value_at scope own items ≡ Err fault
+fault_is scope kept own items old fault st run =
+    fault_of_whole scope kept own items fault st.is_own st.is_kept old.top old.below.items st.frames st.lowest st.seen (defined scope kept own items old (Err fault) st (shown scope kept own items old st (λ _. Err fault) run))
+
 -- a fault of the top frame
-pub fault_step : (scope : Scope) (kept : Kept) (own : Option ℕ) (items : List Item) (old : Work) (fault : ValueFault) → Stands scope kept own items old → Shown scope kept items old (λ _. Err fault) → (value_at scope own items ≡ Err fault) × IsKept scope kept
-fault_step scope kept own items old fault st run =
-    (fault_of_whole scope kept own items fault st.is_own st.is_kept old.top old.below.items st.frames st.lowest st.seen (defined scope kept own items old (Err fault) st run), st.is_kept)
+pub fault_step : (scope : Scope) (kept : Kept) (own : Option ℕ) (items : List Item) (old : Work) (fault : ValueFault) → Stands scope kept own items old
+    → ((named : List ℕ → Result ℤ ValueFault) → Agrees (looked_up scope kept (λ q. list_any (nat_eq q) old.begun.keys) old.top.local) named → HasFault fault (worked_out named old.top.rest.now old.top.numbers.items)) → HasFault fault (value_at scope own items)
+fault_step scope kept own items old Memory st run = tt
+fault_step scope kept own items old (Unknown name) st run = fault_is scope kept own items old (Unknown name) st run
+fault_step scope kept own items old (Cycle name) st run = fault_is scope kept own items old (Cycle name) st run
+fault_step scope kept own items old DivZero st run = fault_is scope kept own items old DivZero st run
+fault_step scope kept own items old Overflow st run = fault_is scope kept own items old Overflow st run
 
 -- a define that is wanted
 place_or : ℕ → Result Look ValueFault → ℕ
@@ -75,6 +84,7 @@ pub record IsWanted (kept : Kept) (under : ℕ → Bool) (f : Found) (place : �
   pub idle : under place ≡ false
 
 wanted_by : (kept : Kept) (under : ℕ → Bool) (name : List ℕ) (place : ℕ) (items : List Item) (f : Found) → by_symbol number (λ p its. look_by (kept_at kept p) (under p) name p its) name f ≡ Ok (wanted place items) → IsWanted kept under f place items
+unfolding is_wanted place_or items_or
 wanted_by kept under name place items None h = absurd (true≢false (sym (ap is_wanted h)))
 wanted_by kept under name place items (Some (p, Label k)) h = absurd (true≢false (sym (ap is_wanted h)))
 wanted_by kept under name place items (Some (p, Define its)) h = by (kept_at kept p) (under p) refl refl h where
@@ -125,7 +135,7 @@ module _ (scope : Scope) (kept : Kept) (own : Option ℕ) (items : List Item) (o
   rested_places : places_of (top ∷ old.below.items) ≡ places_of (frames_of old)
   rested_places = ap (λ o. placed o (places_of old.below.items)) of_symbol
 
-same_sym : (a b : ℕ) → nat_eq a b ≡ nat_eq b a
+pub same_sym : (a b : ℕ) → nat_eq a b ≡ nat_eq b a
 same_sym a b = by (nat_eq a b) (nat_eq b a) refl refl where
   by : (x y : Bool) → nat_eq a b ≡ x → nat_eq b a ≡ y → x ≡ y
   by true true p q = refl
@@ -133,16 +143,16 @@ same_sym a b = by (nat_eq a b) (nat_eq b a) refl refl where
   by true false p q = sym (eq-eqb b a (sym (eqb-true a b p))) ∙ q
   by false true p q = sym p ∙ eq-eqb a b (sym (eqb-true b a q))
 
-is_equivalence : IsEquivalence nat_eq
+pub is_equivalence : IsEquivalence nat_eq
 is_equivalence = record { refl = λ x. eq-eqb x x refl; symm = same_sym; congr = λ x y z h. ap (λ w. nat_eq w z) (eqb-true x y h) }
 
-begun_on : (p q : ℕ) (begun : Bool) (under : List ℕ) → begun ≡ is_among under q → cond (nat_eq p q) true begun ≡ is_among (p ∷ under) q
+pub begun_on : (p q : ℕ) (begun : Bool) (under : List ℕ) → begun ≡ is_among under q → cond (nat_eq p q) true begun ≡ is_among (p ∷ under) q
 begun_on p q begun under h = by (nat_eq p q) refl where
   by : (b : Bool) → nat_eq p q ≡ b → cond b true begun ≡ (nat_eq q p || is_among under q)
   by true t = let u : nat_eq q p ≡ true = sym (same_sym p q) ∙ t in rw u refl
   by false t = let u : nat_eq q p ≡ false = sym (same_sym p q) ∙ t in rw u h
 
-seen_new : (scope : Scope) (p : ℕ) (seen : List ℕ) → list_any (nat_eq p) seen ≡ false → p < count_of scope → AreSeen scope seen → AreSeen scope (p ∷ seen)
+pub seen_new : (scope : Scope) (p : ℕ) (seen : List ℕ) → list_any (nat_eq p) seen ≡ false → p < count_of scope → AreSeen scope seen → AreSeen scope (p ∷ seen)
 seen_new scope p seen new within are = record { distinct = IsDistinct-cons nat_eq p seen (all_none p seen new) are.distinct; within = λ q h. by q (nat_eq q p) refl h } where
   by : (q : ℕ) (b : Bool) → nat_eq q p ≡ b → (b || list_any (nat_eq q) seen) ≡ true → q < count_of scope
   by q true t h = subst (λ x. x < count_of scope) (sym (eqb-true q p t)) within

@@ -4,9 +4,8 @@ use Rattle.pio_expr.specs.declared.expr.Item.{Item}
 use Rattle.pio_expr.specs.declared.expr.Item.TheVariants as item
 use Rattle.pio_expr.specs.declared.fault.ValueFault.{ValueFault}
 use Rattle.pio_expr.specs.declared.fault.ValueFault.TheVariants.{Memory, Unknown, Cycle, DivZero, Overflow}
-use Rattle.pio_expr.specs.declared.frame.Frame.{Frame}
-use Rattle.pio_expr.specs.Values.{number_of, left_by, first_of, taken_on, worked_out}
-use Rattle.pio_expr.specs.Frames.{Look, number, wanted, looked_at, Agrees, AgreesBy, Looks, Shows}
+use Rattle.pio_expr.specs.Values.{number_of, left_by, first_of, taken_on, worked_out, HasFault}
+use Rattle.pio_expr.specs.Frames.{Look, number, wanted, looked_at, Agrees, AgreesBy}
 
 pub item_number : (look : List ℕ → Result Look ValueFault) (given : List ℕ → Result ℤ ValueFault) (i : Item) (n : ℤ) (ns : List ℤ) → Agrees look given → looked_at look i ≡ Ok (number n) → number_of given i ns ≡ number_of (λ _. Ok n) i ns
 item_number look given (item.Name name) n ns agrees e = rw e at (agrees name)
@@ -41,20 +40,20 @@ pub at_end : (given : List ℕ → Result ℤ ValueFault) (ns : List ℤ) → wo
 unfolding worked_out
 at_end given ns = refl
 
--- a fault that isn't want of memory is the answer
-pub shows_fault : (given : List ℕ → Result ℤ ValueFault) (frame : Frame) (fault : ValueFault) (value : Result ℤ ValueFault) → ((fault ≡ Memory → ⊥) → value ≡ Err fault) → Shows given frame (Err fault) value
-shows_fault given frame Memory value h = tt
-shows_fault given frame (Unknown name) value h = h (λ e. cc)
-shows_fault given frame (Cycle name) value h = h (λ e. cc)
-shows_fault given frame DivZero value h = h (λ e. cc)
-shows_fault given frame Overflow value h = h (λ e. cc)
+-- a fault goes on to the whole
+pub has_fault : {T : Type 0} (fault : ValueFault) (answer : Result T ValueFault) → answer ≡ Err fault → HasFault fault answer
+has_fault Memory answer h = tt
+has_fault (Unknown name) answer h = h
+has_fault (Cycle name) answer h = h
+has_fault DivZero answer h = h
+has_fault Overflow answer h = h
 
-pub looks_fault : (fault : ValueFault) (look : Result Look ValueFault) → (fault ≡ Memory → ⊥) → Looks (Err fault) look → look ≡ Err fault
-looks_fault Memory look other h = absurd (other refl)
-looks_fault (Unknown name) look other h = h
-looks_fault (Cycle name) look other h = h
-looks_fault DivZero look other h = h
-looks_fault Overflow look other h = h
+pub fault_on : {T U : Type 0} (fault : ValueFault) (part : Result T ValueFault) (whole : Result U ValueFault) → (part ≡ Err fault → whole ≡ Err fault) → HasFault fault part → HasFault fault whole
+fault_on Memory part whole on h = tt
+fault_on (Unknown name) part whole on h = on h
+fault_on (Cycle name) part whole on h = on h
+fault_on DivZero part whole on h = on h
+fault_on Overflow part whole on h = on h
 
 pub none_left : (items : List Item) → length items ≡ 0 → items ≡ []
 none_left [] h = refl

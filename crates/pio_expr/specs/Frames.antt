@@ -12,13 +12,13 @@ use Rattle.pio_expr.specs.declared.expr.Item.TheVariants as item
 use Rattle.pio_expr.specs.declared.symbol.Symbol.{Symbol}
 use Rattle.pio_expr.specs.declared.symbol.Symbol.TheVariants.{Define, Label}
 use Rattle.pio_expr.specs.declared.fault.ValueFault.{ValueFault}
-use Rattle.pio_expr.specs.declared.fault.ValueFault.TheVariants.{Memory, Unknown, Cycle}
+use Rattle.pio_expr.specs.declared.fault.ValueFault.TheVariants.{Unknown, Cycle}
 use Rattle.pio_expr.specs.declared.frame.Frame.{Frame}
 use Rattle.pio_expr.specs.declared.frame.Named.{Named}
 use Rattle.pio_expr.specs.declared.frame.Named.TheVariants as named
 use Rattle.pio_expr.specs.declared.frame.Pause.{Pause}
 use Rattle.pio_expr.specs.declared.frame.Pause.TheVariants.{Waits, Done}
-use Rattle.pio_expr.specs.Values.{Symbols, Scope, found, by_symbol, in_program, program_of, count_of, is_among, number_of, worked_out}
+use Rattle.pio_expr.specs.Values.{Symbols, Scope, found, by_symbol, in_program, program_of, count_of, is_among, number_of, worked_out, HasFault}
 
 -- names are looked up in the program first: from the place of a symbol of the program, or where no symbol's expression is asked
 abbrev pub is_local : Scope → Option ℕ → Bool
@@ -59,8 +59,7 @@ look_of (named.Define place expr) = wanted place expr.now
 
 -- the answer of the code is this one, unless memory ran out
 abbrev pub Looks : Result Named ValueFault → Result Look ValueFault → Type 0
-Looks (Err Memory) look = Unit {0}
-Looks (Err fault) look = look ≡ Err fault
+Looks (Err fault) look = HasFault fault look
 Looks (Ok named) look = look ≡ Ok (look_of named)
 
 -- a name's value is what a frame uses for it, where it uses one
@@ -76,8 +75,7 @@ Agrees look named = (name : List ℕ) → AgreesBy (look name) (named name)
 abbrev pub Shows : (List ℕ → Result ℤ ValueFault) → Frame → Result Pause ValueFault → Result ℤ ValueFault → Type 0
 Shows named frame (Ok (Done n)) value = value ≡ Ok n
 Shows named frame (Ok (Waits place expr)) value = value ≡ worked_out named frame.rest.now frame.numbers.items
-Shows named frame (Err Memory) value = Unit {0}
-Shows named frame (Err fault) value = value ≡ Err fault
+Shows named frame (Err fault) value = HasFault fault value
 
 -- a frame rests at a name that is this define
 abbrev pub RestsAt : (List ℕ → Result Look ValueFault) → List Item → ℕ → List Item → Type 0

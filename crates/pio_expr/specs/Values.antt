@@ -12,7 +12,7 @@ use Rattle.pio_expr.specs.declared.expr.Item.TheVariants as item
 use Rattle.pio_expr.specs.declared.symbol.Symbol.{Symbol}
 use Rattle.pio_expr.specs.declared.symbol.Symbol.TheVariants.{Define, Label}
 use Rattle.pio_expr.specs.declared.fault.ValueFault.{ValueFault}
-use Rattle.pio_expr.specs.declared.fault.ValueFault.TheVariants.{Unknown, Cycle}
+use Rattle.pio_expr.specs.declared.fault.ValueFault.TheVariants.{Memory, Unknown, Cycle}
 use Rattle.pio_expr.specs.Arithmetic.{sum_of, difference_of, product_of, quotient_of, negated, reversed}
 
 -- names with what they are, in the order in which they were set
@@ -136,6 +136,16 @@ own_place scope (Some name) = place_of scope name
 -- the value of an expression, own to a symbol or to none, or its first fault
 abbrev pub value_of : Scope → Option (List ℕ) → List Item → Result ℤ ValueFault
 value_of scope own items = value_at scope (own_place scope own) items
+
+-- this fault is the answer, or memory ran out
+abbrev pub HasFault : {T : Type 0} → ValueFault → Result T ValueFault → Type 0
+HasFault Memory answer = Unit {0}
+HasFault fault answer = answer ≡ Err fault
+
+-- what was returned is the answer, unless memory ran out
+abbrev pub Gives : Result ℤ ValueFault → Result ℤ ValueFault → Type 0
+Gives (Ok value) answer = answer ≡ Ok value
+Gives (Err fault) answer = HasFault fault answer
 
 -- the scope without symbols, and a scope where a program without symbols has just begun
 abbrev pub no_symbols : Scope

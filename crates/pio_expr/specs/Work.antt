@@ -10,10 +10,9 @@ use Rattle.pio_expr.specs.declared.expr.Item.{Item}
 use Rattle.pio_expr.specs.declared.expr.Item.TheVariants as item
 use Rattle.pio_expr.specs.declared.symbol.Symbol.TheVariants.{Define}
 use Rattle.pio_expr.specs.declared.fault.ValueFault.{ValueFault}
-use Rattle.pio_expr.specs.declared.fault.ValueFault.TheVariants.{Memory}
 use Rattle.pio_expr.specs.declared.frame.Frame.{Frame}
 use Rattle.pio_expr.specs.declared.work.Work.{Work}
-use Rattle.pio_expr.specs.Values.{Scope, found, in_program, count_of, is_among, worked_out, value_at}
+use Rattle.pio_expr.specs.Values.{Scope, found, in_program, count_of, is_among, worked_out, value_at, HasFault}
 use Rattle.pio_expr.specs.Frames.{is_local, Kept, kept_at, items_at, symbol_at, looked_up, Agrees, IsKept}
 
 -- the places of the frames' symbols, those under way
@@ -87,8 +86,7 @@ left_to_do scope kept frames = 2 * (count_of scope - length (seen_of frames kept
 abbrev pub Steps : Scope → Option ℕ → List Item → Kept → Work → Kept → Work → Result (Option ℤ) ValueFault → Type 0
 Steps scope own items kept old kept' new (Ok None) = Stands scope kept' own items new × (left_to_do scope kept' (frames_of new) < left_to_do scope kept (frames_of old))
 Steps scope own items kept old kept' new (Ok (Some n)) = (value_at scope own items ≡ Ok n) × IsKept scope kept'
-Steps scope own items kept old kept' new (Err Memory) = IsKept scope kept'
-Steps scope own items kept old kept' new (Err fault) = (value_at scope own items ≡ Err fault) × IsKept scope kept'
+Steps scope own items kept old kept' new (Err fault) = HasFault fault (value_at scope own items) × IsKept scope kept'
 
 -- the kept value of a symbol
 abbrev pub kept_of : Kept → Option ℕ → Option ℤ
@@ -113,8 +111,3 @@ Finished value old new (Some n) = (n ≡ value) × (old.below.items ≡ [])
 abbrev pub IsNewlyKept : Kept → Option ℕ → ℤ → Kept → Type 0
 IsNewlyKept old (Some place) value new = new ≡ insert_entry nat_eq old place value
 IsNewlyKept old None value new = new ≡ old
-
--- what was returned is the value, or memory ran out
-abbrev pub Gives : Result ℤ ValueFault → Result ℤ ValueFault → Type 0
-Gives (Err Memory) value = Unit {0}
-Gives returned value = value ≡ returned

@@ -1,9 +1,9 @@
 //! Working an expression out, frame by frame.
 ghost use Rattle.std.specs.Prelude.{◌≡◌, ℕ, Option, None, List, OnOk, IfOk, IfErr};
 ghost use Rattle.pio_expr.specs.declared.expr.Item.{Item};
-ghost use Rattle.pio_expr.specs.Values.{value_at};
+ghost use Rattle.pio_expr.specs.Values.{value_at, Gives};
 ghost use Rattle.pio_expr.specs.Frames.{IsKept};
-ghost use Rattle.pio_expr.specs.Work.{IsOwn, Stands, Steps, Gives, Waited, Finished, IsNewlyKept, kept_of};
+ghost use Rattle.pio_expr.specs.Work.{IsOwn, Stands, Steps, Waited, Finished, IsNewlyKept, kept_of};
 
 use crate::frame::{Frame, Pause};
 use crate::symbols::Symbols;
