@@ -1,5 +1,5 @@
 -- The end of the top frame: its value is kept, and the frame below goes on. And the first frame of all.
-use Rattle.std.proofs.Common.{◌≡◌, ℕ, zero, suc, ◌+◌, ◌-◌, ◌*◌, ◌<◌, ◌≤◌, ℤ, Bool, true, false, List, [], ◌∷◌, ◌++◌, length, Option, Some, None, Result, Ok, Err, refl, ap, sym, subst, ◌∙◌, ◌||◌, cond, arith, nat_eq, true≢false, append_assoc, slice_get}
+use Rattle.std.proofs.Common.{◌≡◌, ℕ, zero, suc, ◌+◌, ◌-◌, ◌*◌, ◌<◌, ◌≤◌, ℤ, Bool, true, false, List, [], ◌∷◌, ◌++◌, length, Option, Some, None, Result, Ok, Err, refl, ap, sym, subst, ◌∙◌, ◌||◌, cond, arith, nat_eq, true≢false, append_assoc, slice_get, IfOk, OnOk, IfErr}
 use Rattle.std.specs.List.{list_any, IsDistinct}
 use Rattle.std.specs.Map.{keys_of}
 use Rattle.std.proofs.lemmas.Bool.{eqb-true, eq-eqb}
@@ -10,14 +10,17 @@ use Rattle.indexmap.specs.IndexMap.{insert_entry}
 use Rattle.pio_expr.specs.declared.expr.Item.{Item}
 use Rattle.pio_expr.specs.declared.symbol.Symbol.TheVariants.{Define}
 use Rattle.pio_expr.specs.declared.fault.ValueFault.{ValueFault}
+use Rattle.pio_expr.specs.declared.fault.ValueFault.TheVariants.{Memory}
 use Rattle.pio_expr.specs.declared.frame.Frame.{Frame}
 use Rattle.pio_expr.specs.declared.work.Work.{Work}
-use Rattle.pio_expr.specs.Values.{Scope, in_program, count_of, is_among, worked_out, value_at}
+use Rattle.pio_expr.specs.Values.{Scope, in_program, count_of, is_among, worked_out, name_value, value_at, HasFault}
 use Rattle.pio_expr.specs.Frames.{Kept, kept_at, kept_value, is_local, items_at, looked_up, Agrees, IsKept, IsKeptAt}
 use Rattle.pio_expr.specs.Work.{placed, places_of, items_of, IsOwn, IsFrame, IsAwaited, AreFrames, IsLowest, seen_of, AreSeen, frames_of, Stands, left_to_do, Steps, Finished, IsNewlyKept, kept_of}
 use Rattle.pio_expr.proofs.Finding.{items_of_symbol, place_within}
+use Rattle.std.proofs.lemmas.Map.Steps.{length-le_from_distinct_below}
+use Rattle.pio_expr.proofs.Keeping.{kept_exact}
 use Rattle.pio_expr.proofs.Agreeing.{agrees_kept, agrees_fewer, IsMore, pushed_some, pushed_none, kept_pushed}
-use Rattle.pio_expr.proofs.Framing.{all_none, head_new, or_left, or_right, or_there, not_key, not_kept, seen_below, frame_value, value_of_whole}
+use Rattle.pio_expr.proofs.Framing.{all_none, head_new, or_left, or_right, or_there, not_key, not_kept, keys_length, seen_below, frame_value, value_of_whole}
 use Rattle.pio_expr.proofs.Stepping.{Shown, shown, defined, is_equivalence, seen_new, begun_on}
 
 -- a new place goes last
@@ -193,3 +196,24 @@ new_stands scope kept own items new is_own is distinct none place local rest num
       seen = subst (λ ps. AreSeen scope (ps ++ keys_of kept)) (sym places) (own_seen scope kept own items is_own none (kept_seen scope kept is distinct));
       begun = λ q h. begun q ∙ ap (λ ps. is_among ps q) (sym places);
     }
+
+-- what a step of the end gives
+pub end_steps : (scope : Scope) (kept kept' : Kept) (own : Option ℕ) (items : List Item) (old new : Work) (top : Frame) (v : ℤ) (result : Result (Option ℤ) ValueFault) → Stands scope kept own items old → Shown scope kept items old (λ _. Ok v) → top.place ≡ old.top.place
+    → IfOk result (Finished v (record { top = top; below = old.below; begun = old.begun }) new) → new.begun ≡ old.begun → OnOk result (IsNewlyKept kept top.place v kept') → IfErr result (λ fault. (fault ≡ Memory) × (kept' ≡ kept)) → Steps scope own items kept old kept' new result
+end_steps scope kept kept' own items old new top v (Ok None) st run of_symbol finished begun fresh memory =
+    done_on scope kept kept' own items old new v st run (subst (λ o. IsNewlyKept kept o v kept') of_symbol fresh) finished (ap (λ s. s.keys) begun)
+end_steps scope kept kept' own items old new top v (Ok (Some n)) st run of_symbol finished begun fresh memory =
+    let it = done_last scope kept kept' own items old v st run (subst (λ o. IsNewlyKept kept o v kept') of_symbol fresh) finished.1 in
+    (it.0 ∙ ap Ok (sym finished.0), it.1)
+end_steps scope kept kept' own items old new top v (Err fault) st run of_symbol finished begun fresh memory =
+    (subst (λ f. HasFault f (value_at scope own items)) (sym memory.0) tt, subst (IsKept scope) (sym memory.1) st.is_kept)
+
+-- a symbol whose value is kept
+pub kept_whole : (scope : Scope) (kept : Kept) (own : Option ℕ) (items : List Item) (v : ℤ) → IsOwn scope own items → IsKept scope kept → IsDistinct nat_eq (keys_of kept) → kept_of kept own ≡ Some v → value_at scope own items ≡ Ok v
+kept_whole scope kept None items v is_own is distinct h = let no : None ≡ Some v = h in cc
+kept_whole scope kept (Some p) items v is_own is distinct h =
+    let seen = kept_seen scope kept is distinct in
+    let fit = length-le_from_distinct_below (keys_of kept) (count_of scope) seen.distinct seen.within in
+    let keys = keys_length kept in
+    ap (λ its. worked_out (name_value (count_of scope - 1) scope (p ∷ []) (in_program scope p)) its []) (sym (items_of_symbol scope p items is_own))
+    ∙ kept_exact scope kept is (count_of scope - 1) p v (omega (arith, fit, keys)) h

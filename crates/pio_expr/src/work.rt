@@ -1,9 +1,11 @@
 //! Working an expression out, frame by frame.
-ghost use Rattle.std.specs.Prelude.{◌≡◌, ℕ, Option, None, List, OnOk, IfOk, IfErr};
+ghost use Rattle.std.specs.Prelude.{◌≡◌, ℕ, Option, None, List, [], nat_eq, OnOk, IfOk, IfErr};
+ghost use Rattle.std.specs.List.{list_any, IsDistinct};
+ghost use Rattle.std.specs.Map.{keys_of};
 ghost use Rattle.pio_expr.specs.declared.expr.Item.{Item};
-ghost use Rattle.pio_expr.specs.Values.{value_at, Gives};
+ghost use Rattle.pio_expr.specs.Values.{value_at, is_among, Gives};
 ghost use Rattle.pio_expr.specs.Frames.{IsKept};
-ghost use Rattle.pio_expr.specs.Work.{IsOwn, Stands, Steps, Waited, Finished, IsNewlyKept, kept_of};
+ghost use Rattle.pio_expr.specs.Work.{placed, IsOwn, Stands, Steps, Waited, Finished, IsNewlyKept, kept_of};
 
 use crate::frame::{Frame, Pause};
 use crate::symbols::Symbols;
@@ -53,9 +55,30 @@ pub fn work_out(
 
 /// The value that is kept of a symbol.
 fn kept_value(kept: &IndexMap<usize, i32>, own: Option<usize>) -> Option<i32>
-    ensures { result ≡ kept_of kept.now.entries own }
+    ensures value { result ≡ kept_of kept.now.entries own }
+    ensures unique { IsDistinct nat_eq (keys_of kept.now.entries) }
 {
-    kept.get(&own?).copied()
+    let _unique = kept.len();
+    match own {
+        Some(place) => kept.get(&place).copied(),
+        None => None,
+    }
+}
+
+/// The set of this place, or of none.
+fn begun_with(alloc: Global, own: Option<usize>) -> Result<HashSet<usize>, ValueFault>
+    ensures ok { IfOk result (λ begun. (q : ℕ)
+        → list_any (nat_eq q) begun.keys ≡ is_among (placed own []) q) }
+    ensures memory { IfErr result (λ fault. fault ≡ ValueFault.Memory) }
+{
+    let mut begun = HashSet::new(alloc);
+    match own {
+        Some(place) => {
+            begun.insert(place)?;
+            Ok(begun)
+        }
+        None => Ok(begun),
+    }
 }
 
 impl<'a> Work<'a> {
@@ -69,19 +92,15 @@ impl<'a> Work<'a> {
     ) -> Result<Self, ValueFault>
         requires own { IsOwn symbols.now own items.now }
         requires kept { IsKept symbols.now kept.now.entries }
+        requires unique { IsDistinct nat_eq (keys_of kept.now.entries) }
         requires new { kept_of kept.now.entries own ≡ None }
         ensures ok { IfOk result (Stands symbols.now kept.now.entries own items.now) }
         ensures memory { IfErr result (λ fault. fault ≡ ValueFault.Memory) }
     {
-        let _unique = kept.len();
-        let mut begun = HashSet::new(alloc);
-        if let Some(place) = own {
-            begun.insert(place)?;
-        }
         Ok(Work {
+            begun: begun_with(alloc, own)?,
             top: Frame::new(alloc, symbols, own, items),
             below: VecDeque::new(alloc),
-            begun,
         })
     }
 
