@@ -6,8 +6,9 @@ use Rattle.std.specs.Str.{bytes_eq}
 use Rattle.pio_expr.specs.declared.expr.Item.{Item}
 use Rattle.pio_expr.specs.declared.symbol.Symbol.{Symbol}
 use Rattle.pio_expr.specs.declared.symbol.Symbol.TheVariants.{Define}
-use Rattle.pio_expr.specs.Values.{Symbols, Scope, Found, found, found_in, or_global, program_of, count_of}
+use Rattle.pio_expr.specs.Values.{Symbols, Scope, Found, found, found_in, or_global, program_of, count_of, own_place, IsOwnTo}
 use Rattle.pio_expr.specs.Frames.{items_at, items_by, symbol_at}
+use Rattle.pio_expr.specs.Work.{IsOwn}
 use Rattle.pio_expr.proofs.Lookups.{some_same}
 
 symbol_in : Symbols → ℕ → Option Symbol
@@ -35,7 +36,7 @@ stands_at first (x ∷ symbols) name place s h = by (bytes_eq name x.0) refl (st
   further there = (suc there.0, omega (arith, there.1), there.2)
   by : (b : Bool) → bytes_eq name x.0 ≡ b → (found_in (first + 1) symbols name ≡ Some (place, s) → StandsAt symbols (first + 1) place s) → StandsAt (x ∷ symbols) first place s
   by true t rest =
-      let same : (first, x.1) ≡ (place, s) = some_same (rw t at h) in
+      let same : ◌≡◌ {A = ℕ × Symbol} (first, x.1) (place, s) = some_same (rw t at h) in
       let p : first ≡ place = ap (λ y. y.0) same in
       (0, omega (arith, p), ap (λ y. Some y.1) same)
   by false t rest = further (rest (rw t at h))
@@ -71,3 +72,11 @@ place_within scope place s h = by (slice_get (scope.globals ++ program_of scope)
   by : (o : Option (List ℕ × Symbol)) → slice_get (scope.globals ++ program_of scope) place ≡ o → option_map (λ s. s.1) o ≡ Some s → place < count_of scope
   by None e h' = cc
   by (Some x) e h' = let within = slice_get_within (scope.globals ++ program_of scope) place x e in let both = length-append scope.globals (program_of scope) in omega (arith, within, both)
+
+-- an expression that is own to a symbol is that of the symbol's place
+pub own_stands : (scope : Scope) (own : Option (List ℕ)) (items : List Item) → IsOwnTo scope own items → IsOwn scope (own_place scope own) items
+own_stands scope None items h = tt
+own_stands scope (Some name) items h = by (found scope true name) refl h where
+  by : (f : Found) → found scope true name ≡ f → option_map (λ s. s.1) f ≡ Some (Define items) → IsOwn scope (option_map (λ s. s.0) f) items
+  by None e h' = cc
+  by (Some (place, s)) e h' = found_stands scope true name place s e ∙ h'

@@ -133,9 +133,18 @@ abbrev pub own_place : Scope → Option (List ℕ) → Option ℕ
 own_place scope None = None
 own_place scope (Some name) = place_of scope name
 
+-- an expression is own to a symbol where it is that of its define
+abbrev pub IsOwnTo : Scope → Option (List ℕ) → List Item → Type 0
+IsOwnTo scope None items = Unit {0}
+IsOwnTo scope (Some name) items = symbol_of scope name ≡ Some (Define items)
+
 -- the value of an expression, own to a symbol or to none, or its first fault
 abbrev pub value_of : Scope → Option (List ℕ) → List Item → Result ℤ ValueFault
 value_of scope own items = value_at scope (own_place scope own) items
+
+-- the value of a name where an expression is asked
+abbrev pub value_of_name : Scope → List ℕ → Result ℤ ValueFault
+value_of_name scope name = name_value (count_of scope) scope [] true name
 
 -- this fault is the answer, or memory ran out
 abbrev pub HasFault : {T : Type 0} → ValueFault → Result T ValueFault → Type 0

@@ -8,6 +8,7 @@ mod frame;
 mod mark;
 mod parse;
 mod reading;
+mod scope;
 mod symbol;
 mod symbols;
 mod token_item;
@@ -18,6 +19,7 @@ mod work;
 pub use expr::{Expr, Item};
 pub use fault::{ExprFault, ExprKind, ValueFault};
 pub use parse::parse_expr;
+pub use scope::Scope;
 pub use symbol::Symbol;
 
 #[cfg(test)]

@@ -1,5 +1,5 @@
 //! The symbols of a file, with look-ups by name.
-ghost use Rattle.std.specs.Prelude.{◌≡◌, ◌<◌, ◌^◌, length, [], ◌∷◌, ◌++◌, option_map, OnOk, OnErr, None, if◌then◌else◌};
+ghost use Rattle.std.specs.Prelude.{◌≡◌, IsTrue, ◌↔◌, ◌<◌, ◌^◌, length, [], ◌∷◌, ◌++◌, option_map, OnOk, OnErr, None, if◌then◌else◌};
 ghost use Rattle.pio_expr.specs.Values.{found_in, found, program_of, in_program, no_symbols, begun, IsNew, with_symbol};
 ghost use Rattle.pio_expr.specs.Views.{named_in, symbol_seen};
 
@@ -49,6 +49,17 @@ impl Symbols {
         ensures { self.new ≡ begun self.old }
     {
         self.program = Some(IndexMap::new(alloc));
+    }
+
+    /// No symbol has this name: among the globals, or in the program, once one has begun.
+    pub fn is_new(&self, name: &Name) -> bool
+        ensures { IsTrue result ↔ IsNew self.now name.now }
+    {
+        let symbols = match &self.program {
+            Some(symbols) => symbols,
+            None => &self.globals,
+        };
+        found_in(0, symbols, name).is_none()
     }
 
     /// Adds a symbol.

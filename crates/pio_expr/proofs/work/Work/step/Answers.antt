@@ -1,4 +1,4 @@
-use Rattle.std.proofs.Common.{◌≡◌, ◌∙◌, ap, sym, rules, List, ℕ, ℤ, Result, Ok, Err, nat_eq}
+use Rattle.std.proofs.Common.{◌≡◌, ◌∙◌, ap, sym, rules, List, ℕ, ℤ, Result, Ok, Err, nat_eq, to_z, of_z, w32}
 use Rattle.std.specs.List.{list_any}
 use Rattle.pio_expr.specs.declared.fault.ValueFault.{ValueFault}
 use Rattle.pio_expr.specs.Values.{worked_out}
@@ -28,5 +28,7 @@ returns-in-Ok-Done c own items st =
     let old = c.args.self.now in
     let top = c.run.new.self in
     let run : (named : List ℕ → Result ℤ ValueFault) → Agrees (looked_up scope kept (λ q. list_any (nat_eq q) old.begun.keys) old.top.local) named → worked_out named old.top.rest.now old.top.numbers.items ≡ Ok c.in-Ok-Done.value = rw c.in-Ok-Done.field-0-is at c.in-Ok-Done.ensures.shows in
-    end_steps scope kept c.finish.new.kept.entries own items old c.finish.new.self top c.in-Ok-Done.value c.finish.result st
-      (shown scope kept own items old st (λ _. Ok c.in-Ok-Done.value) run) c.in-Ok-Done.ensures.place c.finish.ensures.frames c.finish.ensures.begun c.finish.ensures.kept c.finish.ensures.memory
+    let value : ℤ = to_z w32 (of_z w32 c.in-Ok-Done.value) in
+    let same : c.in-Ok-Done.value ≡ value = search rules in
+    end_steps scope kept c.finish.new.kept.entries own items old c.finish.new.self top value c.finish.result st
+      (shown scope kept own items old st (λ _. Ok value) (λ named agrees. run named agrees ∙ ap Ok same)) c.in-Ok-Done.ensures.place c.finish.ensures.frames c.finish.ensures.begun c.finish.ensures.kept c.finish.ensures.memory
