@@ -17,3 +17,4 @@ pub mod Agreeing
 pub mod Framing
 pub mod Stepping
 pub mod Ending
+pub mod Naming

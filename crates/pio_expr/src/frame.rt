@@ -181,7 +181,7 @@ fn take(numbers: &mut VecDeque<i32>) -> i32
 }
 
 /// A name of its own.
-fn copy(alloc: Global, name: &Name) -> Result<Name, AllocError>
+pub fn copy(alloc: Global, name: &Name) -> Result<Name, AllocError>
     ensures { IfOk result (λ copy. copy ≡ name.now) }
 {
     Ok(Name::new(String::from_str(alloc, name.as_str())?))

@@ -5,6 +5,7 @@ mod arithmetic;
 mod expr;
 mod fault;
 mod frame;
+mod laws;
 mod mark;
 mod parse;
 mod reading;
@@ -18,6 +19,7 @@ mod work;
 
 pub use expr::{Expr, Item};
 pub use fault::{ExprFault, ExprKind, ValueFault};
+pub use laws::own_value;
 pub use parse::parse_expr;
 pub use scope::Scope;
 pub use symbol::Symbol;

@@ -2,6 +2,7 @@
 ghost use Rattle.std.specs.Prelude.{◌≡◌, option_copied, option_map, IsTrue, ◌↔◌, OnOk, OnErr};
 ghost use Rattle.pio_expr.specs.Values.{no_symbols, begun, IsNew, with_symbol, symbol_of, own_place, IsOwnTo, value_of, value_of_name, Gives};
 
+use crate::frame::copy;
 use crate::symbols::Symbols;
 use crate::work::work_out;
 use crate::{Expr, Symbol, ValueFault};
@@ -87,6 +88,24 @@ impl Scope {
             place,
             expr.items(),
         )
+    }
+
+    /// The value of a name: of a define, that of its own expression.
+    pub fn value_of_name(&mut self, name: &Name) -> Result<i32, ValueFault>
+        ensures value { Gives result (value_of_name self.old name.now) }
+        ensures same { self.new ≡ self.old }
+    {
+        match self.symbols.found(true, name) {
+            None => Err(ValueFault::Unknown(copy(self.alloc, name)?)),
+            Some((_, Symbol::Label(words))) => Ok(*words as i32),
+            Some((place, Symbol::Define(expr))) => work_out(
+                self.alloc,
+                &self.symbols,
+                &mut self.kept,
+                Some(place),
+                expr.items(),
+            ),
+        }
     }
 }
 
