@@ -28,3 +28,7 @@ pub use symbol::Symbol;
 mod rows;
 #[cfg(test)]
 mod tests;
+#[cfg(test)]
+mod value_rows;
+#[cfg(test)]
+mod value_tests;
