@@ -1,4 +1,4 @@
-use Rattle.std.proofs.Common.{◌≡◌, ◌∙◌, ap, sym, rules, true, Ok, Some, None, to_z, w32, subst, option_map}
+use Rattle.std.proofs.Common.{◌≡◌, ◌∙◌, ℕ, ℤ, pos, ap, sym, rules, true, Ok, Some, None, to_z, w32, subst, option_map}
 use Rattle.pio_expr.specs.declared.symbol.Symbol.TheVariants.{Define, Label}
 use Rattle.pio_expr.specs.declared.fault.ValueFault.TheVariants.{Unknown}
 use Rattle.pio_expr.specs.Values.{found, Gives}
@@ -18,7 +18,11 @@ returns-in_ok-copy-in-None-clause-value c =
     rw c.in_ok-copy-in-None.ensures (name_unknown c.args.self.now c.args.name.now none)
 
 pub returns-in-Some-default-Label-clause-value : goal.returns-in-Some-default-Label-clause-value
-returns-in-Some-default-Label-clause-value c = ?
+returns-in-Some-default-Label-clause-value c =
+    let words : ℕ = c.in-Some-default-Label.words in
+    let at : found c.args.self.now true c.args.name.now ≡ Some (c.in-Some-default-Label.field-0-0, Label words) = search rules in
+    let same : pos words ≡ to_z w32 words = search rules in
+    name_label c.args.self.now c.args.name.now c.in-Some-default-Label.field-0-0 words at ∙ ap Ok same
 
 pub returns-in-Some-default-Define-clause-value : goal.returns-in-Some-default-Define-clause-value
 returns-in-Some-default-Define-clause-value c =
