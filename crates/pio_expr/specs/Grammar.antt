@@ -68,12 +68,13 @@ items_by source None = []
 unfoldable pub value_read : List ℕ → List Token → Place → Place
 value_read source tokens place = record { at = place.at + 1; items = place.items ++ items_by source (slice_get tokens place.at) }
 
--- the operations of a product, and those of a sum
+-- the operations of a product
 abbrev pub product_operation : Mark → Option Item
 product_operation mark.Star = Some item.Multiply
 product_operation mark.Slash = Some item.Divide
 product_operation _ = None
 
+-- the operations of a sum
 abbrev pub sum_operation : Mark → Option Item
 sum_operation mark.Plus = Some item.Add
 sum_operation mark.Minus = Some item.Subtract
@@ -90,7 +91,7 @@ chain tokens operation_of operand zero place = Ok place
 chain tokens operation_of operand (suc n) place =
     chain_by operand (λ operation behind. chain tokens operation_of operand n (written operation behind)) (operation_of (mark_at tokens place.at)) place
 
--- `{(*|/) unary}` and `{(+|-) product}`, behind a first operand
+-- `{(*|/) unary}`, behind a first operand
 abbrev pub product_goes_on : List Token → Reader → Reader
 product_goes_on tokens unary = chain tokens product_operation unary (length tokens)
 
@@ -98,6 +99,7 @@ product_goes_on tokens unary = chain tokens product_operation unary (length toke
 abbrev pub product_by : List Token → Reader → Reader
 product_by tokens unary place = then (unary place) (product_goes_on tokens unary)
 
+-- `{(+|-) product}`, behind a first operand
 abbrev pub sum_goes_on : List Token → Reader → Reader
 sum_goes_on tokens unary = chain tokens sum_operation (product_by tokens unary) (length tokens)
 

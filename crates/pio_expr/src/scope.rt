@@ -49,7 +49,7 @@ impl Scope {
     pub fn next_program(&mut self)
         ensures { self.new ≡ begun self.old }
     {
-        self.kept.clear();
+        self.kept = IndexMap::new(self.alloc);
         self.symbols.next_program(self.alloc);
     }
 
