@@ -11,15 +11,11 @@ pub enum Worth {
     Overflow,
 }
 
-/// The globals, then the program's symbols, as names with their expressions; the expression that is asked; its worth.
-pub type Row = (
-    &'static [(&'static [u8], &'static [u8])],
-    &'static [(&'static [u8], &'static [u8])],
-    &'static [u8],
-    Worth,
-);
+/// Names with their expressions.
+pub type Defines = &'static [(&'static [u8], &'static [u8])];
 
-pub static VALUES: [Row; 25] = [
+/// The globals, then the program's symbols; the expression that is asked; its worth.
+pub static VALUES: [(Defines, Defines, &[u8], Worth); 25] = [
     // The names of a define are looked up where it stands; a program hides a global.
     (&[(b"k", b"j"), (b"j", b"1")], &[(b"j", b"2")], b"k", Worth::Value(1)),
     (&[(b"k", b"j"), (b"j", b"1")], &[(b"j", b"2")], b"j", Worth::Value(2)),

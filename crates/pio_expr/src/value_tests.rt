@@ -1,31 +1,22 @@
 //! Values worked by hand, and the longest chains.
-use crate::value_rows::{VALUES, Worth};
-use crate::{Expr, Item, Scope, Symbol, ValueFault, parse_expr};
+use crate::value_rows::{Defines, VALUES, Worth};
+use crate::{Expr, Scope, Symbol, ValueFault, parse_expr};
 use pio_encode::Name;
 use pio_lex::tokens;
 use std::alloc::{AllocError, Global};
 use std::test::Fail;
 
-/// The most defines of a source.
-const MOST_DEFINES: usize = 1024;
+/// The last define of the longest chain.
+const LAST_DEFINE: u32 = 1023;
 
 #[test]
 fn values_are_those_worked_by_hand(rt: HostRuntime) -> Result<(), Fail> {
     for &(globals, locals, source, worth) in &VALUES {
         let mut scope = Scope::new(rt.alloc());
-        for &(name, text) in globals {
-            define(rt.alloc(), &mut scope, name, text)?;
-        }
+        define_all(rt.alloc(), &mut scope, globals)?;
         scope.next_program();
-        for &(name, text) in locals {
-            define(rt.alloc(), &mut scope, name, text)?;
-        }
-        let expr = expr_of(rt.alloc(), source)?;
-        assert!(rt; is_worth(scope.value(&expr, None), worth), "{source:?}");
-        if let Some(Item::Name(name)) = expr.items().last() {
-            let named = scope.value_of_name(name);
-            assert!(rt; expr.items().len() > 1 || is_worth(named, worth), "{source:?}");
-        }
+        define_all(rt.alloc(), &mut scope, locals)?;
+        assert!(rt; is_worth(rt.alloc(), &mut scope, source, worth)?, "{source:?}");
     }
     Ok(())
 }
@@ -35,8 +26,7 @@ fn a_label_is_its_number(rt: HostRuntime) -> Result<(), Fail> {
     let mut scope = Scope::new(rt.alloc());
     scope.next_program();
     set(rt.alloc(), &mut scope, b"start", Symbol::Label(5))?;
-    let expr = expr_of(rt.alloc(), b"start + 1")?;
-    assert!(rt; is_worth(scope.value(&expr, None), Worth::Value(6)));
+    assert!(rt; is_worth(rt.alloc(), &mut scope, b"start + 1", Worth::Value(6))?);
     Ok(())
 }
 
@@ -44,33 +34,64 @@ fn a_label_is_its_number(rt: HostRuntime) -> Result<(), Fail> {
 fn a_doubling_chain_is_worked_out_at_once(rt: HostRuntime) -> Result<(), Fail> {
     let mut scope = Scope::new(rt.alloc());
     define(rt.alloc(), &mut scope, b"d0", b"1")?;
-    for i in 0..31usize {
-        let next = i + 1;
-        let name = format!(in rt.alloc(); "d{next}")?;
-        let text = format!(in rt.alloc(); "d{i} + d{i}")?;
-        define(rt.alloc(), &mut scope, name.as_bytes(), text.as_bytes())?;
+    for i in 0..31 {
+        double(rt.alloc(), &mut scope, i)?;
     }
-    let most = expr_of(rt.alloc(), b"d30")?;
-    assert!(rt; is_worth(scope.value(&most, None), Worth::Value(1_073_741_824)));
-    let over = expr_of(rt.alloc(), b"d31")?;
-    assert!(rt; is_worth(scope.value(&over, None), Worth::Overflow));
+    assert!(rt; is_worth(rt.alloc(), &mut scope, b"d30", Worth::Value(1_073_741_824))?);
+    assert!(rt; is_worth(rt.alloc(), &mut scope, b"d31", Worth::Overflow)?);
     Ok(())
 }
 
 #[test]
-fn the_longest_chain_and_ring_end(rt: HostRuntime) -> Result<(), Fail> {
-    for (end, worth) in [(b"7", Worth::Value(7)), (b"c", Worth::Cycle(b"c"))] {
-        let mut scope = Scope::new(rt.alloc());
-        define(rt.alloc(), &mut scope, b"c", b"c1")?;
-        for i in 1..MOST_DEFINES - 1 {
-            let next = i + 1;
-            let name = format!(in rt.alloc(); "c{i}")?;
-            let text = format!(in rt.alloc(); "c{next}")?;
-            define(rt.alloc(), &mut scope, name.as_bytes(), text.as_bytes())?;
-        }
-        define(rt.alloc(), &mut scope, b"c1023", end)?;
-        let first = expr_of(rt.alloc(), b"c")?;
-        assert!(rt; is_worth(scope.value(&first, None), worth), "{end:?}");
+fn the_longest_chain_ends(rt: HostRuntime) -> Result<(), Fail> {
+    let mut scope = Scope::new(rt.alloc());
+    chain(rt.alloc(), &mut scope, b"7")?;
+    assert!(rt; is_worth(rt.alloc(), &mut scope, b"c0", Worth::Value(7))?);
+    Ok(())
+}
+
+#[test]
+fn the_longest_ring_ends(rt: HostRuntime) -> Result<(), Fail> {
+    let mut scope = Scope::new(rt.alloc());
+    chain(rt.alloc(), &mut scope, b"c0")?;
+    assert!(rt; is_worth(rt.alloc(), &mut scope, b"c0", Worth::Cycle(b"c0"))?);
+    Ok(())
+}
+
+/// `d1 = d0 + d0`, and so on.
+fn double(alloc: Global, scope: &mut Scope, i: u32) -> Result<(), Fail> {
+    let before = numbered(alloc, b"d", i)?;
+    let name = numbered(alloc, b"d", i.saturating_add(1))?;
+    let mut text = Vec::from_slice(alloc, &before)?;
+    text.extend_from_slice(b" + ")?;
+    text.extend_from_slice(&before)?;
+    define(alloc, scope, &name, &text)
+}
+
+/// `c0 = c1`, and so on; the last has this expression.
+fn chain(alloc: Global, scope: &mut Scope, end: &[u8]) -> Result<(), Fail> {
+    for i in 0..LAST_DEFINE {
+        link(alloc, scope, i)?;
+    }
+    define(alloc, scope, b"c1023", end)
+}
+
+fn link(alloc: Global, scope: &mut Scope, i: u32) -> Result<(), Fail> {
+    let name = numbered(alloc, b"c", i)?;
+    let next = numbered(alloc, b"c", i.saturating_add(1))?;
+    define(alloc, scope, &name, &next)
+}
+
+fn numbered(alloc: Global, letter: &[u8], number: u32) -> Result<Vec<u8>, AllocError> {
+    let digits = format!(in alloc; "{number}")?;
+    let mut text = Vec::from_slice(alloc, letter)?;
+    text.extend_from_slice(digits.as_bytes())?;
+    Ok(text)
+}
+
+fn define_all(alloc: Global, scope: &mut Scope, defines: Defines) -> Result<(), Fail> {
+    for &(name, text) in defines {
+        define(alloc, scope, name, text)?;
     }
     Ok(())
 }
@@ -96,7 +117,17 @@ fn expr_of(alloc: Global, text: &[u8]) -> Result<Expr, Fail> {
     Ok(expr)
 }
 
-fn is_worth(found: Result<i32, ValueFault>, worth: Worth) -> bool {
+/// The expression is worth this, twice, and so is the name that it is, if it is one.
+fn is_worth(alloc: Global, scope: &mut Scope, text: &[u8], worth: Worth) -> Result<bool, Fail> {
+    let expr = expr_of(alloc, text)?;
+    let first = agree(scope.value(&expr, None), worth);
+    let second = agree(scope.value(&expr, None), worth);
+    let name = Name::new(String::from_utf8_lossy(alloc, text)?);
+    let named = expr.items().len() > 1 || agree(scope.value_of_name(&name), worth);
+    Ok(first && second && named)
+}
+
+fn agree(found: Result<i32, ValueFault>, worth: Worth) -> bool {
     match (found, worth) {
         (Ok(number), Worth::Value(want)) => number == want,
         (Err(ValueFault::Unknown(name)), Worth::Unknown(want)) => name.as_bytes() == want,
