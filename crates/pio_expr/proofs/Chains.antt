@@ -28,16 +28,16 @@ pub reaches_sooner : (a b : ℕ) (read : Read) → a ≤ b → Reaches b read �
 reaches_sooner a b (Ok place) h k = omega (arith, h, k)
 reaches_sooner a b (Err fault) h k = tt
 
-chain_step_onward : (at : ℕ) (operand : Reader) (rest : Item → Reader) (o : Option Item) (place : Place) → Onward operand → ((operation : Item) → Onward (rest operation)) → Reaches place.at (chain_by operand rest o place)
-chain_step_onward at operand rest None place on more = omega arith
-chain_step_onward at operand rest (Some operation) place on more =
+chain_step_onward : (operand : Reader) (rest : Item → Reader) (o : Option Item) (place : Place) → Onward operand → ((operation : Item) → Onward (rest operation)) → Reaches place.at (chain_by operand rest o place)
+chain_step_onward operand rest None place on more = omega arith
+chain_step_onward operand rest (Some operation) place on more =
     reaches_then place.at (operand (next place)) (rest operation) (reaches_sooner place.at (place.at + 1) (operand (next place)) (omega arith) (on (next place))) (more operation)
 
 pub chain_onward : (tokens : List Token) (operation_of : Mark → Option Item) (operand : Reader) (n : ℕ) → Onward operand → Onward (chain tokens operation_of operand n)
 unfolding chain
 chain_onward tokens operation_of operand zero on place = omega arith
 chain_onward tokens operation_of operand (suc n) on place =
-    chain_step_onward 0 operand (λ operation behind. chain tokens operation_of operand n (written operation behind)) (operation_of (mark_at tokens place.at)) place on (λ operation behind. chain_onward tokens operation_of operand n on (written operation behind))
+    chain_step_onward operand (λ operation behind. chain tokens operation_of operand n (written operation behind)) (operation_of (mark_at tokens place.at)) place on (λ operation behind. chain_onward tokens operation_of operand n on (written operation behind))
 
 -- behind the last token stands none
 pub no_mark : (tokens : List Token) (at : ℕ) → length tokens ≤ at → mark_at tokens at ≡ mark.Other

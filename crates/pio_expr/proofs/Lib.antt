@@ -9,3 +9,12 @@ pub mod Turning
 pub mod Operands
 pub mod Names
 pub mod Answered
+pub mod Lookups
+pub mod Workings
+pub mod Finding
+pub mod Keeping
+pub mod Agreeing
+pub mod Framing
+pub mod Stepping
+pub mod Ending
+pub mod Naming

@@ -13,12 +13,15 @@ in_32_bits (negsuc n) = nat_lt n (2 ^ 31)
 unfoldable pub checked : ℤ → Result ℤ ValueFault
 checked number = if in_32_bits number then Ok number else Err Overflow
 
+-- the sum
 abbrev pub sum_of : ℤ → ℤ → Result ℤ ValueFault
 sum_of left right = checked (left +ℤ right)
 
+-- the difference
 abbrev pub difference_of : ℤ → ℤ → Result ℤ ValueFault
 difference_of left right = checked (left -ℤ right)
 
+-- the product
 abbrev pub product_of : ℤ → ℤ → Result ℤ ValueFault
 product_of left right = checked (left *ℤ right)
 
@@ -27,6 +30,7 @@ abbrev pub quotient_of : ℤ → ℤ → Result ℤ ValueFault
 quotient_of left (pos zero) = Err DivZero
 quotient_of left right = checked (int_div left right)
 
+-- the number with the other sign
 abbrev pub negated : ℤ → Result ℤ ValueFault
 negated number = checked (neg_ℤ number)
 

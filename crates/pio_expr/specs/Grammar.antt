@@ -59,6 +59,7 @@ abbrev pub item_by : List ℕ → TokenKind → ℕ → ℕ → Item
 item_by source (kind.Number value) first size = item.Number (pos value)
 item_by source _ first size = item.Name (slice_range source first (first + size))
 
+-- the item of a token that is there
 abbrev pub items_by : List ℕ → Option Token → List Item
 items_by source (Some token) = item_by source token.kind token.first token.length ∷ []
 items_by source None = []
@@ -67,12 +68,13 @@ items_by source None = []
 unfoldable pub value_read : List ℕ → List Token → Place → Place
 value_read source tokens place = record { at = place.at + 1; items = place.items ++ items_by source (slice_get tokens place.at) }
 
--- the operations of a product, and those of a sum
+-- the operations of a product
 abbrev pub product_operation : Mark → Option Item
 product_operation mark.Star = Some item.Multiply
 product_operation mark.Slash = Some item.Divide
 product_operation _ = None
 
+-- the operations of a sum
 abbrev pub sum_operation : Mark → Option Item
 sum_operation mark.Plus = Some item.Add
 sum_operation mark.Minus = Some item.Subtract
@@ -89,16 +91,19 @@ chain tokens operation_of operand zero place = Ok place
 chain tokens operation_of operand (suc n) place =
     chain_by operand (λ operation behind. chain tokens operation_of operand n (written operation behind)) (operation_of (mark_at tokens place.at)) place
 
--- `{(*|/) unary}` and `{(+|-) product}`, behind a first operand
+-- `{(*|/) unary}`, behind a first operand
 abbrev pub product_goes_on : List Token → Reader → Reader
 product_goes_on tokens unary = chain tokens product_operation unary (length tokens)
 
+-- `unary {(*|/) unary}`
 abbrev pub product_by : List Token → Reader → Reader
 product_by tokens unary place = then (unary place) (product_goes_on tokens unary)
 
+-- `{(+|-) product}`, behind a first operand
 abbrev pub sum_goes_on : List Token → Reader → Reader
 sum_goes_on tokens unary = chain tokens sum_operation (product_by tokens unary) (length tokens)
 
+-- `product {(+|-) product}`
 abbrev pub sum_by : List Token → Reader → Reader
 sum_by tokens unary place = then (product_by tokens unary place) (sum_goes_on tokens unary)
 
@@ -107,6 +112,7 @@ abbrev pub closed_by : Mark → Reader
 closed_by mark.Close place = Ok (next place)
 closed_by _ place = refused Syntax place
 
+-- the `)` that is to stand at a place
 abbrev pub closed : List Token → Reader
 closed tokens place = closed_by (mark_at tokens place.at) place
 
@@ -118,6 +124,7 @@ alone_by mark.Plus at place = Err (At at Ambiguous)
 alone_by mark.Minus at place = Err (At at Ambiguous)
 alone_by _ at place = Ok place
 
+-- the end of a `::` that stands at a token: its item, and no operation behind it
 abbrev pub alone : List Token → ℕ → Reader
 alone tokens at place = alone_by (mark_at tokens place.at) at (written item.Reverse place)
 
@@ -148,6 +155,7 @@ level_by source tokens mark.Reverse None unary place = refused TooDeep place
 level_by source tokens mark.Reverse (Some rules) unary place = then (rules.value (next place)) (alone tokens place.at)
 level_by source tokens mark deeper unary place = sum_by tokens unary place
 
+-- the rules of the grammar, by those behind one more opening
 abbrev pub readers_by : List ℕ → List Token → Option Readers → Readers
 readers_by source tokens deeper =
     let unary : Reader = λ place. unary_by source tokens (mark_at tokens place.at) deeper place in

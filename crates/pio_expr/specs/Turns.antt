@@ -56,20 +56,22 @@ abbrev pub first_before : Option Waiting → Mark → Option Item
 first_before None m = None
 first_before (Some w) m = item_before w m
 
--- all that is written before a token
+-- an item before the others, where there is one; else none
 abbrev pub written_by : Option Item → List Item → List Item
 written_by (Some i) rest = i ∷ rest
 written_by None rest = []
 
+-- all that is written before a token, the innermost first
 unfoldable pub all_before : List Waiting → Mark → List Item
 all_before [] m = []
 all_before (w ∷ below) m = written_by (item_before w m) (all_before below m)
 
--- what waits on behind that
+-- what waits on behind an item that is written, or all where none is
 abbrev pub kept_by : Option Item → List Waiting → List Waiting → List Waiting
 kept_by (Some i) rest all = rest
 kept_by None rest all = all
 
+-- what waits on behind all that is written before a token
 unfoldable pub kept_before : List Waiting → Mark → List Waiting
 kept_before [] m = []
 kept_before (w ∷ below) m = kept_by (item_before w m) (kept_before below m) (w ∷ below)
@@ -119,10 +121,12 @@ abbrev pub turn_without : Option Waiting → Mark → ℕ → Result Turn ExprFa
 turn_without None m at = Ok End
 turn_without (Some w) m at = close_by m at
 
+-- the same where the token is an operation: it may not stand beside a `::`
 abbrev pub turn_with : Option Waiting → Waiting → Result Turn ExprFault
 turn_with (Some (waiting.Reverse at)) operation = Err (At at Ambiguous)
 turn_with _ operation = Ok (Operation operation)
 
+-- the same of every token, by the operation that it is
 abbrev pub turn_by : Option Waiting → Option Waiting → Mark → ℕ → Result Turn ExprFault
 turn_by (Some operation) inner m at = turn_with inner operation
 turn_by None inner m at = turn_without inner m at

@@ -5,24 +5,28 @@ ghost use Rattle.pio_expr.specs.Arithmetic.{sum_of, difference_of, product_of, q
 use crate::ValueFault;
 use shift_engine::reverse_bits_signed;
 
+/// The sum; `Overflow` where it is no signed number of 32 bits.
 pub fn add(left: i32, right: i32) -> Result<i32, ValueFault>
     ensures { result ≡ sum_of left right }
 {
     left.checked_add(right).ok_or(ValueFault::Overflow)
 }
 
+/// The difference, `left - right`; `Overflow` where it is no signed number of 32 bits.
 pub fn subtract(left: i32, right: i32) -> Result<i32, ValueFault>
     ensures { result ≡ difference_of left right }
 {
     left.checked_sub(right).ok_or(ValueFault::Overflow)
 }
 
+/// The product; `Overflow` where it is no signed number of 32 bits.
 pub fn multiply(left: i32, right: i32) -> Result<i32, ValueFault>
     ensures { result ≡ product_of left right }
 {
     left.checked_mul(right).ok_or(ValueFault::Overflow)
 }
 
+/// The quotient, cut off toward zero; `DivZero` where `right` is 0, `Overflow` at -2147483648 / -1 alone.
 pub fn divide(left: i32, right: i32) -> Result<i32, ValueFault>
     ensures { result ≡ quotient_of left right }
 {
@@ -32,12 +36,14 @@ pub fn divide(left: i32, right: i32) -> Result<i32, ValueFault>
     left.checked_div(right).ok_or(ValueFault::Overflow)
 }
 
+/// The number with the other sign; `Overflow` at -2147483648 alone.
 pub fn negate(number: i32) -> Result<i32, ValueFault>
     ensures { result ≡ negated number }
 {
     number.checked_neg().ok_or(ValueFault::Overflow)
 }
 
+/// The 32 bits in the opposite order. Nothing is refused.
 pub fn reverse(number: i32) -> i32
     ensures { result ≡ reversed number }
 {

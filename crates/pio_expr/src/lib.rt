@@ -4,18 +4,31 @@
 mod arithmetic;
 mod expr;
 mod fault;
+mod frame;
+mod laws;
 mod mark;
 mod parse;
 mod reading;
+mod scope;
+mod symbol;
+mod symbols;
 mod token_item;
 mod turn;
 mod waiting;
+mod work;
 
 pub use expr::{Expr, Item};
 pub use fault::{ExprFault, ExprKind, ValueFault};
+pub use laws::own_value;
 pub use parse::parse_expr;
+pub use scope::Scope;
+pub use symbol::Symbol;
 
 #[cfg(test)]
 mod rows;
 #[cfg(test)]
 mod tests;
+#[cfg(test)]
+mod value_rows;
+#[cfg(test)]
+mod value_tests;

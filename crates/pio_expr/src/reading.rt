@@ -29,6 +29,7 @@ pub struct Reading {
 }
 
 impl Reading {
+    /// Nothing is written, and nothing waits. It takes no memory.
     pub fn new(alloc: Global) -> Self
         ensures items { result.items.items ≡ [] }
         ensures waiting { result.waiting.items ≡ [] }

@@ -1,0 +1,29 @@
+-- The value of a name is that of its symbol.
+use Rattle.std.proofs.Common.{◌≡◌, ℕ, suc, ◌-◌, ◌<◌, ℤ, pos, List, [], ◌∷◌, Option, Some, None, Ok, Err, refl, ap, sym, ◌∙◌, arith, option_map, true}
+use Rattle.pio_expr.specs.declared.expr.Item.{Item}
+use Rattle.pio_expr.specs.declared.symbol.Symbol.{Symbol}
+use Rattle.pio_expr.specs.declared.symbol.Symbol.TheVariants.{Define, Label}
+use Rattle.pio_expr.specs.declared.fault.ValueFault.TheVariants.{Unknown}
+use Rattle.pio_expr.specs.Values.{Scope, Found, found, symbol_of, name_value, count_of, value_at, value_of, value_of_name}
+use Rattle.pio_expr.proofs.Finding.{found_stands, place_within}
+use Rattle.pio_expr.proofs.Keeping.{at_none, at_label, at_define}
+
+pub name_unknown : (scope : Scope) (name : List ℕ) → found scope true name ≡ None → value_of_name scope name ≡ Err (Unknown name)
+name_unknown scope name e = at_none scope [] true name (count_of scope) e
+
+pub name_label : (scope : Scope) (name : List ℕ) (place words : ℕ) → found scope true name ≡ Some (place, Label words) → value_of_name scope name ≡ Ok (pos words)
+name_label scope name place words e = at_label scope [] true name (count_of scope) place words e
+
+pub name_define : (scope : Scope) (name : List ℕ) (place : ℕ) (items : List Item) → found scope true name ≡ Some (place, Define items) → value_of_name scope name ≡ value_at scope (Some place) items
+name_define scope name place items e =
+    let within = place_within scope place (Define items) (found_stands scope true name place (Define items) e) in
+    let one : count_of scope ≡ suc (count_of scope - 1) = omega (arith, within) in
+    ap (λ n. name_value n scope [] true name) one ∙ at_define scope [] true name (count_of scope - 1) place items e refl
+
+pub own_value_is : (scope : Scope) (name : List ℕ) (items : List Item) → symbol_of scope name ≡ Some (Define items) → value_of scope (Some name) items ≡ value_of_name scope name
+own_value_is scope name items h = by (found scope true name) refl h where
+  by : (f : Found) → found scope true name ≡ f → option_map (λ s. s.1) f ≡ Some (Define items) → value_of scope (Some name) items ≡ value_of_name scope name
+  by None e h' = cc
+  by (Some (place, s)) e h' =
+      let it : found scope true name ≡ Some (place, Define items) = e ∙ (λ i. option_map (λ t. (place, t)) (h' i)) in
+      ap (λ f. value_at scope (option_map (λ s. s.0) f) items) e ∙ sym (name_define scope name place items it)

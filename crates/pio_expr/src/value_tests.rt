@@ -1,0 +1,139 @@
+//! Values worked by hand, and the longest chains.
+use crate::value_rows::{Defines, VALUES, Worth};
+use crate::{Expr, Scope, Symbol, ValueFault, parse_expr};
+use pio_encode::Name;
+use pio_lex::tokens;
+use std::alloc::{AllocError, Global};
+use std::test::Fail;
+
+/// The last define of the longest chain.
+const LAST_DEFINE: u32 = 1023;
+
+#[test]
+fn values_are_those_worked_by_hand(rt: HostRuntime) -> Result<(), Fail> {
+    for &(globals, locals, source, worth) in &VALUES {
+        let mut scope = Scope::new(rt.alloc());
+        define_all(rt.alloc(), &mut scope, globals)?;
+        scope.next_program();
+        define_all(rt.alloc(), &mut scope, locals)?;
+        assert!(rt; is_worth(rt.alloc(), &mut scope, source, worth)?, "{source:?}");
+    }
+    Ok(())
+}
+
+#[test]
+fn a_label_is_its_number(rt: HostRuntime) -> Result<(), Fail> {
+    let mut scope = Scope::new(rt.alloc());
+    scope.next_program();
+    set(rt.alloc(), &mut scope, b"start", Symbol::Label(5))?;
+    assert!(rt; is_worth(rt.alloc(), &mut scope, b"start + 1", Worth::Value(6))?);
+    Ok(())
+}
+
+#[test]
+fn a_doubling_chain_is_worked_out_at_once(rt: HostRuntime) -> Result<(), Fail> {
+    let mut scope = Scope::new(rt.alloc());
+    define(rt.alloc(), &mut scope, b"d0", b"1")?;
+    for i in 0..31 {
+        double(rt.alloc(), &mut scope, i)?;
+    }
+    assert!(rt; is_worth(rt.alloc(), &mut scope, b"d30", Worth::Value(1_073_741_824))?);
+    assert!(rt; is_worth(rt.alloc(), &mut scope, b"d31", Worth::Overflow)?);
+    Ok(())
+}
+
+#[test]
+fn the_longest_chain_ends(rt: HostRuntime) -> Result<(), Fail> {
+    let mut scope = Scope::new(rt.alloc());
+    chain(rt.alloc(), &mut scope, b"7")?;
+    assert!(rt; is_worth(rt.alloc(), &mut scope, b"c0", Worth::Value(7))?);
+    Ok(())
+}
+
+#[test]
+fn the_longest_ring_ends(rt: HostRuntime) -> Result<(), Fail> {
+    let mut scope = Scope::new(rt.alloc());
+    chain(rt.alloc(), &mut scope, b"c0")?;
+    assert!(rt; is_worth(rt.alloc(), &mut scope, b"c0", Worth::Cycle(b"c0"))?);
+    Ok(())
+}
+
+/// `d1 = d0 + d0`, and so on.
+fn double(alloc: Global, scope: &mut Scope, i: u32) -> Result<(), Fail> {
+    let before = numbered(alloc, b"d", i)?;
+    let name = numbered(alloc, b"d", i.saturating_add(1))?;
+    let mut text = Vec::from_slice(alloc, &before)?;
+    text.extend_from_slice(b" + ")?;
+    text.extend_from_slice(&before)?;
+    define(alloc, scope, &name, &text)
+}
+
+/// `c0 = c1`, and so on; the last has this expression.
+fn chain(alloc: Global, scope: &mut Scope, end: &[u8]) -> Result<(), Fail> {
+    for i in 0..LAST_DEFINE {
+        link(alloc, scope, i)?;
+    }
+    define(alloc, scope, b"c1023", end)
+}
+
+fn link(alloc: Global, scope: &mut Scope, i: u32) -> Result<(), Fail> {
+    let name = numbered(alloc, b"c", i)?;
+    let next = numbered(alloc, b"c", i.saturating_add(1))?;
+    define(alloc, scope, &name, &next)
+}
+
+fn numbered(alloc: Global, letter: &[u8], number: u32) -> Result<Vec<u8>, AllocError> {
+    let digits = format!(in alloc; "{number}")?;
+    let mut text = Vec::from_slice(alloc, letter)?;
+    text.extend_from_slice(digits.as_bytes())?;
+    Ok(text)
+}
+
+fn define_all(alloc: Global, scope: &mut Scope, defines: Defines) -> Result<(), Fail> {
+    for &(name, text) in defines {
+        define(alloc, scope, name, text)?;
+    }
+    Ok(())
+}
+
+/// Sets a define, where its name is new.
+fn define(alloc: Global, scope: &mut Scope, name: &[u8], text: &[u8]) -> Result<(), Fail> {
+    let expr = expr_of(alloc, text)?;
+    set(alloc, scope, name, Symbol::Define(expr))?;
+    Ok(())
+}
+
+fn set(alloc: Global, scope: &mut Scope, name: &[u8], is: Symbol) -> Result<(), AllocError> {
+    let name = Name::new(String::from_utf8_lossy(alloc, name)?);
+    if scope.is_new(&name) {
+        scope.set(name, is)?;
+    }
+    Ok(())
+}
+
+fn expr_of(alloc: Global, text: &[u8]) -> Result<Expr, Fail> {
+    let tokens = tokens(alloc, text)?;
+    let (expr, _) = parse_expr(alloc, text, &tokens, 0)?;
+    Ok(expr)
+}
+
+/// The expression is worth this, twice, and so is the name that it is, if it is one.
+fn is_worth(alloc: Global, scope: &mut Scope, text: &[u8], worth: Worth) -> Result<bool, Fail> {
+    let expr = expr_of(alloc, text)?;
+    let first = agree(scope.value(&expr, None), worth);
+    let second = agree(scope.value(&expr, None), worth);
+    let name = Name::new(String::from_utf8_lossy(alloc, text)?);
+    let named = expr.items().len() > 1 || agree(scope.value_of_name(&name), worth);
+    Ok(first && second && named)
+}
+
+fn agree(found: Result<i32, ValueFault>, worth: Worth) -> bool {
+    match (found, worth) {
+        (Ok(number), Worth::Value(want)) => number == want,
+        (Err(ValueFault::Unknown(name)), Worth::Unknown(want)) => name.as_bytes() == want,
+        (Err(ValueFault::Cycle(name)), Worth::Cycle(want)) => name.as_bytes() == want,
+        (Err(ValueFault::DivZero), Worth::DivZero) => true,
+        (Err(ValueFault::Overflow), Worth::Overflow) => true,
+        _ => false,
+    }
+}
