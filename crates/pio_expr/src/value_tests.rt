@@ -12,7 +12,10 @@ const LAST_DEFINE: u32 = 1023;
 #[test]
 fn values_are_those_worked_by_hand(rt: HostRuntime) -> Result<(), Fail> {
     for &(globals, locals, source, worth) in &VALUES {
-        assert!(rt; holds(rt.alloc(), globals, locals, source, worth)?, "{source:?}");
+        assert!(rt;
+            holds(rt.alloc(), globals, locals, source, worth)?,
+            "{source:?}"
+        );
     }
     Ok(())
 }
