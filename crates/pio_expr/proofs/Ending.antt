@@ -81,9 +81,9 @@ seen_pushed kept places p v = ap (λ ks. places ++ ks) (keys_pushed kept p v) �
 
 seen_kept : (scope : Scope) (kept : Kept) (places : List ℕ) (p : ℕ) (v : ℤ) → AreSeen scope (p ∷ places ++ keys_of kept) → AreSeen scope (places ++ keys_of (kept ++ (p, v) ∷ []))
 seen_kept scope kept places p v seen = subst (AreSeen scope) (sym (seen_pushed kept places p v)) (record {
-    distinct = IsDistinct-push is_equivalence (places ++ keys_of kept) p (IsDistinct-tail nat_eq p (places ++ keys_of kept) seen.distinct) (head_new p (places ++ keys_of kept) seen.distinct);
-    within = λ q h. seen.within q (turned q (list_any (nat_eq q) (places ++ keys_of kept)) (nat_eq q p) (sym (list_any-append (nat_eq q) (places ++ keys_of kept) (p ∷ [])) ∙ h));
-  }) where
+  distinct = IsDistinct-push is_equivalence (places ++ keys_of kept) p (IsDistinct-tail nat_eq p (places ++ keys_of kept) seen.distinct) (head_new p (places ++ keys_of kept) seen.distinct);
+  within = λ q h. seen.within q (turned q (list_any (nat_eq q) (places ++ keys_of kept)) (nat_eq q p) (sym (list_any-append (nat_eq q) (places ++ keys_of kept) (p ∷ [])) ∙ h));
+}) where
   turned : (q : ℕ) (a b : Bool) → (a || (b || false)) ≡ true → (b || a) ≡ true
   turned q true true h = refl
   turned q true false h = refl
@@ -127,7 +127,7 @@ left_by scope kept kept' items (Some p) v below begun is frames seen same gives 
 pub done_left : (scope : Scope) (kept kept' : Kept) (own : Option ℕ) (items : List Item) (old : Work) (v : ℤ) → Stands scope kept own items old → Shown scope kept items old (λ _. Ok v) → IsNewlyKept kept old.top.place v kept' → IsLeft scope kept kept' items old.top.place old.below.items old.begun.keys
 done_left scope kept kept' own items old v st run new =
     left_by scope kept kept' items old.top.place v old.below.items old.begun.keys st.is_kept st.frames.2 st.seen st.begun
-      (ap (λ l. worked_out (kept_value scope kept l) (items_of scope items old.top.place) []) (sym st.frames.0.local) ∙ run (kept_value scope kept old.top.local) (agrees_kept scope kept (is_among (places_of (frames_of old))) old.top.local)) new
+    (ap (λ l. worked_out (kept_value scope kept l) (items_of scope items old.top.place) []) (sym st.frames.0.local) ∙ run (kept_value scope kept old.top.local) (agrees_kept scope kept (is_among (places_of (frames_of old))) old.top.local)) new
 
 lowest_below : (own : Option ℕ) (top : Frame) (below : List Frame) (frame : Frame) (rest : List Frame) → below ≡ frame ∷ rest → IsLowest own (top ∷ below) → IsLowest own (frame ∷ rest)
 lowest_below own top below frame rest same h = let it : IsLowest own (top ∷ frame ∷ rest) = subst (λ fs. IsLowest own (top ∷ fs)) same h in it
@@ -138,15 +138,17 @@ pub done_on : (scope : Scope) (kept kept' : Kept) (own : Option ℕ) (items : Li
 done_on scope kept kept' own items old new v st run fresh below begun =
     let it = done_left scope kept kept' own items old v st run fresh in
     let as_many : length (seen_of (frames_of new) kept') ≡ length (seen_of (frames_of old) kept) = ap (λ fs. length (seen_of fs kept')) below ∙ it.as_many in
-    let fewer : length (frames_of new) + 1 ≡ length (frames_of old) = ap (λ fs. length fs + 1) below ∙ omega arith in
-    (record {
-      is_own = st.is_own;
-      is_kept = it.is_kept;
-      frames = subst (AreFrames scope kept' items) (sym below) it.frames;
-      lowest = lowest_below own old.top old.below.items new.top new.below.items (sym below) st.lowest;
-      seen = subst (λ fs. AreSeen scope (seen_of fs kept')) (sym below) it.seen;
-      begun = λ q h. ap (λ ks. list_any (nat_eq q) ks) begun ∙ it.begun_on q h ∙ ap (λ fs. is_among (places_of fs) q) (sym below);
-    }, omega (arith, as_many, fewer))
+    let fewer : length (frames_of new) + 1 ≡ length (frames_of old) = ap (λ fs. length fs + 1) below ∙ omega arith in (
+      record {
+        is_own = st.is_own;
+        is_kept = it.is_kept;
+        frames = subst (AreFrames scope kept' items) (sym below) it.frames;
+        lowest = lowest_below own old.top old.below.items new.top new.below.items (sym below) st.lowest;
+        seen = subst (λ fs. AreSeen scope (seen_of fs kept')) (sym below) it.seen;
+        begun = λ q h. ap (λ ks. list_any (nat_eq q) ks) begun ∙ it.begun_on q h ∙ ap (λ fs. is_among (places_of fs) q) (sym below);
+      },
+      omega (arith, as_many, fewer),
+    )
 
 -- the lowest frame is done
 pub done_last : (scope : Scope) (kept kept' : Kept) (own : Option ℕ) (items : List Item) (old : Work) (v : ℤ) → Stands scope kept own items old → Shown scope kept items old (λ _. Ok v) → IsNewlyKept kept old.top.place v kept' → old.below.items ≡ [] → (value_at scope own items ≡ Ok v) × IsKept scope kept'
@@ -161,6 +163,7 @@ key_at [] q h = absurd (true≢false (sym h))
 key_at (e ∷ es) q h = by (nat_eq q e.0) refl (key_at es q) where
   later : (i : ℕ) × (v : ℤ) × (slice_get es i ≡ Some (q, v)) → (i : ℕ) × (v : ℤ) × (slice_get (e ∷ es) i ≡ Some (q, v))
   later there = (suc there.0, there.1, there.2)
+
   by : (b : Bool) → nat_eq q e.0 ≡ b → (list_any (nat_eq q) (keys_of es) ≡ true → (i : ℕ) × (v : ℤ) × (slice_get es i ≡ Some (q, v))) → (i : ℕ) × (v : ℤ) × (slice_get (e ∷ es) i ≡ Some (q, v))
   by true t rest = let p : e.0 ≡ q = sym (eqb-true q e.0 t) in (0, e.1, (λ j. Some (p j, e.1)))
   by false t rest = later (rest (rw t at h))
@@ -185,9 +188,9 @@ new_stands scope kept own items new is_own is distinct none place local rest num
     let alone : frames_of new ≡ new.top ∷ [] = ap (λ fs. new.top ∷ fs) below in
     let places : places_of (frames_of new) ≡ placed own [] = (λ i. placed (place i) (places_of (below i))) in
     let frame : IsFrame scope kept items (places_of (new.top ∷ [])) new.top = record {
-        local = local ∙ ap (is_local scope) (sym place);
-        going = λ named agrees. ap (λ o. worked_out named (items_of scope items o) []) place ∙ ap (λ xs. worked_out named xs []) (own_items scope own items is_own ∙ sym rest) ∙ ap (λ ns. worked_out named new.top.rest.now ns) (sym numbers);
-      } in
+      local = local ∙ ap (is_local scope) (sym place);
+      going = λ named agrees. ap (λ o. worked_out named (items_of scope items o) []) place ∙ ap (λ xs. worked_out named xs []) (own_items scope own items is_own ∙ sym rest) ∙ ap (λ ns. worked_out named new.top.rest.now ns) (sym numbers);
+    } in
     record {
       is_own = is_own;
       is_kept = is;

@@ -34,6 +34,7 @@ stands_at first [] name place s h = cc
 stands_at first (x ∷ symbols) name place s h = by (bytes_eq name x.0) refl (stands_at (first + 1) symbols name place s) where
   further : StandsAt symbols (first + 1) place s → StandsAt (x ∷ symbols) first place s
   further there = (suc there.0, omega (arith, there.1), there.2)
+
   by : (b : Bool) → bytes_eq name x.0 ≡ b → (found_in (first + 1) symbols name ≡ Some (place, s) → StandsAt symbols (first + 1) place s) → StandsAt (x ∷ symbols) first place s
   by true t rest =
       let same : ◌≡◌ {A = ℕ × Symbol} (first, x.1) (place, s) = some_same (rw t at h) in

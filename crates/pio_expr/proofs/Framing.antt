@@ -127,7 +127,7 @@ fault_of_whole scope kept own items fault is_own is frame [] frames lowest seen 
 fault_of_whole scope kept own items fault is_own is frame (caller ∷ below) frames lowest seen h =
     let seen_on = seen_below scope kept frame.place (places_of (caller ∷ below)) seen in
     fault_of_whole scope kept own items fault is_own is caller below frames.2 lowest seen_on
-      (as_defined scope kept items caller below is seen_on frames.2.0 ∙ fault_met scope kept items caller.local (places_of (caller ∷ below)) caller.numbers.items fault frame.place caller.rest.now frames.1 seen h)
+    (as_defined scope kept items caller below is seen_on frames.2.0 ∙ fault_met scope kept items caller.local (places_of (caller ∷ below)) caller.numbers.items fault frame.place caller.rest.now frames.1 seen h)
 
 -- and the value of the lowest frame that of the whole
 pub value_of_whole : (scope : Scope) (own : Option ℕ) (items : List Item) (value : ℤ) → IsOwn scope own items → (frame : Frame) → frame.place ≡ own → frame_value scope items frame.place [] ≡ Ok value → value_at scope own items ≡ Ok value

@@ -31,6 +31,7 @@ newest (e ∷ es) (suc m) place v h = by (nat_eq place e.0) refl (newest es m pl
   further : nat_eq place e.0 ≡ false → Newest es m place v → Newest (e ∷ es) (suc m) place v
   further t (inl x) = inl (rw t x)
   further t (inr x) = inr (rw t x.0, x.1)
+
   by : (b : Bool) → nat_eq place e.0 ≡ b → (kept_at (take (suc m) es) place ≡ Some v → Newest es m place v) → Newest (e ∷ es) (suc m) place v
   by true t rest = inl (rw t (rw t at h))
   by false t rest = further t (rest (rw t at h))
@@ -128,8 +129,8 @@ module _ (scope : Scope) (kept : Kept) (is : IsKept scope kept) (m : ℕ) (older
       → worked_out (name_value n scope (place ∷ under) (in_program scope place)) items [] ≡ Ok v
   newest_exact n place items under v le apart same none at =
       worked_more (kept_value scope (take m kept) (in_program scope place)) (name_value n scope (place ∷ under) (in_program scope place)) items [] v
-        (λ w x h. older n (place ∷ under) (in_program scope place) w x le (apart_more kept m place under none apart) h)
-        (subst (λ its. worked_out (kept_value scope (take m kept) (in_program scope place)) its [] ≡ Ok v) same (is m place v at).gives)
+      (λ w x h. older n (place ∷ under) (in_program scope place) w x le (apart_more kept m place under none apart) h)
+      (subst (λ its. worked_out (kept_value scope (take m kept) (in_program scope place)) its [] ≡ Ok v) same (is m place v at).gives)
 
   exact_define : (n : ℕ) (under : List ℕ) (local : Bool) (name : List ℕ) (v : ℤ) → suc m ≤ n → Apart under (take (suc m) kept) → (place : ℕ) (items : List Item) → found scope local name ≡ Some (place, Define items)
       → kept_at (take (suc m) kept) place ≡ Some v → Newest kept m place v → name_value n scope under local name ≡ Ok v

@@ -172,18 +172,20 @@ wait_step scope kept own items old new top place its st of_symbol local run rest
     let seen : AreSeen scope (place ∷ seen_of (frames_of old) kept) = seen_new scope place (seen_of (frames_of old) kept) (unseen kept place (places_of (frames_of old)) it.unkept idle) it.within st.seen in
     let fit = length-le_from_distinct_below (place ∷ seen_of (frames_of old) kept) (count_of scope) seen.distinct seen.within in
     let frame : IsFrame scope kept items (places_of (frames_of new)) new.top = record {
-        local = w.local ∙ ap (is_local scope) (sym w.of_symbol);
-        going = λ named agrees. ap (λ o. worked_out named (items_of scope items o) []) w.of_symbol ∙ ap (λ xs. worked_out named xs []) (it.expression ∙ sym w.rest) ∙ ap (λ ns. worked_out named new.top.rest.now ns) (sym w.numbers);
-      } in
+      local = w.local ∙ ap (is_local scope) (sym w.of_symbol);
+      going = λ named agrees. ap (λ o. worked_out named (items_of scope items o) []) w.of_symbol ∙ ap (λ xs. worked_out named xs []) (it.expression ∙ sym w.rest) ∙ ap (λ ns. worked_out named new.top.rest.now ns) (sym w.numbers);
+    } in
     let awaited : IsAwaited scope new.top (top ∷ old.below.items) = subst (λ o. AwaitedAt scope top.local o top.rest.now) (sym w.of_symbol) (subst (λ l. AwaitedAt scope l (Some place) top.rest.now) (sym local) it.awaited) in
     let below : AreFrames scope kept items (top ∷ old.below.items) = rested_all scope kept own items old top st of_symbol local run in
     let longer : length (frames_of new) ≡ length (frames_of old) + 1 = ap (λ fs. length (new.top ∷ fs)) w.below ∙ omega arith in
-    let more : length (seen_of (frames_of new) kept) ≡ length (place ∷ seen_of (frames_of old) kept) = ap (λ ps. length (ps ++ keys_of kept)) places in
-    (record {
-      is_own = st.is_own;
-      is_kept = st.is_kept;
-      frames = (frame, subst (IsAwaited scope new.top) (sym w.below) awaited, subst (AreFrames scope kept items) (sym w.below) below);
-      lowest = subst (λ fs. IsLowest own (new.top ∷ fs)) (sym w.below) (rested_lowest scope kept own items old top st of_symbol local);
-      seen = subst (λ ps. AreSeen scope (ps ++ keys_of kept)) (sym places) seen;
-      begun = λ q none. w.begun q ∙ begun_on place q (list_any (nat_eq q) old.begun.keys) (places_of (frames_of old)) (st.begun q none) ∙ ap (λ ps. is_among ps q) (sym places);
-    }, omega (arith, fit, longer, more))
+    let more : length (seen_of (frames_of new) kept) ≡ length (place ∷ seen_of (frames_of old) kept) = ap (λ ps. length (ps ++ keys_of kept)) places in (
+      record {
+        is_own = st.is_own;
+        is_kept = st.is_kept;
+        frames = (frame, subst (IsAwaited scope new.top) (sym w.below) awaited, subst (AreFrames scope kept items) (sym w.below) below);
+        lowest = subst (λ fs. IsLowest own (new.top ∷ fs)) (sym w.below) (rested_lowest scope kept own items old top st of_symbol local);
+        seen = subst (λ ps. AreSeen scope (ps ++ keys_of kept)) (sym places) seen;
+        begun = λ q none. w.begun q ∙ begun_on place q (list_any (nat_eq q) old.begun.keys) (places_of (frames_of old)) (st.begun q none) ∙ ap (λ ps. is_among ps q) (sym places);
+      },
+      omega (arith, fit, longer, more),
+    )

@@ -47,12 +47,7 @@ pub enum Pause<'a> {
 
 impl<'a> Frame<'a> {
     /// The expression of the symbol at this place, or of none; nothing is worked out yet.
-    pub fn new(
-        alloc: Global,
-        symbols: &Symbols,
-        place: Option<usize>,
-        items: &'a [Item],
-    ) -> Self
+    pub fn new(alloc: Global, symbols: &Symbols, place: Option<usize>, items: &'a [Item]) -> Self
         ensures place { result.place ≡ place }
         ensures local { result.local ≡ is_local symbols.now place }
         ensures rest { result.rest.now ≡ items.now }

@@ -9,5 +9,4 @@ pub fn own_value()
     ensures { (scope : Scope) (name : List ℕ) (items : List Item)
         → symbol_of scope name ≡ Some (Define items)
         → value_of scope (Some name) items ≡ value_of_name scope name }
-{
-}
+{}

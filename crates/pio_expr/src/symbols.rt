@@ -28,8 +28,8 @@ impl Model for Symbols {
     ghost use Rattle.pio_expr.specs.Views.{named_in};
 
     ghost view = { λ s. record {
-        globals = named_in s.globals.entries;
-        program = option_map (λ m. named_in m.entries) s.program;
+      globals = named_in s.globals.entries;
+      program = option_map (λ m. named_in m.entries) s.program;
     } };
 }
 
@@ -108,12 +108,7 @@ impl Symbols {
 }
 
 /// Adds a symbol at the end.
-fn add(
-    alloc: Global,
-    symbols: &mut ByName,
-    name: &Name,
-    symbol: Symbol,
-) -> Result<(), AllocError>
+fn add(alloc: Global, symbols: &mut ByName, name: &Name, symbol: Symbol) -> Result<(), AllocError>
     requires { found_in 0 (named_in symbols.old.entries) name.now ≡ None }
     ensures ok { OnOk result (named_in symbols.new.entries
         ≡ named_in symbols.old.entries ++ (name.now, symbol) ∷ []) }

@@ -12,11 +12,10 @@ const LAST_DEFINE: u32 = 1023;
 #[test]
 fn values_are_those_worked_by_hand(rt: HostRuntime) -> Result<(), Fail> {
     for &(globals, locals, source, worth) in &VALUES {
-        let mut scope = Scope::new(rt.alloc());
-        define_all(rt.alloc(), &mut scope, globals)?;
-        scope.next_program();
-        define_all(rt.alloc(), &mut scope, locals)?;
-        assert!(rt; is_worth(rt.alloc(), &mut scope, source, worth)?, "{source:?}");
+        assert!(rt;
+            holds(rt.alloc(), globals, locals, source, worth)?,
+            "{source:?}"
+        );
     }
     Ok(())
 }
@@ -32,12 +31,14 @@ fn a_label_is_its_number(rt: HostRuntime) -> Result<(), Fail> {
 
 #[test]
 fn a_doubling_chain_is_worked_out_at_once(rt: HostRuntime) -> Result<(), Fail> {
-    let mut scope = Scope::new(rt.alloc());
-    define(rt.alloc(), &mut scope, b"d0", b"1")?;
-    for i in 0..31 {
-        double(rt.alloc(), &mut scope, i)?;
-    }
+    let mut scope = doubling(rt.alloc())?;
     assert!(rt; is_worth(rt.alloc(), &mut scope, b"d30", Worth::Value(1_073_741_824))?);
+    Ok(())
+}
+
+#[test]
+fn a_doubling_chain_overflows_at_once(rt: HostRuntime) -> Result<(), Fail> {
+    let mut scope = doubling(rt.alloc())?;
     assert!(rt; is_worth(rt.alloc(), &mut scope, b"d31", Worth::Overflow)?);
     Ok(())
 }
@@ -58,7 +59,31 @@ fn the_longest_ring_ends(rt: HostRuntime) -> Result<(), Fail> {
     Ok(())
 }
 
-/// `d1 = d0 + d0`, and so on.
+/// The expression is worth this under these symbols.
+fn holds(
+    alloc: Global,
+    globals: Defines,
+    locals: Defines,
+    text: &[u8],
+    worth: Worth,
+) -> Result<bool, Fail> {
+    let mut scope = Scope::new(alloc);
+    define_all(alloc, &mut scope, globals)?;
+    scope.next_program();
+    define_all(alloc, &mut scope, locals)?;
+    is_worth(alloc, &mut scope, text, worth)
+}
+
+/// `d0 = 1`, `d1 = d0 + d0`, and so on up to `d31`.
+fn doubling(alloc: Global) -> Result<Scope, Fail> {
+    let mut scope = Scope::new(alloc);
+    define(alloc, &mut scope, b"d0", b"1")?;
+    for i in 0..31 {
+        double(alloc, &mut scope, i)?;
+    }
+    Ok(scope)
+}
+
 fn double(alloc: Global, scope: &mut Scope, i: u32) -> Result<(), Fail> {
     let before = numbered(alloc, b"d", i)?;
     let name = numbered(alloc, b"d", i.saturating_add(1))?;

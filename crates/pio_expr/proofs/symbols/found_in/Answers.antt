@@ -16,5 +16,5 @@ returns c =
     let key = c.in_ok-index.field-0-1.now in
     let there = position-Some (λ k. bytes_eq c.as_str.result.now (string_bytes k)) (keys_of es) c.in_ok-index.index key (sym c.in_ok-index.ensures.index) in
     sym (first_found c.args.name.now c.args.first es c.in_ok-index.index key c.in_ok-index.symbol.now c.in_ok-index.ensures.entry
-      (subst (λ t. bytes_eq t (string_bytes key) ≡ true) c.as_str.ensures (rw (own_key es c.in_ok-index.index key c.in_ok-index.symbol.now c.in_ok-index.ensures.entry) at there.1))
-      (λ j l. subst (λ t. bytes_eq t (string_bytes (get_or (keys_of es) j key)) ≡ false) c.as_str.ensures (there.2 j l)))
+    (subst (λ t. bytes_eq t (string_bytes key) ≡ true) c.as_str.ensures (rw (own_key es c.in_ok-index.index key c.in_ok-index.symbol.now c.in_ok-index.ensures.entry) at there.1))
+    (λ j l. subst (λ t. bytes_eq t (string_bytes (get_or (keys_of es) j key)) ≡ false) c.as_str.ensures (there.2 j l)))

@@ -11,8 +11,8 @@ returns-in-Err-clause-shows c named agrees =
     let ns = c.loop-item.self.numbers.items in
     let look = looked_up c.args.symbols.now c.args.kept.now.entries (contains nat_eq c.args.under.now) c.args.self.now.local in
     fault_on c.in-Err.fault (looked_at look it) (worked_out named c.args.self.now.rest.now c.args.self.now.numbers.items) (λ looked.
-      c.loop-item.invariant.goes named agrees ∙ ap (λ items. worked_out named items ns) c.in-Some.ensures.cases.0
-      ∙ ends_in named it c.in-Some.rest.now ns c.in-Err.fault (item_fault look named it c.in-Err.fault ns agrees looked)) (rw c.loop-item.invariant.local at c.in-Err.ensures)
+    c.loop-item.invariant.goes named agrees ∙ ap (λ items. worked_out named items ns) c.in-Some.ensures.cases.0
+    ∙ ends_in named it c.in-Some.rest.now ns c.in-Err.fault (item_fault look named it c.in-Err.fault ns agrees looked)) (rw c.loop-item.invariant.local at c.in-Err.ensures)
 
 pub returns-in-Err-apply-clause-shows : goal.returns-in-Err-apply-clause-shows
 returns-in-Err-apply-clause-shows c named agrees =
@@ -22,8 +22,8 @@ returns-in-Err-apply-clause-shows c named agrees =
     let looked : looked_at look it ≡ Ok (number c.in-Ok-Number.number) = rw (c.loop-item.invariant.local, c.in-Ok-Number.field-0-is) at c.in-Ok-Number.ensures in
     let gives : number_of (λ _. Ok c.in-Ok-Number.number) it ns ≡ Err c.in-Err-apply.fault = search rules in
     has_fault c.in-Err-apply.fault (worked_out named c.args.self.now.rest.now c.args.self.now.numbers.items) (
-      c.loop-item.invariant.goes named agrees ∙ ap (λ items. worked_out named items ns) c.in-Some.ensures.cases.0
-      ∙ ends_in named it c.in-Some.rest.now ns c.in-Err-apply.fault (item_number look named it c.in-Ok-Number.number ns agrees looked ∙ gives))
+    c.loop-item.invariant.goes named agrees ∙ ap (λ items. worked_out named items ns) c.in-Some.ensures.cases.0
+    ∙ ends_in named it c.in-Some.rest.now ns c.in-Err-apply.fault (item_number look named it c.in-Ok-Number.number ns agrees looked ∙ gives))
 
 pub loop-item-preserved : goal.loop-item-preserved
 loop-item-preserved c =
@@ -35,8 +35,8 @@ loop-item-preserved c =
     let pushed : c.push_front.new.self.items ≡ c.in-Ok.number ∷ c.apply.new.numbers.items = search rules in
     record {
       goes = λ named agrees. c.loop-item.invariant.goes named agrees ∙ ap (λ items. worked_out named items ns) c.in-Some.ensures.cases.0
-        ∙ goes_on named it c.in-Some.rest.now ns c.in-Ok.number (item_number look named it c.in-Ok-Number.number ns agrees looked ∙ gives)
-        ∙ ap (λ xs. worked_out named c.in-Some.rest.now (c.in-Ok.number ∷ xs)) (sym c.in-Ok.ensures.left) ∙ ap (λ xs. worked_out named c.in-Some.rest.now xs) (sym pushed);
+          ∙ goes_on named it c.in-Some.rest.now ns c.in-Ok.number (item_number look named it c.in-Ok-Number.number ns agrees looked ∙ gives)
+          ∙ ap (λ xs. worked_out named c.in-Some.rest.now (c.in-Ok.number ∷ xs)) (sym c.in-Ok.ensures.left) ∙ ap (λ xs. worked_out named c.in-Some.rest.now xs) (sym pushed);
       place = c.loop-item.invariant.place;
       local = c.loop-item.invariant.local;
     }

@@ -4,4 +4,4 @@ use Rattle.pio_expr.proofs.work.Work.new.Goals as goal
 pub returns-clause-ok : goal.returns-clause-ok
 returns-clause-ok c =
     new_stands c.args.symbols.now c.args.kept.now.entries c.args.own c.args.items.now _ c.requires.own c.requires.kept c.requires.unique c.requires.new
-      c.new.ensures.place c.new.ensures.local c.new.ensures.rest c.new.ensures.numbers c.new-2.ensures.items c.in_ok-begun_with.ensures.ok
+    c.new.ensures.place c.new.ensures.local c.new.ensures.rest c.new.ensures.numbers c.new-2.ensures.items c.in_ok-begun_with.ensures.ok

@@ -19,7 +19,7 @@ returns-in_ok-wait-in-Ok-Waits c own items st =
     let run : (named : List ℕ → Result ℤ ValueFault) → Agrees (looked_up scope kept (λ q. list_any (nat_eq q) old.begun.keys) old.top.local) named → worked_out named old.top.rest.now old.top.numbers.items ≡ worked_out named top.rest.now top.numbers.items = rw c.in-Ok-Waits.field-0-is at c.in-Ok-Waits.ensures.shows in
     let rests : RestsAt (looked_up scope kept (λ q. list_any (nat_eq q) old.begun.keys) old.top.local) top.rest.now c.in-Ok-Waits.place c.in-Ok-Waits.items.now = rw c.in-Ok-Waits.field-0-is at c.in-Ok-Waits.ensures.rests in
     wait_step scope kept own items old c.wait.new.self top c.in-Ok-Waits.place c.in-Ok-Waits.items.now st c.in-Ok-Waits.ensures.place c.in-Ok-Waits.ensures.local
-      (shown scope kept own items old st (λ named. worked_out named top.rest.now top.numbers.items) run) rests c.in_ok-wait-in-Ok-Waits.ensures.ok
+    (shown scope kept own items old st (λ named. worked_out named top.rest.now top.numbers.items) run) rests c.in_ok-wait-in-Ok-Waits.ensures.ok
 
 pub returns-in-Ok-Done : goal.returns-in-Ok-Done
 returns-in-Ok-Done c own items st =
@@ -31,4 +31,4 @@ returns-in-Ok-Done c own items st =
     let value : ℤ = to_z w32 (of_z w32 c.in-Ok-Done.value) in
     let same : c.in-Ok-Done.value ≡ value = search rules in
     end_steps scope kept c.finish.new.kept.entries own items old c.finish.new.self top value c.finish.result st
-      (shown scope kept own items old st (λ _. Ok value) (λ named agrees. run named agrees ∙ ap Ok same)) c.in-Ok-Done.ensures.place c.finish.ensures.frames c.finish.ensures.begun c.finish.ensures.kept c.finish.ensures.memory
+    (shown scope kept own items old st (λ _. Ok value) (λ named agrees. run named agrees ∙ ap Ok same)) c.in-Ok-Done.ensures.place c.finish.ensures.frames c.finish.ensures.begun c.finish.ensures.kept c.finish.ensures.memory
