@@ -6,3 +6,8 @@ mod setting;
 mod symbol;
 
 pub use listing::put_listing;
+
+#[cfg(test)]
+mod rows;
+#[cfg(test)]
+mod tests;
