@@ -16,12 +16,12 @@ abbrev pub origin_text : Option ℕ → List ℕ
 origin_text None = codes "none"
 origin_text (Some address) = decimal address
 
--- a word that stands only where its flag is set, with a blank in front (choice of this profile)
+-- ` opt`, where the rule has an enable bit (choice of this profile)
 abbrev pub opt_text : Bool → List ℕ
 opt_text true = codes " opt"
 opt_text false = []
 
--- the same for `pindirs` (choice of this profile)
+-- ` pindirs`, where side-set writes pin directions (choice of this profile)
 abbrev pub pindirs_text : Bool → List ℕ
 pindirs_text true = codes " pindirs"
 pindirs_text false = []
