@@ -1,5 +1,5 @@
 -- The texts of programs: a program's text in three parts, and a text for each program.
-use Rattle.std.proofs.Common.{◌≡◌, ℕ, ◌+◌, ◌<◌, Option, List, ◌∷◌, ◌++◌, Result, IsErr, map, length, drop, get_or, sym, ap, subst, ◌∙◌, append_assoc}
+use Rattle.std.proofs.Common.{◌≡◌, ℕ, ◌+◌, ◌<◌, Option, List, ◌++◌, Result, IsErr, map, length, drop, get_or, sym, ap, ◌∙◌}
 use Rattle.std.proofs.lemmas.List.{at_drop_more}
 use Rattle.pio_edge.specs.Edge.{with_bytes, TakesPrefix, Takes}
 use Rattle.pio_edge.proofs.PutLaws.{with_bytes-append, takes_prefix-append_l, takes_prefix-append_r, takes_on, takes_off}

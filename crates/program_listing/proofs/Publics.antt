@@ -1,7 +1,7 @@
 -- The lines of public symbols, one symbol at a time.
-use Rattle.std.proofs.Common.{◌≡◌, ℕ, ◌+◌, ◌<◌, ◌≤◌, Bool, true, false, cond, Option, List, [], ◌∷◌, ◌++◌, length, drop, get_or, flat_map, refl, sym, ap, subst, ◌∙◌}
+use Rattle.std.proofs.Common.{◌≡◌, ℕ, ◌+◌, ◌<◌, true, false, cond, Option, List, ◌∷◌, ◌++◌, length, drop, get_or, flat_map, sym, ap, ◌∙◌}
 use Rattle.std.specs.List.{filter}
-use Rattle.std.proofs.lemmas.List.{at_drop_more, at_drop_all}
+use Rattle.std.proofs.lemmas.List.{at_drop_more}
 use Rattle.pio_assemble.specs.declared.symbols.Symbol.{Symbol}
 use Rattle.pio_edge.specs.Puts.{Going}
 use Rattle.program_listing.specs.Listing.{public_line, public_lines}

@@ -16,12 +16,12 @@ abbrev pub origin_text : Option ℕ → List ℕ
 origin_text None = codes "none"
 origin_text (Some address) = decimal address
 
--- a word that stands only where its flag is set, with a blank in front (choice of this profile)
+-- ` opt`, where the rule has an enable bit (choice of this profile)
 abbrev pub opt_text : Bool → List ℕ
 opt_text true = codes " opt"
 opt_text false = []
 
--- the same for `pindirs` (choice of this profile)
+-- ` pindirs`, where side-set writes pin directions (choice of this profile)
 abbrev pub pindirs_text : Bool → List ℕ
 pindirs_text true = codes " pindirs"
 pindirs_text false = []
@@ -30,7 +30,7 @@ pindirs_text false = []
 abbrev pub side_text : SideRule → List ℕ
 side_text rule = decimal rule.bits ++ opt_text rule.opt ++ pindirs_text rule.pindirs
 
--- the line of a program: its name, origin, side-set rule, and the wrap from the top to the bottom (choice of this profile)
+-- the line of a program: its name, origin, side-set rule, and wrap (choice of this profile)
 unfoldable pub program_line : Assembled → List ℕ
 program_line p =
     codes "program " ++ p.name ++ codes " origin " ++ origin_text p.origin ++ codes " side " ++ side_text p.side
@@ -44,7 +44,7 @@ public_line s = codes "public " ++ s.name ++ codes " " ++ signed_decimal s.value
 abbrev pub public_lines : List Symbol → List ℕ
 public_lines symbols = flat_map public_line (filter (λ s. s.public) symbols)
 
--- the text of a program: its line, those of its public symbols, and those of its words under its own rule (choice of this profile)
+-- the text of a program: its line, its public symbols, its words under its own rule (choice of this profile)
 abbrev pub program_text : Assembled → List ℕ
 program_text p = program_line p ++ public_lines p.symbols ++ word_lines p.side p.words
 

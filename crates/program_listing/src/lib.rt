@@ -1,8 +1,13 @@
 //! The listing of assembled programs, which `asm` writes.
 #![tactic(auto)]
 
+mod heading;
 mod listing;
-mod setting;
 mod symbol;
 
 pub use listing::put_listing;
+
+#[cfg(test)]
+mod rows;
+#[cfg(test)]
+mod tests;

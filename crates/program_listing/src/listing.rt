@@ -4,7 +4,7 @@ ghost use Rattle.pio_edge.specs.Edge.{Takes, PutCounts};
 ghost use Rattle.pio_assemble.specs.Program.{assembled_of};
 ghost use Rattle.program_listing.specs.Listing as spec;
 
-use crate::setting::put_program_line;
+use crate::heading::put_program_line;
 use crate::symbol::put_publics;
 use pio_assemble::Program;
 use pio_edge::{Sink, SinkFailed};

@@ -1,9 +1,4 @@
-use Rattle.std.proofs.Common.{ℕ, List, ◌++◌, ap, ◌∙◌, sym}
-use Rattle.pio_edge.proofs.PutLaws.{takes_on, takes_off, with_bytes-append}
-use Rattle.pio_edge.specs.Edge.{with_bytes}
 use Rattle.pio_assemble.specs.Program.{assembled_of}
-use Rattle.word_file.specs.Listing.{word_lines}
-use Rattle.program_listing.specs.Listing.{program_line, public_lines}
 use Rattle.program_listing.proofs.Programs.{fails_first, fails_second, ends_third}
 use Rattle.program_listing.proofs.listing.put_program.Goals as goal
 

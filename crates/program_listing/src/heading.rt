@@ -1,4 +1,4 @@
-//! The line of a program: its name, origin, side-set rule and wrap.
+//! The line that a program's text begins with: its name, origin, side-set rule and wrap.
 ghost use Rattle.std.specs.Prelude.{◌≡◌, ℕ, Option};
 ghost use Rattle.pio_edge.specs.Edge.{Takes, PutCounts};
 ghost use Rattle.pio_assemble.specs.Program.{assembled_of};

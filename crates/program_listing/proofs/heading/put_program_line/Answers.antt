@@ -3,7 +3,7 @@ use Rattle.pio_assemble.specs.Program.{assembled_of}
 use Rattle.pio_edge.specs.Edge.{Takes}
 use Rattle.program_listing.specs.Listing.{program_line}
 use Rattle.program_listing.proofs.Pieces.{joined, joined-line}
-use Rattle.program_listing.proofs.setting.put_program_line.Goals as goal
+use Rattle.program_listing.proofs.heading.put_program_line.Goals as goal
 
 pub returns-clause-bytes : goal.returns-clause-bytes
 returns-clause-bytes g c =
