@@ -1,9 +1,9 @@
 -- The loads of a configuration lie apart.
-use Rattle.std.proofs.Common.{◌≡◌, ℕ, suc, zero, ◌+◌, ◌<◌, ◌≤◌, ◌==◌, ◌&&◌, ◌||◌, ◌++◌, cond, Bool, true, false, Option, Some, None, Result, Ok, Err, List, [], ◌∷◌, refl, ap, sym, subst, ◌∙◌, arith, codes, inl, inr}
+use Rattle.std.proofs.Common.{◌≡◌, ℕ, suc, zero, ◌+◌, ◌<◌, ◌≤◌, ◌==◌, ◌&&◌, ◌||◌, ◌++◌, cond, Bool, true, false, Option, Some, None, Result, Ok, Err, List, [], ◌∷◌, refl, sym, subst, ◌∙◌, arith, codes, inl, inr}
 use Rattle.std.specs.List.{find, range_with_len}
 use Rattle.std.proofs.lemmas.Bool.{cases_Bool, false≢true, eqb-true, eqb-false}
 use Rattle.std.proofs.lemmas.List.Folds.{list_any-append}
-use Rattle.toml.specs.Data.{Data, Items, no_items, item, Members, as_table, get_member}
+use Rattle.toml.specs.Data.{Items, no_items, item, Members, as_table, get_member}
 use Rattle.pio_assemble.specs.Program.{Assembled}
 use Rattle.block_config.specs.declared.path.Section.{Section}
 use Rattle.block_config.specs.declared.path.Section.TheVariants.{Load}
@@ -14,7 +14,7 @@ use Rattle.block_config.specs.Loads.{covers, is_covered, first_shared, unshared,
 use Rattle.block_config.specs.Machines.{in_section, section_at, element_of}
 use Rattle.block_config.specs.Memory.{fits_at}
 use Rattle.block_config.specs.Programs.{Loaded}
-use Rattle.block_config.specs.Tables.{and_then, on_key, are_known}
+use Rattle.block_config.specs.Tables.{are_known}
 use Rattle.block_config.specs.Values.{number_of}
 use Rattle.block_config.proofs.Outside.{neither}
 use Rattle.block_config.proofs.Ranges.{goes_on, off_key}

@@ -1,5 +1,5 @@
 -- Addresses that loads cover, programs by their names, and memory with loads in it.
-use Rattle.std.proofs.Common.{◌≡◌, ℕ, suc, ◌+◌, ◌-◌, ◌<◌, ◌≤◌, ◌||◌, ◌&&◌, ◌++◌, nat_lt, cond, true, false, Bool, Bor, Option, Some, None, option_map, option_copied, List, [], ◌∷◌, map, drop, length, get_or, refl, ap, ◌∙◌, arith}
+use Rattle.std.proofs.Common.{◌≡◌, ℕ, suc, ◌+◌, ◌-◌, ◌<◌, ◌≤◌, ◌||◌, ◌&&◌, ◌++◌, nat_lt, true, false, Bool, Bor, Option, Some, None, option_map, option_copied, List, [], ◌∷◌, map, drop, length, get_or, refl, ap, ◌∙◌, arith}
 use Rattle.std.specs.List.{find, list_any, range_with_len}
 use Rattle.std.proofs.lemmas.List.{drop_all, drop_more}
 use Rattle.std.proofs.lemmas.List.Folds.{list_all-append}

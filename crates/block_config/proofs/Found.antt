@@ -1,10 +1,10 @@
 -- What is found in a list seen by a view.
-use Rattle.std.proofs.Common.{◌≡◌, ℕ, cond, Bool, true, false, Option, Some, None, option_map, List, [], ◌∷◌, map, refl, ap, ◌∙◌}
+use Rattle.std.proofs.Common.{◌≡◌, ℕ, cond, Bool, true, false, Option, Some, option_map, List, [], ◌∷◌, map, refl, ap, ◌∙◌}
 use Rattle.std.specs.List.{find}
 use Rattle.std.specs.Str.{bytes_eq}
 use Rattle.block_config.specs.declared.programs.Load.{Load}
 use Rattle.block_config.specs.LoadView.{loaded_of}
-use Rattle.block_config.specs.Programs.{Loaded, find_loaded}
+use Rattle.block_config.specs.Programs.{find_loaded}
 
 first_or : {A B : Type 0} (f : A → B) (b : Bool) (x : A) (rest : Option A) → option_map f (cond b (Some x) rest) ≡ cond b (Some (f x)) (option_map f rest)
 first_or f true x rest = refl

@@ -11,3 +11,4 @@ pub mod Alike
 pub mod Says
 pub mod Outside
 pub mod Apart
+pub mod Home

@@ -1,12 +1,10 @@
 -- What memory holds where no load lies, and that loads lie apart.
-use Rattle.std.proofs.Common.{◌≡◌, ℕ, zero, suc, replicate, ◌+◌, ◌-◌, ◌<◌, ◌≤◌, ◌&&◌, ◌||◌, ◌++◌, nat_lt, nat_le, cond, Bool, true, false, Option, Some, None, Result, Ok, Err, List, [], ◌∷◌, map, length, get_or, unwrap_or, refl, ap, sym, ◌∙◌, arith, inl, inr}
-use Rattle.std.specs.List.{find, list_any, range_with_len}
-use Rattle.std.specs.Prelude.{slice_get, slice_index}
+use Rattle.std.proofs.Common.{◌≡◌, ℕ, zero, suc, replicate, ◌+◌, ◌-◌, ◌<◌, ◌≤◌, ◌&&◌, ◌||◌, nat_lt, nat_le, Bool, true, false, None, List, [], ◌∷◌, length, get_or, unwrap_or, refl, ap, ◌∙◌, arith, inl, inr}
 use Rattle.std.proofs.lemmas.Bool.{cases_Bool, leb-false, ltb-false, lt-ltb}
 use Rattle.std.proofs.lemmas.List.FromFn.{get_or-map-range_with_len}
 use Rattle.std.proofs.lemmas.Option.{slice_get_past}
 use Rattle.block_config.specs.Loads.{covers, is_covered, memory_of}
-use Rattle.block_config.specs.Memory.{word_at, moved, loaded, no_words}
+use Rattle.block_config.specs.Memory.{word_at, loaded, no_words}
 use Rattle.block_config.specs.Programs.{Loaded}
 
 -- a program has no word where its load covers nothing

@@ -1,5 +1,5 @@
 -- Machines placed one after the other.
-use Rattle.std.proofs.Common.{◌≡◌, ℕ, ◌+◌, ◌<◌, ◌≤◌, Option, Some, None, List, [], ◌∷◌, Result, Ok, Err, map, option_map, drop, length, get_or, slice_set, refl, ◌∙◌}
+use Rattle.std.proofs.Common.{◌≡◌, ℕ, ◌+◌, ◌<◌, ◌≤◌, Option, Some, List, Result, Ok, Err, map, option_map, drop, length, get_or, slice_set, refl, ◌∙◌}
 use Rattle.std.proofs.lemmas.List.{map-set, drop_all}
 use Rattle.pin_matrix.specs.declared.machine.MachineSetup.{MachineSetup}
 use Rattle.pin_matrix.specs.declared.setup.Setup.{Setup}

@@ -1,14 +1,12 @@
 -- Numbers that were read are in their keys' ranges.
-use Rattle.std.proofs.Common.{◌≡◌, ℕ, ℤ, pos, negsuc, ◌+◌, ◌<◌, ◌≤◌, nat_le, ◌&&◌, cond, Bool, true, false, Option, Some, None, List, [], ◌∷◌, ◌++◌, Result, Ok, Err, map, length, get_or, unwrap_or, append_assoc, length-append, slice_index, refl, ap, sym, ◌∙◌, arith}
-use Rattle.std.proofs.lemmas.Bool.{and_parts, cases_Bool}
+use Rattle.std.proofs.Common.{◌≡◌, ℕ, ℤ, pos, negsuc, ◌+◌, ◌≤◌, nat_le, ◌&&◌, cond, Bool, true, false, Option, Some, None, List, [], ◌∷◌, ◌++◌, Result, Ok, Err, map, length, get_or, unwrap_or, append_assoc, length-append, slice_index, refl, ap, arith}
 use Rattle.std.proofs.lemmas.Bool.Decides.{nat_tests}
 use Rattle.toml.specs.Data.{Data, Members, get_member, as_integer}
 use Rattle.block_config.specs.declared.fault.ConfigKind.{ConfigKind}
-use Rattle.block_config.specs.declared.fault.ConfigKind.TheVariants.{Range, WrongType, Missing}
+use Rattle.block_config.specs.declared.fault.ConfigKind.TheVariants.{Range, Missing}
 use Rattle.block_config.specs.declared.keys.NumberKey.{NumberKey}
-use Rattle.block_config.specs.Answer.{Refusal}
 use Rattle.block_config.specs.Keys.{Numbered, described}
-use Rattle.block_config.specs.Values.{or_fault, in_range, range_of, number_in, number_of}
+use Rattle.block_config.specs.Values.{or_fault, in_range, range_of, number_of}
 use Rattle.block_config.specs.Tables.{and_then, on_key, number_at, each_at, AreWithin}
 
 pub record Goes {X Y E : Type 0} (r : Result X E) (next : X → Result Y E) (y : Y) : Type 0 where

@@ -1,5 +1,5 @@
 -- The setup of what a setup says is the setup.
-use Rattle.std.proofs.Common.{◌≡◌, ℕ, ◌≤◌, ◌%◌, ◌+◌, suc, min, ◌==◌, ◌||◌, ◌&&◌, not, cond, Bool, true, false, Option, Some, None, option_map, Result, Ok, Err, List, [], ◌∷◌, map, length, slice_index_or, refl, ap, sym, ◌∙◌, arith}
+use Rattle.std.proofs.Common.{◌≡◌, ℕ, ◌≤◌, ◌%◌, ◌+◌, suc, min, ◌==◌, ◌||◌, ◌&&◌, not, cond, Bool, true, false, Option, Some, None, option_map, Result, Ok, List, [], ◌∷◌, map, length, slice_index_or, refl, ap, sym, ◌∙◌, arith}
 use Rattle.std.proofs.Math.Nat.{mod-eq_of_lt}
 use Rattle.std.proofs.lemmas.Bool.{and_parts, eqb-true}
 use Rattle.pin_matrix.specs.Setups.{ids_are_places}

@@ -2,7 +2,7 @@
 --   count_items   how many elements an array has
 --   all_items     each element passes a test
 --   gather        what the elements from a place on give, behind what those before them gave
-use Rattle.std.specs.Prelude.{ℕ, suc, ◌+◌, ◌++◌, ◌&&◌, Bool, true, List, [], ◌∷◌, Result, Ok, Err}
+use Rattle.std.specs.Prelude.{ℕ, suc, ◌+◌, ◌++◌, ◌&&◌, Bool, true, List, [], ◌∷◌, Result, Ok}
 use Rattle.toml.specs.Data.{Data, Items, no_items, item}
 use Rattle.block_config.specs.Tables.{and_then}
 

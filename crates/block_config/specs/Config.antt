@@ -4,7 +4,7 @@
 --   sections_at     that it has these and no other key
 --   config_block    what the setup says: the first fault is the answer
 --   config_setup_of the setup, or its fault
-use Rattle.std.specs.Prelude.{ℕ, nat_le, is_some, Bool, if◌then◌else◌, Option, Some, None, List, [], ◌∷◌, Result, Ok, Err, codes}
+use Rattle.std.specs.Prelude.{ℕ, nat_le, is_some, if◌then◌else◌, Option, Some, None, List, [], ◌∷◌, Result, Ok, Err, codes}
 use Rattle.std.specs.Str.{is_utf8}
 use Rattle.toml.specs.Data.{Data, Items, no_items, Members, get_member, as_array, as_table}
 use Rattle.toml.specs.Parse.{parse_document}
@@ -23,7 +23,6 @@ use Rattle.block_config.specs.Pins.{PinTable, pin_table_at}
 use Rattle.block_config.specs.Programs.{Loaded}
 use Rattle.block_config.specs.SpanTable.{all_spans}
 use Rattle.block_config.specs.Tables.{and_then, on_key, are_known}
-use Rattle.block_config.specs.Values.{or_fault}
 
 -- the table that the bytes are: TOML is UTF-8
 abbrev pub document_of : List ℕ → Option Members

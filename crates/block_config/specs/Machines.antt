@@ -3,7 +3,7 @@
 --   section_at      what a table gives: an unknown key comes first, and other faults are told of the table's keys
 --   machine_in      the machine of one table
 --   machines_from   the machines of the tables from a place on
-use Rattle.std.specs.Prelude.{ℕ, ◌+◌, ◌++◌, if◌then◌else◌, slice_set, Option, Some, None, List, [], ◌∷◌, Result, Ok, Err, codes}
+use Rattle.std.specs.Prelude.{ℕ, ◌+◌, if◌then◌else◌, slice_set, Option, Some, None, List, [], ◌∷◌, Result, Ok, Err, codes}
 use Rattle.toml.specs.Data.{Data, Items, no_items, item, Members, as_table}
 use Rattle.block_config.specs.declared.fault.ConfigKind.TheVariants.{UnknownKey, WrongType}
 use Rattle.block_config.specs.declared.path.Section.{Section}

@@ -3,7 +3,7 @@
 --   mask_from     the pins of a list, beside those of a number
 --   mask_at       the pins of a key; an element of another type comes before one out of range
 --   PinTable      the four lists
-use Rattle.std.specs.Prelude.{ℕ, ◌^◌, ◌&&◌, bit_or, Bool, true, if◌then◌else◌, is_some, Option, Some, None, List, [], ◌∷◌, Result, Ok, Err, codes}
+use Rattle.std.specs.Prelude.{ℕ, ◌^◌, ◌&&◌, bit_or, Bool, true, if◌then◌else◌, is_some, Option, Some, None, List, Result, Ok, Err, codes}
 use Rattle.toml.specs.Data.{Data, Items, no_items, item, Members, get_member, as_array, as_integer}
 use Rattle.block_config.specs.declared.fault.ConfigKind.{ConfigKind}
 use Rattle.block_config.specs.declared.fault.ConfigKind.TheVariants.{WrongType}

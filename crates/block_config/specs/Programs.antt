@@ -2,7 +2,7 @@
 --   Loaded       a program with its address
 --   find_loaded  the load of a program's name
 --   label_of     the place of a label in its program
-use Rattle.std.specs.Prelude.{ℕ, ℤ, pos, negsuc, nat_lt, ◌&&◌, Bool, if◌then◌else◌, Option, Some, None, List, length}
+use Rattle.std.specs.Prelude.{ℕ, ℤ, pos, negsuc, nat_lt, if◌then◌else◌, Option, Some, None, List, length}
 use Rattle.std.specs.List.{find}
 use Rattle.std.specs.Str.{bytes_eq}
 use Rattle.pio_assemble.specs.declared.symbols.Symbol.{Symbol}

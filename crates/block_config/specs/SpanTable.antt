@@ -9,7 +9,7 @@ use Rattle.std.specs.Prelude.{ℕ, nat_le, nat_lt, ◌==◌, ◌&&◌, ◌||◌,
 use Rattle.std.specs.Char.{is_ascii_alphanumeric}
 use Rattle.std.specs.List.{find, list_all}
 use Rattle.std.specs.Str.{bytes_eq}
-use Rattle.toml.specs.Data.{Data, Items, no_items, item, Members, get_member, as_array, as_str, as_table}
+use Rattle.toml.specs.Data.{Data, Items, Members, get_member, as_array, as_str, as_table}
 use Rattle.pin_matrix.specs.declared.span.SpanUnit.{SpanUnit}
 use Rattle.pin_matrix.specs.declared.span.SpanUnit.TheVariants.{Ticks, Clocks}
 use Rattle.pin_matrix.specs.Spans.{is_in_ticks}
@@ -25,7 +25,7 @@ use Rattle.block_config.specs.Machines.{section_at, element_of}
 use Rattle.block_config.specs.MachineTable.{moved_place}
 use Rattle.block_config.specs.Programs.{Loaded, label_of}
 use Rattle.block_config.specs.Tables.{and_then, on_key, number_at, each_at}
-use Rattle.block_config.specs.Values.{or_fault, text_of}
+use Rattle.block_config.specs.Values.{text_of}
 
 -- every key of a span's table
 abbrev pub span_names : List (List ℕ)

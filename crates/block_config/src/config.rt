@@ -43,7 +43,8 @@ pub fn read_config(alloc: Global, bytes: &[u8], programs: &[Program]) -> Result<
 
 /// The setup, by what it says.
 fn read_block(alloc: Global, bytes: &[u8], programs: &[Program]) -> Result<Setup, ConfigFault>
-    ensures { Gives keys_of_block result (spec.config_block bytes.now (map assembled_of programs.now)) }
+    ensures { Gives keys_of_block result
+        (spec.config_block bytes.now (map assembled_of programs.now)) }
 {
     match document_of(alloc, bytes) {
         Ok(table) => block_of_table(alloc, &table, programs),
@@ -64,7 +65,8 @@ fn document_of(alloc: Global, bytes: &[u8]) -> Result<Table, ConfigFault>
 
 /// The setup of a configuration's table.
 fn block_of_table(alloc: Global, table: &Table, programs: &[Program]) -> Result<Setup, ConfigFault>
-    ensures { Gives keys_of_block result (spec.block_of_table (map assembled_of programs.now) (table_view table.now)) }
+    ensures { Gives keys_of_block result
+        (spec.block_of_table (map assembled_of programs.now) (table_view table.now)) }
 {
     match sections_at(alloc, table) {
         Ok(sections) => block_of_sections(alloc, &sections, programs),
@@ -78,7 +80,8 @@ fn block_of_sections(
     sections: &Sections,
     programs: &[Program],
 ) -> Result<Setup, ConfigFault>
-    ensures { Gives keys_of_block result (spec.block_of_sections (map assembled_of programs.now) (sections_view sections.now)) }
+    ensures { Gives keys_of_block result
+        (spec.block_of_sections (map assembled_of programs.now) (sections_view sections.now)) }
 {
     match read_loads(alloc, programs, sections.loads) {
         Ok(loads) => block_over(alloc, sections, &loads),
@@ -88,7 +91,8 @@ fn block_of_sections(
 
 /// The setup over the loads.
 fn block_over(alloc: Global, sections: &Sections, loads: &[Load]) -> Result<Setup, ConfigFault>
-    ensures { Gives keys_of_block result (spec.block_over (sections_view sections.now) (map loaded_of loads.now)) }
+    ensures { Gives keys_of_block result
+        (spec.block_over (sections_view sections.now) (map loaded_of loads.now)) }
 {
     let setup = match bare_block(alloc, loads, sections.machines) {
         Ok(setup) => setup,
@@ -106,7 +110,9 @@ fn block_over(alloc: Global, sections: &Sections, loads: &[Load]) -> Result<Setu
 
 /// The memory and the machines.
 fn bare_block(alloc: Global, loads: &[Load], values: &[Value]) -> Result<Setup, ConfigFault>
-    ensures { Gives keys_of_block result (made (quiet_block (memory_of no_words (map loaded_of loads.now))) (machines_from 0 spec.no_machines (map loaded_of loads.now) (items_view values.now))) }
+    ensures { Gives keys_of_block result
+        (made (quiet_block (memory_of no_words (map loaded_of loads.now)))
+        (machines_from 0 spec.no_machines (map loaded_of loads.now) (items_view values.now))) }
 {
     let mut setup = Setup::of(memory_of(loads), Spans::new(Vec::new(alloc)));
     match place_machines(alloc, loads, values, &mut setup) {
@@ -117,7 +123,9 @@ fn bare_block(alloc: Global, loads: &[Load], values: &[Value]) -> Result<Setup, 
 
 /// A block with these pins and spans.
 fn block_with(setup: &Setup, pins: &PinLists, spans: Vec<Span>) -> Setup
-    ensures { keys_of_block result ≡ spec.block_with setup.now.memory (keys_of_block setup.now).machines (pin_view pins.now) (map keys_of_span spans.items) }
+    ensures { keys_of_block result
+        ≡ spec.block_with setup.now.memory (keys_of_block setup.now).machines (pin_view pins.now)
+        (map keys_of_span spans.items) }
 {
     Setup {
         memory: setup.memory,

@@ -31,8 +31,10 @@ pub fn default_setup(alloc: Global, programs: &[Program]) -> Result<Setup, Confi
 /// The setup with a program on machine 0.
 #[tactic(auto, using(crate::proofs::Says::says))]
 fn setup_of(alloc: Global, program: &Program) -> Result<Setup, ConfigFault>
-    ensures value { Answers result (made spec.setup_of (default.block_of (assembled_of program.now))) }
-    ensures setup { IsErr result → IsErr (made spec.setup_of (default.block_of (assembled_of program.now))) }
+    ensures value { Answers result
+        (made spec.setup_of (default.block_of (assembled_of program.now))) }
+    ensures setup { IsErr result → IsErr
+        (made spec.setup_of (default.block_of (assembled_of program.now))) }
 {
     let address = program.origin.unwrap_or(0);
     if !fits_at(address, &program.words) {

@@ -1,13 +1,15 @@
 //! Laws of the definitions, each on a function that does nothing.
-ghost use Rattle.std.specs.Prelude.{◌≡◌, ℕ, ◌<◌, List, Ok, false, length, slice_index};
-ghost use Rattle.toml.specs.Data.{Items};
+ghost use Rattle.std.specs.Prelude.{◌≡◌, ℕ, ◌+◌, ◌<◌, ◌≤◌, List, Option, Some, Ok, false, length, slice_index};
+ghost use Rattle.toml.specs.Data.{Items, Members};
 ghost use Rattle.pio_assemble.specs.Program.{Assembled};
 ghost use Rattle.pin_matrix.specs.declared.setup.Setup as setup;
 ghost use Rattle.block_config.specs.Apart.{AreApart};
-ghost use Rattle.block_config.specs.Block.{keys_of_block, setup_of};
+ghost use Rattle.block_config.specs.Block.{MachineKeys, keys_of_block, setup_of};
 ghost use Rattle.block_config.specs.Loads.{all_loads, is_covered, memory_of};
+ghost use Rattle.block_config.specs.MachineTable.{load_at, machine_of_table};
 ghost use Rattle.block_config.specs.Memory.{no_words};
 ghost use Rattle.block_config.specs.Programs.{Loaded};
+ghost use Rattle.block_config.specs.SpanTable.{load_of_machine};
 
 /// A setup is what it says: of the plain numbers of a setup, the definitions make that setup again.
 pub fn a_setup_is_what_it_says()
@@ -24,4 +26,12 @@ pub fn loads_share_no_address()
 pub fn memory_outside_all_loads_is_0()
     ensures { (loads : List Loaded) (address : ℕ) → address < 32 → is_covered loads address ≡ false
         → slice_index (memory_of no_words loads) address ≡ 0 }
+{}
+
+/// A machine starts in the load of the program that it runs, and in no other.
+pub fn a_machine_starts_in_its_program()
+    ensures { (machines : List (Option MachineKeys)) (loads : List Loaded) (t : Members)
+        (m : MachineKeys) (l : Loaded) → AreApart loads → load_at loads t ≡ Ok l
+        → 1 ≤ length l.program.words → l.address + length l.program.words ≤ 32
+        → machine_of_table machines loads t ≡ Ok m → load_of_machine loads (Some m) ≡ Some l }
 {}

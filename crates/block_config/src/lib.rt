@@ -32,7 +32,10 @@ mod value;
 pub use config::read_config;
 pub use defaults::default_setup;
 pub use fault::{ConfigFault, ConfigKind};
-pub use laws::{a_setup_is_what_it_says, loads_share_no_address, memory_outside_all_loads_is_0};
+pub use laws::{
+    a_machine_starts_in_its_program, a_setup_is_what_it_says, loads_share_no_address,
+    memory_outside_all_loads_is_0,
+};
 
 #[cfg(test)]
 mod config_rows;

@@ -25,7 +25,9 @@ pub fn load_of<'a>(
     loads: &[Load<'a>],
     table: &Table,
 ) -> Result<Load<'a>, Lack>
-    ensures { seen loaded_of result ≡ spec.load_of_table (map assembled_of programs.entry.now) (map loaded_of loads.now) (table_view table.now) }
+    ensures { seen loaded_of result
+        ≡ spec.load_of_table (map assembled_of programs.entry.now) (map loaded_of loads.now)
+        (table_view table.now) }
 {
     match program_at(programs, loads, table) {
         Ok(program) => load_at(program, loads, table),
@@ -39,7 +41,9 @@ fn program_at<'a>(
     loads: &[Load<'a>],
     table: &Table,
 ) -> Result<&'a Program, Lack>
-    ensures { seen (λ p. assembled_of p.now) result ≡ spec.program_at (map assembled_of programs.entry.now) (map loaded_of loads.now) (table_view table.now) }
+    ensures { seen (λ p. assembled_of p.now) result
+        ≡ spec.program_at (map assembled_of programs.entry.now) (map loaded_of loads.now)
+        (table_view table.now) }
 {
     let program = match text_of(value_at(table, "program")) {
         Ok(name) => named_program(programs, loads, name),
@@ -57,7 +61,9 @@ fn named_program<'a>(
     loads: &[Load<'a>],
     name: Option<&str>,
 ) -> Result<&'a Program, ConfigKind>
-    ensures { map_ok (λ p. assembled_of p.now) result ≡ spec.named_program (map assembled_of programs.entry.now) (map loaded_of loads.now) (option_map (λ n. n.now) name.entry) }
+    ensures { map_ok (λ p. assembled_of p.now) result
+        ≡ spec.named_program (map assembled_of programs.entry.now) (map loaded_of loads.now)
+        (option_map (λ n. n.now) name.entry) }
 {
     let Some(name) = name else {
         return Err(ConfigKind::Missing);
@@ -73,7 +79,8 @@ fn named_program<'a>(
 
 /// The program of this name.
 fn find_program<'a>(programs: &'a [Program], name: &[u8]) -> Option<&'a Program>
-    ensures { option_map (λ p. assembled_of p.now) result ≡ spec.find_program name.now (map assembled_of programs.entry.now) }
+    ensures { option_map (λ p. assembled_of p.now) result
+        ≡ spec.find_program name.now (map assembled_of programs.entry.now) }
 {
     first_named(programs, name)
 }
@@ -89,7 +96,9 @@ fn first_named<'a>(programs: &'a [Program], name: &[u8]) -> Option<&'a Program>
 
 /// The load of a program by its table.
 fn load_at<'a>(program: &'a Program, loads: &[Load<'a>], table: &Table) -> Result<Load<'a>, Lack>
-    ensures { seen loaded_of result ≡ spec.load_at (assembled_of program.entry.now) (map loaded_of loads.now) (table_view table.now) }
+    ensures { seen loaded_of result
+        ≡ spec.load_at (assembled_of program.entry.now) (map loaded_of loads.now)
+        (table_view table.now) }
 {
     let origin = program.origin.unwrap_or(0);
     let key = NumberKey {
@@ -112,7 +121,8 @@ fn placed_at<'a>(
     address: u8,
 ) -> Result<Load<'a>, ConfigKind>
     requires { address ≤ 31 }
-    ensures { map_ok loaded_of result ≡ spec.placed_at (assembled_of program.entry.now) (map loaded_of loads.now) address }
+    ensures { map_ok loaded_of result
+        ≡ spec.placed_at (assembled_of program.entry.now) (map loaded_of loads.now) address }
 {
     if !keeps_origin(program.origin, address) || !fits_at(address, &program.words) {
         return Err(ConfigKind::DoesNotFit);

@@ -26,7 +26,8 @@ pub fn read_loads<'a>(
     programs: &'a [Program],
     values: &[Value],
 ) -> Result<Vec<Load<'a>>, ConfigFault>
-    ensures { Gives (λ v. map loaded_of v.items) result (spec.all_loads (map assembled_of programs.entry.now) (items_view values.now)) }
+    ensures { Gives (λ v. map loaded_of v.items) result
+        (spec.all_loads (map assembled_of programs.entry.now) (items_view values.now)) }
 {
     let mut loads = Vec::new(alloc);
     for place in 0..values.len() {
@@ -46,7 +47,9 @@ fn load_in<'a>(
     loads: &[Load<'a>],
     value: &Value,
 ) -> Result<Load<'a>, ConfigFault>
-    ensures { Gives loaded_of result (spec.load_in (map assembled_of programs.entry.now) place (map loaded_of loads.now) (view value.now)) }
+    ensures { Gives loaded_of result
+        (spec.load_in (map assembled_of programs.entry.now) place (map loaded_of loads.now)
+        (view value.now)) }
 {
     match value.as_table() {
         Some(table) => load_at(alloc, Section::Load(place), programs, loads, table),
@@ -62,7 +65,9 @@ fn load_at<'a>(
     loads: &[Load<'a>],
     table: &Table,
 ) -> Result<Load<'a>, ConfigFault>
-    ensures { Gives loaded_of result (section_at section spec.load_names (table_view table.now) (spec.load_of_table (map assembled_of programs.entry.now) (map loaded_of loads.now) (table_view table.now))) }
+    ensures { Gives loaded_of result
+        (section_at section spec.load_names (table_view table.now)
+        (spec.load_of_table (map assembled_of programs.entry.now) (map loaded_of loads.now) (table_view table.now))) }
 {
     if !are_known(table, &NAMES) {
         return Err(fault_of_section(alloc, section, ConfigKind::UnknownKey));

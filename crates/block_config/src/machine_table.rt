@@ -22,7 +22,9 @@ pub fn machine_of(
     loads: &[Load],
     machines: &[Option<MachineSetup>; 4],
 ) -> Result<MachineSetup, Lack>
-    ensures { seen keys_of_machine result ≡ spec.machine_of_table (map (option_map keys_of_machine) machines.now) (map loaded_of loads.now) (table_view table.now) }
+    ensures { seen keys_of_machine result
+        ≡ spec.machine_of_table (map (option_map keys_of_machine) machines.now)
+        (map loaded_of loads.now) (table_view table.now) }
 {
     let run = Running::read(table, loads, machines)?;
     let clock = ClockValues::read(table)?;
@@ -40,7 +42,9 @@ fn setup_of(
     flags: &FlagValues,
     counts: &CountValues,
 ) -> MachineSetup
-    ensures { keys_of_machine result ≡ spec.machine_keys_of (run_view run.now) (clock_view clock.now) (pins_view pins.now) (flags_view flags.now) (counts_view counts.now) }
+    ensures { keys_of_machine result
+        ≡ spec.machine_keys_of (run_view run.now) (clock_view clock.now) (pins_view pins.now)
+        (flags_view flags.now) (counts_view counts.now) }
 {
     let address = run.load.address;
     let program = run.load.program;

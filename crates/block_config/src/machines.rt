@@ -51,7 +51,9 @@ pub fn place_machines(
     values: &[Value],
     setup: &mut Setup,
 ) -> Result<(), ConfigFault>
-    ensures value { Gives (λ _. map (option_map keys_of_machine) setup.new.machines) result (spec.machines_from 0 (map (option_map keys_of_machine) setup.old.machines) (map loaded_of loads.now) (items_view values.now)) }
+    ensures value { Gives (λ _. map (option_map keys_of_machine) setup.new.machines) result
+        (spec.machines_from 0 (map (option_map keys_of_machine) setup.old.machines)
+        (map loaded_of loads.now) (items_view values.now)) }
     ensures rest { HasRestOf setup.new setup.old }
 {
     for place in 0..values.len() {
@@ -71,7 +73,9 @@ fn machine_in(
     loads: &[Load],
     value: &Value,
 ) -> Result<MachineSetup, ConfigFault>
-    ensures { Gives keys_of_machine result (spec.machine_in place (map (option_map keys_of_machine) machines.now) (map loaded_of loads.now) (view value.now)) }
+    ensures { Gives keys_of_machine result
+        (spec.machine_in place (map (option_map keys_of_machine) machines.now)
+        (map loaded_of loads.now) (view value.now)) }
 {
     match value.as_table() {
         Some(table) => machine_at(alloc, Section::Machine(place), machines, loads, table),
@@ -87,7 +91,9 @@ fn machine_at(
     loads: &[Load],
     table: &Table,
 ) -> Result<MachineSetup, ConfigFault>
-    ensures { Gives keys_of_machine result (spec.section_at section spec.machine_names (table_view table.now) (machine_of_table (map (option_map keys_of_machine) machines.now) (map loaded_of loads.now) (table_view table.now))) }
+    ensures { Gives keys_of_machine result
+        (spec.section_at section spec.machine_names (table_view table.now)
+        (machine_of_table (map (option_map keys_of_machine) machines.now) (map loaded_of loads.now) (table_view table.now))) }
 {
     if !are_known(table, &NAMES) {
         return Err(fault_of_section(alloc, section, ConfigKind::UnknownKey));

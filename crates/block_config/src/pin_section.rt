@@ -18,7 +18,8 @@ const NAMES: [&str; 4] = ["high", "level", "out", "bypass"];
 
 /// The pins of a configuration.
 pub fn read_pins(alloc: Global, table: Option<&Table>) -> Result<PinLists, ConfigFault>
-    ensures { Gives pin_view result (spec.pins_in (option_map (λ t. table_view t.now) table.entry)) }
+    ensures { Gives pin_view result
+        (spec.pins_in (option_map (λ t. table_view t.now) table.entry)) }
 {
     match table {
         Some(table) => pins_of(alloc, Section::Pins, table),
@@ -33,7 +34,9 @@ pub fn read_pins(alloc: Global, table: Option<&Table>) -> Result<PinLists, Confi
 
 /// The pins of a table.
 fn pins_of(alloc: Global, section: Section, table: &Table) -> Result<PinLists, ConfigFault>
-    ensures { Gives pin_view result (section_at section spec.pin_names (table_view table.now) (pin_table_at (table_view table.now))) }
+    ensures { Gives pin_view result
+        (section_at section spec.pin_names (table_view table.now)
+        (pin_table_at (table_view table.now))) }
 {
     if !are_known(table, &NAMES) {
         return Err(fault_of_section(alloc, section, ConfigKind::UnknownKey));

@@ -21,13 +21,15 @@ impl<'a> Load<'a> {
 
     /// The load of a program's name.
     pub fn find(loads: &[Load<'a>], name: &[u8]) -> Option<Load<'a>>
-        ensures { option_map loaded_of result ≡ spec.find_loaded name.now (map loaded_of loads.now) }
+        ensures { option_map loaded_of result
+            ≡ spec.find_loaded name.now (map loaded_of loads.now) }
     {
         Self::first(loads, name).copied()
     }
 
     fn first<'b>(loads: &'b [Load<'a>], name: &[u8]) -> Option<&'b Load<'a>>
-        ensures { option_copied result ≡ find (λ l. bytes_eq l.program.now.name name.now) loads.now }
+        ensures { option_copied result
+            ≡ find (λ l. bytes_eq l.program.now.name name.now) loads.now }
     {
         loads
             .iter()
@@ -44,7 +46,8 @@ impl<'a> Load<'a> {
 
     /// The load that covers an address.
     pub fn at(loads: &[Load<'a>], address: u8) -> Option<Load<'a>>
-        ensures { option_map loaded_of result ≡ find (λ l. covers l address) (map loaded_of loads.now) }
+        ensures { option_map loaded_of result
+            ≡ find (λ l. covers l address) (map loaded_of loads.now) }
     {
         Self::first_at(loads, address).copied()
     }

@@ -39,7 +39,8 @@ impl<'a> Running<'a> {
 
     /// The machine's number, which no table before has.
     fn id(table: &Table, machines: &[Option<MachineSetup>; 4]) -> Result<u8, Lack>
-        ensures value { seen (λ n. n) result ≡ spec.id_at (map (option_map keys_of_machine) machines.now) (table_view table.now) }
+        ensures value { seen (λ n. n) result
+            ≡ spec.id_at (map (option_map keys_of_machine) machines.now) (table_view table.now) }
         ensures in_block { IfOk result (λ n. n < 4) }
     {
         let id = number_at(table, &ID_KEY)? as u8;
@@ -54,7 +55,8 @@ impl<'a> Running<'a> {
 
     /// The load of the program that it runs.
     fn load(table: &Table, loads: &[Load<'a>]) -> Result<Load<'a>, Lack>
-        ensures { seen loaded_of result ≡ spec.load_at (map loaded_of loads.now) (table_view table.now) }
+        ensures { seen loaded_of result
+            ≡ spec.load_at (map loaded_of loads.now) (table_view table.now) }
     {
         let loaded = match text_of(value_at(table, "program")) {
             Ok(name) => Self::named(loads, name),
@@ -68,7 +70,8 @@ impl<'a> Running<'a> {
 
     /// The load of this name.
     fn named(loads: &[Load<'a>], name: Option<&str>) -> Result<Load<'a>, ConfigKind>
-        ensures { map_ok loaded_of result ≡ spec.named_load (map loaded_of loads.now) (option_map (λ n. n.now) name.entry) }
+        ensures { map_ok loaded_of result
+            ≡ spec.named_load (map loaded_of loads.now) (option_map (λ n. n.now) name.entry) }
     {
         let Some(name) = name else {
             return Err(ConfigKind::Missing);
@@ -81,7 +84,8 @@ impl<'a> Running<'a> {
 
     /// The address of its first instruction.
     fn start(table: &Table, load: &Load<'a>) -> Result<u8, Lack>
-        ensures value { seen (λ n. n) result ≡ spec.start_at (loaded_of load.now) (table_view table.now) }
+        ensures value { seen (λ n. n) result
+            ≡ spec.start_at (loaded_of load.now) (table_view table.now) }
         ensures in_memory { IfOk result (λ n. n < 32) }
     {
         let place = match text_of(value_at(table, "start")) {
@@ -104,7 +108,9 @@ impl<'a> Running<'a> {
         loads: &[Load<'a>],
         machines: &[Option<MachineSetup>; 4],
     ) -> Result<Self, Lack>
-        ensures { seen run_view result ≡ spec.run_at (map (option_map keys_of_machine) machines.now) (map loaded_of loads.now) (table_view table.now) }
+        ensures { seen run_view result
+            ≡ spec.run_at (map (option_map keys_of_machine) machines.now) (map loaded_of loads.now)
+            (table_view table.now) }
     {
         let id = Self::id(table, machines)?;
         let load = Self::load(table, loads)?;

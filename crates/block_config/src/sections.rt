@@ -73,7 +73,8 @@ fn spans_at<'t>(table: &'t Table) -> Result<&'t [Value], Lack>
 
 /// The table of pins.
 fn pins_at<'t>(table: &'t Table) -> Result<Option<&'t Table>, Lack>
-    ensures { seen (option_map (λ t. table_view t.now)) result ≡ spec.pins_at (table_view table.entry.now) }
+    ensures { seen (option_map (λ t. table_view t.now)) result
+        ≡ spec.pins_at (table_view table.entry.now) }
 {
     match value_at(table, "pins") {
         Some(value) => match value.as_table() {
@@ -89,7 +90,8 @@ fn pins_at<'t>(table: &'t Table) -> Result<Option<&'t Table>, Lack>
 
 /// The array of tables of a key.
 fn tables_at<'t>(table: &'t Table, key: &'static str) -> Result<&'t [Value], Lack>
-    ensures { seen (λ vs. items_view vs.now) result ≡ spec.tables_at (table_view table.entry.now) key.entry.now }
+    ensures { seen (λ vs. items_view vs.now) result
+        ≡ spec.tables_at (table_view table.entry.now) key.entry.now }
 {
     match tables_of(value_at(table, key)) {
         Ok(tables) => Ok(tables),
@@ -99,7 +101,8 @@ fn tables_at<'t>(table: &'t Table, key: &'static str) -> Result<&'t [Value], Lac
 
 /// The tables of a value, none where it is absent.
 fn tables_of<'t>(value: Option<&'t Value>) -> Result<&'t [Value], ConfigKind>
-    ensures { map_ok (λ vs. items_view vs.now) result ≡ spec.tables_of (option_map (λ v. view v.now) value.entry) }
+    ensures { map_ok (λ vs. items_view vs.now) result
+        ≡ spec.tables_of (option_map (λ v. view v.now) value.entry) }
 {
     match value {
         Some(value) => match value.as_array() {
@@ -112,7 +115,8 @@ fn tables_of<'t>(value: Option<&'t Value>) -> Result<&'t [Value], ConfigKind>
 
 /// The tables of an array.
 fn tables_in<'t>(values: &'t [Value]) -> Result<&'t [Value], ConfigKind>
-    ensures { map_ok (λ vs. items_view vs.now) result ≡ spec.tables_in (Some (items_view values.entry.now)) }
+    ensures { map_ok (λ vs. items_view vs.now) result
+        ≡ spec.tables_in (Some (items_view values.entry.now)) }
 {
     if all_tables(values) {
         Ok(values)

@@ -68,7 +68,9 @@ impl EndValues {
 
     /// The machine, which has to be configured.
     fn machine(table: &Table, machines: &[Option<MachineSetup>; 4]) -> Result<u8, Lack>
-        ensures value { seen (λ n. n) result ≡ spec.machine_at (map (option_map keys_of_machine) machines.now) (table_view table.now) }
+        ensures value { seen (λ n. n) result
+            ≡ spec.machine_at (map (option_map keys_of_machine) machines.now)
+            (table_view table.now) }
         ensures in_block { IfOk result (λ n. n < 4) }
     {
         let id = number_at(table, &MACHINE_KEY)? as u8;
@@ -114,7 +116,8 @@ impl EndValues {
     /// The machine, the pins and the edges of a table.
     #[tactic(auto, unfolding(crate::specs::Tables::each_at))]
     pub fn read(table: &Table, machines: &[Option<MachineSetup>; 4]) -> Result<Self, Lack>
-        ensures { seen ends_view result ≡ spec.ends_at (map (option_map keys_of_machine) machines.now) (table_view table.now) }
+        ensures { seen ends_view result
+            ≡ spec.ends_at (map (option_map keys_of_machine) machines.now) (table_view table.now) }
     {
         let machine = Self::machine(table, machines)?;
         let pins = numbers_at(table, &PIN_KEYS)?;

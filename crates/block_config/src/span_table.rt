@@ -31,7 +31,9 @@ impl SpanValues {
 
     /// The load of the program that a machine runs.
     fn load_of<'a>(loads: &[Load<'a>], machine: &Option<MachineSetup>) -> Option<Load<'a>>
-        ensures { option_map loaded_of result ≡ spec.load_of_machine (map loaded_of loads.now) (option_map keys_of_machine machine.now) }
+        ensures { option_map loaded_of result
+            ≡ spec.load_of_machine (map loaded_of loads.now)
+            (option_map keys_of_machine machine.now) }
     {
         match machine {
             Some(machine) => Load::at(loads, machine.start),
@@ -45,7 +47,9 @@ impl SpanValues {
         machines: &[Option<MachineSetup>; 4],
         loads: &[Load],
     ) -> Result<Self, Lack>
-        ensures { seen values_view result ≡ spec.values_at (map (option_map keys_of_machine) machines.now) (map loaded_of loads.now) (table_view table.now) }
+        ensures { seen values_view result
+            ≡ spec.values_at (map (option_map keys_of_machine) machines.now)
+            (map loaded_of loads.now) (table_view table.now) }
     {
         let ends = EndValues::read(table, machines)?;
         let bounds = BoundValues::read(table)?;

@@ -39,7 +39,9 @@ pub fn read_spans(
     loads: &[Load],
     values: &[Value],
 ) -> Result<Vec<Span>, ConfigFault>
-    ensures { Gives (λ v. map keys_of_span v.items) result (spec.all_spans (map (option_map keys_of_machine) machines.now) (map loaded_of loads.now) (items_view values.now)) }
+    ensures { Gives (λ v. map keys_of_span v.items) result
+        (spec.all_spans (map (option_map keys_of_machine) machines.now) (map loaded_of loads.now)
+        (items_view values.now)) }
 {
     let mut spans = Vec::new(alloc);
     for place in 0..values.len() {
@@ -59,7 +61,9 @@ fn span_in(
     loads: &[Load],
     value: &Value,
 ) -> Result<Span, ConfigFault>
-    ensures { Gives keys_of_span result (spec.span_in (map (option_map keys_of_machine) machines.now) (map loaded_of loads.now) place [] (view value.now)) }
+    ensures { Gives keys_of_span result
+        (spec.span_in (map (option_map keys_of_machine) machines.now) (map loaded_of loads.now)
+        place [] (view value.now)) }
 {
     match value.as_table() {
         Some(table) => span_at(alloc, Section::Span(place), machines, loads, table),
@@ -75,7 +79,9 @@ fn span_at(
     loads: &[Load],
     table: &Table,
 ) -> Result<Span, ConfigFault>
-    ensures { Gives keys_of_span result (section_at section spec.span_names (table_view table.now) (spec.span_of_table (map (option_map keys_of_machine) machines.now) (map loaded_of loads.now) (table_view table.now))) }
+    ensures { Gives keys_of_span result
+        (section_at section spec.span_names (table_view table.now)
+        (spec.span_of_table (map (option_map keys_of_machine) machines.now) (map loaded_of loads.now) (table_view table.now))) }
 {
     if !are_known(table, &NAMES) {
         return Err(fault_of_section(alloc, section, ConfigKind::UnknownKey));

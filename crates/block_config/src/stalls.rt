@@ -25,7 +25,8 @@ pub fn stalls_at(
     unit: SpanUnit,
     load: Option<Load>,
 ) -> Result<ArrayVec<u8, 16>, Lack>
-    ensures value { seen (λ v. v.items) result ≡ spec.stalls_at unit (option_map loaded_of load.entry) (table_view table.now) }
+    ensures value { seen (λ v. v.items) result
+        ≡ spec.stalls_at unit (option_map loaded_of load.entry) (table_view table.now) }
     ensures in_memory { IfOk result (λ v. IsTrue (are_addresses v.items)) }
     ensures in_ticks { IfOk result (λ v. IsTrue (is_in_ticks unit || length v.items == 0)) }
 {
@@ -44,7 +45,9 @@ fn stalls_of(
     unit: SpanUnit,
     load: Option<Load>,
 ) -> Result<ArrayVec<u8, 16>, ConfigKind>
-    ensures value { map_ok (λ v. v.items) result ≡ spec.stalls_of unit (option_map loaded_of load.entry) (option_map (λ v. view v.now) value.entry) }
+    ensures value { map_ok (λ v. v.items) result
+        ≡ spec.stalls_of unit (option_map loaded_of load.entry)
+        (option_map (λ v. view v.now) value.entry) }
     ensures in_memory { IfOk result (λ v. IsTrue (are_addresses v.items)) }
     ensures in_ticks { IfOk result (λ v. IsTrue (is_in_ticks unit || length v.items == 0)) }
 {
@@ -63,7 +66,8 @@ fn stalls_in(
     unit: SpanUnit,
     load: Option<Load>,
 ) -> Result<ArrayVec<u8, 16>, ConfigKind>
-    ensures value { map_ok (λ v. v.items) result ≡ spec.stalls_in unit (option_map loaded_of load.entry) (Some (items_view values.now)) }
+    ensures value { map_ok (λ v. v.items) result
+        ≡ spec.stalls_in unit (option_map loaded_of load.entry) (Some (items_view values.now)) }
     ensures in_memory { IfOk result (λ v. IsTrue (are_addresses v.items)) }
     ensures in_ticks { IfOk result (λ v. IsTrue (is_in_ticks unit || length v.items == 0)) }
 {
@@ -107,7 +111,8 @@ fn are_texts(values: &[Value]) -> bool
 /// The addresses of all elements.
 fn stall_addresses(values: &[Value], load: Option<Load>) -> Result<ArrayVec<u8, 16>, ConfigKind>
     requires { count_items (items_view values.now) ≤ 16 }
-    ensures value { map_ok (λ v. v.items) result ≡ spec.stall_addresses (option_map loaded_of load.entry) (items_view values.now) }
+    ensures value { map_ok (λ v. v.items) result
+        ≡ spec.stall_addresses (option_map loaded_of load.entry) (items_view values.now) }
     ensures in_memory { IfOk result (λ v. IsTrue (are_addresses v.items)) }
     ensures count { IfOk result (λ v. length v.items ≡ count_items (items_view values.now)) }
 {
@@ -123,7 +128,8 @@ fn stall_addresses(values: &[Value], load: Option<Load>) -> Result<ArrayVec<u8, 
 
 /// The address of an element.
 fn stall_of(load: Option<Load>, value: &Value) -> Result<u8, ConfigKind>
-    ensures value { result ≡ spec.stall_of (option_map loaded_of load.entry) (as_str (view value.now)) }
+    ensures value { result
+        ≡ spec.stall_of (option_map loaded_of load.entry) (as_str (view value.now)) }
     ensures in_memory { IfOk result (λ a. a < 32) }
 {
     match value.as_str() {

@@ -24,14 +24,16 @@ pub struct Lack {
 
 /// The value at a key, if the table has the key.
 pub fn value_at<'a>(table: &'a Table, key: &str) -> Option<&'a Value>
-    ensures { option_map (λ v. view v.now) result ≡ get_member key.now (table_view table.entry.now) }
+    ensures { option_map (λ v. view v.now) result
+        ≡ get_member key.now (table_view table.entry.now) }
 {
     table.get(key)
 }
 
 /// The number of a key.
 pub fn number_at(table: &Table, key: &NumberKey) -> Result<u32, Lack>
-    ensures value { seen (λ n. n) result ≡ spec.number_at (table_view table.now) (described key.now) }
+    ensures value { seen (λ n. n) result
+        ≡ spec.number_at (table_view table.now) (described key.now) }
     ensures low { IfOk result (λ n. key.now.low ≤ n) }
     ensures high { IfOk result (λ n. n ≤ key.now.high) }
 {
@@ -60,7 +62,8 @@ pub fn flag_at(table: &Table, key: &FlagKey) -> Result<bool, Lack>
 /// The numbers of keys in order, or the first fault.
 pub fn numbers_at(table: &Table, keys: &[NumberKey]) -> Result<ArrayVec<u32, 8>, Lack>
     requires { length keys.now ≤ 8 }
-    ensures value { seen (λ v. v.items) result ≡ each_at (spec.number_at (table_view table.now)) (map described keys.now) }
+    ensures value { seen (λ v. v.items) result
+        ≡ each_at (spec.number_at (table_view table.now)) (map described keys.now) }
     ensures count { IfOk result (λ v. length v.items ≡ length keys.now) }
     ensures within { IfOk result (λ v. AreWithin 0 (map described keys.now) v.items) }
 {
@@ -77,7 +80,8 @@ pub fn numbers_at(table: &Table, keys: &[NumberKey]) -> Result<ArrayVec<u32, 8>,
 /// The flags of keys in order, or the first fault.
 pub fn flags_at(table: &Table, keys: &[FlagKey]) -> Result<ArrayVec<bool, 8>, Lack>
     requires { length keys.now ≤ 8 }
-    ensures value { seen (λ v. v.items) result ≡ each_at (spec.flag_at (table_view table.now)) (map flag_described keys.now) }
+    ensures value { seen (λ v. v.items) result
+        ≡ each_at (spec.flag_at (table_view table.now)) (map flag_described keys.now) }
     ensures count { IfOk result (λ v. length v.items ≡ length keys.now) }
 {
     let mut flags = ArrayVec::new();
@@ -99,7 +103,9 @@ pub fn are_known(table: &Table, names: &[&str]) -> bool
 
 /// Whether each key is one of these.
 fn all_among(table: &Table, names: &[&str]) -> bool
-    ensures { result ≡ list_all (λ k. list_any (λ n. bytes_eq (string_bytes k) n.now) names.now) (keys_of table.now.entries) }
+    ensures { result
+        ≡ list_all (λ k. list_any (λ n. bytes_eq (string_bytes k) n.now) names.now)
+        (keys_of table.now.entries) }
 {
     table.keys().all(|key| is_among(names, key.as_str()))
 }

@@ -11,7 +11,8 @@ use toml::Value;
 
 /// A number, or its default where it is absent.
 pub fn number_of(key: &NumberKey, value: Option<&Value>) -> Result<u32, ConfigKind>
-    ensures value { result ≡ spec.number_of (described key.now) (option_map (λ v. view v.now) value.entry) }
+    ensures value { result
+        ≡ spec.number_of (described key.now) (option_map (λ v. view v.now) value.entry) }
     ensures low { IfOk result (λ n. key.now.low ≤ n) }
     ensures high { IfOk result (λ n. n ≤ key.now.high) }
 {
@@ -47,7 +48,8 @@ fn in_range(low: u32, high: u32, number: i64) -> Result<u32, ConfigKind>
 
 /// A flag, or its default where it is absent.
 pub fn flag_of(key: &FlagKey, value: Option<&Value>) -> Result<bool, ConfigKind>
-    ensures { result ≡ spec.flag_of (flag_described key.now) (option_map (λ v. view v.now) value.entry) }
+    ensures { result
+        ≡ spec.flag_of (flag_described key.now) (option_map (λ v. view v.now) value.entry) }
 {
     match value {
         Some(value) => value.as_bool().ok_or(ConfigKind::WrongType),
@@ -57,7 +59,8 @@ pub fn flag_of(key: &FlagKey, value: Option<&Value>) -> Result<bool, ConfigKind>
 
 /// A text; `None` where it is absent.
 pub fn text_of<'a>(value: Option<&'a Value>) -> Result<Option<&'a str>, ConfigKind>
-    ensures { map_ok (option_map (λ t. t.now)) result ≡ spec.text_of (option_map (λ v. view v.now) value.entry) }
+    ensures { map_ok (option_map (λ t. t.now)) result
+        ≡ spec.text_of (option_map (λ v. view v.now) value.entry) }
 {
     match value {
         Some(value) => match value.as_str() {

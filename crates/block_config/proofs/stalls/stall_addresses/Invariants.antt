@@ -1,4 +1,4 @@
-use Rattle.std.proofs.Common.{◌≡◌, ℕ, IsTrue, [], length, map, drop, option_map}
+use Rattle.std.proofs.Common.{◌≡◌, ℕ, IsTrue, length, map, drop, option_map}
 use Rattle.pin_matrix.specs.Spans.{are_addresses}
 use Rattle.toml.specs.Data.{as_str}
 use Rattle.toml.specs.View.{items_view}

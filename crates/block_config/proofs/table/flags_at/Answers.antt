@@ -1,7 +1,7 @@
 use Rattle.std.proofs.Common.{refl, sym, arith}
 use Rattle.toml.specs.View.{table_view}
 use Rattle.block_config.specs.Keys.{flag_described}
-use Rattle.block_config.specs.Tables.{each_at, flag_at, refusal_of}
+use Rattle.block_config.specs.Tables.{flag_at, refusal_of}
 use Rattle.block_config.proofs.Each.{each_more, each_fails, each_ends}
 use Rattle.block_config.proofs.table.flags_at.Goals as goal
 

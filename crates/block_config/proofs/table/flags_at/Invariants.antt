@@ -1,4 +1,4 @@
-use Rattle.std.proofs.Common.{◌≡◌, ℕ, length, map, drop}
+use Rattle.std.proofs.Common.{◌≡◌, length, map, drop}
 use Rattle.toml.specs.View.{table_view}
 use Rattle.block_config.specs.Keys.{flag_described}
 use Rattle.block_config.specs.Tables.{each_at, flag_at}

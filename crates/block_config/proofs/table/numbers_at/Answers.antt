@@ -1,7 +1,7 @@
 use Rattle.std.proofs.Common.{[], refl, sym, arith}
 use Rattle.toml.specs.View.{table_view}
 use Rattle.block_config.specs.Keys.{described}
-use Rattle.block_config.specs.Tables.{each_at, number_at, refusal_of}
+use Rattle.block_config.specs.Tables.{number_at, refusal_of}
 use Rattle.block_config.proofs.Each.{each_more, each_fails, each_ends}
 use Rattle.block_config.proofs.Ranges.{are_within}
 use Rattle.block_config.proofs.table.numbers_at.Goals as goal
