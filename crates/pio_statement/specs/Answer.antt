@@ -12,7 +12,6 @@ abbrev pub Read : Type 0 → Type 0
 Read X = Result (X × ℕ) StatementKind
 
 infixl 10 ◌>>=◌
-
 -- what is read behind a value, unless there is a fault
 abbrev pub ◌>>=◌ : {X Y : Type 0} → Result X StatementKind → (X → Result Y StatementKind) → Result Y StatementKind
 (Ok x) >>= next = next x
