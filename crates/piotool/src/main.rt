@@ -10,6 +10,10 @@ mod fetch;
 mod rows;
 #[cfg(test)]
 mod rows_config;
+#[cfg(test)]
+mod rows_machine;
+#[cfg(test)]
+mod rows_sources;
 mod run;
 mod setup;
 mod source;

@@ -10,8 +10,8 @@ pub enum Text {
     Start(usize),
     /// The header, the first sample with direction 0 up and all else 0, and these lines behind it.
     Run(&'static str),
-    /// The same with these values of one bit up, by their identifiers.
-    From(&'static str, &'static str),
+    /// The same with these lines in the first sample, and all else 0.
+    From(&'static [&'static str], &'static str),
     /// The header and `#0`.
     NoClocks,
     /// These lines.
@@ -133,16 +133,16 @@ pub static ROWS: [Row; 38] = [
         err: "piotool: out\n",
     },
     Row {
-        name: "an instruction that isn't there yet",
+        name: "a line that is no statement",
         words: RUN_8,
-        source: Some(".program p\nnop\n"),
+        source: Some(".program p\nnop nop\n"),
         config: None,
         stimulus: None,
         out_fails: &[],
         err_fails: &[],
         status: 1,
         out: Text::Nothing,
-        err: "piotool: source line 0: S1\n",
+        err: "piotool: source line 2: S1\n",
     },
     Row {
         name: "an empty source",
@@ -154,7 +154,7 @@ pub static ROWS: [Row; 38] = [
         err_fails: &[],
         status: 1,
         out: Text::Nothing,
-        err: "piotool: source line 0: S1\n",
+        err: "piotool: config default: C5\n",
     },
     Row {
         name: "no source",
@@ -448,7 +448,7 @@ pub static ROWS: [Row; 38] = [
         err_fails: &[],
         status: 1,
         out: Text::Nothing,
-        err: "piotool: source line 0: S1\n",
+        err: "piotool: source line 1: S2\n",
     },
     Row {
         name: "a clock below the one before",
@@ -522,7 +522,7 @@ pub static ROWS: [Row; 38] = [
         err_fails: &[],
         status: 1,
         out: Text::Nothing,
-        err: "piotool: source line 0: S1\n",
+        err: "piotool: source line 1: S2\n",
     },
     Row {
         name: "a listing whose second piece fails with two bytes taken",

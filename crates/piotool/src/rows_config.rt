@@ -32,7 +32,7 @@ pub static CONFIGURED: [Row; 18] = [
         out_fails: &[],
         err_fails: &[],
         status: 0,
-        out: Text::From("!", "#2\n0!\n#5\n1!\n#7\n0!\n#10\n1!\n#11\n"),
+        out: Text::From(&["1!"], "#2\n0!\n#5\n1!\n#7\n0!\n#10\n1!\n#11\n"),
         err: "",
     },
     Row {
@@ -48,7 +48,7 @@ pub static CONFIGURED: [Row; 18] = [
         out_fails: &[],
         err_fails: &[],
         status: 0,
-        out: Text::From("!", "#65536\n0!\n#65537\n"),
+        out: Text::From(&["1!"], "#65536\n0!\n#65537\n"),
         err: "",
     },
     Row {
@@ -155,7 +155,7 @@ pub static CONFIGURED: [Row; 18] = [
         out_fails: &[],
         err_fails: &[],
         status: 0,
-        out: Text::From("!\"%E", "#2\n0%\n#4\n"),
+        out: Text::From(&["1!", "1\"", "1%", "1E"], "#2\n0%\n#4\n"),
         err: "",
     },
     Row {
@@ -169,7 +169,7 @@ pub static CONFIGURED: [Row; 18] = [
         out_fails: &[],
         err_fails: &[],
         status: 0,
-        out: Text::From("", "#3\n"),
+        out: Text::From(&[], "#3\n"),
         err: "",
     },
     Row {
@@ -267,7 +267,7 @@ pub static CONFIGURED: [Row; 18] = [
         err_fails: &[],
         status: 1,
         out: Text::Nothing,
-        err: "piotool: source line 0: S1\n",
+        err: "piotool: source line 1: S2\n",
     },
     Row {
         name: "no such configuration",

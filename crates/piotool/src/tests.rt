@@ -3,6 +3,8 @@ ghost use Rattle.std.specs.Prelude.{◌≡◌};
 
 use crate::rows::{ROWS, Row, Text};
 use crate::rows_config::CONFIGURED;
+use crate::rows_machine::MACHINES;
+use crate::rows_sources::SOURCES;
 use crate::top::piotool;
 use pio_edge::{MemShelf, MemSink};
 use std::alloc::{AllocError, Global};
@@ -14,7 +16,8 @@ use step_count::Steps;
 #[test]
 fn ends_as_worked_out(rt: HostRuntime) -> Result<(), Fail> {
     let alloc = rt.alloc();
-    for row in ROWS.iter().chain(&CONFIGURED) {
+    let rows = ROWS.iter().chain(&CONFIGURED).chain(&MACHINES);
+    for row in rows.chain(&SOURCES) {
         let name = row.name;
         let (status, out, err) = seen_of::<Brand>(alloc, row, Blank::new(1))?;
         let want = text_of(alloc, &row.out)?;
@@ -60,8 +63,8 @@ fn text_of(alloc: Global, text: &Text) -> Result<String, AllocError> {
     match text {
         Text::Nothing => Ok(String::new(alloc)),
         Text::Start(count) => start_of(alloc, *count),
-        Text::Run(rest) => run_text(alloc, "A", rest),
-        Text::From(ones, rest) => run_text(alloc, ones, rest),
+        Text::Run(rest) => run_text(alloc, &["1A"], rest),
+        Text::From(first, rest) => run_text(alloc, first, rest),
         Text::NoClocks => header(alloc),
         Text::Lines(lines) => String::from_str(alloc, lines),
     }
@@ -100,18 +103,16 @@ fn header(alloc: Global) -> Result<String, AllocError> {
     Ok(text)
 }
 
-/// A run whose first sample has these values of one bit up and all else 0.
-fn run_text(alloc: Global, ones: &str, rest: &str) -> Result<String, AllocError> {
+/// A run whose first sample has these values and all else 0.
+fn run_text(alloc: Global, first: &[&str], rest: &str) -> Result<String, AllocError> {
     let mut text = header(alloc)?;
     text.push_str("$dumpvars\n")?;
     for id in b'!'..=b'x' {
         let place = char::from(id);
-        let line = if ones.as_bytes().contains(&id) {
-            format!(in alloc; "1{place}\n")?
-        } else if id <= b'h' {
-            format!(in alloc; "0{place}\n")?
-        } else {
-            format!(in alloc; "b0 {place}\n")?
+        let line = match first.iter().find(|line| line.ends_with(place)) {
+            Some(line) => format!(in alloc; "{line}\n")?,
+            None if id <= b'h' => format!(in alloc; "0{place}\n")?,
+            None => format!(in alloc; "b0 {place}\n")?,
         };
         text.push_str(line.as_str())?;
     }
