@@ -4,7 +4,8 @@ use Rattle.std.specs.FinMap.{get}
 use Rattle.pio_edge.specs.Edge.{Files, Rose}
 use Rattle.vcd_trace.specs.VcdText.{vcd_text}
 use Rattle.pio_assemble.specs.Program.{Assembled}
-use Rattle.pio_assemble.specs.Source.{Refusal, reads_source}
+use Rattle.pio_assemble.specs.Answers.{Refusal}
+use Rattle.pio_assemble.specs.Source.{reads_source}
 use Rattle.piotool.specs.declared.fault.File.{File}
 use Rattle.piotool.specs.declared.fault.File.TheVariants as file
 use Rattle.piotool.specs.declared.fault.Fault.{Fault}

@@ -2,7 +2,7 @@
 use Rattle.std.specs.Prelude.{◌≡◌, ℕ, ◌⊎◌, ◌++◌, Option, Some, None, List, codes, decimal}
 use Rattle.pio_edge.specs.Edge.{Rose, with_bytes, TakesPrefix}
 use Rattle.pio_assemble.specs.declared.fault.SourceKind.{SourceKind}
-use Rattle.pio_assemble.specs.Fault.{code_of}
+use Rattle.pio_assemble.specs.Fault.{kind_text as source_text}
 use Rattle.block_config.specs.declared.fault.ConfigKind.{ConfigKind}
 use Rattle.block_config.specs.Fault.{kind_text}
 use Rattle.word_file.specs.declared.fault.WordKind.{WordKind}
@@ -42,7 +42,7 @@ shelf_line role = codes "piotool: shelf " ++ file_word role ++ codes "\n"
 abbrev pub long_line : File → List ℕ
 long_line role = codes "piotool: long " ++ file_word role ++ codes "\n"
 
--- a line that tells a place: what stands in front of its number, the number, and a code
+-- a line that tells a place: what stands in front of its number, the number, and a fault's text
 abbrev pub line_fault : List ℕ → ℕ → List ℕ → List ℕ
 line_fault front line code = front ++ decimal line ++ codes ": " ++ code ++ codes "\n"
 
@@ -50,9 +50,13 @@ line_fault front line code = front ++ decimal line ++ codes ": " ++ code ++ code
 abbrev pub words_line : ℕ → WordKind → List ℕ
 words_line line kind = line_fault (codes "piotool: words line ") line (word_code kind)
 
+-- the line of a source's fault, with this text behind its number
+abbrev pub source_fault : ℕ → List ℕ → List ℕ
+source_fault line text = line_fault (codes "piotool: source line ") line text
+
 -- the line of a source's fault
 abbrev pub source_line : ℕ → SourceKind → List ℕ
-source_line line kind = line_fault (codes "piotool: source line ") line (code_of kind)
+source_line line kind = source_fault line (source_text kind)
 
 -- the line of a key of the configuration, with this text behind it
 abbrev pub key_line : List ℕ → List ℕ → List ℕ

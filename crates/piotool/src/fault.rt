@@ -30,7 +30,7 @@ pub enum Fault {
     TooLong(File),
     /// The first fault of a file of words: its line, from 1 on, and its kind.
     Words(usize, WordKind),
-    /// The first fault of the source: its line, from 1 on and 0 where no place is told, and its kind.
+    /// The first fault of the source: its line, from 1 on, and its kind.
     Source(usize, SourceKind),
     /// The first fault of the configuration, or of the setup without one: the path of its key, and its kind.
     Config(Name, ConfigKind),

@@ -1,5 +1,5 @@
 //! How an end is told: its status, and its line on the standard error (choice of this profile).
-ghost use Rattle.std.specs.Prelude.{◌≡◌};
+ghost use Rattle.std.specs.Prelude.{◌≡◌, ◌++◌};
 ghost use Rattle.pio_edge.specs.Edge.{Takes, PutCounts};
 ghost use Rattle.piotool.specs.Told as spec;
 ghost use Rattle.piotool.specs.Told.{fault_line, file_word};
@@ -8,7 +8,7 @@ use crate::fault::{Fault, File};
 use block_config::ConfigKind;
 use dreq_pacing::StimKind;
 use itoa::Buffer;
-use pio_assemble::SourceKind;
+use pio_assemble::{Quantity, SourceKind};
 use pio_edge::{Sink, SinkFailed, put_all};
 use word_file::WordKind;
 
@@ -92,12 +92,68 @@ fn put_words_fault<E: Sink>(err: &mut E, line: usize, kind: WordKind) -> Result<
     put_line_fault(err, "piotool: words line ", line, kind.code())
 }
 
-/// Puts the line of a source's fault.
+/// Puts the line of a source's fault: its code, and behind it a name, or a number's word and its value.
 fn put_source_fault<E: Sink>(err: &mut E, line: usize, kind: &SourceKind) -> Result<(), SinkFailed>
     ensures bytes { Takes (E.taken err.old) (spec.source_line line kind.now) (E.taken err.new) result }
     ensures cause { PutCounts (E.faults err.old) (E.faults err.new) result }
 {
-    put_line_fault(err, "piotool: source line ", line, kind.code())
+    match kind {
+        SourceKind::Duplicate(name) => put_named_fault(err, line, "S5 ", name.as_bytes()),
+        SourceKind::Unknown(name) => put_named_fault(err, line, "V1 ", name.as_bytes()),
+        SourceKind::Cycle(name) => put_named_fault(err, line, "V2 ", name.as_bytes()),
+        SourceKind::Range { what, value } => put_range_fault(err, line, *what, *value),
+        other => put_line_fault(err, "piotool: source line ", line, other.code()),
+    }
+}
+
+/// Puts the line of a source's fault that tells a name.
+fn put_named_fault<E: Sink>(
+    err: &mut E,
+    line: usize,
+    code: &str,
+    name: &[u8],
+) -> Result<(), SinkFailed>
+    ensures bytes { Takes (E.taken err.old) (spec.source_fault line (code.now ++ name.now)) (E.taken err.new) result }
+    ensures cause { PutCounts (E.faults err.old) (E.faults err.new) result }
+{
+    let mut number = Buffer::new();
+    put_all(
+        err,
+        &[
+            "piotool: source line ".as_bytes(),
+            number.format(line).as_bytes(),
+            ": ".as_bytes(),
+            code.as_bytes(),
+            name,
+            "\n".as_bytes(),
+        ],
+    )
+}
+
+/// Puts the line of a number out of its range.
+fn put_range_fault<E: Sink>(
+    err: &mut E,
+    line: usize,
+    what: Quantity,
+    value: i32,
+) -> Result<(), SinkFailed>
+    ensures bytes { Takes (E.taken err.old) (spec.source_line line (SourceKind.Range what value)) (E.taken err.new) result }
+    ensures cause { PutCounts (E.faults err.old) (E.faults err.new) result }
+{
+    let mut number = Buffer::new();
+    let mut digits = Buffer::new();
+    put_all(
+        err,
+        &[
+            "piotool: source line ".as_bytes(),
+            number.format(line).as_bytes(),
+            ": S7 ".as_bytes(),
+            what.text().as_bytes(),
+            " ".as_bytes(),
+            digits.format(value).as_bytes(),
+            "\n".as_bytes(),
+        ],
+    )
 }
 
 /// Puts the line of a configuration's fault: the path of its key, its code, and the address where two loads overlap.
