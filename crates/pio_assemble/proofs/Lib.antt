@@ -1,7 +1,6 @@
-pub mod Tokens
-pub mod Lines
-pub mod Form
-pub mod Scan
-pub mod Faults
-pub mod Digits
-pub mod Linking
+pub mod Naming
+pub mod Reading
+pub mod Lining
+pub mod Checking
+pub mod Scoping
+pub mod Programs

@@ -1,8 +1,9 @@
 pub mod Fault
 pub mod Program
-pub mod Tokens
-pub mod Statement
-pub mod Meaning
-pub mod Source
 pub mod Answers
-pub mod Values
+pub mod Lines
+pub mod Checks
+pub mod Rules
+pub mod Operands
+pub mod Drafts
+pub mod Source

@@ -1,109 +1,143 @@
--- What a source means: as a relation of its bytes and a program, and as a function that computes it.
-use Rattle.std.specs.Prelude.{◌≡◌, ℕ, ◌==◌, ◌≤◌, not, nat_lt, Bool, true, false, List, [], ◌∷◌, ◌++◌, length, map, filter, Option, Some, None, option_map, Result, Ok, Err, if◌then◌else◌, IsTrue}
-use Rattle.std.specs.List.{list_all, slice_split, join_with_byte, AllByRecursion}
+-- What a source means: its programs, or its first fault in one order (Pico SDK manual, section 3.3; the faults and their order are
+-- choices of this profile).
+--   scope_from       the symbols of lines, up to where the next program begins
+--   programs_from    the programs of lines, behind a program as far as it is read
+--   reads_source     the programs of a source, or its first fault: a byte that is no token's comes before any statement's fault, and
+--                    that before any fault of a value
+use Rattle.std.specs.Prelude.{ℕ, ◌+◌, min, Bool, true, false, if◌then◌else◌, is_some, List, [], ◌∷◌, ◌++◌, Option, Some, None, Result, Ok, Err}
+use Rattle.pio_lex.specs.declared.fault.LexKind.{LexKind}
+use Rattle.pio_lex.specs.declared.fault.LexKind.TheVariants as lex_kind
+use Rattle.pio_lex.specs.declared.fault.LexFault.{LexFault}
+use Rattle.pio_lex.specs.declared.fault.LexFault.TheVariants as lex_fault
+use Rattle.pio_lex.specs.declared.token.Token.{Token}
+use Rattle.pio_lex.specs.Reading.{reading_of}
+use Rattle.pio_expr.specs.declared.symbol.Symbol.{Symbol}
+use Rattle.pio_expr.specs.declared.symbol.Symbol.TheVariants as symbol
+use Rattle.pio_expr.specs.Values.{Scope, Found, found_in, present, no_symbols, with_symbol, begun as with_program}
+use Rattle.pio_statement.specs.declared.fault.StatementKind.{StatementKind}
+use Rattle.pio_statement.specs.declared.statement.Statement.{Statement}
+use Rattle.pio_statement.specs.declared.statement.Statement.TheVariants as statement
 use Rattle.pio_assemble.specs.declared.fault.SourceKind.{SourceKind}
-use Rattle.pio_assemble.specs.declared.fault.SourceKind.TheVariants.{Syntax}
-use Rattle.pio_assemble.specs.declared.token.Token.{Token}
-use Rattle.pio_assemble.specs.declared.statement.Statement.{Statement}
-use Rattle.pio_assemble.specs.declared.statement.Statement.TheVariants as statement
+use Rattle.pio_assemble.specs.declared.fault.SourceKind.TheVariants.{BadByte, BadNumber, OpenComment, OpenBlock}
+use Rattle.pio_assemble.specs.declared.fault.SourceFault.{SourceFault}
+use Rattle.pio_assemble.specs.declared.fault.SourceFault.TheVariants as source_fault
+use Rattle.pio_assemble.specs.declared.line.Line.{Line}
+use Rattle.pio_assemble.specs.Answers.{Refusal, ◌>>=◌, at_line}
+use Rattle.pio_assemble.specs.Checks.{nothing_before, first_fault}
+use Rattle.pio_assemble.specs.Drafts.{Draft, begun, drafted, finished}
+use Rattle.pio_assemble.specs.Lines.{lines_of, word_count}
 use Rattle.pio_assemble.specs.Program.{Assembled}
-use Rattle.pio_assemble.specs.Tokens.{IsTokens, tokens_of}
-use Rattle.pio_assemble.specs.Statement.{◌>>=◌, statement_of}
-use Rattle.pio_assemble.specs.Meaning.{word_count, symbols_from, are_distinct, value_of, words_of, program_with, meaning_of}
 
--- ---- the relation
+-- the name of the program that begins on a line, if one does
+abbrev pub program_by : Statement → Option (List ℕ)
+program_by (statement.Program name) = Some name
+program_by _ = None
 
--- newlines part the bytes into these lines
-pub record IsLines (bytes : List ℕ) (lines : List (List ℕ)) : Type 0 where
-  pub joined : bytes ≡ join_with_byte 10 lines
-  pub each : AllByRecursion (λ line. IsTrue (list_all (λ b. not (b == 10)) line)) lines
+abbrev pub program_on : Result Statement StatementKind → Option (List ℕ)
+program_on (Ok s) = program_by s
+program_on (Err kind) = None
 
--- each line has the tokens beside it
-abbrev pub AreTokens : List (List ℕ) → List (List Token) → Type 0
-AreTokens [] [] = Unit {0}
-AreTokens (line ∷ lines) (tokens ∷ others) = IsTokens line tokens × AreTokens lines others
-AreTokens _ _ = ⊥
+-- a symbol more, unless there is one of its name
+abbrev pub with_new_by : Found → Scope → List ℕ → Symbol → Scope
+with_new_by (Some found) scope name is = scope
+with_new_by None scope name is = with_symbol scope name is
 
--- a line that isn't blank
-abbrev pub has_tokens : List Token → Bool
-has_tokens [] = false
-has_tokens (token ∷ tokens) = true
+abbrev pub with_new : Scope → List ℕ → Symbol → Scope
+with_new scope name is = with_new_by (found_in 0 (present scope scope.program) name) scope name is
 
--- the bytes say these statements, one on each line that isn't blank
-pub record Says (bytes : List ℕ) (statements : List Statement) : Type 0 where
-  pub lines : List (List ℕ)
-  pub are_lines : IsLines bytes lines
-  pub tokens : List (List Token)
-  pub are_tokens : AreTokens lines tokens
-  pub are_statements : map statement_of (filter has_tokens tokens) ≡ map Some statements
+-- the symbols behind a statement, with so many words of its program before it
+abbrev pub scope_by : Scope → ℕ → Statement → Scope
+scope_by scope words (statement.Define public name items) = with_new scope name (symbol.Define items)
+scope_by scope words (statement.Label public name code) = with_new scope name (symbol.Label words)
+scope_by scope words _ = scope
 
--- The statements of a program mean this: it has 1 to 32 words and at most 1,024 labels, each with a name of
--- its own, and each jump goes to a label of a value up to 31.
-pub record Means (name : List ℕ) (body : List Statement) (p : Assembled) : Type 0 where
-  pub some_words : 1 ≤ word_count body
-  pub few_words : word_count body ≤ 32
-  pub few_labels : length (symbols_from 0 body) ≤ 1024
-  pub distinct : IsTrue (are_distinct (symbols_from 0 body))
-  pub words : List ℕ
-  pub are_words : words_of (value_of (symbols_from 0 body)) body ≡ Some words
-  pub whole : p ≡ program_with name (symbols_from 0 body) words
+abbrev pub scope_on : Scope → ℕ → Result Statement StatementKind → Scope
+scope_on scope words (Ok s) = scope_by scope words s
+scope_on scope words (Err kind) = scope
 
--- the bytes are a source in the form, and mean this program
-pub record IsSource (bytes : List ℕ) (p : Assembled) : Type 0 where
-  pub fits : length bytes ≤ 262144
-  pub name : List ℕ
-  pub body : List Statement
-  pub says : Says bytes (statement.Program name ∷ body)
-  pub means : Means name body p
+-- more words of a program, which has at most 32
+abbrev pub more_words : ℕ → ℕ → ℕ
+more_words words count = min (words + count) 32
 
--- ---- the function
+-- the words behind a statement
+abbrev pub words_by : ℕ → Statement → ℕ
+words_by words (statement.Label public name code) = more_words words (word_count code)
+words_by words (statement.Code code) = more_words words 1
+words_by words _ = words
 
--- where a source is faulty, and why
-pub record Refusal : Type 0 where
-  pub line : ℕ
-  pub kind : SourceKind
+abbrev pub words_on : ℕ → Result Statement StatementKind → ℕ
+words_on words (Ok s) = words_by words s
+words_on words (Err kind) = words
 
--- the statement that tokens are, none where the line is blank
-abbrev pub said_by : List Token → Option (List Statement)
-said_by [] = Some []
-said_by (token ∷ tokens) = option_map (λ s. s ∷ []) (statement_of (token ∷ tokens))
+-- a scope with the symbols of lines, up to where the next program begins, with so many words before them
+unfoldable pub scope_from : List Line → Scope → ℕ → Scope
+scope_from [] scope words = scope
+scope_from (l ∷ lines) scope words =
+    if is_some (program_on l.reading) then scope else scope_from lines (scope_on scope words l.reading) (words_on words l.reading)
 
--- the statement of a line's bytes
-unfoldable pub line_statement : List ℕ → Option (List Statement)
-line_statement line = do
-  tokens ← tokens_of line
-  said_by tokens
+-- the lines behind the one where the next program begins
+unfoldable pub behind_program : List Line → List Line
+behind_program [] = []
+behind_program (l ∷ lines) = if is_some (program_on l.reading) then lines else behind_program lines
 
--- the statements of lines
-unfoldable pub statements_of : List (List ℕ) → Option (List Statement)
-statements_of [] = Some []
-statements_of (line ∷ lines) = do
-  first ← line_statement line
-  rest ← statements_of lines
-  Some (first ++ rest)
+-- names are looked up among the globals, and in a program first among its own symbols, also those behind
+abbrev pub global_scope : List Line → Scope
+global_scope lines = scope_from lines no_symbols 0
 
--- the lines of a text, which its newlines part
-abbrev pub lines_of : List ℕ → List (List ℕ)
-lines_of text = slice_split (λ b. b == 10) text
+abbrev pub program_scope : Scope → List Line → Scope
+program_scope scope lines = scope_from lines (with_program scope) 0
 
--- the lines that are left
-abbrev pub lines_left : Option (List ℕ) → List (List ℕ)
-lines_left None = []
-lines_left (Some text) = lines_of text
+-- a program before those behind it
+abbrev pub with_programs : List Assembled → Result (List Assembled) Refusal → Result (List Assembled) Refusal
+with_programs first (Ok others) = Ok (first ++ others)
+with_programs first (Err refusal) = Err refusal
 
--- the statements of a source
-unfoldable pub source_statements : List ℕ → Option (List Statement)
-source_statements bytes = statements_of (lines_of bytes)
+-- what a line adds to a program; one that is no statement adds nothing
+abbrev pub drafted_on : Scope → Draft → Result Statement StatementKind → Result Draft SourceKind
+drafted_on scope d (Ok s) = drafted scope d s
+drafted_on scope d (Err kind) = Ok d
 
--- the program of a source; none where it isn't in the form
-unfoldable pub program_of_source : List ℕ → Option Assembled
-program_of_source bytes = if nat_lt 262144 (length bytes) then None else (source_statements bytes >>= meaning_of)
+-- the programs of a line and those behind it: where one begins, the one before it is finished
+abbrev pub programs_by : (Scope → Draft → Result (List Assembled) Refusal) → Scope → Draft → Line → List Line → Option (List ℕ) → Result (List Assembled) Refusal
+programs_by rest scope d l lines (Some name) = with_programs (finished d) (rest (program_scope scope lines) (begun (Some name)))
+programs_by rest scope d l lines None = at_line l.number (drafted_on scope d l.reading) >>= rest scope
 
--- the one program, or the one fault, which tells no place
-abbrev pub answer : Option Assembled → Result (List Assembled) Refusal
-answer (Some p) = Ok (p ∷ [])
-answer None = Err (record { line = 0; kind = Syntax })
+-- the programs of lines, behind a program as far as it is read
+unfoldable pub programs_from : List Line → Scope → Draft → Result (List Assembled) Refusal
+programs_from [] scope d = Ok (finished d)
+programs_from (l ∷ lines) scope d = programs_by (programs_from lines) scope d l lines (program_on l.reading)
 
--- the programs of a source, or its fault
-abbrev pub reads_source : List ℕ → Result (List Assembled) Refusal
-reads_source bytes = answer (program_of_source bytes)
+-- the programs of lines whose statements have no fault
+abbrev pub programs_of : List Line → Result (List Assembled) Refusal
+programs_of lines = programs_from lines (global_scope lines) (begun None)
+
+-- the programs, unless a statement has a fault
+abbrev pub unless_fault : Option Refusal → List Line → Result (List Assembled) Refusal
+unless_fault (Some refusal) lines = Err refusal
+unless_fault None lines = programs_of lines
+
+-- the programs of lines, or their first fault
+abbrev pub reads_lines : List Line → Result (List Assembled) Refusal
+reads_lines lines = unless_fault (first_fault nothing_before lines) lines
+
+-- a fault of the tokens
+abbrev pub kind_of_lex : LexKind → SourceKind
+kind_of_lex lex_kind.BadByte = BadByte
+kind_of_lex lex_kind.BadNumber = BadNumber
+kind_of_lex lex_kind.OpenComment = OpenComment
+kind_of_lex lex_kind.OpenBlock = OpenBlock
+
+-- what is told of it
+abbrev pub told_of_lex : LexFault → SourceFault
+told_of_lex (lex_fault.Found line kind) = source_fault.Found line (kind_of_lex kind)
+told_of_lex lex_fault.Memory = source_fault.Memory
+
+-- the programs of a source that is read as these tokens; reading never wants memory
+abbrev pub reads_tokens : List ℕ → Result (List Token) LexFault → Result (List Assembled) Refusal
+reads_tokens source (Ok tokens) = reads_lines (lines_of source tokens)
+reads_tokens source (Err (lex_fault.Found line kind)) = Err (record { line = line; kind = kind_of_lex kind })
+reads_tokens source (Err lex_fault.Memory) = Err (record { line = 0; kind = BadByte })
+
+-- the programs of a source, or its first fault
+unfoldable pub reads_source : List ℕ → Result (List Assembled) Refusal
+reads_source source = reads_tokens source (reading_of source)

@@ -1,20 +1,26 @@
-//! Programs of a pioasm source (Raspberry Pi Pico C/C++ SDK, section 3.3): so far of two instructions.
+//! The programs of a pioasm source (Pico SDK manual, section 3.3), or its first fault.
 #![tactic(auto)]
 
+mod act;
+mod before;
+mod checks;
+mod draft;
 mod fault;
-mod link;
+mod instruction;
+mod line;
+mod lines;
 mod name;
-mod number;
+mod names;
+mod operands;
 mod program;
+mod quantity;
+mod rule;
 mod source;
-mod statement;
 mod symbols;
-mod token;
+mod symbols_of;
 
-pub use fault::{SourceFault, SourceKind};
+pub use fault::{LineFault, SourceFault, SourceKind};
 pub use program::Program;
-pub use source::{assemble, reading_is_the_form};
+pub use quantity::Quantity;
+pub use source::assemble;
 pub use symbols::{Symbol, Symbols};
-
-#[cfg(test)]
-mod tests;

@@ -1,95 +1,125 @@
-//! From the bytes of a source to its programs.
-ghost use Rattle.std.specs.Prelude.{◌≡◌, ℕ, List, ◌∷◌, [], map, ◌↔◌, Ok, option_to_list, option_copied, length, ◌<◌, IfSome, IfOk};
-ghost use Rattle.pio_assemble.specs.Program.{Assembled, assembled_of};
-ghost use Rattle.pio_assemble.specs.Source.{IsSource, reads_source, program_of_source, source_statements, line_statement, lines_of, lines_left};
-ghost use Rattle.pio_assemble.specs.Answers.{Reads, Gives};
+//! From the bytes of a source to its programs, or its first fault.
+ghost use Rattle.std.specs.Prelude.{◌≡◌, Some, map, IfOk, OnOk, ◌++◌};
+ghost use Rattle.std.specs.List.{All};
+ghost use Rattle.pio_lex.specs.Tokens.{IsTokenOf};
+ghost use Rattle.pio_assemble.specs.Answers.{Answers, Gives};
+ghost use Rattle.pio_assemble.specs.Drafts.{begun, finished};
+ghost use Rattle.pio_assemble.specs.Lines.{lines_of};
+ghost use Rattle.pio_assemble.specs.Program.{assembled_of};
+ghost use Rattle.pio_assemble.specs.Source as spec;
 
-use crate::fault::syntax;
-use crate::link::meaning;
-use crate::statement::{Statement, read_statement};
-use crate::token::tokens;
-use crate::{Program, SourceFault};
-use std::alloc::Global;
+use crate::checks::first_fault;
+use crate::draft::Draft;
+use crate::fault::{at_line, of_tokens};
+use crate::line::Line;
+use crate::lines::read_lines;
+use crate::name::copy;
+use crate::symbols_of::{add_symbols, program_on};
+use crate::{LineFault, Program, SourceFault};
+use pio_encode::Name;
+use pio_expr::Scope;
+use pio_lex::{Token, tokens};
+use pio_statement::{Statement, StatementKind};
+use std::alloc::{AllocError, Global};
+use std::collections::VecDeque;
 
-/// The most bytes of a source.
-const MOST_BYTES: usize = 262_144;
-
-/// The programs of a source, in its order: so far the one program of a source in the restricted form, else the
-/// fault `Syntax` at line 0.
+/// The programs of a source, which may be any bytes, or its first fault.
+///
+/// A fault of the tokens comes before any fault of a statement, and that before any fault of a value; among those of one
+/// kind the least line comes first. It takes time in proportion to the source's length, but for the look-ups of names.
 pub fn assemble(alloc: Global, source: &[u8]) -> Result<Vec<Program>, SourceFault>
-    // What is read is a source, and means this program.
-    ensures found { IfOk result
-        (λ v. (p : Assembled) × (map assembled_of v.items ≡ p ∷ []) × IsSource source.now p) }
-    // A source is read, unless memory runs out.
-    ensures only { (p : Assembled) → IsSource source.now p
-        → Gives (λ v. map assembled_of v.items) result (Ok (p ∷ [])) }
-    // Which programs, or which fault.
-    ensures exact { Gives (λ v. map assembled_of v.items) result (reads_source source.now) }
+    // The programs or the fault are those that the source means, unless memory runs out.
+    ensures exact { Gives (λ v. map assembled_of v.items) result (spec.reads_source source.now) }
 {
-    programs(alloc, source)
+    match tokens(alloc, source) {
+        Ok(tokens) => read(alloc, source, &tokens),
+        Err(fault) => Err(of_tokens(fault)),
+    }
 }
 
-fn programs(alloc: Global, source: &[u8]) -> Result<Vec<Program>, SourceFault>
-    ensures { Gives (λ v. map assembled_of v.items) result (reads_source source.now) }
+/// The programs of a source with these tokens.
+fn read(alloc: Global, source: &[u8], tokens: &[Token]) -> Result<Vec<Program>, SourceFault>
+    requires { All (IsTokenOf source.now) tokens.now }
+    ensures { Gives (λ v. map assembled_of v.items) result
+        (spec.reads_lines (lines_of source.now tokens.now)) }
 {
-    let program = program(alloc, source)?;
+    let lines = read_lines(alloc, source, tokens)?;
+    first_fault(alloc, &lines)?;
+    // A scope takes its expressions for itself, so the lines are read again for it.
+    let symbols = read_lines(alloc, source, tokens)?;
+    programs(alloc, &lines, VecDeque::from(symbols))
+}
+
+/// The programs of lines whose statements have no fault; `symbols` are the same lines.
+fn programs(
+    alloc: Global,
+    lines: &[Line],
+    mut symbols: VecDeque<Line>,
+) -> Result<Vec<Program>, SourceFault>
+    requires { symbols.items ≡ lines.now }
+    ensures { Gives (λ v. map assembled_of v.items) result (spec.programs_of lines.now) }
+{
+    let mut scope = Scope::new(alloc);
+    add_symbols(&mut scope, &mut symbols)?;
+    let mut draft = Draft::begun(alloc, None);
     let mut programs = Vec::new(alloc);
-    programs.push(program)?;
+    for line in lines {
+        match program_on(&line.reading) {
+            Some(name) => {
+                add(&mut programs, draft)?;
+                draft = begin_program(alloc, &mut scope, &mut symbols, name)?;
+            }
+            None => {
+                if let Err(fault) = draft_line(alloc, &mut scope, &mut draft, &line.reading) {
+                    return Err(at_line(line.number, fault));
+                }
+            }
+        }
+    }
+    add(&mut programs, draft)?;
     Ok(programs)
 }
 
-#[tactic(auto, unfolding(crate::specs::Source::program_of_source))]
-fn program(alloc: Global, source: &[u8]) -> Result<Program, SourceFault>
-    ensures { Reads assembled_of result (program_of_source source.now) }
+/// A program begins before these lines, in which names are looked up from now on.
+fn begin_program(
+    alloc: Global,
+    scope: &mut Scope,
+    lines: &mut VecDeque<Line>,
+    name: &Name,
+) -> Result<Draft, AllocError>
+    ensures draft { IfOk result (λ draft. draft ≡ begun (Some name.now)) }
+    ensures scope { OnOk result (scope.new ≡ spec.program_scope scope.old lines.old.items) }
+    ensures rest { OnOk result (lines.new.items ≡ spec.behind_program lines.old.items) }
 {
-    if source.len() > MOST_BYTES {
-        return Err(syntax());
-    }
-    meaning(alloc, &statements(alloc, source)?)
+    scope.next_program();
+    add_symbols(scope, lines)?;
+    Ok(Draft::begun(alloc, Some(copy(alloc, name)?)))
 }
 
-/// The statements of the lines that aren't blank.
-fn statements(alloc: Global, source: &[u8]) -> Result<Vec<Statement>, SourceFault>
-    ensures { Reads (λ v. v.items) result (source_statements source.now) }
+/// What a line adds to a program; one that is no statement adds nothing.
+fn draft_line(
+    alloc: Global,
+    scope: &mut Scope,
+    draft: &mut Draft,
+    reading: &Result<Statement, StatementKind>,
+) -> Result<(), LineFault>
+    ensures value { Answers (λ _. draft.new) result
+        (spec.drafted_on scope.old draft.old reading.now) }
+    ensures same { scope.new ≡ scope.old }
 {
-    let mut statements = Vec::new(alloc);
-    let mut rest = Some(source);
-    while let Some(text) = rest {
-        let (line, behind) = first_line(text);
-        if let Some(statement) = statement(alloc, line)? {
-            statements.push(statement)?;
-        }
-        rest = behind;
+    match reading {
+        Ok(statement) => draft.read(alloc, scope, statement),
+        Err(_) => Ok(()),
     }
-    Ok(statements)
 }
 
-/// The first line of a text, and what stands behind its newline, where it has one.
-fn first_line(text: &[u8]) -> (&[u8], Option<&[u8]>)
-    ensures line { lines_of text.now ≡ result.0.now ∷ lines_left (option_copied result.1) }
-    ensures shorter { IfSome result.1 (λ behind. length behind.now < length text.now) }
+/// Adds a program behind its last line, if it is one.
+fn add(programs: &mut Vec<Program>, draft: Draft) -> Result<(), AllocError>
+    ensures { OnOk result (map assembled_of programs.new.items
+        ≡ map assembled_of programs.old.items ++ finished draft) }
 {
-    for (at, byte) in text.iter().enumerate() {
-        if *byte == b'\n' {
-            return (&text[..at], Some(&text[at + 1..]));
-        }
+    if let Some(program) = draft.finish() {
+        programs.push(program)?;
     }
-    (text, None)
+    Ok(())
 }
-
-/// The statement of a line, if it isn't blank.
-#[tactic(auto, unfolding(crate::specs::Source::line_statement))]
-fn statement(alloc: Global, line: &[u8]) -> Result<Option<Statement>, SourceFault>
-    ensures { Reads option_to_list result (line_statement line.now) }
-{
-    let tokens = tokens(alloc, line)?;
-    if tokens.is_empty() {
-        return Ok(None);
-    }
-    Ok(Some(read_statement(alloc, &tokens)?))
-}
-
-/// The law of the reader: a source has exactly the program that the form gives it.
-pub fn reading_is_the_form()
-    ensures { (bytes : List ℕ) (p : Assembled) → reads_source bytes ≡ Ok (p ∷ []) ↔ IsSource bytes p }
-{}

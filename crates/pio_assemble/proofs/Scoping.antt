@@ -1,0 +1,24 @@
+-- The symbols of lines, one line at a time.
+use Rattle.std.proofs.Common.{◌≡◌, ℕ, ◌∷◌, List, true, false, is_some, refl}
+use Rattle.pio_expr.specs.Values.{Scope}
+use Rattle.pio_assemble.specs.declared.line.Line.{Line}
+use Rattle.pio_assemble.specs.Source.{program_on, scope_from, scope_on, words_on, behind_program}
+
+module _ (l : Line) (lines : List Line) where
+  -- where a program begins, they end
+  pub symbols_end : (scope : Scope) (words : ℕ) → is_some (program_on l.reading) ≡ true → scope_from (l ∷ lines) scope words ≡ scope
+  unfolding scope_from
+  symbols_end scope words begins = rw begins refl
+
+  pub program_begins : is_some (program_on l.reading) ≡ true → behind_program (l ∷ lines) ≡ lines
+  unfolding behind_program
+  program_begins begins = rw begins refl
+
+  -- else they go on
+  pub symbols_go_on : (scope : Scope) (words : ℕ) → is_some (program_on l.reading) ≡ false → scope_from (l ∷ lines) scope words ≡ scope_from lines (scope_on scope words l.reading) (words_on words l.reading)
+  unfolding scope_from
+  symbols_go_on scope words more = rw more refl
+
+  pub program_goes_on : is_some (program_on l.reading) ≡ false → behind_program (l ∷ lines) ≡ behind_program lines
+  unfolding behind_program
+  program_goes_on more = rw more refl
