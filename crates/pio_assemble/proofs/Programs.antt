@@ -34,7 +34,7 @@ module _ (lines : List Line) (i : ℕ) (l : Line) (within : i < length lines) (h
   begins_left first scope d name begins =
       let rest = drop (i + 1) lines in
       let step : programs_from (drop i lines) scope d ≡ with_programs (finished d) (programs_from rest (program_scope scope rest) (begun (Some name))) =
-          ap (λ ls. programs_from ls scope d) (first_left lines i l within here) ∙ ap (programs_by (programs_from rest) scope d l rest) begins in
+      ap (λ ls. programs_from ls scope d) (first_left lines i l within here) ∙ ap (programs_by (programs_from rest) scope d l rest) begins in
       sym (ap (with_programs first) step ∙ joined first (finished d) _)
 
   pub behind_begins : (name : List ℕ) → program_on l.reading ≡ Some name → behind_program (drop i lines) ≡ drop (i + 1) lines
@@ -47,7 +47,7 @@ module _ (lines : List Line) (i : ℕ) (l : Line) (within : i < length lines) (h
   adds_left scope d more goes_on adds =
       let rest = drop (i + 1) lines in
       sym (ap (λ ls. programs_from ls scope d) (first_left lines i l within here) ∙ ap (programs_by (programs_from rest) scope d l rest) goes_on
-        ∙ ap (λ r. at_line l.number r >>= programs_from rest scope) adds)
+      ∙ ap (λ r. at_line l.number r >>= programs_from rest scope) adds)
 
   pub behind_adds : program_on l.reading ≡ None → behind_program (drop (i + 1) lines) ≡ behind_program (drop i lines)
   behind_adds goes_on = sym (ap behind_program (first_left lines i l within here) ∙ program_goes_on l (drop (i + 1) lines) (ap is_some goes_on))
@@ -60,7 +60,7 @@ module _ (lines : List Line) (i : ℕ) (l : Line) (within : i < length lines) (h
       unfold programs_from in
       let rest = drop (i + 1) lines in
       ap (with_programs first) (ap (λ ls. programs_from ls scope d) (first_left lines i l within here) ∙ ap (programs_by (programs_from rest) scope d l rest) goes_on
-        ∙ ap (λ r. at_line l.number r >>= programs_from rest scope) told)
+      ∙ ap (λ r. at_line l.number r >>= programs_from rest scope) told)
 
 -- a source without tokens has the fault of its reading
 pub told_of_tokens : (source : List ℕ) (fault : LexFault) (read : Result (List Token) LexFault) → IsRead fault read → Refuses (told_of_lex fault) (reads_tokens source read)

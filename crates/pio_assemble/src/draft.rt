@@ -34,13 +34,13 @@ impl Model for Draft {
     ghost Value = { Draft };
 
     ghost view = { λ d. record {
-        name = d.name;
-        words = d.words.items;
-        origin = d.origin;
-        side = d.side;
-        wrap_bottom = d.wrap_bottom;
-        wrap_top = d.wrap_top;
-        symbols = d.symbols.items;
+      name = d.name;
+      words = d.words.items;
+      origin = d.origin;
+      side = d.side;
+      wrap_bottom = d.wrap_bottom;
+      wrap_top = d.wrap_top;
+      symbols = d.symbols.items;
     } };
 
     ghost use Rattle.pio_assemble.specs.Drafts.{IsInMemory};

@@ -24,3 +24,8 @@ pub use program::Program;
 pub use quantity::Quantity;
 pub use source::assemble;
 pub use symbols::{Symbol, Symbols};
+
+#[cfg(test)]
+mod rows;
+#[cfg(test)]
+mod tests;

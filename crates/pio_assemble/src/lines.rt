@@ -11,11 +11,7 @@ use pio_statement::{StatementFault, line_end, read_statement};
 use std::alloc::Global;
 
 /// All lines of a source with these tokens.
-pub fn read_lines(
-    alloc: Global,
-    source: &[u8],
-    tokens: &[Token],
-) -> Result<Vec<Line>, SourceFault>
+pub fn read_lines(alloc: Global, source: &[u8], tokens: &[Token]) -> Result<Vec<Line>, SourceFault>
     requires { All (IsTokenOf source.now) tokens.now }
     ensures lines { IfOk result (λ v. v.items ≡ lines_of source.now tokens.now) }
     ensures memory { IfErr result (λ fault. fault ≡ SourceFault.Memory) }
@@ -30,12 +26,7 @@ pub fn read_lines(
 }
 
 /// The line that begins at a token.
-fn line(
-    alloc: Global,
-    source: &[u8],
-    tokens: &[Token],
-    from: usize,
-) -> Result<Line, SourceFault>
+fn line(alloc: Global, source: &[u8], tokens: &[Token], from: usize) -> Result<Line, SourceFault>
     requires tokens { All (IsTokenOf source.now) tokens.now }
     requires from { from < length tokens.now }
     ensures line { IfOk result (λ line. line ≡ line_at source.now tokens.now from) }

@@ -12,7 +12,7 @@ unfolding reads_source
 returns-in-Ok c =
     let source = c.args.source.now in
     let same : reads_tokens source (reading_of source) ≡ reads_lines (lines_of source c.deref.result.now) =
-        ap (reads_tokens source) c.in-Ok.ensures.value ∙ ap (λ t. reads_lines (lines_of source t)) (sym c.deref.ensures.value) in
+    ap (reads_tokens source) c.in-Ok.ensures.value ∙ ap (λ t. reads_lines (lines_of source t)) (sym c.deref.ensures.value) in
     record { exact = subst (Gives (λ v. map assembled_of v.items) c.read.result) (sym same) c.read.ensures }
 
 pub returns-in-Err : goal.returns-in-Err

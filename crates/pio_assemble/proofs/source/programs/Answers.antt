@@ -25,26 +25,26 @@ loop-line-preserved c =
     let d = c.loop-line.draft in
     let rest = drop (i + 1) lines in
     elim c.match-program_on.branch [
-      in-Some+in_ok-add-in-Some+in_ok-draft-in-Some w ↦
-        let begins = sym w.in-Some.ensures.name in
-        let behind = c.loop-line.invariant.symbols ∙ behind_begins lines i l c.loop-line-test.true c.line-item.is w.in-Some.name.now begins in
-        let programs = begins_left lines i l c.loop-line-test.true c.line-item.is first scope d w.in-Some.name.now begins ∙ c.loop-line.invariant.programs in
-        let added = ap (λ v. map assembled_of v.items) w.programs-is ∙ w.in_ok-add-in-Some.ensures in
-        let scoped = w.scope-is ∙ w.in_ok-draft-in-Some.ensures.scope ∙ ap (program_scope scope) behind in
-        let drafted = w.draft-is ∙ w.in_ok-draft-in-Some.ensures.draft in
-        record {
-          programs = rw (added, scoped, drafted) programs;
-          symbols = ap (λ q. q.items) w.symbols-is ∙ w.in_ok-draft-in-Some.ensures.rest ∙ ap behind_program behind;
-        }
-    | in-None+in_default w ↦
-        let goes_on = sym w.in-None.ensures.name in
-        let same = w.scope-is ∙ w.in_default.ensures.same in
-        let programs = ap (λ v. map assembled_of v.items) w.programs-is in
-        let adds = adds_left lines i l c.loop-line-test.true c.line-item.is scope d w.draft_line.new.draft goes_on w.in_default.ensures.value in
-        record {
-          programs = rw (programs, same, w.draft-is) (ap (with_programs first) adds ∙ c.loop-line.invariant.programs);
-          symbols = ap (λ q. q.items) w.symbols-is ∙ c.loop-line.invariant.symbols ∙ sym (behind_adds lines i l c.loop-line-test.true c.line-item.is goes_on);
-        }
+      | in-Some+in_ok-add-in-Some+in_ok-draft-in-Some w ↦
+          let begins = sym w.in-Some.ensures.name in
+          let behind = c.loop-line.invariant.symbols ∙ behind_begins lines i l c.loop-line-test.true c.line-item.is w.in-Some.name.now begins in
+          let programs = begins_left lines i l c.loop-line-test.true c.line-item.is first scope d w.in-Some.name.now begins ∙ c.loop-line.invariant.programs in
+          let added = ap (λ v. map assembled_of v.items) w.programs-is ∙ w.in_ok-add-in-Some.ensures in
+          let scoped = w.scope-is ∙ w.in_ok-draft-in-Some.ensures.scope ∙ ap (program_scope scope) behind in
+          let drafted = w.draft-is ∙ w.in_ok-draft-in-Some.ensures.draft in
+          record {
+            programs = rw (added, scoped, drafted) programs;
+            symbols = ap (λ q. q.items) w.symbols-is ∙ w.in_ok-draft-in-Some.ensures.rest ∙ ap behind_program behind;
+          }
+      | in-None+in_default w ↦
+          let goes_on = sym w.in-None.ensures.name in
+          let same = w.scope-is ∙ w.in_default.ensures.same in
+          let programs = ap (λ v. map assembled_of v.items) w.programs-is in
+          let adds = adds_left lines i l c.loop-line-test.true c.line-item.is scope d w.draft_line.new.draft goes_on w.in_default.ensures.value in
+          record {
+            programs = rw (programs, same, w.draft-is) (ap (with_programs first) adds ∙ c.loop-line.invariant.programs);
+            symbols = ap (λ q. q.items) w.symbols-is ∙ c.loop-line.invariant.symbols ∙ sym (behind_adds lines i l c.loop-line-test.true c.line-item.is goes_on);
+          }
     ]
 
 pub returns : goal.returns

@@ -1,0 +1,133 @@
+//! Sources worked by hand, and the largest ones.
+use crate::rows::{FAULTS, REPEATED, SHAPES, WORDS};
+use crate::{Program, SourceFault, Symbol, assemble};
+use std::alloc::{AllocError, Global};
+use std::test::Fail;
+
+/// The most bytes of a source.
+const MOST_BYTES: usize = 262_144;
+
+#[test]
+fn words_are_those_worked_by_hand(rt: HostRuntime) -> Result<(), Fail> {
+    for &(source, want) in &WORDS {
+        let told = told(rt.alloc(), source, true)?;
+        assert!(rt; told.as_bytes() == want, "{source:?} {told}");
+    }
+    Ok(())
+}
+
+#[test]
+fn shapes_are_those_worked_by_hand(rt: HostRuntime) -> Result<(), Fail> {
+    for &(source, want) in &SHAPES {
+        let told = told(rt.alloc(), source, false)?;
+        assert!(rt; told.as_bytes() == want, "{source:?} {told}");
+    }
+    Ok(())
+}
+
+#[test]
+fn faults_are_those_worked_by_hand(rt: HostRuntime) -> Result<(), Fail> {
+    for &(source, want) in &FAULTS {
+        let told = told(rt.alloc(), source, true)?;
+        assert!(rt; told.as_bytes() == want, "{source:?} {told}");
+    }
+    Ok(())
+}
+
+#[test]
+fn limits_are_those_of_the_profile(rt: HostRuntime) -> Result<(), Fail> {
+    for &(before, first, many, second, more, behind, want) in &REPEATED {
+        let mut source = Vec::from_slice(rt.alloc(), before)?;
+        repeat(rt.alloc(), &mut source, first, many)?;
+        repeat(rt.alloc(), &mut source, second, more)?;
+        source.extend_from_slice(behind)?;
+        let told = told(rt.alloc(), &source, false)?;
+        assert!(rt; told.as_bytes() == want, "{many} {first:?} {told}");
+    }
+    Ok(())
+}
+
+#[test]
+fn the_largest_sources_end_in_one_answer(rt: HostRuntime) -> Result<(), Fail> {
+    for line in [b".wrap_target\n", b"nop side 0  \n", b"set x, 1 + 1\n"] {
+        let mut source = Vec::from_slice(rt.alloc(), b".program p\nnop\n")?;
+        while source.len() + line.len() <= MOST_BYTES {
+            source.extend_from_slice(line)?;
+        }
+        let told = told(rt.alloc(), &source, true)?;
+        assert!(rt; told.as_bytes().contains(&b'S'), "{line:?} {told}");
+    }
+    Ok(())
+}
+
+/// A text so many times, with its number in the place of `#`.
+fn repeat(alloc: Global, source: &mut Vec<u8>, text: &[u8], many: usize) -> Result<(), AllocError> {
+    for number in 0..many {
+        for byte in text {
+            if *byte == b'#' {
+                let digits = format!(in alloc; "{number}")?;
+                source.extend_from_slice(digits.as_bytes())?;
+            } else {
+                source.push(*byte)?;
+            }
+        }
+    }
+    Ok(())
+}
+
+/// The programs with their words or their shapes, or the fault behind its line.
+fn told(alloc: Global, source: &[u8], words: bool) -> Result<String, AllocError> {
+    let mut text = String::new(alloc);
+    match assemble(alloc, source) {
+        Ok(programs) => {
+            for program in &programs {
+                tell_program(alloc, program, words, &mut text)?;
+            }
+            Ok(text)
+        }
+        Err(SourceFault::Memory) => Err(AllocError),
+        Err(SourceFault::Found { line, kind }) => format!(in alloc; "{line} {kind}"),
+    }
+}
+
+fn tell_program(
+    alloc: Global,
+    program: &Program,
+    words: bool,
+    text: &mut String,
+) -> Result<(), AllocError> {
+    if !text.is_empty() {
+        text.push_str(" ")?;
+    }
+    text.push_str(program.name.as_str())?;
+    if words {
+        for word in &program.words {
+            text.push_str(format!(in alloc; " {word:04x}")?.as_str())?;
+        }
+        return Ok(());
+    }
+    tell_shape(alloc, program, text)
+}
+
+fn tell_shape(alloc: Global, program: &Program, text: &mut String) -> Result<(), AllocError> {
+    match program.origin {
+        Some(origin) => text.push_str(format!(in alloc; " {origin}")?.as_str())?,
+        None => text.push_str(" none")?,
+    }
+    text.push_str(format!(in alloc; " {}", program.side.bits)?.as_str())?;
+    text.push_str(if program.side.opt { "?" } else { "" })?;
+    text.push_str(if program.side.pindirs { "!" } else { "" })?;
+    let wraps = format!(in alloc; " {}..{}", program.wrap_bottom, program.wrap_top)?;
+    text.push_str(wraps.as_str())?;
+    for symbol in program.symbols.as_slice() {
+        tell_symbol(alloc, symbol, text)?;
+    }
+    Ok(())
+}
+
+fn tell_symbol(alloc: Global, symbol: &Symbol, text: &mut String) -> Result<(), AllocError> {
+    let value = format!(in alloc; " {}={}", symbol.name, symbol.value)?;
+    text.push_str(value.as_str())?;
+    text.push_str(if symbol.is_label { ":" } else { "" })?;
+    text.push_str(if symbol.public { "+" } else { "" })
+}
