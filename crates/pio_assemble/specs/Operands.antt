@@ -120,6 +120,7 @@ act_of scope (form.Set destination value) = do
 abbrev pub side_in : Scope → SideRule → List Item → Result ℕ SourceKind
 side_in scope rule items = number_in scope quantity.Side 0 (2 ^ rule.bits - 1) items
 
+-- a delay has the bits that the rule leaves of five
 abbrev pub delay_in : Scope → SideRule → List Item → Result ℕ SourceKind
 delay_in scope rule items = number_in scope quantity.Delay 0 (2 ^ delay_bits rule - 1) items
 

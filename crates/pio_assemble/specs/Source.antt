@@ -33,6 +33,7 @@ abbrev pub program_by : Statement → Option (List ℕ)
 program_by (statement.Program name) = Some name
 program_by _ = None
 
+-- the same of a line; one that is no statement begins none
 abbrev pub program_on : Result Statement StatementKind → Option (List ℕ)
 program_on (Ok s) = program_by s
 program_on (Err kind) = None
@@ -42,6 +43,7 @@ abbrev pub with_new_by : Found → Scope → List ℕ → Symbol → Scope
 with_new_by (Some found) scope name is = scope
 with_new_by None scope name is = with_symbol scope name is
 
+-- a scope with a symbol more, unless there is one of its name
 abbrev pub with_new : Scope → List ℕ → Symbol → Scope
 with_new scope name is = with_new_by (found_in 0 (present scope scope.program) name) scope name is
 
@@ -51,6 +53,7 @@ scope_by scope words (statement.Define public name items) = with_new scope name 
 scope_by scope words (statement.Label public name code) = with_new scope name (symbol.Label words)
 scope_by scope words _ = scope
 
+-- the same of a line; one that is no statement adds none
 abbrev pub scope_on : Scope → ℕ → Result Statement StatementKind → Scope
 scope_on scope words (Ok s) = scope_by scope words s
 scope_on scope words (Err kind) = scope
@@ -65,6 +68,7 @@ words_by words (statement.Label public name code) = more_words words (word_count
 words_by words (statement.Code code) = more_words words 1
 words_by words _ = words
 
+-- the same of a line; one that is no statement adds none
 abbrev pub words_on : ℕ → Result Statement StatementKind → ℕ
 words_on words (Ok s) = words_by words s
 words_on words (Err kind) = words
@@ -84,6 +88,7 @@ behind_program (l ∷ lines) = if is_some (program_on l.reading) then lines else
 abbrev pub global_scope : List Line → Scope
 global_scope lines = scope_from lines no_symbols 0
 
+-- the scope of a program: the globals, and the symbols of its lines
 abbrev pub program_scope : Scope → List Line → Scope
 program_scope scope lines = scope_from lines (with_program scope) 0
 
