@@ -145,13 +145,14 @@ fn put_range_fault<E: Sink>(
     put_all(
         err,
         &[
-            "piotool: source line ".as_bytes(),
+            b"piotool: source line ",
             number.format(line).as_bytes(),
-            ": S7 ".as_bytes(),
+            b": ",
+            b"S7 ",
             what.text().as_bytes(),
-            " ".as_bytes(),
+            b" ",
             digits.format(value).as_bytes(),
-            "\n".as_bytes(),
+            b"\n",
         ],
     )
 }
