@@ -1,5 +1,5 @@
 -- The faults of lines, one line at a time.
-use Rattle.std.proofs.Common.{◌≡◌, ℕ, ◌+◌, ◌<◌, ◌∷◌, Bool, List, length, drop, get_or, Option, Some, None, Result, Ok, refl, sym, ap, ◌∙◌, unwrap_or}
+use Rattle.std.proofs.Common.{◌≡◌, ℕ, ◌+◌, ◌<◌, Bool, List, length, drop, get_or, Option, None, Ok, sym, ap, ◌∙◌, unwrap_or}
 use Rattle.pio_statement.specs.declared.statement.Statement.{Statement}
 use Rattle.pio_assemble.specs.declared.before.Before.{Before}
 use Rattle.pio_assemble.specs.declared.line.Line.{Line}

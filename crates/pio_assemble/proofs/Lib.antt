@@ -4,3 +4,5 @@ pub mod Lining
 pub mod Checking
 pub mod Scoping
 pub mod Programs
+pub mod Keeping
+pub mod Distinct

@@ -1,5 +1,5 @@
 -- The lines that are left, from a place on.
-use Rattle.std.proofs.Common.{◌≡◌, ℕ, suc, ◌+◌, ◌<◌, ◌∷◌, ◌-◌, List, length, take, drop, get_or, refl, sym, ap, ◌∙◌, add-one, drop-cons, arith}
+use Rattle.std.proofs.Common.{◌≡◌, ℕ, suc, ◌+◌, ◌<◌, ◌∷◌, ◌-◌, List, length, take, drop, get_or, sym, ap, ◌∙◌, add-one, drop-cons, arith}
 use Rattle.std.proofs.lemmas.List.{take_all, length-drop}
 
 -- the first of those that are left, and the rest

@@ -1,5 +1,5 @@
 -- Names in a set of texts are names in the list that it is seen as.
-use Rattle.std.proofs.Common.{◌≡◌, ℕ, ◌++◌, ◌∷◌, [], ◌||◌, Bool, true, false, List, map, refl, ap, sym, ◌∙◌, if◌then◌else◌, string_bytes}
+use Rattle.std.proofs.Common.{◌≡◌, ℕ, ◌++◌, ◌∷◌, [], ◌||◌, Bool, true, false, List, map, refl, ap, sym, ◌∙◌, string_bytes}
 use Rattle.std.proofs.lemmas.List.{map-append}
 use Rattle.std.specs.List.{list_any}
 use Rattle.std.specs.Str.{bytes_eq}

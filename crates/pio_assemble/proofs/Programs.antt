@@ -1,5 +1,5 @@
 -- The programs of lines, one line at a time.
-use Rattle.std.proofs.Common.{◌≡◌, ℕ, ◌+◌, ◌<◌, ◌∷◌, [], ◌++◌, List, length, drop, get_or, true, false, Option, Some, None, Result, Ok, Err, is_some, refl, sym, ap, ◌∙◌, append_assoc}
+use Rattle.std.proofs.Common.{◌≡◌, ℕ, ◌+◌, ◌<◌, [], ◌++◌, List, length, drop, get_or, Some, None, Result, Ok, Err, is_some, refl, sym, ap, ◌∙◌, append_assoc}
 use Rattle.pio_lex.specs.declared.fault.LexFault.{LexFault}
 use Rattle.pio_lex.specs.declared.fault.LexFault.TheVariants as lex_fault
 use Rattle.pio_lex.specs.declared.token.Token.{Token}

@@ -17,8 +17,8 @@ pub record Refusal : Type 0 where
   pub line : ℕ
   pub kind : SourceKind
 
-infixl 10 ◌>>=◌
 -- what comes next, unless there is a fault
+infixl 10 ◌>>=◌
 abbrev pub ◌>>=◌ : {X Y E : Type 0} → Result X E → (X → Result Y E) → Result Y E
 (Ok x) >>= next = next x
 (Err fault) >>= next = Err fault

@@ -32,8 +32,8 @@ abbrev pub fault_if : Bool → SourceKind → Option SourceKind
 fault_if true kind = Some kind
 fault_if false kind = None
 
-infixr 20 ◌<|>◌
 -- the first fault of two
+infixr 20 ◌<|>◌
 abbrev pub ◌<|>◌ : Option SourceKind → Option SourceKind → Option SourceKind
 (Some kind) <|> other = Some kind
 None <|> other = other
@@ -77,7 +77,7 @@ side_fault (Some false) false = Some SideMissing
 abbrev pub room_fault : Before → Option SourceKind
 room_fault b = fault_if (nat_le 32 b.words) TooLong
 
--- a word has room, and an instruction the side-set that is asked for
+-- a word has room, and an instruction says `side` as it is asked for
 abbrev pub code_fault : Before → Code → Option SourceKind
 code_fault b (code.Word value) = room_fault b
 code_fault b (code.Instruction i) = room_fault b <|> side_fault b.side_set (has_side i.suffix)
@@ -158,7 +158,7 @@ abbrev pub after_line : Before → Result Statement StatementKind → Before
 after_line b (Ok s) = after b s
 after_line b (Err kind) = b
 
--- a line's fault, or the first one behind it
+-- a fault on a line, or what is found behind it
 abbrev pub fault_or : ℕ → Option SourceKind → Option Refusal → Option Refusal
 fault_or number (Some kind) rest = Some (record { line = number; kind = kind })
 fault_or number None rest = rest

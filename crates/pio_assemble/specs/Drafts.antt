@@ -96,7 +96,7 @@ program_of name d = record {
   symbols = d.symbols;
 }
 
--- the program of a name, if it has a word
+-- the program of this name, if there is one, where it has a word
 abbrev pub finished_by : Option (List ℕ) → Draft → List Assembled
 finished_by None d = []
 finished_by (Some name) d = if length d.words == 0 then [] else program_of name d ∷ []

@@ -2,7 +2,7 @@
 --   code_of         the code of a fault
 --   quantity_text   the word for a number of a statement
 --   kind_text       the code, and behind it the name, or the number's word and its value
-use Rattle.std.specs.Prelude.{ℕ, ℤ, ◌++◌, List, codes}
+use Rattle.std.specs.Prelude.{ℕ, ◌++◌, List, codes}
 use Rattle.std.specs.Fmt.{signed_decimal}
 use Rattle.pio_assemble.specs.declared.quantity.Quantity.{Quantity}
 use Rattle.pio_assemble.specs.declared.quantity.Quantity.TheVariants as quantity

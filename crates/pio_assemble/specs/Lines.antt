@@ -1,11 +1,8 @@
 -- The lines of a source, each with what it says (Pico SDK manual, section 3.3).
 --   lines_of       the lines of the tokens, in order
 --   has_word       a word stands on lines, before the next program begins
-use Rattle.std.specs.Prelude.{ℕ, zero, suc, ◌+◌, nat_lt, Bool, true, false, if◌then◌else◌, List, [], ◌∷◌, ◌++◌, length, Option, Some, None, Result, Ok, Err, slice_get}
+use Rattle.std.specs.Prelude.{ℕ, zero, suc, nat_lt, Bool, true, false, if◌then◌else◌, List, [], ◌∷◌, length, Option, Some, None, Result, Ok, Err, slice_get}
 use Rattle.pio_lex.specs.declared.token.Token.{Token}
-use Rattle.pio_expr.specs.declared.symbol.Symbol.{Symbol}
-use Rattle.pio_expr.specs.declared.symbol.Symbol.TheVariants as symbol
-use Rattle.pio_expr.specs.Values.{Symbols}
 use Rattle.pio_statement.specs.declared.fault.StatementKind.{StatementKind}
 use Rattle.pio_statement.specs.declared.statement.Code.{Code}
 use Rattle.pio_statement.specs.declared.statement.Statement.{Statement}

@@ -116,7 +116,7 @@ act_of scope (form.Set destination value) = do
   data' ← number_in scope quantity.Data 0 31 value
   Ok (act.Set destination data')
 
--- the side-set value of a rule has its bits, a delay what the rule leaves of five
+-- a side-set value has the rule's bits
 abbrev pub side_in : Scope → SideRule → List Item → Result ℕ SourceKind
 side_in scope rule items = number_in scope quantity.Side 0 (2 ^ rule.bits - 1) items
 

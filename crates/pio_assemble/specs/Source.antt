@@ -4,7 +4,7 @@
 --   programs_from    the programs of lines, behind a program as far as it is read
 --   reads_source     the programs of a source, or its first fault: a byte that is no token's comes before any statement's fault, and
 --                    that before any fault of a value
-use Rattle.std.specs.Prelude.{ℕ, ◌+◌, min, Bool, true, false, if◌then◌else◌, is_some, List, [], ◌∷◌, ◌++◌, Option, Some, None, Result, Ok, Err}
+use Rattle.std.specs.Prelude.{◌≢◌, ℕ, ◌+◌, min, if◌then◌else◌, is_some, List, [], ◌∷◌, ◌++◌, Option, Some, None, Result, Ok, Err}
 use Rattle.pio_lex.specs.declared.fault.LexKind.{LexKind}
 use Rattle.pio_lex.specs.declared.fault.LexKind.TheVariants as lex_kind
 use Rattle.pio_lex.specs.declared.fault.LexFault.{LexFault}
@@ -43,7 +43,7 @@ abbrev pub with_new_by : Found → Scope → List ℕ → Symbol → Scope
 with_new_by (Some found) scope name is = scope
 with_new_by None scope name is = with_symbol scope name is
 
--- a scope with a symbol more, unless there is one of its name
+-- a symbol more: behind the globals, or behind those of the program, once one has begun
 abbrev pub with_new : Scope → List ℕ → Symbol → Scope
 with_new scope name is = with_new_by (found_in 0 (present scope scope.program) name) scope name is
 
@@ -53,7 +53,7 @@ scope_by scope words (statement.Define public name items) = with_new scope name 
 scope_by scope words (statement.Label public name code) = with_new scope name (symbol.Label words)
 scope_by scope words _ = scope
 
--- the same of a line; one that is no statement adds none
+-- the same of a line; one that is no statement gives none
 abbrev pub scope_on : Scope → ℕ → Result Statement StatementKind → Scope
 scope_on scope words (Ok s) = scope_by scope words s
 scope_on scope words (Err kind) = scope
@@ -68,7 +68,7 @@ words_by words (statement.Label public name code) = more_words words (word_count
 words_by words (statement.Code code) = more_words words 1
 words_by words _ = words
 
--- the same of a line; one that is no statement adds none
+-- the same of a line
 abbrev pub words_on : ℕ → Result Statement StatementKind → ℕ
 words_on words (Ok s) = words_by words s
 words_on words (Err kind) = words
@@ -88,7 +88,7 @@ behind_program (l ∷ lines) = if is_some (program_on l.reading) then lines else
 abbrev pub global_scope : List Line → Scope
 global_scope lines = scope_from lines no_symbols 0
 
--- the scope of a program: the globals, and the symbols of its lines
+-- the scope of the program that begins before these lines
 abbrev pub program_scope : Scope → List Line → Scope
 program_scope scope lines = scope_from lines (with_program scope) 0
 
@@ -146,3 +146,13 @@ reads_tokens source (Err lex_fault.Memory) = Err (record { line = 0; kind = BadB
 -- the programs of a source, or its first fault
 unfoldable pub reads_source : List ℕ → Result (List Assembled) Refusal
 reads_source source = reads_tokens source (reading_of source)
+
+-- a name differs from each of these
+abbrev pub Differs : List ℕ → List (List ℕ) → Type 0
+Differs name [] = Unit {0}
+Differs name (other ∷ others) = (other ≢ name) × Differs name others
+
+-- no name stands twice
+abbrev pub AreDistinct : List (List ℕ) → Type 0
+AreDistinct [] = Unit {0}
+AreDistinct (name ∷ names) = Differs name names × AreDistinct names

@@ -72,7 +72,8 @@ impl Draft {
         scope: &mut Scope,
         statement: &Statement,
     ) -> Result<(), LineFault>
-        ensures value { Answers (λ _. self.new) result (spec.drafted scope.old self.old statement.now) }
+        ensures value { Answers (λ _. self.new) result
+            (spec.drafted scope.old self.old statement.now) }
         ensures same { scope.new ≡ scope.old }
     {
         match statement {
@@ -130,7 +131,8 @@ impl Draft {
         public: bool,
         name: &Name,
     ) -> Result<(), LineFault>
-        ensures value { Answers (λ _. self.new) result (spec.defined scope.old self.old public name.now) }
+        ensures value { Answers (λ _. self.new) result
+            (spec.defined scope.old self.old public name.now) }
         ensures same { scope.new ≡ scope.old }
     {
         let value = scope.value_of_name(name)?;
@@ -157,7 +159,8 @@ impl Draft {
     }
 
     fn some_code(&mut self, scope: &mut Scope, code: &Option<Code>) -> Result<(), LineFault>
-        ensures value { Answers (λ _. self.new) result (spec.some_coded scope.old self.old code.now) }
+        ensures value { Answers (λ _. self.new) result
+            (spec.some_coded scope.old self.old code.now) }
         ensures same { scope.new ≡ scope.old }
     {
         match code {

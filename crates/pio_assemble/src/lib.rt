@@ -28,4 +28,6 @@ pub use symbols::{Symbol, Symbols};
 #[cfg(test)]
 mod rows;
 #[cfg(test)]
+mod rows_faults;
+#[cfg(test)]
 mod tests;

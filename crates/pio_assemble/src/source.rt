@@ -30,6 +30,8 @@ use std::collections::VecDeque;
 pub fn assemble(alloc: Global, source: &[u8]) -> Result<Vec<Program>, SourceFault>
     // The programs or the fault are those that the source means, unless memory runs out.
     ensures exact { Gives (λ v. map assembled_of v.items) result (spec.reads_source source.now) }
+    // No two programs have one name.
+    ensures distinct { IfOk result (λ v. spec.AreDistinct (map (λ p. p.name) v.items)) }
 {
     match tokens(alloc, source) {
         Ok(tokens) => read(alloc, source, &tokens),

@@ -1,11 +1,12 @@
 //! Sources worked by hand, and the largest ones.
-use crate::rows::{FAULTS, REPEATED, SHAPES, WORDS};
+use crate::rows::{SHAPES, WORDS};
+use crate::rows_faults::{FAULTS, LARGEST, REPEATED};
 use crate::{Program, SourceFault, Symbol, assemble};
 use std::alloc::{AllocError, Global};
 use std::test::Fail;
 
-/// The most bytes of a source.
-const MOST_BYTES: usize = 262_144;
+/// How many lines of 13 bytes fit into 262,144 bytes, behind two others.
+const MOST_LINES: usize = 20_163;
 
 #[test]
 fn words_are_those_worked_by_hand(rt: HostRuntime) -> Result<(), Fail> {
@@ -49,13 +50,11 @@ fn limits_are_those_of_the_profile(rt: HostRuntime) -> Result<(), Fail> {
 
 #[test]
 fn the_largest_sources_end_in_one_answer(rt: HostRuntime) -> Result<(), Fail> {
-    for line in [b".wrap_target\n", b"nop side 0  \n", b"set x, 1 + 1\n"] {
+    for &(line, want) in &LARGEST {
         let mut source = Vec::from_slice(rt.alloc(), b".program p\nnop\n")?;
-        while source.len() + line.len() <= MOST_BYTES {
-            source.extend_from_slice(line)?;
-        }
+        repeat(rt.alloc(), &mut source, line, MOST_LINES)?;
         let told = told(rt.alloc(), &source, true)?;
-        assert!(rt; told.as_bytes().contains(&b'S'), "{line:?} {told}");
+        assert!(rt; told.as_bytes() == want, "{line:?} {told}");
     }
     Ok(())
 }

@@ -1,4 +1,4 @@
-use Rattle.std.proofs.Common.{◌≡◌, ◌+◌, ap, sym, subst, arith, ◌∙◌}
+use Rattle.std.proofs.Common.{◌+◌, ap, sym, subst, arith, ◌∙◌}
 use Rattle.std.proofs.lemmas.List.{drop_all}
 use Rattle.pio_assemble.specs.Answers.{IsFound, IsFirst, located}
 use Rattle.pio_assemble.specs.Checks.{first_fault, line_fault}

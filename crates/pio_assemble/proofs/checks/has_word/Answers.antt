@@ -1,4 +1,4 @@
-use Rattle.std.proofs.Common.{◌≡◌, ◌∙◌, ap, sym, ◌+◌, drop, unwrap_or, refl}
+use Rattle.std.proofs.Common.{◌∙◌, ap, sym, ◌+◌, drop, unwrap_or}
 use Rattle.pio_assemble.specs.Lines.{has_word}
 use Rattle.pio_assemble.proofs.Checking.{word_left}
 use Rattle.std.proofs.lemmas.List.{drop_all}

@@ -1,10 +1,9 @@
-use Rattle.std.proofs.Common.{◌≡◌, ◌∙◌, ◌+◌, ◌∷◌, ◌++◌, [], ap, sym, subst, map, drop, Some, None, Ok}
+use Rattle.std.proofs.Common.{◌∙◌, ◌+◌, ap, sym, subst, map, drop, Ok}
 use Rattle.std.proofs.lemmas.List.{drop_all}
 use Rattle.pio_assemble.specs.Answers.{Refuses, located}
-use Rattle.pio_assemble.specs.Drafts.{begun, finished}
 use Rattle.pio_assemble.specs.Program.{assembled_of}
-use Rattle.pio_assemble.specs.Source.{with_programs, programs_from, programs_of, program_on, program_scope, behind_program}
-use Rattle.pio_assemble.proofs.Programs.{none_before, begins_left, behind_begins, adds_left, behind_adds, fault_left}
+use Rattle.pio_assemble.specs.Source.{with_programs, programs_from, program_scope, behind_program}
+use Rattle.pio_assemble.proofs.Programs.{begins_left, behind_begins, adds_left, behind_adds, fault_left}
 use Rattle.pio_assemble.proofs.source.programs.Goals as goal
 use Rattle.pio_assemble.proofs.source.programs.Goals.{in-Some+in_ok-add-in-Some+in_ok-draft-in-Some, in-None+in_default}
 

@@ -1,4 +1,4 @@
-use Rattle.std.proofs.Common.{◌≡◌, ◌∙◌, ◌∷◌, ap, sym, length, arith}
+use Rattle.std.proofs.Common.{◌≡◌, ◌∙◌, ap, sym, length, arith}
 use Rattle.std.proofs.lemmas.List.{nil_from_length}
 use Rattle.pio_assemble.specs.Source.{scope_from, behind_program}
 use Rattle.pio_assemble.proofs.Scoping.{symbols_end, program_begins, symbols_go_on, program_goes_on}

@@ -1,4 +1,3 @@
-use Rattle.std.proofs.Common.{◌≡◌}
 use Rattle.pio_assemble.specs.Drafts.{drafted}
 use Rattle.pio_assemble.proofs.draft.Draft.read.Goals as goal
 

@@ -1,4 +1,4 @@
-use Rattle.std.proofs.Common.{◌∙◌, ap, sym}
+use Rattle.std.proofs.Common.{◌∙◌, ap}
 use Rattle.pio_assemble.specs.Checks.{is_among}
 use Rattle.pio_assemble.proofs.Naming.{among_seen}
 use Rattle.pio_assemble.proofs.names.Names.has.Goals as goal
