@@ -1,6 +1,6 @@
 -- A statement that begins no program leaves the program's name, and the names of those before it.
 use Rattle.std.proofs.Common.{◌≡◌, ℕ, ◌==◌, ◌∷◌, [], ◌++◌, Bool, true, false, List, Option, Some, None, Result, Ok, Err, refl, if◌then◌else◌, length}
-use Rattle.pio_expr.specs.Values.{Scope}
+use Rattle.pio_expr.specs.Values.{Scope, value_of_name}
 use Rattle.pio_statement.specs.declared.statement.Code.{Code}
 use Rattle.pio_statement.specs.declared.statement.Statement.{Statement}
 use Rattle.pio_statement.specs.declared.statement.Statement.TheVariants as statement
@@ -13,7 +13,6 @@ use Rattle.pio_assemble.specs.Drafts.{Draft, drafted, with_word, with_symbol, co
 use Rattle.pio_assemble.specs.Operands.{word_of_code, number_in, valued}
 use Rattle.pio_assemble.specs.declared.quantity.Quantity.TheVariants as quantity
 use Rattle.pio_assemble.specs.Rules.{rule_of, most_bits}
-use Rattle.pio_assemble.specs.Stub.{value_of_name}
 use Rattle.pio_assemble.specs.Source.{program_by}
 
 -- the name of a draft, or where there is none, this one
