@@ -65,6 +65,7 @@ intents_of view d places = map (place_intent view d) places
 abbrev pub level_writes : List Intent → List (ℕ × ℕ)
 level_writes intents = flat_map (λ i. two_writes i.level) intents
 
+-- the same of directions
 abbrev pub direction_writes : List Intent → List (ℕ × ℕ)
 direction_writes intents = flat_map (λ i. two_writes i.direction) intents
 

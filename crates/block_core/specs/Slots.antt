@@ -93,6 +93,7 @@ abbrev pub place_after : View → Due → Option Slot → Option Slot
 place_after v d None = None
 place_after v d (Some s) = Some (slot_after v d s)
 
+-- what the machine of a place wants of its block in this clock; an empty place wants nothing
 abbrev pub place_intent : View → Due → Option Slot → Intent
 place_intent v d None = no_intent
 place_intent v d (Some s) = slot_intent v d s

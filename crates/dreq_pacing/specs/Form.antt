@@ -16,6 +16,7 @@ use Rattle.dreq_pacing.specs.declared.line.Line.{Line}
 use Rattle.dreq_pacing.specs.Lines.{last_clock, longest_period}
 use Rattle.dreq_pacing.specs.Number.{is_number, in_range}
 
+-- what comes next, where something is there
 infixl 10 ◌>>=◌
 abbrev pub ◌>>=◌ : {A B : Type 0} → Option A → (A → Option B) → Option B
 o >>= f = option_and_then f o
@@ -82,23 +83,27 @@ if_any (word ∷ words) = Some (word ∷ words)
 abbrev pub words_of : List (List ℕ) → Option (List ℕ)
 words_of fields = option_and_then if_any (all_words fields)
 
+-- each form's act, where its fields are numbers in their ranges (choice of this profile): a pin's outside value
 abbrev pub pin_act : Option (List ℕ) → Option (List ℕ) → Option Act
 pin_act pin level = do
   p ← number 0 31 pin
   l ← number 0 1 level
   Some (act.Pin p (l == 1))
 
+-- a word written to a TX FIFO
 abbrev pub tx_act : Option (List ℕ) → Option (List ℕ) → Option Act
 tx_act machine word = do
   m ← number 0 3 machine
   w ← number 0 greatest_word word
   Some (act.Tx m w)
 
+-- a read of an RX FIFO
 abbrev pub rx_act : Option (List ℕ) → Option Act
 rx_act machine = do
   m ← number 0 3 machine
   Some (act.Rx m)
 
+-- a transfer of words to a TX FIFO, at most one in so many clocks
 abbrev pub feed_act : Option (List ℕ) → Option (List ℕ) → List (List ℕ) → Option Act
 feed_act machine every words = do
   m ← number 0 3 machine
@@ -106,22 +111,26 @@ feed_act machine every words = do
   ws ← words_of words
   Some (act.Feed m e ws)
 
+-- a transfer out of an RX FIFO, at most one in so many clocks
 abbrev pub drain_act : Option (List ℕ) → Option (List ℕ) → Option Act
 drain_act machine every = do
   m ← number 0 3 machine
   e ← number 1 longest_period every
   Some (act.Drain m e)
 
+-- a machine is enabled
 abbrev pub enable_act : Option (List ℕ) → Option Act
 enable_act machine = do
   m ← number 0 3 machine
   Some (act.Enable m)
 
+-- a machine is disabled
 abbrev pub disable_act : Option (List ℕ) → Option Act
 disable_act machine = do
   m ← number 0 3 machine
   Some (act.Disable m)
 
+-- a machine's divider is restarted
 abbrev pub restart_act : Option (List ℕ) → Option Act
 restart_act machine = do
   m ← number 0 3 machine

@@ -38,5 +38,6 @@ after_pads (pad ∷ pads) s = after_pads pads (stepped pad s)
 abbrev pub one_clock_ago : ℕ → List ℕ → ℕ
 one_clock_ago before pads = slice_index_or (before ∷ pads) (length pads) before
 
+-- The same two clocks ago (RP2040 Datasheet, section 3.5.6.3: a synchroniser is two flip-flops).
 abbrev pub two_clocks_ago : ℕ → List ℕ → ℕ
 two_clocks_ago before pads = slice_index_or (before ∷ before ∷ pads) (length pads) before

@@ -13,6 +13,8 @@ mod rows_config;
 #[cfg(test)]
 mod rows_machine;
 #[cfg(test)]
+mod rows_refused;
+#[cfg(test)]
 mod rows_sources;
 mod run;
 mod setup;

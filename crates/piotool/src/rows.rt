@@ -4,6 +4,7 @@ pub const SQUARE_WAVE: &str =
     ".program squarewave\n    set pindirs, 1\nagain:\n    set pins, 1 [1]\n    set pins, 0\n    jmp again\n";
 
 /// What the output takes.
+#[derive(Drop)]
 pub enum Text {
     Nothing,
     /// So many first bytes of the whole.
@@ -19,22 +20,23 @@ pub enum Text {
 }
 
 /// One call, and what it comes to.
-pub struct Row {
-    pub name: &'static str,
-    pub words: &'static [&'static str],
+#[derive(Drop)]
+pub struct Row<'a> {
+    pub name: &'a str,
+    pub words: &'a [&'a str],
     /// What the shelf holds under the name `s`.
-    pub source: Option<&'static str>,
+    pub source: Option<&'a str>,
     /// What it holds under the name `c`.
-    pub config: Option<&'static str>,
+    pub config: Option<&'a str>,
     /// What it holds under the name `t`.
-    pub stimulus: Option<&'static str>,
+    pub stimulus: Option<&'a str>,
     /// The calls of the output that fail, with what they take.
-    pub out_fails: &'static [(u64, usize)],
+    pub out_fails: &'a [(u64, usize)],
     /// The calls of the error output that fail, with what they take.
-    pub err_fails: &'static [(u64, usize)],
+    pub err_fails: &'a [(u64, usize)],
     pub status: u8,
     pub out: Text,
-    pub err: &'static str,
+    pub err: &'a str,
 }
 
 const RUN_8: &[&str] = &["piotool", "run", "--source", "s", "--clocks", "8"];

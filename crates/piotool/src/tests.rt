@@ -1,30 +1,105 @@
 //! The whole program over a shelf and sinks in memory: worked runs, and each end with its line and its status.
 ghost use Rattle.std.specs.Prelude.{◌≡◌};
 
-use crate::rows::{ROWS, Row, Text};
+use crate::rows::{ROWS, Row, SQUARE_WAVE, Text};
 use crate::rows_config::CONFIGURED;
 use crate::rows_machine::MACHINES;
+use crate::rows_refused::{FILES, KEYS, MACHINE, SPAN, SPANS, TOML};
 use crate::rows_sources::SOURCES;
 use crate::top::piotool;
 use pio_edge::{MemShelf, MemSink};
 use std::alloc::{AllocError, Global};
 use std::marker::Brand;
+use std::process::Abort;
 use std::sync::ledger::{Blank, Ledger};
 use std::test::Fail;
 use step_count::Steps;
 
 #[test]
 fn ends_as_worked_out(rt: HostRuntime) -> Result<(), Fail> {
+    each_ends_as_worked_out(&rt, rt.alloc(), &ROWS)
+}
+
+#[test]
+fn ends_as_worked_out_under_a_configuration(rt: HostRuntime) -> Result<(), Fail> {
+    each_ends_as_worked_out(&rt, rt.alloc(), &CONFIGURED)
+}
+
+#[test]
+fn ends_as_worked_out_for_every_instruction(rt: HostRuntime) -> Result<(), Fail> {
+    each_ends_as_worked_out(&rt, rt.alloc(), &MACHINES)
+}
+
+#[test]
+fn ends_as_worked_out_for_real_sources(rt: HostRuntime) -> Result<(), Fail> {
+    each_ends_as_worked_out(&rt, rt.alloc(), &SOURCES)
+}
+
+#[test]
+fn refuses_configurations(rt: HostRuntime) -> Result<(), Fail> {
+    each_is_refused(&rt, rt.alloc(), "", &FILES)
+}
+
+#[test]
+fn refuses_keys_of_machines(rt: HostRuntime) -> Result<(), Fail> {
+    each_is_refused(&rt, rt.alloc(), MACHINE, &KEYS)
+}
+
+#[test]
+fn answers_as_toml_does(rt: HostRuntime) -> Result<(), Fail> {
+    each_is_refused(&rt, rt.alloc(), MACHINE, &TOML)
+}
+
+#[test]
+fn refuses_keys_of_spans(rt: HostRuntime) -> Result<(), Fail> {
     let alloc = rt.alloc();
-    let rows = ROWS.iter().chain(&CONFIGURED).chain(&MACHINES);
-    for row in rows.chain(&SOURCES) {
-        let name = row.name;
-        let (status, out, err) = seen_of::<Brand>(alloc, row, Blank::new(1))?;
-        let want = text_of(alloc, &row.out)?;
-        assert_eq!(rt; status, row.status, "{name}");
-        assert!(rt; out.bytes() == want.as_bytes(), "{name}");
-        assert!(rt; err.bytes() == row.err.as_bytes(), "{name}");
+    let head = format!(in alloc; "{MACHINE}{SPAN}")?;
+    each_is_refused(&rt, alloc, head.as_str(), &SPANS)
+}
+
+fn each_ends_as_worked_out(rt: &impl Abort, alloc: Global, rows: &[Row]) -> Result<(), Fail> {
+    for row in rows {
+        ends_as(rt, alloc, row)?;
     }
+    Ok(())
+}
+
+/// Under each configuration, of this head and a row's lines, the square wave isn't run, and the one line ends in the row's key and code.
+fn each_is_refused(
+    rt: &impl Abort,
+    alloc: Global,
+    head: &str,
+    rows: &[(&str, &str)],
+) -> Result<(), Fail> {
+    for (lines, fault) in rows {
+        let config = format!(in alloc; "{head}{lines}")?;
+        let err = format!(in alloc; "piotool: config {fault}\n")?;
+        let row = Row {
+            name: lines,
+            words: &[
+                "piotool", "run", "--source", "s", "--config", "c", "--clocks", "8",
+            ],
+            source: Some(SQUARE_WAVE),
+            config: Some(config.as_str()),
+            stimulus: None,
+            out_fails: &[],
+            err_fails: &[],
+            status: 1,
+            out: Text::Nothing,
+            err: err.as_str(),
+        };
+        ends_as(rt, alloc, &row)?;
+    }
+    Ok(())
+}
+
+fn ends_as(rt: &impl Abort, alloc: Global, row: &Row) -> Result<(), Fail> {
+    let name = row.name;
+    let (status, out, err) = seen_of::<Brand>(alloc, row, Blank::new(1))?;
+    let want = text_of(alloc, &row.out)?;
+    assert_eq!(rt; status, row.status, "{name}");
+    assert!(rt; out.bytes() == want.as_bytes(), "{name}");
+    assert!(rt; err.bytes() == row.err.as_bytes(), "{name}");
     Ok(())
 }
 

@@ -28,6 +28,7 @@ abbrev pub word_at : Option ℕ → View → ℕ → ℕ
 word_at (Some word) v pc = word
 word_at None v pc = slice_index v.memory pc
 
+-- the word that this tick runs (section 3.5.7)
 abbrev pub current_word : View → Registers → ℕ
 current_word v r = word_at r.pending v r.pc
 
@@ -59,10 +60,12 @@ after_effect delay s r e = let done = e.registers in
 abbrev pub refills : MachineSetup → Queues → Registers → Bool
 refills s q r = s.autopull && (nat_le s.pull_threshold r.out_count && is_some q.front)
 
+-- OSR from the front of TX, unchanged where TX is empty
 abbrev pub osr_filled_from : Option ℕ → Registers → Registers
 osr_filled_from None r = r
 osr_filled_from (Some word) r = osr_filled word r
 
+-- the registers after the refill of a tick, where it is due (section 3.5.4)
 abbrev pub refilled : MachineSetup → Queues → Registers → Registers
 refilled s q r = if s.autopull && nat_le s.pull_threshold r.out_count then osr_filled_from q.front r else r
 

@@ -20,6 +20,7 @@ digit_of b =
     if nat_le 97 b && nat_le b 102 then Some (b - 97 + 10) else
     if nat_le 65 b && nat_le b 70 then Some (b - 65 + 10) else None
 
+-- what comes next, where something is there
 infixl 10 ◌>>=◌
 abbrev pub ◌>>=◌ : {A B : Type 0} → Option A → (A → Option B) → Option B
 o >>= f = option_and_then f o
