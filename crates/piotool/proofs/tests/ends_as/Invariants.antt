@@ -1,4 +1,4 @@
-use Rattle.piotool.proofs.tests.ends_as_worked_out.Given as goal
+use Rattle.piotool.proofs.tests.ends_as.Given as goal
 
 -- each row's call has a ledger of its own, in one part
 abbrev pub ghosts-seen_of : goal.ghosts-seen_of
