@@ -6,3 +6,6 @@ pub mod Scoping
 pub mod Programs
 pub mod Keeping
 pub mod Distinct
+pub mod TextRows
+pub mod TextNumbers
+pub mod TextTails

@@ -7,3 +7,4 @@ pub mod Rules
 pub mod Operands
 pub mod Drafts
 pub mod Source
+pub mod Texts

@@ -7,6 +7,7 @@ mod checks;
 mod draft;
 mod fault;
 mod instruction;
+mod laws;
 mod line;
 mod lines;
 mod name;
@@ -20,6 +21,7 @@ mod symbols;
 mod symbols_of;
 
 pub use fault::{LineFault, SourceFault, SourceKind};
+pub use laws::a_spelled_word_is_read_back;
 pub use program::Program;
 pub use quantity::Quantity;
 pub use source::assemble;
