@@ -9,3 +9,4 @@ pub mod Distinct
 pub mod TextRows
 pub mod TextNumbers
 pub mod TextTails
+pub mod TextSays
