@@ -10,3 +10,4 @@ pub mod TextRows
 pub mod TextNumbers
 pub mod TextTails
 pub mod TextSays
+pub mod TextWords
