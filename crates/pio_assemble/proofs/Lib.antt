@@ -11,3 +11,4 @@ pub mod TextNumbers
 pub mod TextTails
 pub mod TextSays
 pub mod TextWords
+pub mod TextActs
