@@ -12,3 +12,4 @@ pub mod TextTails
 pub mod TextSays
 pub mod TextWords
 pub mod TextActs
+pub mod TextFits

@@ -44,11 +44,11 @@ record IsNumber (n : ℕ) : Type 0 where
   before_bracket : (rest : List ℕ) → Stands (decimal n ++ 93 ∷ rest) (number n)
 
 -- this holds below a number
-abbrev AllBelow : (ℕ → Type 0) → ℕ → Type 0
+abbrev pub AllBelow : (ℕ → Type 0) → ℕ → Type 0
 AllBelow P zero = Unit {0}
 AllBelow P (suc k) = P k × AllBelow P k
 
-below : (P : ℕ → Type 0) (k : ℕ) → AllBelow P k → (n : ℕ) → n < k → P n
+pub below : (P : ℕ → Type 0) (k : ℕ) → AllBelow P k → (n : ℕ) → n < k → P n
 below P zero all n h = absurd (omega arith)
 below P (suc k) all n h = elim (cases_lt n k) [
     | inl less ↦ below P k all.1 n less
