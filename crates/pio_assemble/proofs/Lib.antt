@@ -13,3 +13,5 @@ pub mod TextSays
 pub mod TextWords
 pub mod TextActs
 pub mod TextFits
+pub mod TextHex
+pub mod Texts
