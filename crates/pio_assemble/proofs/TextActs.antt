@@ -1,7 +1,6 @@
 -- The text of an instruction is read as that instruction.
-use Rattle.std.proofs.Common.{◌≡◌, ℕ, ◌+◌, ◌*◌, ◌/◌, ◌%◌, ◌^◌, ◌<◌, ◌≤◌, ◌==◌, ◌&&◌, not, Bool, true, false, List, [], ◌∷◌, ◌++◌, Result, Ok, refl, sym, ap, subst, ◌∙◌, arith}
-use Rattle.std.specs.Prelude.{codes}
-use Rattle.std.proofs.lemmas.Bool.{and_parts, eqb-true, eqb-false}
+use Rattle.std.proofs.Common.{◌≡◌, ℕ, ◌/◌, ◌%◌, ◌^◌, ◌<◌, ◌≤◌, ◌==◌, Bool, true, false, List, [], ◌∷◌, ◌++◌, Ok, refl, subst, arith}
+use Rattle.std.proofs.lemmas.Bool.{eqb-true, eqb-false}
 use Rattle.pio_lex.specs.declared.keyword.Keyword.TheVariants as keyword
 use Rattle.pio_lex.specs.declared.piece.Piece.{Piece}
 use Rattle.pio_lex.specs.declared.piece.Piece.TheVariants as piece
@@ -99,6 +98,7 @@ irq_read mode i h e = record {
   mode_is irq_mode.RaiseAndWait = refl
   mode_is irq_mode.Lower = refl
 
+-- a MOV of Y to itself, which is spelled `nop`
 nop_read : IsActRead (act.Mov mov_destination.Y mov_operation.Plain mov_source.Y)
 unfolding act_of act_text
 nop_read = record { pieces = word keyword.Nop 3 ∷ []; form = form.Nop; row = nop_row; says = nop_says; means = λ scope. refl }

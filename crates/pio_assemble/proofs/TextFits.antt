@@ -1,5 +1,5 @@
 -- What a word is read as fits: its operands, its side-set value and its delay.
-use Rattle.std.proofs.Common.{◌≡◌, ℕ, ◌+◌, ◌/◌, ◌%◌, ◌^◌, ◌<◌, ◌≤◌, ◌==◌, nat_lt, Bool, true, false, Option, Some, None, refl, sym, ap, subst, ◌∙◌, if◌then◌else◌, arith}
+use Rattle.std.proofs.Common.{◌≡◌, ℕ, ◌/◌, ◌%◌, ◌^◌, ◌<◌, ◌≤◌, ◌==◌, nat_lt, Bool, true, false, Option, Some, None, refl, if◌then◌else◌, arith}
 use Rattle.std.proofs.lemmas.Bool.{eqb-true, eqb-false, lt-ltb}
 use Rattle.std.proofs.lemmas.Nat.{pow_pos}
 use Rattle.std.proofs.Math.Nat.{mod-lt}
@@ -91,6 +91,7 @@ act_fits w =
     (either (bits w 13 3 == 6) (irq_at w) (set_at w) (irq_fits w) (set_fits w)))))))
 
 module _ (rule : SideRule) (field : ℕ) where
+  -- the bits above the delay
   abbrev value : ℕ
   value = field / 2 ^ delay_bits rule % 2 ^ rule.bits
 

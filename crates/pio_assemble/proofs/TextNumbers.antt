@@ -1,19 +1,21 @@
 -- The tokens of the numbers of a text: 0 to 32.
 --   Follow         what stands behind a number or a word
---   is_number      a number's piece, and the blank before it
+--   all_below      a test of each number below one
+--   numbered       a row that begins with a number
 --   spaced         a row that begins with a blank and a number
-use Rattle.std.proofs.Common.{◌≡◌, ℕ, zero, suc, ◌+◌, ◌<◌, ◌≤◌, inl, inr, true, List, [], ◌∷◌, ◌++◌, length, drop, Option, None, Result, Ok, refl, sym, ap, subst, ◌∙◌, arith}
+use Rattle.std.proofs.Common.{◌≡◌, ℕ, zero, suc, ◌<◌, ◌==◌, ◌&&◌, inl, inr, Bool, true, false, List, [], ◌∷◌, ◌++◌, length, None, Result, Ok, refl, sym, ap, subst, ◌∙◌, arith}
 use Rattle.std.specs.Prelude.{decimal}
 use Rattle.std.specs.Fmt.{digits}
 use Rattle.std.proofs.Math.Seq.{drop-append_seam}
-use Rattle.std.proofs.lemmas.Bool.{cases_lt}
+use Rattle.std.proofs.lemmas.Bool.{and_parts, cases_lt, eqb-true}
+use Rattle.pio_lex.specs.declared.fault.LexKind.{LexKind}
 use Rattle.pio_lex.specs.declared.token.TokenKind.TheVariants as kind
 use Rattle.pio_lex.specs.declared.piece.Piece.{Piece}
 use Rattle.pio_lex.specs.declared.piece.Piece.TheVariants as piece
 use Rattle.pio_lex.specs.Gaps.{gap_at, opens_block}
 use Rattle.pio_lex.specs.Numbers.{number_of}
 use Rattle.pio_lex.specs.Spellings.{token_at}
-use Rattle.pio_lex.specs.Pieces.{piece_at, size}
+use Rattle.pio_lex.specs.Pieces.{piece_at}
 use Rattle.pio_assemble.proofs.TextRows.{may_stand, AreRow}
 
 -- what stands behind a number or a word: nothing, a blank, or the bracket that closes a delay
@@ -36,79 +38,80 @@ number n = piece.Token (kind.Number n) (length (decimal n))
 abbrev pub Stands : List ℕ → Piece → Type 0
 Stands text p = (may_stand text p ≡ true) × (piece_at None text ≡ Ok p)
 
--- a number is one token, and a blank before it is a gap
-record IsNumber (n : ℕ) : Type 0 where
-  gap : (rest : List ℕ) → Stands (32 ∷ decimal n ++ rest) (piece.Gap 1)
-  at_end : Stands (decimal n ++ []) (number n)
-  before_blank : (rest : List ℕ) → Stands (decimal n ++ 32 ∷ rest) (number n)
-  before_bracket : (rest : List ℕ) → Stands (decimal n ++ 93 ∷ rest) (number n)
+-- a test of each number below one
+abbrev pub all_below : (ℕ → Bool) → ℕ → Bool
+all_below test zero = true
+all_below test (suc k) = test k && all_below test k
 
--- this holds below a number
-abbrev pub AllBelow : (ℕ → Type 0) → ℕ → Type 0
-AllBelow P zero = Unit {0}
-AllBelow P (suc k) = P k × AllBelow P k
+-- it passes for each
+pub each_below : (test : ℕ → Bool) (k : ℕ) → all_below test k ≡ true → (n : ℕ) → n < k → test n ≡ true
+each_below test zero all n h = absurd (omega arith)
+each_below test (suc k) all n h =
+    let both = and_parts (test k) (all_below test k) all in
+    elim (cases_lt n k) [
+      | inl less ↦ each_below test k both.1 n less
+      | inr more ↦ let same : k ≡ n = omega arith in ap test (sym same) ∙ both.0
+    ]
 
-pub below : (P : ℕ → Type 0) (k : ℕ) → AllBelow P k → (n : ℕ) → n < k → P n
-below P zero all n h = absurd (omega arith)
-below P (suc k) all n h = elim (cases_lt n k) [
-    | inl less ↦ below P k all.1 n less
-    | inr more ↦ let same : k ≡ n = omega arith in subst P same all.0
-  ]
+-- a gap of one byte
+abbrev gives_gap : Result Piece LexKind → Bool
+gives_gap (Ok (piece.Gap n)) = n == 1
+gives_gap _ = false
 
-all_numbers : AllBelow IsNumber 33
+-- and this number
+abbrev gives_number : ℕ → Result Piece LexKind → Bool
+gives_number n (Ok (piece.Token (kind.Number value) size)) = value == n && (size == length (decimal n))
+gives_number n _ = false
+
+gap_given : (r : Result Piece LexKind) → gives_gap r ≡ true → r ≡ Ok (piece.Gap 1)
+gap_given (Ok (piece.Gap n)) h = ap (λ (m : ℕ). Ok (piece.Gap m)) (eqb-true n 1 h)
+gap_given _ h = absurd cc
+
+number_given : (n : ℕ) (r : Result Piece LexKind) → gives_number n r ≡ true → r ≡ Ok (number n)
+number_given n (Ok (piece.Token (kind.Number value) size)) h =
+    let both = and_parts (value == n) (size == length (decimal n)) h in
+    let same : value ≡ n = eqb-true value n both.0 in
+    let long : size ≡ length (decimal n) = eqb-true size (length (decimal n)) both.1 in
+    rw (same, long) refl
+number_given n _ h = absurd cc
+
+-- the test of a blank before a number
+abbrev gap_test : List ℕ → Bool
+gap_test text = may_stand text (piece.Gap 1) && gives_gap (piece_at None text)
+
+-- and of a number
+abbrev number_test : ℕ → List ℕ → Bool
+number_test n text = may_stand text (number n) && gives_number n (piece_at None text)
+
+gap_stands : (text : List ℕ) → gap_test text ≡ true → Stands text (piece.Gap 1)
+gap_stands text h =
+    let both = and_parts (may_stand text (piece.Gap 1)) (gives_gap (piece_at None text)) h in
+    (both.0, gap_given (piece_at None text) both.1)
+
+number_stands : (n : ℕ) (text : List ℕ) → number_test n text ≡ true → Stands text (number n)
+number_stands n text h =
+    let both = and_parts (may_stand text (number n)) (gives_number n (piece_at None text)) h in
+    (both.0, number_given n (piece_at None text) both.1)
+
+-- 0 to 32, by computing the tests
+gaps : (rest : List ℕ) → all_below (λ n. gap_test (32 ∷ decimal n ++ rest)) 33 ≡ true
 unfolding digits piece_at gap_at opens_block token_at number_of
-all_numbers = 
-  (record { gap = λ rest. (refl, refl); at_end = (refl, refl); before_blank = λ rest. (refl, refl); before_bracket = λ rest. (refl, refl) },
-  (record { gap = λ rest. (refl, refl); at_end = (refl, refl); before_blank = λ rest. (refl, refl); before_bracket = λ rest. (refl, refl) },
-  (record { gap = λ rest. (refl, refl); at_end = (refl, refl); before_blank = λ rest. (refl, refl); before_bracket = λ rest. (refl, refl) },
-  (record { gap = λ rest. (refl, refl); at_end = (refl, refl); before_blank = λ rest. (refl, refl); before_bracket = λ rest. (refl, refl) },
-  (record { gap = λ rest. (refl, refl); at_end = (refl, refl); before_blank = λ rest. (refl, refl); before_bracket = λ rest. (refl, refl) },
-  (record { gap = λ rest. (refl, refl); at_end = (refl, refl); before_blank = λ rest. (refl, refl); before_bracket = λ rest. (refl, refl) },
-  (record { gap = λ rest. (refl, refl); at_end = (refl, refl); before_blank = λ rest. (refl, refl); before_bracket = λ rest. (refl, refl) },
-  (record { gap = λ rest. (refl, refl); at_end = (refl, refl); before_blank = λ rest. (refl, refl); before_bracket = λ rest. (refl, refl) },
-  (record { gap = λ rest. (refl, refl); at_end = (refl, refl); before_blank = λ rest. (refl, refl); before_bracket = λ rest. (refl, refl) },
-  (record { gap = λ rest. (refl, refl); at_end = (refl, refl); before_blank = λ rest. (refl, refl); before_bracket = λ rest. (refl, refl) },
-  (record { gap = λ rest. (refl, refl); at_end = (refl, refl); before_blank = λ rest. (refl, refl); before_bracket = λ rest. (refl, refl) },
-  (record { gap = λ rest. (refl, refl); at_end = (refl, refl); before_blank = λ rest. (refl, refl); before_bracket = λ rest. (refl, refl) },
-  (record { gap = λ rest. (refl, refl); at_end = (refl, refl); before_blank = λ rest. (refl, refl); before_bracket = λ rest. (refl, refl) },
-  (record { gap = λ rest. (refl, refl); at_end = (refl, refl); before_blank = λ rest. (refl, refl); before_bracket = λ rest. (refl, refl) },
-  (record { gap = λ rest. (refl, refl); at_end = (refl, refl); before_blank = λ rest. (refl, refl); before_bracket = λ rest. (refl, refl) },
-  (record { gap = λ rest. (refl, refl); at_end = (refl, refl); before_blank = λ rest. (refl, refl); before_bracket = λ rest. (refl, refl) },
-  (record { gap = λ rest. (refl, refl); at_end = (refl, refl); before_blank = λ rest. (refl, refl); before_bracket = λ rest. (refl, refl) },
-  (record { gap = λ rest. (refl, refl); at_end = (refl, refl); before_blank = λ rest. (refl, refl); before_bracket = λ rest. (refl, refl) },
-  (record { gap = λ rest. (refl, refl); at_end = (refl, refl); before_blank = λ rest. (refl, refl); before_bracket = λ rest. (refl, refl) },
-  (record { gap = λ rest. (refl, refl); at_end = (refl, refl); before_blank = λ rest. (refl, refl); before_bracket = λ rest. (refl, refl) },
-  (record { gap = λ rest. (refl, refl); at_end = (refl, refl); before_blank = λ rest. (refl, refl); before_bracket = λ rest. (refl, refl) },
-  (record { gap = λ rest. (refl, refl); at_end = (refl, refl); before_blank = λ rest. (refl, refl); before_bracket = λ rest. (refl, refl) },
-  (record { gap = λ rest. (refl, refl); at_end = (refl, refl); before_blank = λ rest. (refl, refl); before_bracket = λ rest. (refl, refl) },
-  (record { gap = λ rest. (refl, refl); at_end = (refl, refl); before_blank = λ rest. (refl, refl); before_bracket = λ rest. (refl, refl) },
-  (record { gap = λ rest. (refl, refl); at_end = (refl, refl); before_blank = λ rest. (refl, refl); before_bracket = λ rest. (refl, refl) },
-  (record { gap = λ rest. (refl, refl); at_end = (refl, refl); before_blank = λ rest. (refl, refl); before_bracket = λ rest. (refl, refl) },
-  (record { gap = λ rest. (refl, refl); at_end = (refl, refl); before_blank = λ rest. (refl, refl); before_bracket = λ rest. (refl, refl) },
-  (record { gap = λ rest. (refl, refl); at_end = (refl, refl); before_blank = λ rest. (refl, refl); before_bracket = λ rest. (refl, refl) },
-  (record { gap = λ rest. (refl, refl); at_end = (refl, refl); before_blank = λ rest. (refl, refl); before_bracket = λ rest. (refl, refl) },
-  (record { gap = λ rest. (refl, refl); at_end = (refl, refl); before_blank = λ rest. (refl, refl); before_bracket = λ rest. (refl, refl) },
-  (record { gap = λ rest. (refl, refl); at_end = (refl, refl); before_blank = λ rest. (refl, refl); before_bracket = λ rest. (refl, refl) },
-  (record { gap = λ rest. (refl, refl); at_end = (refl, refl); before_blank = λ rest. (refl, refl); before_bracket = λ rest. (refl, refl) },
-  (record { gap = λ rest. (refl, refl); at_end = (refl, refl); before_blank = λ rest. (refl, refl); before_bracket = λ rest. (refl, refl) },
-  tt)))))))))))))))))))))))))))))))))
+gaps rest = refl
+
+numbers : (f : Follow) → all_below (λ n. number_test n (decimal n ++ behind f)) 33 ≡ true
+unfolding digits piece_at gap_at opens_block token_at number_of
+numbers nothing = refl
+numbers (blank rest) = refl
+numbers (bracket rest) = refl
 
 -- a number before what stands behind it
 pub numbered : (n : ℕ) → n < 33 → (f : Follow) (pieces : List Piece) → AreRow (behind f) pieces → AreRow (decimal n ++ behind f) (number n ∷ pieces)
-numbered n h f pieces row = by f row where
-  it : IsNumber n
-  it = below IsNumber 33 all_numbers n h
-
-  on : (text : List ℕ) → AreRow text pieces → AreRow (drop (length (decimal n)) (decimal n ++ text)) pieces
-  on text r = subst (λ (t : List ℕ). AreRow t pieces) (sym (drop-append_seam (decimal n) text)) r
-
-  by : (g : Follow) → AreRow (behind g) pieces → AreRow (decimal n ++ behind g) (number n ∷ pieces)
-  by nothing r = (it.at_end.0, it.at_end.1, on [] r)
-  by (blank rest) r = ((it.before_blank rest).0, (it.before_blank rest).1, on (32 ∷ rest) r)
-  by (bracket rest) r = ((it.before_bracket rest).0, (it.before_bracket rest).1, on (93 ∷ rest) r)
+numbered n h f pieces row =
+    let it = number_stands n (decimal n ++ behind f) (each_below (λ m. number_test m (decimal m ++ behind f)) 33 (numbers f) n h) in
+    (it.0, it.1, subst (λ (t : List ℕ). AreRow t pieces) (sym (drop-append_seam (decimal n) (behind f))) row)
 
 -- the same behind a blank
 pub spaced : (n : ℕ) → n < 33 → (f : Follow) (pieces : List Piece) → AreRow (behind f) pieces → AreRow (32 ∷ decimal n ++ behind f) (piece.Gap 1 ∷ number n ∷ pieces)
 spaced n h f pieces row =
-    let g = (below IsNumber 33 all_numbers n h).gap (behind f) in
-    (g.0, g.1, numbered n h f pieces row)
+    let it = gap_stands (32 ∷ decimal n ++ behind f) (each_below (λ m. gap_test (32 ∷ decimal m ++ behind f)) 33 (gaps (behind f)) n h) in
+    (it.0, it.1, numbered n h f pieces row)

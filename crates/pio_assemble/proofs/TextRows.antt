@@ -2,22 +2,19 @@
 --   AreRow         these pieces stand one behind the other, from the beginning of a text to its end
 --   tokens_from    the tokens of pieces
 --   reads_row      a text's reading is the tokens of its pieces
-use Rattle.std.proofs.Common.{◌≡◌, ℕ, zero, suc, ◌+◌, ◌-◌, ◌<◌, ◌≤◌, ◌==◌, ◌&&◌, not, Bool, true, false, cond, List, [], ◌∷◌, ◌++◌, length, drop, Option, Some, None, Result, Ok, Err, refl, sym, ap, subst, ◌∙◌, nat_lt, get_or, slice_get, arith, append_assoc}
-use Rattle.std.specs.Prelude.{option_map, slice_index}
+use Rattle.std.proofs.Common.{◌≡◌, ℕ, zero, suc, ◌+◌, ◌-◌, ◌<◌, ◌≤◌, ◌&&◌, not, Bool, true, false, List, [], ◌∷◌, ◌++◌, length, drop, Option, Some, None, Ok, refl, ap, subst, ◌∙◌, nat_lt, get_or, slice_get, arith, append_assoc}
+use Rattle.std.specs.Prelude.{option_map}
 use Rattle.std.proofs.lemmas.Bool.{and_parts, ltb-true, lt-ltb, le-ltb}
 use Rattle.std.proofs.lemmas.List.{append-nil, length-append, length-drop, drop-drop}
 use Rattle.std.proofs.Math.Seq.{get_or-append_seam}
 use Rattle.std.proofs.lemmas.Option.{slice_get-get_or}
-
-use Rattle.pio_lex.specs.declared.fault.LexKind.{LexKind}
-use Rattle.pio_lex.specs.declared.fault.LexFault.{LexFault}
 use Rattle.pio_lex.specs.declared.token.TokenKind.{TokenKind}
 use Rattle.pio_lex.specs.declared.token.Token.{Token}
 use Rattle.pio_lex.specs.declared.piece.Piece.{Piece}
 use Rattle.pio_lex.specs.declared.piece.Piece.TheVariants as piece
 use Rattle.pio_lex.specs.Gaps.{is_lang_opt, begins_line, opens_block, gap_at}
 use Rattle.pio_lex.specs.Pieces.{piece_at, size}
-use Rattle.pio_lex.specs.Reading.{read_from, read_piece, reading_of}
+use Rattle.pio_lex.specs.Reading.{read_from, reading_of}
 use Rattle.pio_lex.specs.Tokens.{Place, line_at, tokens_of, last_kind, behind as behind_piece, start}
 
 -- a text that is left

@@ -1,7 +1,7 @@
 -- What the tokens of a line of code say, by computing the grammar on them.
 --   Says             pieces, with any tail behind them, are one line: an instruction of a form
 --   the forms, each by its operands
-use Rattle.std.proofs.Common.{◌≡◌, ℕ, Bool, true, false, List, [], ◌∷◌, ◌++◌, length, Option, Some, None, Result, Ok, refl, pos}
+use Rattle.std.proofs.Common.{◌≡◌, ℕ, Bool, true, false, List, [], ◌∷◌, ◌++◌, length, Some, Ok, refl}
 use Rattle.pio_lex.specs.declared.keyword.Keyword.{Keyword}
 use Rattle.pio_lex.specs.declared.keyword.Keyword.TheVariants as keyword
 use Rattle.pio_lex.specs.declared.directive.Directive.TheVariants as directive
@@ -32,7 +32,6 @@ use Rattle.pio_statement.specs.declared.instruction.Form.{Form}
 use Rattle.pio_statement.specs.declared.instruction.Form.TheVariants as form
 use Rattle.pio_statement.specs.declared.instruction.IrqMode.{IrqMode}
 use Rattle.pio_statement.specs.declared.instruction.IrqMode.TheVariants as irq_mode
-use Rattle.pio_statement.specs.declared.instruction.Instruction.{Instruction}
 use Rattle.pio_statement.specs.declared.statement.Code.{Code}
 use Rattle.pio_statement.specs.declared.statement.Code.TheVariants as code
 use Rattle.pio_statement.specs.declared.statement.Statement.TheVariants as statement
@@ -69,6 +68,7 @@ pub record Says (pieces : List Piece) (f : Form) : Type 0 where
   on_delayed : (d : ℕ) → SaysWith pieces f (delayed d)
   on_both : (v d : ℕ) → SaysWith pieces f (both v d)
 
+-- whatever the tail is
 pub says_with : (pieces : List Piece) (f : Form) → Says pieces f → (t : Tail) → SaysWith pieces f t
 says_with pieces f s bare = s.on_bare
 says_with pieces f s (sided v) = s.on_sided v
@@ -79,9 +79,11 @@ says_with pieces f s (both v d) = s.on_both v d
 abbrev pub word : Keyword → ℕ → Piece
 word k n = piece.Token (kind.Keyword k) n
 
+-- one blank
 abbrev pub blank : Piece
 blank = piece.Gap 1
 
+-- a comma
 abbrev pub comma : Piece
 comma = piece.Token kind.Comma 1
 
@@ -96,6 +98,7 @@ condition_pieces condition.XNotY = blank ∷ word keyword.X 1 ∷ piece.Token ki
 condition_pieces condition.Pin = blank ∷ word keyword.Pin 3 ∷ comma ∷ []
 condition_pieces condition.OsrNotEmpty = blank ∷ piece.Token kind.Bang 1 ∷ word keyword.Osre 4 ∷ comma ∷ []
 
+-- a JMP
 abbrev pub jmp_pieces : Condition → ℕ → List Piece
 jmp_pieces c n = word keyword.Jmp 3 ∷ condition_pieces c ++ blank ∷ number n ∷ []
 
@@ -119,11 +122,13 @@ rel_pieces false = []
 abbrev pub flag_pieces : Bool → ℕ → List Piece
 flag_pieces rel n = blank ∷ number n ∷ rel_pieces rel
 
+-- the word of what a WAIT looks at
 abbrev pub wait_word : WaitSource → Keyword
 wait_word wait_source.Gpio = keyword.Gpio
 wait_word wait_source.Pin = keyword.Pin
 wait_word wait_source.Irq = keyword.Irq
 
+-- a WAIT up to its index
 abbrev pub wait_pieces : Bool → WaitSource → List Piece
 wait_pieces polarity from = word keyword.Wait 4 ∷ blank ∷ number (bit polarity) ∷ blank ∷ word (wait_word from) (length (wait_source_text from)) ∷ []
 
@@ -140,6 +145,7 @@ unfolding grammar
 wait_irq_says polarity true n = record { on_bare = λ source. refl; on_sided = λ v source. refl; on_delayed = λ d source. refl; on_both = λ v d source. refl }
 wait_irq_says polarity false n = record { on_bare = λ source. refl; on_sided = λ v source. refl; on_delayed = λ d source. refl; on_both = λ v d source. refl }
 
+-- the word of an IN's source
 abbrev pub in_word : InSource → Keyword
 in_word in_source.Pins = keyword.Pins
 in_word in_source.X = keyword.X
@@ -148,6 +154,7 @@ in_word in_source.Null = keyword.Null
 in_word in_source.Isr = keyword.Isr
 in_word in_source.Osr = keyword.Osr
 
+-- an IN
 abbrev pub in_pieces : InSource → ℕ → List Piece
 in_pieces operand n = word keyword.In 2 ∷ blank ∷ word (in_word operand) (length (in_source_text operand)) ∷ comma ∷ blank ∷ number n ∷ []
 
@@ -160,6 +167,7 @@ in_says in_source.Null n = record { on_bare = λ source. refl; on_sided = λ v s
 in_says in_source.Isr n = record { on_bare = λ source. refl; on_sided = λ v source. refl; on_delayed = λ d source. refl; on_both = λ v d source. refl }
 in_says in_source.Osr n = record { on_bare = λ source. refl; on_sided = λ v source. refl; on_delayed = λ d source. refl; on_both = λ v d source. refl }
 
+-- the word of an OUT's destination
 abbrev pub out_word : OutDestination → Keyword
 out_word out_destination.Pins = keyword.Pins
 out_word out_destination.X = keyword.X
@@ -170,6 +178,7 @@ out_word out_destination.Pc = keyword.Pc
 out_word out_destination.Isr = keyword.Isr
 out_word out_destination.Exec = keyword.Exec
 
+-- an OUT
 abbrev pub out_pieces : OutDestination → ℕ → List Piece
 out_pieces operand n = word keyword.Out 3 ∷ blank ∷ word (out_word operand) (length (out_destination_text operand)) ∷ comma ∷ blank ∷ number n ∷ []
 
@@ -184,12 +193,14 @@ out_says out_destination.Pc n = record { on_bare = λ source. refl; on_sided = �
 out_says out_destination.Isr n = record { on_bare = λ source. refl; on_sided = λ v source. refl; on_delayed = λ d source. refl; on_both = λ v d source. refl }
 out_says out_destination.Exec n = record { on_bare = λ source. refl; on_sided = λ v source. refl; on_delayed = λ d source. refl; on_both = λ v d source. refl }
 
+-- the word of a SET's destination
 abbrev pub set_word : SetDestination → Keyword
 set_word set_destination.Pins = keyword.Pins
 set_word set_destination.X = keyword.X
 set_word set_destination.Y = keyword.Y
 set_word set_destination.Pindirs = keyword.Pindirs
 
+-- a SET
 abbrev pub set_pieces : SetDestination → ℕ → List Piece
 set_pieces operand n = word keyword.Set 3 ∷ blank ∷ word (set_word operand) (length (set_destination_text operand)) ∷ comma ∷ blank ∷ number n ∷ []
 
@@ -200,10 +211,12 @@ set_says set_destination.X n = record { on_bare = λ source. refl; on_sided = λ
 set_says set_destination.Y n = record { on_bare = λ source. refl; on_sided = λ v source. refl; on_delayed = λ d source. refl; on_both = λ v d source. refl }
 set_says set_destination.Pindirs n = record { on_bare = λ source. refl; on_sided = λ v source. refl; on_delayed = λ d source. refl; on_both = λ v d source. refl }
 
+-- whether a PUSH or a PULL waits
 abbrev pub block_pieces : Bool → List Piece
 block_pieces true = blank ∷ word keyword.Block 5 ∷ []
 block_pieces false = blank ∷ word keyword.NoBlock 7 ∷ []
 
+-- a PUSH
 abbrev pub push_pieces : Bool → Bool → List Piece
 push_pieces true block = word keyword.Push 4 ∷ blank ∷ word keyword.IfFull 6 ∷ block_pieces block
 push_pieces false block = word keyword.Push 4 ∷ block_pieces block
@@ -215,6 +228,7 @@ push_says true false = record { on_bare = λ source. refl; on_sided = λ v sourc
 push_says false true = record { on_bare = λ source. refl; on_sided = λ v source. refl; on_delayed = λ d source. refl; on_both = λ v d source. refl }
 push_says false false = record { on_bare = λ source. refl; on_sided = λ v source. refl; on_delayed = λ d source. refl; on_both = λ v d source. refl }
 
+-- a PULL
 abbrev pub pull_pieces : Bool → Bool → List Piece
 pull_pieces true block = word keyword.Pull 4 ∷ blank ∷ word keyword.IfEmpty 7 ∷ block_pieces block
 pull_pieces false block = word keyword.Pull 4 ∷ block_pieces block
@@ -230,6 +244,7 @@ pub nop_says : Says (word keyword.Nop 3 ∷ []) form.Nop
 unfolding grammar
 nop_says = record { on_bare = λ source. refl; on_sided = λ v source. refl; on_delayed = λ d source. refl; on_both = λ v d source. refl }
 
+-- the word of a MOV's destination
 abbrev pub mov_destination_word : MovDestination → Keyword
 mov_destination_word mov_destination.Pins = keyword.Pins
 mov_destination_word mov_destination.X = keyword.X
@@ -239,6 +254,7 @@ mov_destination_word mov_destination.Pc = keyword.Pc
 mov_destination_word mov_destination.Isr = keyword.Isr
 mov_destination_word mov_destination.Osr = keyword.Osr
 
+-- the word of a MOV's source
 abbrev pub mov_source_word : MovSource → Keyword
 mov_source_word mov_source.Pins = keyword.Pins
 mov_source_word mov_source.X = keyword.X
@@ -266,14 +282,17 @@ mov_source_is mov_source.Status = refl
 mov_source_is mov_source.Isr = refl
 mov_source_is mov_source.Osr = refl
 
+-- the sign before a MOV's source
 abbrev pub operation_pieces : MovOperation → List Piece
 operation_pieces mov_operation.Plain = []
 operation_pieces mov_operation.Invert = piece.Token kind.Bang 1 ∷ []
 operation_pieces mov_operation.Reverse = piece.Token kind.DoubleColon 2 ∷ []
 
+-- a MOV's source with its sign, behind its blank
 abbrev pub mov_operand_pieces : MovOperation → MovSource → List Piece
 mov_operand_pieces o s = blank ∷ operation_pieces o ++ word (mov_source_word s) (length (mov_source_text s)) ∷ []
 
+-- a MOV
 abbrev pub mov_pieces : MovDestination → MovOperation → MovSource → List Piece
 mov_pieces d o s = word keyword.Mov 3 ∷ blank ∷ word (mov_destination_word d) (length (mov_destination_text d)) ∷ comma ∷ mov_operand_pieces o s
 
@@ -283,16 +302,19 @@ mov_says d mov_operation.Plain s = record { on_bare = λ source. rw (mov_destina
 mov_says d mov_operation.Invert s = record { on_bare = λ source. rw (mov_destination_is d, mov_source_is s) refl; on_sided = λ v source. rw (mov_destination_is d, mov_source_is s) refl; on_delayed = λ n source. rw (mov_destination_is d, mov_source_is s) refl; on_both = λ v n source. rw (mov_destination_is d, mov_source_is s) refl }
 mov_says d mov_operation.Reverse s = record { on_bare = λ source. rw (mov_destination_is d, mov_source_is s) refl; on_sided = λ v source. rw (mov_destination_is d, mov_source_is s) refl; on_delayed = λ n source. rw (mov_destination_is d, mov_source_is s) refl; on_both = λ v n source. rw (mov_destination_is d, mov_source_is s) refl }
 
+-- the word of what an IRQ does
 abbrev pub mode_word : IrqMode → Keyword
 mode_word irq_mode.Raise = keyword.NoWait
 mode_word irq_mode.RaiseAndWait = keyword.Wait
 mode_word irq_mode.Lower = keyword.Clear
 
+-- how many bytes that word has
 abbrev pub mode_size : IrqMode → ℕ
 mode_size irq_mode.Raise = 6
 mode_size irq_mode.RaiseAndWait = 4
 mode_size irq_mode.Lower = 5
 
+-- an IRQ
 abbrev pub irq_pieces : IrqMode → Bool → ℕ → List Piece
 irq_pieces mode rel n = word keyword.Irq 3 ∷ blank ∷ word (mode_word mode) (mode_size mode) ∷ flag_pieces rel n
 

@@ -2,7 +2,7 @@
 --   Tail           what stands behind an instruction: a side-set value, a delay, both or none
 --   tail_row       its pieces
 --   tail_of        the tail of a side-set value and a delay that fit a rule
-use Rattle.std.proofs.Common.{◌≡◌, ℕ, ◌+◌, ◌-◌, ◌^◌, ◌<◌, ◌≤◌, ◌==◌, ◌&&◌, Bool, true, false, List, [], ◌∷◌, ◌++◌, Option, None, Some, Result, Ok, refl, sym, ap, subst, ◌∙◌, pos, arith}
+use Rattle.std.proofs.Common.{◌≡◌, ℕ, ◌-◌, ◌^◌, ◌<◌, ◌≤◌, ◌==◌, Bool, true, false, List, [], ◌∷◌, ◌++◌, Option, None, Some, Ok, refl, sym, subst, pos, arith}
 use Rattle.std.specs.Prelude.{decimal, codes}
 use Rattle.std.proofs.lemmas.Bool.{le-leb, eqb-true}
 use Rattle.std.proofs.Math.Nat.{pow-le-pow_right}
@@ -22,11 +22,10 @@ use Rattle.pio_expr.specs.declared.expr.Item.TheVariants as item
 use Rattle.pio_expr.specs.Values.{Scope, worked_out}
 use Rattle.pio_statement.specs.declared.instruction.Suffix.{Suffix}
 use Rattle.pio_statement.specs.declared.instruction.Suffix.TheVariants as suffix
-use Rattle.pio_assemble.specs.declared.instruction.Extras.{Extras}
 use Rattle.pio_assemble.specs.declared.quantity.Quantity.{Quantity}
 use Rattle.pio_assemble.specs.declared.quantity.Quantity.TheVariants as quantity
 use Rattle.pio_assemble.specs.Operands.{number_in, suffix_of, side_in, delay_in}
-use Rattle.pio_assemble.proofs.TextRows.{may_stand, AreRow}
+use Rattle.pio_assemble.proofs.TextRows.{AreRow}
 use Rattle.pio_assemble.proofs.TextNumbers.{Follow, nothing, blank, bracket, behind, number, numbered, spaced}
 
 -- an expression that is a number
@@ -56,13 +55,15 @@ follow_of (sided v) = blank (codes "side " ++ decimal v ++ [])
 follow_of (delayed d) = blank (bracketed d)
 follow_of (both v d) = blank (codes "side " ++ decimal v ++ 32 ∷ bracketed d)
 
--- its pieces
+-- the pieces of a side-set value
 abbrev side_pieces : ℕ → List Piece
 side_pieces v = piece.Gap 1 ∷ piece.Token (kind.Keyword keyword.Side) 4 ∷ piece.Gap 1 ∷ number v ∷ []
 
+-- the pieces of a delay
 abbrev delay_pieces : ℕ → List Piece
 delay_pieces d = piece.Gap 1 ∷ piece.Token kind.OpenBracket 1 ∷ number d ∷ piece.Token kind.CloseBracket 1 ∷ []
 
+-- its pieces
 abbrev pub tail_pieces : Tail → List Piece
 tail_pieces bare = []
 tail_pieces (sided v) = side_pieces v

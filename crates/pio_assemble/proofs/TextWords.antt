@@ -1,7 +1,7 @@
 -- The pieces of the texts of instructions.
 --   EndsWell       a word is one token, whatever stands behind it
 --   the rows of the forms, each by its operands
-use Rattle.std.proofs.Common.{◌≡◌, ℕ, ◌+◌, ◌/◌, ◌%◌, ◌^◌, ◌<◌, ◌==◌, Bool, true, false, List, [], ◌∷◌, ◌++◌, length, drop, Option, Some, None, Result, Ok, refl, sym, subst, ◌∙◌, append_assoc, if◌then◌else◌, arith}
+use Rattle.std.proofs.Common.{ℕ, ◌/◌, ◌%◌, ◌^◌, ◌<◌, ◌==◌, Bool, true, false, List, [], ◌∷◌, ◌++◌, length, drop, refl, sym, subst, append_assoc, if◌then◌else◌, arith}
 use Rattle.std.specs.Prelude.{codes, decimal}
 use Rattle.std.specs.Fmt.{digits}
 use Rattle.std.proofs.Math.Seq.{drop-append_seam}
@@ -19,7 +19,6 @@ use Rattle.pio_encode.specs.declared.act.Act.{Act}
 use Rattle.pio_encode.specs.declared.act.Act.TheVariants as act
 use Rattle.pio_encode.specs.declared.act.Condition.{Condition}
 use Rattle.pio_encode.specs.declared.act.Condition.TheVariants as condition
-use Rattle.pio_encode.specs.declared.act.WaitSource.{WaitSource}
 use Rattle.pio_encode.specs.declared.act.WaitSource.TheVariants as wait_source
 use Rattle.pio_encode.specs.declared.act.InSource.{InSource}
 use Rattle.pio_encode.specs.declared.act.InSource.TheVariants as in_source
@@ -33,12 +32,12 @@ use Rattle.pio_encode.specs.declared.act.MovSource.{MovSource}
 use Rattle.pio_encode.specs.declared.act.MovSource.TheVariants as mov_source
 use Rattle.pio_encode.specs.declared.act.SetDestination.{SetDestination}
 use Rattle.pio_encode.specs.declared.act.SetDestination.TheVariants as set_destination
-use Rattle.pio_encode.specs.Text.{condition_text, wait_source_text, in_source_text, out_destination_text, mov_destination_text, mov_operation_text, mov_source_text, set_destination_text, flag_text, act_text}
+use Rattle.pio_encode.specs.Text.{mov_destination_text, mov_operation_text, mov_source_text, act_text}
 use Rattle.pio_statement.specs.declared.instruction.IrqMode.{IrqMode}
 use Rattle.pio_statement.specs.declared.instruction.IrqMode.TheVariants as irq_mode
 use Rattle.pio_assemble.proofs.TextRows.{AreRow}
 use Rattle.pio_assemble.proofs.TextNumbers.{Follow, nothing, blank, bracket, behind, number, Stands, spaced}
-use Rattle.pio_assemble.proofs.TextSays.{word, comma, condition_pieces, jmp_pieces, rel_pieces, flag_pieces, wait_pieces, in_pieces, out_pieces, set_pieces, block_pieces, push_pieces, pull_pieces, mov_source_word, operation_pieces, mov_operand_pieces, mov_pieces, irq_pieces}
+use Rattle.pio_assemble.proofs.TextSays.{word, jmp_pieces, rel_pieces, flag_pieces, wait_pieces, in_pieces, out_pieces, set_pieces, push_pieces, pull_pieces, mov_source_word, mov_operand_pieces, mov_pieces, irq_pieces}
 
 -- what the tokens are computed by
 pub lexing : Unit {0}
@@ -146,6 +145,7 @@ pull_row true false f rest r = (refl, refl, (refl, refl, (refl, refl, (refl, ref
 pull_row false true f rest r = (refl, refl, (refl, refl, worded (codes "block") keyword.Block block_ends f rest r))
 pull_row false false f rest r = (refl, refl, (refl, refl, worded (codes "noblock") keyword.NoBlock noblock_ends f rest r))
 
+-- `nop`
 pub nop_row : (f : Follow) (rest : List Piece) → AreRow (behind f) rest → AreRow (codes "nop" ++ behind f) (word keyword.Nop 3 ∷ rest)
 nop_row f rest r = worded (codes "nop") keyword.Nop nop_ends f rest r
 

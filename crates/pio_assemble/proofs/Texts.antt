@@ -1,5 +1,5 @@
 -- The text of a word is read as that word.
-use Rattle.std.proofs.Common.{◌≡◌, ℕ, ◌^◌, ◌<◌, ◌==◌, ◌&&◌, Bool, true, false, List, ◌++◌, Option, Result, Ok, refl, sym, ap, subst, ◌∙◌, append_assoc, if◌then◌else◌, arith}
+use Rattle.std.proofs.Common.{◌≡◌, ℕ, ◌^◌, ◌<◌, ◌==◌, ◌&&◌, Bool, true, false, List, ◌++◌, Option, refl, sym, ap, subst, ◌∙◌, append_assoc, if◌then◌else◌, arith}
 use Rattle.std.proofs.lemmas.Bool.{and_parts, eqb-true}
 use Rattle.pio_encode.specs.declared.op.Op.{Op}
 use Rattle.pio_encode.specs.declared.rule.SideRule.{SideRule}
@@ -7,11 +7,9 @@ use Rattle.pio_encode.specs.Ranges.{IsInRange, delay_bits}
 use Rattle.pio_encode.specs.Spelling.{has_text, word_text, spelled}
 use Rattle.pio_encode.specs.Text.{act_text, side_text, delay_text, op_text}
 use Rattle.pio_encode.specs.Word.{bits, reading_of, word_of}
-use Rattle.pio_expr.specs.Values.{Scope}
-use Rattle.pio_statement.specs.declared.instruction.Instruction.{Instruction}
 use Rattle.pio_statement.specs.declared.statement.Code.TheVariants as code
 use Rattle.pio_assemble.specs.declared.quantity.Quantity.TheVariants as quantity
-use Rattle.pio_assemble.specs.Operands.{side_kept, op_of, word_of_instruction, word_of_code}
+use Rattle.pio_assemble.specs.Operands.{side_kept, op_of, word_of_instruction}
 use Rattle.pio_assemble.specs.Texts.{IsReadAs}
 use Rattle.pio_assemble.proofs.TextRows.{tokens_from, reads_row}
 use Rattle.pio_assemble.proofs.TextNumbers.{behind}

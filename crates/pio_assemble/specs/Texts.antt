@@ -1,5 +1,5 @@
 -- What it is for a text to be the text of a word.
-use Rattle.std.specs.Prelude.{◌≡◌, ℕ, List, [], ◌∷◌, Result, Ok}
+use Rattle.std.specs.Prelude.{◌≡◌, ℕ, List, [], ◌∷◌, Ok}
 use Rattle.pio_encode.specs.declared.rule.SideRule.{SideRule}
 use Rattle.pio_expr.specs.Values.{Scope}
 use Rattle.pio_lex.specs.declared.token.Token.{Token}
