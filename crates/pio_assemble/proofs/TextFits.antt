@@ -14,8 +14,7 @@ use Rattle.pio_encode.specs.declared.act.WaitSource.TheVariants as wait_source
 use Rattle.pio_encode.specs.declared.rule.SideRule.{SideRule}
 use Rattle.pio_encode.specs.Ranges.{IsInRange, delay_bits}
 use Rattle.pio_encode.specs.Word.{bits, condition_at, count_at, out_destination_at, mov_destination_at, mov_operation_at, mov_source_at, mov_with, wait_at, in_at, push_or_pull_at, mov_at, irq_at, set_at, act_of, has_side, side_of, delay_of}
-use Rattle.pio_assemble.specs.Operands.{side_kept}
-use Rattle.pio_assemble.proofs.TextTails.{SideFits}
+use Rattle.pio_assemble.specs.Operands.{side_kept, SideIsWithin}
 
 -- of two instructions, the one that is chosen
 either : (b : Bool) (x y : Act) → IsInRange x → IsInRange y → IsInRange (if b then x else y)
@@ -96,12 +95,12 @@ module _ (rule : SideRule) (field : ℕ) where
   value = field / 2 ^ delay_bits rule % 2 ^ rule.bits
 
   -- the side-set value
-  pub side_fits : SideFits rule (side_of rule field)
+  pub side_fits : SideIsWithin rule (side_of rule field)
   unfolding side_of
   side_fits = by (has_side rule field) where
-    by : (b : Bool) → SideFits rule (if b then Some value else None)
+    by : (b : Bool) → SideIsWithin rule (if b then Some value else None)
     by true = mod-lt (field / 2 ^ delay_bits rule) (pow_pos rule.bits)
-    by false = tt
+    by false = pow_pos rule.bits
 
   -- it is the one that the rule has room for
   pub side_stays : side_kept rule (side_of rule field) ≡ side_of rule field

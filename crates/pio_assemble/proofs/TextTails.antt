@@ -24,7 +24,7 @@ use Rattle.pio_statement.specs.declared.instruction.Suffix.{Suffix}
 use Rattle.pio_statement.specs.declared.instruction.Suffix.TheVariants as suffix
 use Rattle.pio_assemble.specs.declared.quantity.Quantity.{Quantity}
 use Rattle.pio_assemble.specs.declared.quantity.Quantity.TheVariants as quantity
-use Rattle.pio_assemble.specs.Operands.{number_in, suffix_of, side_in, delay_in}
+use Rattle.pio_assemble.specs.Operands.{number_in, suffix_of, side_in, delay_in, SideIsWithin}
 use Rattle.pio_assemble.proofs.TextRows.{AreRow}
 use Rattle.pio_assemble.proofs.TextNumbers.{Follow, nothing, blank, bracket, behind, number, numbered, spaced}
 
@@ -105,11 +105,6 @@ pub record IsTailOf (rule : SideRule) (side : Option ℕ) (delay : ℕ) : Type 0
   pub text : side_text side ++ delay_text delay ≡ behind (follow_of tail)
   pub means : (scope : Scope) → suffix_of scope rule (tail_suffix tail) ≡ Ok (record { side = side; delay = delay })
 
--- a side-set value has the rule's bits
-abbrev pub SideFits : SideRule → Option ℕ → Type 0
-SideFits rule None = Unit {0}
-SideFits rule (Some v) = v < 2 ^ rule.bits
-
 -- a number of at most five bits
 small : (bits n : ℕ) → bits ≤ 5 → n < 2 ^ bits → n < 33
 small bits n l h =
@@ -126,7 +121,7 @@ module _ (rule : SideRule) where
   delay_value : (scope : Scope) (d : ℕ) → d < 2 ^ delay_bits rule → delay_in scope rule (lone d) ≡ Ok d
   delay_value scope d h = value_in scope quantity.Delay 0 (2 ^ delay_bits rule - 1) d (omega arith) (omega arith)
 
-  undelayed : (side : Option ℕ) → SideFits rule side → IsTailOf rule side 0
+  undelayed : (side : Option ℕ) → SideIsWithin rule side → IsTailOf rule side 0
   unfolding suffix_of
   undelayed None h = record { tail = bare; row = refl; text = refl; means = λ scope. refl }
   undelayed (Some v) h = record {
@@ -136,7 +131,7 @@ module _ (rule : SideRule) where
     means = λ scope. rw (side_value scope v h) refl;
   }
 
-  with_delay : (side : Option ℕ) (d : ℕ) → SideFits rule side → d < 2 ^ delay_bits rule → (d == 0) ≡ false → IsTailOf rule side d
+  with_delay : (side : Option ℕ) (d : ℕ) → SideIsWithin rule side → d < 2 ^ delay_bits rule → (d == 0) ≡ false → IsTailOf rule side d
   unfolding suffix_of
   with_delay None d h k e = record {
     tail = delayed d;
@@ -151,7 +146,7 @@ module _ (rule : SideRule) where
     means = λ scope. rw (side_value scope v h, delay_value scope d k) refl;
   }
 
-  pub tail_of : (side : Option ℕ) (d : ℕ) → SideFits rule side → d < 2 ^ delay_bits rule → IsTailOf rule side d
+  pub tail_of : (side : Option ℕ) (d : ℕ) → SideIsWithin rule side → d < 2 ^ delay_bits rule → IsTailOf rule side d
   tail_of side d h k = by (d == 0) refl where
     by : (b : Bool) → (d == 0) ≡ b → IsTailOf rule side d
     by true e = subst (λ (n : ℕ). IsTailOf rule side n) (sym (eqb-true d 0 e)) (undelayed side h)

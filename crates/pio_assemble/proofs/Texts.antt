@@ -9,18 +9,18 @@ use Rattle.pio_encode.specs.Text.{act_text, side_text, delay_text, op_text}
 use Rattle.pio_encode.specs.Word.{bits, reading_of, word_of}
 use Rattle.pio_statement.specs.declared.statement.Code.TheVariants as code
 use Rattle.pio_assemble.specs.declared.quantity.Quantity.TheVariants as quantity
-use Rattle.pio_assemble.specs.Operands.{side_kept, op_of, word_of_instruction}
+use Rattle.pio_assemble.specs.Operands.{SideIsWithin, side_kept, op_of, word_of_instruction}
 use Rattle.pio_assemble.specs.Texts.{IsReadAs}
 use Rattle.pio_assemble.proofs.TextRows.{tokens_from, reads_row}
 use Rattle.pio_assemble.proofs.TextNumbers.{behind}
-use Rattle.pio_assemble.proofs.TextTails.{lone, value_in, follow_of, tail_pieces, tail_suffix, SideFits, tail_of}
+use Rattle.pio_assemble.proofs.TextTails.{lone, value_in, follow_of, tail_pieces, tail_suffix, tail_of}
 use Rattle.pio_assemble.proofs.TextSays.{says_with, number_pieces, number_says}
 use Rattle.pio_assemble.proofs.TextActs.{act_read}
 use Rattle.pio_assemble.proofs.TextFits.{act_fits, side_fits, side_stays, delay_fits}
 use Rattle.pio_assemble.proofs.TextHex.{number_row}
 
 -- an instruction's text
-op_is_read : (op : Op) (rule : SideRule) (w : ℕ) → IsInRange op.act → has_text op.act ≡ true → SideFits rule op.side → side_kept rule op.side ≡ op.side → op.delay < 2 ^ delay_bits rule → word_of op rule ≡ w
+op_is_read : (op : Op) (rule : SideRule) (w : ℕ) → IsInRange op.act → has_text op.act ≡ true → SideIsWithin rule op.side → side_kept rule op.side ≡ op.side → op.delay < 2 ^ delay_bits rule → word_of op rule ≡ w
     → IsReadAs w rule (op_text op)
 unfolding op_text word_of_instruction
 op_is_read op rule w range writable side stays delay same =
