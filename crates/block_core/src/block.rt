@@ -182,6 +182,7 @@ fn slot_of<F: Fifo>(
 }
 
 /// A clock of a place: what its machine wants of the block.
+#[inline(always)]
 fn step<F: Fifo>(slot: &mut Option<Slot<F>>, view: &View, due: &Due) -> Intent
     requires { IsInTime slot.old }
     ensures after { slot.new ≡ place_after view.now due.now slot.old }

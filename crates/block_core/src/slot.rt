@@ -54,6 +54,7 @@ impl<F: Fifo> Slot<F> {
     }
 
     /// One clock: what it wants of its block.
+    #[inline(never)]
     pub fn clock(&mut self, view: &View, due: &Due) -> Intent
         requires clock { self.old.timing.clock < 2 ^ 40 }
         requires sent { self.old.sent < 2 ^ 40 }

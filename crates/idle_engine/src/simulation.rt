@@ -1,11 +1,14 @@
 //! A run of a block beside a stimulus, clock by clock.
-ghost use Rattle.std.specs.Prelude.{◌≡◌, ℕ, ◌+◌, ◌≤◌, ◌^◌, false, true, is_err, Option, List, OnOk, OnErr};
+ghost use Rattle.std.specs.Prelude.{◌≡◌, ℕ, ◌+◌, ◌<◌, ◌≤◌, ◌^◌, false, true, is_err, Option, List, OnOk, OnErr};
 ghost use Rattle.pio_edge.specs.Edge.{PutCounts};
+ghost use Rattle.dreq_pacing.specs.Lines.{NoneBetween};
+ghost use Rattle.dreq_pacing.specs.Ports.{asked, due_in};
 ghost use Rattle.block_core.specs.Hosted.{hosted_at, samples};
+ghost use Rattle.block_core.specs.Shown.{requests_of};
 ghost use Rattle.idle_engine.specs.Stops.{StopsAt};
 
 use block_core::Block;
-use dreq_pacing::{HostPorts, Schedule};
+use dreq_pacing::{Due, HostPorts, Schedule};
 use fifo_pair::Fifo;
 use std::sync::ledger::Ledger;
 use step_count::Steps;
@@ -40,10 +43,25 @@ pub fn simulate<F: Fifo, T: Trace, L: Ledger>(
     trace.begin()?;
     let mut ports = HostPorts::new(schedule);
     for clock in 0..clocks {
-        let due = ports.at(clock, &block.requests());
+        let due = due_now(&mut ports, block, clock);
         block.clock(&due);
         steps.tick();
         trace.sample(clock, &block.view())?;
     }
     trace.end(clocks)
+}
+
+/// What the system does in a clock of a block, which is asked for its requests only where they can matter.
+fn due_now<F: Fifo>(ports: &mut HostPorts, block: &Block<F>, clock: u64) -> Due
+    requires next { ports.old.next ≤ clock }
+    requires lines { NoneBetween ports.old.lines ports.old.next clock }
+    requires clock { clock < 2 ^ 40 }
+    ensures due { result ≡ due_in ports.old.lines clock (requests_of block.now.run.state) ports.old.transfers }
+    ensures after { ports.new ≡ asked clock (requests_of block.now.run.state) ports.old }
+{
+    if ports.pass(clock) {
+        Due::quiet()
+    } else {
+        ports.at(clock, &block.requests())
+    }
 }

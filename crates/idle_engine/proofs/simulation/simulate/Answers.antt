@@ -54,7 +54,7 @@ returns-in_err-sample-clause-err g c =
     let start = c.args.block.now.run in
     let lines = c.args.schedule.now in
     let n = c.loop-clock.clock in
-    let run = run-next start lines n c.loop-clock.block.run c.clock.new.self.run c.loop-clock.ports c.requests.result c.at-due.result inv.run inv.in_clock inv.ports c.requests.ensures c.at-due.ensures.due c.clock.ensures.run in
+    let run = run-next start lines n c.loop-clock.block.run c.clock.new.self.run c.loop-clock.ports _ c.due_now-due.result inv.run inv.in_clock inv.ports refl c.due_now-due.ensures.due c.clock.ensures.run in
     let s = shown-run start lines n c.clock.new.self.run c.view.result run c.view.ensures in
     on_err c.from_residual-in_err-sample.result (record {
       count = n + 1;
@@ -74,12 +74,12 @@ loop-clock-preserved g c =
     let start = c.args.block.now.run in
     let lines = c.args.schedule.now in
     let n = c.loop-clock.clock in
-    let run = run-next start lines n c.loop-clock.block.run c.clock.new.self.run c.loop-clock.ports c.requests.result c.at-due.result inv.run inv.in_clock inv.ports c.requests.ensures c.at-due.ensures.due c.clock.ensures.run in
+    let run = run-next start lines n c.loop-clock.block.run c.clock.new.self.run c.loop-clock.ports _ c.due_now-due.result inv.run inv.in_clock inv.ports refl c.due_now-due.ensures.due c.clock.ensures.run in
     let s = shown-run start lines n c.clock.new.self.run c.view.result run c.view.ensures in
     record {
       run = run;
-      in_clock = ap (λ (r : Run). r.clock) c.clock.ensures.run ∙ clock-next c.at-due.result c.loop-clock.block.run ∙ ap (λ (k : ℕ). k + 1) inv.in_clock;
-      ports = ports-next start lines n c.loop-clock.block.run c.loop-clock.ports c.at-due.new.self c.requests.result inv.run inv.in_clock inv.ports c.requests.ensures c.at-due.ensures.after;
+      in_clock = ap (λ (r : Run). r.clock) c.clock.ensures.run ∙ clock-next c.due_now-due.result c.loop-clock.block.run ∙ ap (λ (k : ℕ). k + 1) inv.in_clock;
+      ports = ports-next start lines n c.loop-clock.block.run c.loop-clock.ports c.due_now-due.new.ports _ inv.run inv.in_clock inv.ports refl c.due_now-due.ensures.after;
       working = search rules;
       told = λ b r. subst (λ (l : List Sample). g.T.Trace.stands c.sample.new.self b l false) (told_at-samples start lines n c.view.result s) (c.in_ok-sample.ensures.ok b (samples start lines n) (inv.told b r) (next-samples start lines n));
       count = search rules;
