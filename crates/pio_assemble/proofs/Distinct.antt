@@ -19,11 +19,12 @@ use Rattle.pio_assemble.specs.declared.fault.SourceKind.TheVariants.{Duplicate}
 use Rattle.pio_assemble.specs.declared.line.Line.{Line}
 use Rattle.pio_assemble.specs.declared.program.Program.{Program}
 use Rattle.pio_assemble.specs.Answers.{Refusal, Gives, at_line, ◌>>=◌}
-use Rattle.pio_assemble.specs.Checks.{first_fault, fault_or, line_fault as fault_of_line, statement_fault, nothing_before, after, after_line, is_among, with_name, duplicate, fault_if, ◌<|>◌}
+use Rattle.pio_assemble.specs.Checks.{first_fault, line_fault as fault_of_line, statement_fault, nothing_before, after, after_line, is_among, with_name, duplicate}
 use Rattle.pio_assemble.specs.Drafts.{Draft, begun, drafted, finished}
 use Rattle.pio_assemble.specs.Lines.{has_word, lines_of}
 use Rattle.pio_assemble.specs.Program.{Assembled, assembled_of}
 use Rattle.pio_assemble.specs.Source.{program_by, program_on, program_scope, programs_from, programs_by, with_programs, unless_fault, global_scope, reads_source, reads_tokens, Differs, AreDistinct}
+use Rattle.pio_assemble.proofs.Faultless.{no_fault, no_first, no_cause}
 use Rattle.pio_assemble.proofs.Keeping.{name_or, name_kept, programs_kept, begins_by}
 
 -- the names of programs
@@ -96,19 +97,6 @@ all_behind names name programs new h = by h.kept refl where
   by false e =
       let whole : names_of programs ≡ h.rest = h.whole ∙ ap (λ k. own (Some name) k ++ h.rest) e in
       rw whole (behind.0, h.distinct)
-
--- a fault that is none
-no_fault : (number : ℕ) (fault : Option SourceKind) (rest : Option Refusal) → fault_or number fault rest ≡ None → (fault ≡ None) × (rest ≡ None)
-no_fault number (Some kind) rest h = cc
-no_fault number None rest h = (refl, h)
-
-no_first : (a b : Option SourceKind) → (a <|> b) ≡ None → a ≡ None
-no_first (Some kind) b h = cc
-no_first None b h = refl
-
-no_cause : (cause : Bool) (kind : SourceKind) → fault_if cause kind ≡ None → cause ≡ false
-no_cause true kind h = cc
-no_cause false kind h = refl
 
 with_programs_ok : (first : List Assembled) (r : Result (List Assembled) Refusal) (programs : List Assembled) → with_programs first r ≡ Ok programs → (others : List Assembled) × (r ≡ Ok others) × (first ++ others ≡ programs)
 with_programs_ok first (Ok others) programs h = (others, refl, cc)

@@ -15,3 +15,8 @@ pub mod TextActs
 pub mod TextFits
 pub mod TextHex
 pub mod Texts
+pub mod Faultless
+pub mod PlainLines
+pub mod PlainScope
+pub mod PlainWords
+pub mod PlainPrograms

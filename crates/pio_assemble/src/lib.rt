@@ -21,7 +21,7 @@ mod symbols;
 mod symbols_of;
 
 pub use fault::{LineFault, SourceFault, SourceKind};
-pub use laws::a_spelled_word_is_read_back;
+pub use laws::{a_spelled_word_is_read_back, nothing_is_clipped};
 pub use program::Program;
 pub use quantity::Quantity;
 pub use source::assemble;
