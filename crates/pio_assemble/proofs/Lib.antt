@@ -19,4 +19,5 @@ pub mod Faultless
 pub mod PlainLines
 pub mod PlainScope
 pub mod PlainWords
+pub mod PlainDrafts
 pub mod PlainPrograms
