@@ -9,14 +9,17 @@ pub no_fault : (number : ℕ) (fault : Option SourceKind) (rest : Option Refusal
 no_fault number (Some kind) rest h = cc
 no_fault number None rest h = (refl, h)
 
+-- neither the first of two
 pub no_first : (a b : Option SourceKind) → (a <|> b) ≡ None → a ≡ None
 no_first (Some kind) b h = cc
 no_first None b h = refl
 
+-- nor the second
 pub no_second : (a b : Option SourceKind) → (a <|> b) ≡ None → b ≡ None
 no_second (Some kind) b h = cc
 no_second None b h = h
 
+-- and so there is no cause
 pub no_cause : (cause : Bool) (kind : SourceKind) → fault_if cause kind ≡ None → cause ≡ false
 no_cause true kind h = cc
 no_cause false kind h = refl

@@ -1,5 +1,5 @@
 -- What a statement without a fault adds to a program: no word is one too many, and no wrap target stands behind the last word.
-use Rattle.std.proofs.Common.{◌≡◌, ℕ, ◌+◌, ◌-◌, ◌≤◌, ◌==◌, ◌∷◌, [], ◌++◌, Bool, true, false, not, List, length, length-append, Option, Some, None, Result, Ok, Err, IfOk, refl, sym, ap, subst, ◌∙◌, arith, nat_le, if◌then◌else◌, unwrap_or, min}
+use Rattle.std.proofs.Common.{◌≡◌, ℕ, ◌+◌, ◌-◌, ◌≤◌, ◌==◌, ◌∷◌, [], ◌++◌, Bool, true, false, not, List, length, length-append, Option, Some, None, Result, Ok, IfOk, refl, ap, ◌∙◌, arith, min}
 use Rattle.std.proofs.lemmas.Bool.{not-false}
 use Rattle.pio_expr.specs.Values.{Scope, value_of_name}
 use Rattle.pio_statement.specs.declared.statement.Code.{Code}
@@ -11,14 +11,13 @@ use Rattle.pio_assemble.specs.declared.fault.SourceKind.TheVariants.{Twice, Wrap
 use Rattle.pio_assemble.specs.declared.quantity.Quantity.TheVariants as quantity
 use Rattle.pio_assemble.specs.Answers.{◌>>=◌}
 use Rattle.pio_assemble.specs.Checks.{statement_fault, symbol_fault, symbol_after, words_after, code_fault, fault_if, outside, after, ◌<|>◌}
-use Rattle.pio_assemble.specs.Drafts.{Draft, drafted, with_symbol, with_word, coded, labelled, finished, program_of}
+use Rattle.pio_assemble.specs.Drafts.{Draft, drafted, with_symbol, with_word, coded, labelled, finished}
 use Rattle.pio_assemble.specs.Lines.{word_by}
-use Rattle.pio_assemble.specs.Operands.{number_in, valued, word_of_code}
-use Rattle.pio_assemble.specs.Plain.{plain_drafted, plain_coded, plain_word_of_code, plain_finished, plain_program_of}
-use Rattle.pio_assemble.specs.Program.{Assembled}
+use Rattle.pio_assemble.specs.Operands.{number_in, valued}
+use Rattle.pio_assemble.specs.Plain.{plain_drafted, plain_coded, plain_word_of_code, plain_finished}
 use Rattle.pio_assemble.specs.Rules.{rule_of, most_bits}
 use Rattle.pio_assemble.specs.Source.{program_by}
-use Rattle.pio_assemble.proofs.Faultless.{no_first, no_second, no_cause, kept_behind, same_behind, any}
+use Rattle.pio_assemble.proofs.Faultless.{no_second, no_cause, kept_behind, same_behind, any}
 use Rattle.pio_assemble.proofs.PlainScope.{has_room}
 use Rattle.pio_assemble.proofs.PlainWords.{IsRule, word_same}
 
@@ -54,6 +53,7 @@ with_one b more d word k = record {
 has_space : (d : Draft) (word : ℕ) → length d.words + 1 ≤ 32 → with_word d word ≡ Ok (record d { words = d.words ++ word ∷ [] })
 has_space d word h = let fewer : (length d.words == 32) ≡ false = grind arith in rw fewer refl
 
+-- code without a fault
 coded_same : (scope : Scope) (b : Before) (more : Bool) (d : Draft) (c : Code) → code_fault b c ≡ None → IsDraft b true d → IsDrafted (words_after b 1) more (coded scope d c) (plain_coded scope d c)
 coded_same scope b more d c fault k = record {
   same = ap (λ (r : Result ℕ SourceKind). r >>= with_word d) (word_same scope d.side b c k.rule fault) ∙ same_behind (λ w. Unit {0}) (plain_word_of_code scope d.side c) (with_word d) (λ w. Ok (record d { words = d.words ++ w ∷ [] })) (any (plain_word_of_code scope d.side c)) (λ w u. has_space d w room);
@@ -66,6 +66,7 @@ coded_same scope b more d c fault k = record {
 labelled_is : (b : Before) (more : Bool) (d : Draft) (public : Bool) (name : List ℕ) → IsDraft b more d → IsDraft (symbol_after b name) more (labelled d public name)
 labelled_is b more d public name k = record { count = k.count; rule = k.rule; wraps = k.wraps }
 
+-- a statement that begins no program and has no fault
 pub drafted_same : (scope : Scope) (b : Before) (more : Bool) (d : Draft) (s : Statement) → program_by s ≡ None → statement_fault b more s ≡ None → IsDraft b (word_by s more) d → IsDrafted (after b s) more (drafted scope d s) (plain_drafted scope d s)
 unfolding after statement_fault drafted plain_drafted
 drafted_same scope b more d statement.Nothing h fault k = only b more (Ok d) k

@@ -1,10 +1,9 @@
 -- Lines whose statements have no fault are lines of statements.
-use Rattle.std.proofs.Common.{◌≡◌, ◌∷◌, [], List, map, Option, None, Result, Ok, Err, refl, ap, ◌∙◌}
+use Rattle.std.proofs.Common.{◌≡◌, ◌∷◌, [], List, map, None, Result, Ok, Err, refl, ap}
 use Rattle.pio_statement.specs.declared.fault.StatementKind.{StatementKind}
 use Rattle.pio_statement.specs.declared.statement.Statement.{Statement}
 use Rattle.pio_assemble.specs.declared.before.Before.{Before}
 use Rattle.pio_assemble.specs.declared.line.Line.{Line}
-use Rattle.pio_assemble.specs.Answers.{◌>>=◌}
 use Rattle.pio_assemble.specs.Checks.{first_fault, line_fault as fault_of_line, after, after_line}
 use Rattle.pio_assemble.specs.Lines.{has_word}
 use Rattle.pio_assemble.specs.Plain.{Numbered, statements_of}

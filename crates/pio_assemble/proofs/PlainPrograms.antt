@@ -1,5 +1,5 @@
 -- The programs of lines whose statements have no fault are those of the plain reading.
-use Rattle.std.proofs.Common.{◌≡◌, ℕ, ◌+◌, ◌∷◌, [], Bool, true, false, not, List, length, Option, Some, None, Result, Ok, Err, IfOk, refl, sym, ap, ◌∙◌, nat_le, arith}
+use Rattle.std.proofs.Common.{◌≡◌, ℕ, ◌∷◌, [], true, false, not, List, length, Some, None, Result, Ok, Err, IfOk, refl, sym, ap, ◌∙◌, nat_le, arith}
 use Rattle.std.proofs.lemmas.Bool.{not-false}
 use Rattle.pio_expr.specs.Values.{Scope, no_symbols, begun as with_program}
 use Rattle.pio_statement.specs.declared.statement.Statement.{Statement}
@@ -8,17 +8,17 @@ use Rattle.pio_assemble.specs.declared.before.Before.{Before}
 use Rattle.pio_assemble.specs.declared.fault.SourceKind.{SourceKind}
 use Rattle.pio_assemble.specs.declared.fault.SourceKind.TheVariants.{Many, EmptyProgram}
 use Rattle.pio_assemble.specs.declared.line.Line.{Line}
-use Rattle.pio_assemble.specs.Answers.{Refusal, ◌>>=◌, at_line}
+use Rattle.pio_assemble.specs.Answers.{◌>>=◌, at_line}
 use Rattle.pio_assemble.specs.Checks.{first_fault, statement_fault, nothing_before, duplicate, fault_if, program_after, after, ◌<|>◌}
 use Rattle.pio_assemble.specs.Drafts.{Draft, begun, drafted, finished}
 use Rattle.pio_assemble.specs.Lines.{has_word, word_by}
 use Rattle.pio_assemble.specs.Plain.{Numbered, plain_scope_from, plain_drafted, plain_finished, plain_programs_from, plain_programs_by, plain_programs_of}
 use Rattle.pio_assemble.specs.Program.{Assembled}
-use Rattle.pio_assemble.specs.Source.{program_by, programs_by, programs_from, programs_of, program_scope, global_scope, scope_from, with_programs}
+use Rattle.pio_assemble.specs.Source.{program_by, programs_by, programs_from, programs_of, program_scope, global_scope, with_programs}
 use Rattle.pio_assemble.proofs.Faultless.{no_fault, no_second, no_cause}
 use Rattle.pio_assemble.proofs.PlainLines.{line_of, lines_by, all_say}
 use Rattle.pio_assemble.proofs.PlainScope.{scope_same}
-use Rattle.pio_assemble.proofs.PlainDrafts.{IsDraft, to_come, drafted_same, finished_same}
+use Rattle.pio_assemble.proofs.PlainDrafts.{IsDraft, drafted_same, finished_same}
 
 -- the programs of these statements are the plain ones, whatever stands before them
 abbrev AreSame : List Numbered → Type 0
@@ -40,24 +40,27 @@ module _ (n : ℕ) (statements : List Numbered) (rest : AreSame statements) (b :
       ap (λ ps. with_programs ps (programs_from (lines_by statements) (program_scope scope (lines_by statements)) (begun (Some name)))) (finished_same b d k)
       ∙ ap (with_programs (plain_finished d)) (behind ∙ ap (λ sc. plain_programs_from statements sc (begun (Some name))) scopes)
 
-  -- a statement that adds to the program, before the others
+  -- what a statement made of the program, before the others
   goes_on : (c : Before) (r : Result Draft SourceKind) → first_fault c (lines_by statements) ≡ None → IfOk r (IsDraft c (has_word (lines_by statements)))
       → (at_line n r >>= programs_from (lines_by statements) scope) ≡ (at_line n r >>= plain_programs_from statements scope)
   goes_on c (Err kind) passes k = refl
   goes_on c (Ok more) passes k = rest c scope more passes k
 
+  -- a statement that adds to the program, and has no fault
   adds : (s : Statement) → program_by s ≡ None → statement_fault b (has_word (lines_by statements)) s ≡ None → first_fault (after b s) (lines_by statements) ≡ None → IsDraft b (word_by s (has_word (lines_by statements))) d
       → (at_line n (drafted scope d s) >>= programs_from (lines_by statements) scope) ≡ (at_line n (plain_drafted scope d s) >>= plain_programs_from statements scope)
   adds s h fault passes k =
       let it = drafted_same scope b (has_word (lines_by statements)) d s h fault k in
       ap (λ (r : Result Draft SourceKind). at_line n r >>= programs_from (lines_by statements) scope) it.same ∙ goes_on (after b s) (plain_drafted scope d s) passes it.behind
 
+  -- a statement of either kind
   line_same : (s : Statement) → statement_fault b (has_word (lines_by statements)) s ≡ None → first_fault (after b s) (lines_by statements) ≡ None → IsDraft b (word_by s (has_word (lines_by statements))) d
       → programs_by (programs_from (lines_by statements)) scope d (line_of (record { line = n; says = s })) (lines_by statements) (program_by s) ≡ plain_programs_by (plain_programs_from statements) scope d (record { line = n; says = s }) statements (program_by s)
   unfolding after
   line_same (statement.Program name) fault passes k = begins name fault passes k
   line_same other fault passes k = adds other refl fault passes k
 
+-- the programs of statements without faults
 programs_same : (statements : List Numbered) → AreSame statements
 unfolding first_fault has_word programs_from plain_programs_from
 programs_same [] b scope d h k = ap (λ (ps : List Assembled). Ok ps) (finished_same b d k)

@@ -1,5 +1,5 @@
 -- The symbols of statements without faults: none is a second of its name, and a program has at most 32 words.
-use Rattle.std.proofs.Common.{◌≡◌, ℕ, ◌+◌, ◌≤◌, ◌∷◌, [], ◌++◌, min, Bool, true, false, List, map, Option, Some, None, refl, sym, ap, ◌∙◌, arith, nat_le}
+use Rattle.std.proofs.Common.{◌≡◌, ℕ, ◌+◌, ◌≤◌, ◌∷◌, [], ◌++◌, Bool, false, List, map, Option, Some, None, refl, sym, ap, ◌∙◌, arith, nat_le}
 use Rattle.std.proofs.lemmas.Bool.{or_parts, leb-false}
 use Rattle.std.proofs.lemmas.List.{map-append}
 use Rattle.std.specs.Str.{bytes_eq}
@@ -11,12 +11,11 @@ use Rattle.pio_statement.specs.declared.statement.Code.TheVariants as code
 use Rattle.pio_statement.specs.declared.statement.Statement.{Statement}
 use Rattle.pio_statement.specs.declared.statement.Statement.TheVariants as statement
 use Rattle.pio_assemble.specs.declared.before.Before.{Before}
-use Rattle.pio_assemble.specs.declared.fault.SourceKind.{SourceKind}
 use Rattle.pio_assemble.specs.declared.fault.SourceKind.TheVariants.{Duplicate, Many, TooLong}
-use Rattle.pio_assemble.specs.Checks.{first_fault, statement_fault, symbol_fault, symbol_after, words_after, code_fault, some_code_fault, side_fault, room_fault, has_side, duplicate, fault_if, outside, after, is_among, with_name, ◌<|>◌}
-use Rattle.pio_assemble.specs.Lines.{has_word, word_count}
+use Rattle.pio_assemble.specs.Checks.{first_fault, statement_fault, symbol_fault, code_fault, side_fault, room_fault, has_side, duplicate, fault_if, outside, after, is_among, with_name, ◌<|>◌}
+use Rattle.pio_assemble.specs.Lines.{has_word}
 use Rattle.pio_assemble.specs.Plain.{Numbered, plain_scope_by, plain_words_by, plain_scope_from}
-use Rattle.pio_assemble.specs.Source.{program_by, scope_by, words_by, scope_from, with_new, more_words}
+use Rattle.pio_assemble.specs.Source.{program_by, scope_by, words_by, scope_from, with_new}
 use Rattle.pio_assemble.proofs.Faultless.{no_fault, no_first, no_second, no_cause}
 use Rattle.pio_assemble.proofs.PlainLines.{lines_by}
 
@@ -47,6 +46,7 @@ record IsAdded (b : Before) (scope : Scope) (name : List ℕ) (is : Symbol) : Ty
 one_more : (names : List (List ℕ)) (symbols : Symbols) (name : List ℕ) (is : Symbol) → names ≡ names_in symbols → is_among names name ≡ false → with_name names name ≡ names_in (symbols ++ (name, is) ∷ [])
 one_more names symbols name is h new = rw new (ap (λ ns. ns ++ name ∷ []) h ∙ sym (map-append (λ s. s.0) symbols ((name, is) ∷ [])))
 
+-- a symbol without a fault
 added : (b : Before) (scope : Scope) (name : List ℕ) (is : Symbol) → b.names ≡ names_in (present scope scope.program) → symbol_fault b name ≡ None → IsAdded b scope name is
 added b scope name is h fault = by scope.program h where
   new : is_among b.names name ≡ false
@@ -71,6 +71,7 @@ record IsPassed (b : Before) (scope : Scope) (words : ℕ) (s : Statement) : Typ
   words_same : words_by words s ≡ plain_words_by words s
   behind : IsScope (after b s) (plain_scope_by scope words s) (plain_words_by words s)
 
+-- a statement that begins no program and has no fault
 passed : (b : Before) (more : Bool) (scope : Scope) (words : ℕ) (s : Statement) → program_by s ≡ None → statement_fault b more s ≡ None → IsScope b scope words → IsPassed b scope words s
 unfolding after statement_fault
 passed b more scope words statement.Nothing h fault k = record { scope_same = refl; words_same = refl; behind = k }

@@ -1,4 +1,5 @@
--- The programs of lines whose statements have no fault, in the plain words of the manual (Pico SDK manual, section 3.3).
+-- The programs of lines whose statements have no fault, in the plain words of the manual (Pico SDK manual, section 3.3): each word is
+-- appended, each symbol is added, a program with a name is one whatever it has, and an instruction has the `side` that it says.
 --   statements_of         the statements of lines
 --   plain_scope_from      the symbols of statements, up to where the next program begins
 --   plain_drafted         what a statement adds to a program
@@ -28,7 +29,7 @@ use Rattle.pio_assemble.specs.Operands.{number_in, act_of, suffix_of}
 use Rattle.pio_assemble.specs.Program.{Assembled}
 use Rattle.pio_assemble.specs.Source.{program_by, with_programs}
 
--- a statement with the number of its line
+-- a statement with the number of its line (choice of this profile)
 pub record Numbered : Type 0 where
   pub line : ℕ
   pub says : Statement
@@ -38,7 +39,7 @@ abbrev pub statement_on : Result Statement StatementKind → Result Statement So
 statement_on (Ok s) = Ok s
 statement_on (Err kind) = Err (kind_of kind)
 
--- the statements of lines, in order
+-- the statements of lines, in order (Pico SDK manual, section 3.3)
 unfoldable pub statements_of : List Line → Result (List Numbered) Refusal
 statements_of [] = Ok []
 statements_of (l ∷ lines) = do
@@ -46,52 +47,52 @@ statements_of (l ∷ lines) = do
   others ← statements_of lines
   Ok (record { line = l.number; says = s } ∷ others)
 
--- the symbols behind a statement, with so many words of its program before it: a define or a label is one symbol more
+-- the symbols behind a statement, with so many words of its program before it: a define or a label is one more (Pico SDK manual, section 3.3)
 abbrev pub plain_scope_by : Scope → ℕ → Statement → Scope
 plain_scope_by scope words (statement.Define public name items) = with_symbol scope name (symbol.Define items)
 plain_scope_by scope words (statement.Label public name code) = with_symbol scope name (symbol.Label words)
 plain_scope_by scope words _ = scope
 
--- the words behind a statement: code is one word more, behind a label too
+-- the words behind a statement: code is one word more, behind a label too (Pico SDK manual, section 3.3)
 abbrev pub plain_words_by : ℕ → Statement → ℕ
 plain_words_by words (statement.Label public name code) = words + word_count code
 plain_words_by words (statement.Code code) = words + 1
 plain_words_by words _ = words
 
--- a scope with the symbols of statements, up to where the next program begins, with so many words before them
+-- a scope with the symbols of statements, up to where the next program begins, with so many words before them (Pico SDK manual, section 3.3)
 unfoldable pub plain_scope_from : List Numbered → Scope → ℕ → Scope
 plain_scope_from [] scope words = scope
 plain_scope_from (s ∷ statements) scope words =
     if is_some (program_by s.says) then scope else plain_scope_from statements (plain_scope_by scope words s.says) (plain_words_by words s.says)
 
--- an instruction has the side-set value that it says, or none, and its delay
+-- an instruction has the side-set value that it says, or none, and its delay (Pico SDK manual, section 3.3)
 abbrev pub plain_op_of : Act → Extras → Op
 plain_op_of act extras = record { side = extras.side; delay = extras.delay; act = act }
 
--- the word of an instruction
+-- the word of an instruction (Pico SDK manual, section 3.3)
 unfoldable pub plain_word_of_instruction : Scope → SideRule → Instruction → Result ℕ SourceKind
 plain_word_of_instruction scope rule i = do
   act ← act_of scope i.form
   extras ← suffix_of scope rule i.suffix
   Ok (word_of (plain_op_of act extras) rule)
 
--- the word of code
+-- the word of code (Pico SDK manual, section 3.3)
 abbrev pub plain_word_of_code : Scope → SideRule → Code → Result ℕ SourceKind
 plain_word_of_code scope rule (code.Word value) = number_in scope quantity.Word 0 65535 value
 plain_word_of_code scope rule (code.Instruction i) = plain_word_of_instruction scope rule i
 
--- code: its word is appended
+-- code: its word is appended (Pico SDK manual, section 3.3)
 abbrev pub plain_coded : Scope → Draft → Code → Result Draft SourceKind
 plain_coded scope d code = do
   word ← plain_word_of_code scope d.side code
   Ok (record d { words = d.words ++ word ∷ [] })
 
--- code behind a label, where there is some
+-- code behind a label, where there is some (Pico SDK manual, section 3.3)
 abbrev pub plain_some_coded : Scope → Draft → Option Code → Result Draft SourceKind
 plain_some_coded scope d None = Ok d
 plain_some_coded scope d (Some code) = plain_coded scope d code
 
--- what a statement adds: `.wrap_target` is the next word, `.wrap` the last word so far
+-- what a statement adds: `.wrap_target` is the next word, `.wrap` the last word so far (Pico SDK manual, section 3.3)
 unfoldable pub plain_drafted : Scope → Draft → Statement → Result Draft SourceKind
 plain_drafted scope d (statement.Define public name items) = defined scope d public name
 plain_drafted scope d (statement.Origin address) = do
@@ -107,7 +108,7 @@ plain_drafted scope d (statement.Label public name code) = plain_some_coded scop
 plain_drafted scope d (statement.Code code) = plain_coded scope d code
 plain_drafted scope d _ = Ok d
 
--- the program behind its last line: it wraps from its `.wrap`, or else its last word, to its `.wrap_target`, or else its first word
+-- the program behind its last line: it wraps behind its last word where it has no `.wrap` (Pico SDK manual, section 3.3)
 abbrev pub plain_program_of : List ℕ → Draft → Assembled
 plain_program_of name d = record {
   name = name;
@@ -119,27 +120,27 @@ plain_program_of name d = record {
   symbols = d.symbols;
 }
 
--- the program of this name; before the first `.program` there is none
+-- the program of this name; before the first `.program` there is none (Pico SDK manual, section 3.3)
 abbrev pub plain_finished_by : Option (List ℕ) → Draft → List Assembled
 plain_finished_by None d = []
 plain_finished_by (Some name) d = plain_program_of name d ∷ []
 
--- the program, if it has a name
+-- the program, if it has a name (Pico SDK manual, section 3.3)
 abbrev pub plain_finished : Draft → List Assembled
 plain_finished d = plain_finished_by d.name d
 
--- the programs of a statement and those behind it: where one begins, the one before it ends
+-- the programs of a statement and those behind it: where one begins, the one before it ends (Pico SDK manual, section 3.3)
 abbrev pub plain_programs_by : (Scope → Draft → Result (List Assembled) Refusal) → Scope → Draft → Numbered → List Numbered → Option (List ℕ) → Result (List Assembled) Refusal
 plain_programs_by rest scope d s statements (Some name) =
     with_programs (plain_finished d) (rest (plain_scope_from statements (with_program scope) 0) (begun (Some name)))
 plain_programs_by rest scope d s statements None = at_line s.line (plain_drafted scope d s.says) >>= rest scope
 
--- the programs of statements, behind a program as far as it is read
+-- the programs of statements, behind a program as far as it is read (Pico SDK manual, section 3.3)
 unfoldable pub plain_programs_from : List Numbered → Scope → Draft → Result (List Assembled) Refusal
 plain_programs_from [] scope d = Ok (plain_finished d)
 plain_programs_from (s ∷ statements) scope d = plain_programs_by (plain_programs_from statements) scope d s statements (program_by s.says)
 
--- the programs of lines
+-- the programs of lines (Pico SDK manual, section 3.3)
 abbrev pub plain_programs_of : List Line → Result (List Assembled) Refusal
 plain_programs_of lines = do
   statements ← statements_of lines
