@@ -60,8 +60,10 @@ impl<'a, S: Sink> Trace for VcdTrace<'a, S> {
         }
     }
 
+    // Called in each clock: its samples stay in memory, where a run has no registers for them.
+    #[inline(never)]
     fn sample(&mut self, clock: u64, sample: &Sample) -> Result<(), TraceFailed> {
-        match put_sample(self.sink, clock, self.last, sample) {
+        match put_sample(self.sink, clock, &self.last, sample) {
             Ok(()) => {
                 self.last = Some(*sample);
                 Ok(())
@@ -101,16 +103,16 @@ fn put_opening<S: Sink>(sink: &mut S) -> Result<(), SinkFailed>
 fn put_sample<S: Sink>(
     sink: &mut S,
     clock: u64,
-    last: Option<Sample>,
+    last: &Option<Sample>,
     sample: &Sample,
 ) -> Result<(), SinkFailed>
-    ensures bytes { Takes (S.taken sink.old) (added_text clock last sample.now)
+    ensures bytes { Takes (S.taken sink.old) (added_text clock last.now sample.now)
         (S.taken sink.new) result }
     ensures cause { PutCounts (S.faults sink.old) (S.faults sink.new) result }
 {
     match last {
         None => put_dump(sink, sample),
-        Some(before) => put_step(sink, clock, &before, sample),
+        Some(before) => put_step(sink, clock, before, sample),
     }
 }
 
