@@ -1,6 +1,8 @@
 -- That what the machines want are writes of pins.
-use Rattle.std.proofs.Common.{ℕ, List, [], ◌∷◌, ◌++◌}
-use Rattle.std.specs.List.{AllByRecursion}
+use Rattle.std.proofs.Common.{◌≡◌, ◌==◌, ℕ, true, List, [], ◌∷◌, ◌++◌, arith}
+use Rattle.std.proofs.lemmas.Bool.{and_parts}
+use Rattle.std.proofs.lemmas.Bool.Decides.{nat_tests}
+use Rattle.std.specs.List.{AllByRecursion, list_all}
 use Rattle.pin_matrix.specs.Pins.{IsWrite}
 use Rattle.sm_registers.specs.declared.intent.Intent.{Intent}
 use Rattle.block_core.specs.Block.{two_writes, level_writes, direction_writes}
@@ -17,3 +19,12 @@ levels_are_writes none a b c d ha hb hc hd =
 pub directions_are_writes : IsWrite (0, 0) → (a b c d : Intent) → AllByRecursion IsWrite a.direction → AllByRecursion IsWrite b.direction → AllByRecursion IsWrite c.direction → AllByRecursion IsWrite d.direction → AllByRecursion IsWrite (direction_writes (a ∷ b ∷ c ∷ d ∷ []))
 directions_are_writes none a b c d ha hb hc hd =
     two_of none a.direction (direction_writes (b ∷ c ∷ d ∷ [])) ha (two_of none b.direction (direction_writes (c ∷ d ∷ [])) hb (two_of none c.direction (direction_writes (d ∷ [])) hc (two_of none d.direction [] hd tt)))
+
+-- no pin is written where no write passes the test for a pin
+is_zero : (n : ℕ) → (n == 0) ≡ true → n ≡ 0
+is_zero n h = grind (arith, nat_tests)
+
+pub none_written : (writes : List (ℕ × ℕ)) → list_all (λ w. w.0 == 0) writes ≡ true → AllByRecursion (λ w. w.0 ≡ 0) writes
+none_written [] h = tt
+none_written (w ∷ rest) h =
+    let parts = and_parts (w.0 == 0) (list_all (λ w. w.0 == 0) rest) h in (is_zero w.0 parts.0, none_written rest parts.1)

@@ -190,10 +190,11 @@ fn step<F: Fifo>(slot: &mut Option<Slot<F>>, view: &View, due: &Due) -> Intent
     ensures level { AllByRecursion IsWrite result.level }
     ensures direction { AllByRecursion IsWrite result.direction }
 {
-    match slot {
-        Some(slot) => slot.clock(view, due),
-        None => Intent::none(),
+    let mut intent = Intent::none();
+    if let Some(slot) = slot {
+        slot.clock(view, due, &mut intent);
     }
+    intent
 }
 
 /// What is seen of a place.

@@ -1,7 +1,7 @@
 //! What becomes of pins and flags when all machines have said what they want in a clock.
-ghost use Rattle.std.specs.Prelude.{◌≡◌, [], ◌∷◌, map};
+ghost use Rattle.std.specs.Prelude.{◌≡◌, ◌==◌, [], ◌∷◌, map};
 ghost use Rattle.irq_flags.specs.Flags.{merged_flags};
-ghost use Rattle.std.specs.List.{AllByRecursion};
+ghost use Rattle.std.specs.List.{AllByRecursion, list_all};
 ghost use Rattle.pin_matrix.specs.Pins.{IsWrite, merged};
 ghost use Rattle.block_core.specs.Block.{level_writes, direction_writes, any_of, TakesLastWrites};
 ghost use Rattle.block_core.specs.Block as spec;
@@ -49,7 +49,7 @@ pub(crate) fn levels_after(
     ];
     the_last_write_stands();
     no_write_changes_nothing();
-    merge4(levels, &writes)
+    merge(levels, &writes)
 }
 
 /// The directions after a clock.
@@ -79,7 +79,27 @@ pub(crate) fn directions_after(
     ];
     the_last_write_stands();
     no_write_changes_nothing();
-    merge4(directions, &writes)
+    merge(directions, &writes)
+}
+
+/// The pins after a clock's writes, which in most clocks are of no pins.
+#[inline(always)]
+fn merge(old: u32, writes: &[(u32, u32); 8]) -> u32
+    ensures { result ≡ merged old writes.now }
+{
+    if writes_nothing(writes) {
+        no_write_changes_nothing();
+        old
+    } else {
+        merge4(old, writes)
+    }
+}
+
+/// Whether none of the writes is of a pin.
+fn writes_nothing(writes: &[(u32, u32); 8]) -> bool
+    ensures { result ≡ list_all (λ w. w.0 == 0) writes.now }
+{
+    writes.iter().all(|write| write.0 == 0)
 }
 
 /// Lowers and then raises the flags that the machines want.

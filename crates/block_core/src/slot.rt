@@ -3,6 +3,7 @@ ghost use Rattle.std.specs.Prelude.{◌≡◌, ◌<◌, ◌^◌, ◌+◌, length
 ghost use Rattle.std.specs.List.{AllByRecursion};
 ghost use Rattle.clock_divider.specs.Timing as timing;
 ghost use Rattle.pin_matrix.specs.Pins.{IsWrite};
+ghost use Rattle.sm_registers.specs.Effects.{no_intent};
 ghost use Rattle.sm_registers.specs.State as spec_shown;
 ghost use Rattle.block_core.specs.Slots as spec;
 ghost use Rattle.block_core.specs.Slots.{lined, acted, settled_slot, slot_after, slot_intent};
@@ -53,21 +54,21 @@ impl<F: Fifo> Slot<F> {
         })
     }
 
-    /// One clock: what it wants of its block.
+    /// One clock. The intent, of nothing so far, gets what it wants of its block.
     #[inline(never)]
-    pub fn clock(&mut self, view: &View, due: &Due) -> Intent
+    pub fn clock(&mut self, view: &View, due: &Due, intent: &mut Intent)
+        requires fresh { intent.old ≡ no_intent }
         requires clock { self.old.timing.clock < 2 ^ 40 }
         requires sent { self.old.sent < 2 ^ 40 }
         requires received { self.old.received < 2 ^ 40 }
         ensures after { self.new ≡ slot_after view.now due.now self.old }
-        ensures intent { result ≡ slot_intent view.now due.now self.old }
-        ensures level { AllByRecursion IsWrite result.level }
-        ensures direction { AllByRecursion IsWrite result.direction }
+        ensures intent { intent.new ≡ slot_intent view.now due.now self.old }
+        ensures level { AllByRecursion IsWrite intent.new.level }
+        ensures direction { AllByRecursion IsWrite intent.new.direction }
     {
         self.obey(due);
-        let intent = self.act(view);
-        self.settle(due, &intent);
-        intent
+        self.act(view, intent);
+        self.settle(due, intent);
     }
 
     /// The place of its lines in `Due`.
@@ -95,20 +96,19 @@ impl<F: Fifo> Slot<F> {
 
     /// Its tick, where it has one in this clock.
     #[tactic(auto, unfolding(crate::specs::Slots::acted))]
-    fn act(&mut self, view: &View) -> Intent
-        ensures intent { result ≡ (acted view.now self.old).1 }
+    fn act(&mut self, view: &View, intent: &mut Intent)
+        requires { intent.old ≡ no_intent }
+        ensures intent { intent.new ≡ (acted view.now self.old).1 }
         ensures after { self.new ≡ record self.old {
           machine = record self.old.machine { registers = (acted view.now self.old).0 };
         } }
-        ensures level { AllByRecursion IsWrite result.level }
-        ensures direction { AllByRecursion IsWrite result.direction }
-        ensures take { IsTrue result.take → 0 < length self.new.machine.ports.fifos.tx }
-        ensures word { IsSome result.word → length self.new.machine.ports.fifos.rx < self.new.machine.ports.fifos.rx_room }
+        ensures level { AllByRecursion IsWrite intent.new.level }
+        ensures direction { AllByRecursion IsWrite intent.new.direction }
+        ensures take { IsTrue intent.new.take → 0 < length self.new.machine.ports.fifos.tx }
+        ensures word { IsSome intent.new.word → length self.new.machine.ports.fifos.rx < self.new.machine.ports.fifos.rx_room }
     {
         if self.enabled && self.divider.ticks_now() {
-            self.machine.tick(view)
-        } else {
-            Intent::none()
+            self.machine.tick_into(view, intent);
         }
     }
 

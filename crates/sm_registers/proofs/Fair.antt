@@ -1,5 +1,5 @@
 -- That a tick takes a word only where TX has one, and gives one only where RX has room.
-use Rattle.std.proofs.Common.{◌≡◌, ℕ, ◌-◌, ◌<◌, nat_lt, nat_le, Bool, true, false, cond, not, ◌&&◌, ◌||◌, Option, Some, None, is_some, IsSome, IsTrue, List, [], ◌∷◌, length, slice_get, refl, sym, ap, subst, ◌∙◌, rules, arith}
+use Rattle.std.proofs.Common.{◌≡◌, ℕ, ◌-◌, ◌<◌, nat_lt, nat_le, Bool, true, false, cond, not, ◌&&◌, ◌||◌, Option, Some, None, is_some, IsSome, IsTrue, List, [], ◌∷◌, length, slice_get, refl, sym, subst, rules, arith}
 use Rattle.std.proofs.lemmas.Bool.Decides.{nat_tests}
 use Rattle.pio_encode.specs.declared.act.Act.{Act}
 use Rattle.pio_encode.specs.declared.act.Act.TheVariants.{Jmp, Wait, In, Out, Push, Pull, Mov, Irq, Set, Nothing}
@@ -15,9 +15,8 @@ use Rattle.pin_matrix.specs.declared.machine.MachineSetup.{MachineSetup}
 use Rattle.sm_registers.specs.declared.registers.Registers.{Registers}
 use Rattle.sm_registers.specs.declared.view.View.{View}
 use Rattle.sm_registers.specs.declared.view.Queues.{Queues}
-use Rattle.sm_registers.specs.declared.effect.Effect.{Effect}
 use Rattle.sm_registers.specs.Laws.{IsFair}
-use Rattle.sm_registers.specs.Effects.{jmp_effect, wait_effect, in_effect, autopushed, out_to, out_effect, push_effect, pulled, pull_effect, mov_to, mov_effect, irq_effect, set_effect, effect_of}
+use Rattle.sm_registers.specs.Effects.{Effect, jmp_effect, wait_effect, in_effect, autopushed, out_to, out_effect, push_effect, pulled, pull_effect, mov_to, mov_effect, irq_effect, set_effect, effect_of}
 use Rattle.sm_registers.specs.declared.intent.Intent.{Intent}
 use Rattle.sm_registers.specs.State.{queues_of}
 use Rattle.sm_registers.specs.Tick.{current_word, after_effect, refills, tick_delay, tick_by, tick_word, tick_of}
@@ -124,15 +123,15 @@ has_room room words h = grind (arith, nat_tests)
 
 -- the same of a machine's FIFOs
 pub fair_takes :
-    (s : MachineSetup) (v : View) (q : Queues) (r : Registers) (f : Fifos) (x : Registers × Intent) → q ≡ queues_of f → x ≡ tick_of s v q r
+    (s : MachineSetup) (v : View) (r : Registers) (f : Fifos) (x : Registers × Intent) → x ≡ tick_of s v (queues_of f) r
     → IsTrue x.1.take → is_some (slice_get f.tx 0) ≡ true
-fair_takes s v q r f x e h t =
-    let fair : IsFair q x.1 = subst (λ y. IsFair q y.1) (sym h) (fair_tick s v q r) in
-    ap (λ p. is_some p.front) (sym e) ∙ fair.take t
+fair_takes s v r f x h t =
+    let fair : IsFair (queues_of f) x.1 = subst (λ y. IsFair (queues_of f) y.1) (sym h) (fair_tick s v (queues_of f) r) in
+    fair.take t
 
 pub fair_gives :
-    (s : MachineSetup) (v : View) (q : Queues) (r : Registers) (f : Fifos) (x : Registers × Intent) → q ≡ queues_of f → x ≡ tick_of s v q r
+    (s : MachineSetup) (v : View) (r : Registers) (f : Fifos) (x : Registers × Intent) → x ≡ tick_of s v (queues_of f) r
     → IsSome x.1.word → is_full f.rx_room f.rx ≡ false
-fair_gives s v q r f x e h t =
-    let fair : IsFair q x.1 = subst (λ y. IsFair q y.1) (sym h) (fair_tick s v q r) in
-    ap (λ p. p.rx_full) (sym e) ∙ fair.word t
+fair_gives s v r f x h t =
+    let fair : IsFair (queues_of f) x.1 = subst (λ y. IsFair (queues_of f) y.1) (sym h) (fair_tick s v (queues_of f) r) in
+    fair.word t

@@ -1,5 +1,6 @@
 -- What each of the nine instructions does in a tick, one function each: what it reads, when it stalls, what it does.
 -- What they share, the PC's next step, side-set, delay and refill, stands in Tick.
+--   Effect               what an instruction does
 --   no_intent            the intent of a clock without a tick
 --   quiet, stall         effects that do nothing but what they did to the registers
 --   jmp_effect .. set_effect     the instructions
@@ -31,10 +32,34 @@ use Rattle.pin_matrix.specs.declared.machine.MachineSetup.{MachineSetup}
 use Rattle.sm_registers.specs.declared.registers.Registers.{Registers}
 use Rattle.sm_registers.specs.declared.view.View.{View}
 use Rattle.sm_registers.specs.declared.view.Queues.{Queues}
-use Rattle.sm_registers.specs.declared.effect.Effect.{Effect}
 use Rattle.sm_registers.specs.declared.intent.Intent.{Intent}
 use Rattle.sm_registers.specs.declared.intent.Kind.TheVariants.{Off}
 use Rattle.sm_registers.specs.declared.intent.TheConstants.{TX_STALL, RX_STALL}
+
+-- What an instruction does in one tick. A write to pins is the pins and their bits.
+pub record Effect : Type 0 where
+  -- it isn't finished
+  pub stalled : Bool
+  -- the registers after it; PC, delay, pending word and begun stay as they were
+  pub registers : Registers
+  -- the PC that it sets, if any
+  pub jump : Option ℕ
+  -- the word that it makes the next instruction, if any
+  pub pending : Option ℕ
+  -- its write to levels
+  pub level : ℕ × ℕ
+  -- its write to directions
+  pub direction : ℕ × ℕ
+  -- the flags that it lowers
+  pub clears : ℕ
+  -- the flags that it raises
+  pub sets : ℕ
+  -- it takes the oldest word of TX
+  pub take : Bool
+  -- the word that it gives to RX, if any
+  pub word : Option ℕ
+  -- the sticky FIFO flags that it raises
+  pub sticky : ℕ
 
 -- nothing is written, lowered, raised, taken or given
 abbrev pub no_intent : Intent

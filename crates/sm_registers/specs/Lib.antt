@@ -1,5 +1,6 @@
 pub mod Effects
 pub mod Tick
+pub mod Outcomes
 pub mod Ranges
 pub mod State
 pub mod Laws

@@ -3,7 +3,7 @@
 --   WritesOwnPins    an effect's pairs are writes of pins
 use Rattle.std.specs.Prelude.{◌<◌, ◌≤◌}
 use Rattle.pin_matrix.specs.Pins.{IsWrite}
-use Rattle.sm_registers.specs.declared.effect.Effect.{Effect}
+use Rattle.sm_registers.specs.Effects.{Effect}
 use Rattle.sm_registers.specs.declared.registers.Registers.{Registers}
 
 -- PC is an address, the counts count the bits of a word, the delay is one of five bits

@@ -14,10 +14,9 @@ use Rattle.pin_matrix.specs.declared.machine.MachineSetup.{MachineSetup}
 use Rattle.sm_registers.specs.declared.registers.Registers.{Registers}
 use Rattle.sm_registers.specs.declared.view.View.{View}
 use Rattle.sm_registers.specs.declared.view.Queues.{Queues}
-use Rattle.sm_registers.specs.declared.effect.Effect.{Effect}
 use Rattle.sm_registers.specs.declared.intent.Intent.{Intent}
 use Rattle.sm_registers.specs.declared.intent.Kind.TheVariants.{First, Late, Delay}
-use Rattle.sm_registers.specs.Effects.{no_intent, osr_filled, effect_of}
+use Rattle.sm_registers.specs.Effects.{Effect, no_intent, osr_filled, effect_of}
 
 -- the address that follows: the program wraps behind wrap_top (section 3.5.2), and the memory behind 31
 abbrev pub next_pc : MachineSetup → Registers → ℕ

@@ -1,63 +1,62 @@
 //! PUSH and PULL: words between the shift registers and the FIFOs (RP2040 Datasheet, sections 3.4.6 and 3.4.7).
 ghost use Rattle.std.specs.Prelude.{◌≡◌};
 ghost use Rattle.sm_registers.specs.Effects as spec;
+ghost use Rattle.sm_registers.specs.Outcomes.{effect_by};
 ghost use Rattle.sm_registers.specs.Ranges.{WritesOwnPins};
+ghost use Rattle.sm_registers.specs.State.{queues_of};
 
-use crate::effect::{Effect, quiet, stall};
 use crate::intent::{RX_STALL, TX_STALL};
+use crate::outcome::{Deed, Outcome};
 use crate::registers::Registers;
-use crate::shifting::isr_emptied;
-use crate::view::Queues;
+use crate::shifting::{empty_isr, give_isr};
+use fifo_pair::{Fifo, Pair};
 use pin_matrix::MachineSetup;
 
 /// Gives the ISR to RX. A full RX makes it stall, or without Block lose its word.
 #[tactic(auto, unfolding(crate::specs::Effects::push_effect))]
-pub(crate) fn push_effect(
+pub(crate) fn push_effect<F: Fifo>(
     if_full: bool,
     block: bool,
     setup: &MachineSetup,
-    queues: &Queues,
-    registers: &Registers,
-) -> Effect
-    ensures value { result ≡ spec.push_effect if_full block setup.now queues.now registers.now }
-    ensures writes { WritesOwnPins result }
+    fifos: &Pair<F>,
+    registers: &mut Registers,
+) -> Outcome
+    ensures value { effect_by registers.new result
+        ≡ spec.push_effect if_full block setup.now (queues_of fifos.now) registers.old }
+    ensures writes { WritesOwnPins (effect_by registers.new result) }
 {
     if if_full && registers.in_count < setup.push_threshold {
-        quiet(*registers)
-    } else if !queues.rx_full {
-        Effect {
-            word: Some(registers.isr),
-            ..quiet(isr_emptied(*registers))
-        }
+        Outcome::Finishes(Deed::Nothing)
+    } else if !fifos.rx_full() {
+        Outcome::Finishes(give_isr(registers))
     } else if block {
-        Effect {
+        Outcome::Stalls {
+            sets: 0,
             sticky: RX_STALL,
-            ..stall(*registers)
         }
     } else {
-        Effect {
-            sticky: RX_STALL,
-            ..quiet(isr_emptied(*registers))
-        }
+        empty_isr(registers);
+        Outcome::Finishes(Deed::Tell(RX_STALL))
     }
 }
 
 /// Takes a word from TX into the OSR. An empty TX makes it stall, or without Block copy X.
 #[tactic(auto, unfolding(crate::specs::Effects::pull_effect))]
-pub(crate) fn pull_effect(
+pub(crate) fn pull_effect<F: Fifo>(
     if_empty: bool,
     block: bool,
     setup: &MachineSetup,
-    queues: &Queues,
-    registers: &Registers,
-) -> Effect
-    ensures value { result ≡ spec.pull_effect if_empty block setup.now queues.now registers.now }
-    ensures writes { WritesOwnPins result }
+    fifos: &Pair<F>,
+    registers: &mut Registers,
+) -> Outcome
+    ensures value { effect_by registers.new result
+        ≡ spec.pull_effect if_empty block setup.now (queues_of fifos.now) registers.old }
+    ensures writes { WritesOwnPins (effect_by registers.new result) }
 {
     if pulls_nothing(if_empty, setup, registers) {
-        quiet(*registers)
+        Outcome::Finishes(Deed::Nothing)
     } else {
-        pulled(queues.front, block, *registers)
+        pulled(fifos.tx_front(), block, registers)
     }
 }
 
@@ -70,34 +69,32 @@ fn pulls_nothing(if_empty: bool, setup: &MachineSetup, registers: &Registers) ->
 }
 
 /// What a PULL that isn't kept from it does with the oldest word of TX, or with none.
-fn pulled(front: Option<u32>, block: bool, registers: Registers) -> Effect
-    ensures value { result ≡ spec.pulled front block registers }
-    ensures writes { WritesOwnPins result }
+fn pulled(front: Option<u32>, block: bool, registers: &mut Registers) -> Outcome
+    ensures value { effect_by registers.new result ≡ spec.pulled front block registers.old }
+    ensures writes { WritesOwnPins (effect_by registers.new result) }
 {
     match front {
         Some(word) => {
-            Effect {
-                take: true,
-                ..quiet(osr_filled(word, registers))
-            }
+            fill_osr(word, registers);
+            Outcome::Finishes(Deed::Take)
         }
         None if block => {
-            Effect {
+            Outcome::Stalls {
+                sets: 0,
                 sticky: TX_STALL,
-                ..stall(registers)
             }
         }
-        None => quiet(osr_filled(registers.x, registers)),
+        None => {
+            fill_osr(registers.x, registers);
+            Outcome::Finishes(Deed::Nothing)
+        }
     }
 }
 
-/// The registers with an OSR full of a new word.
-pub(crate) fn osr_filled(word: u32, registers: Registers) -> Registers
-    ensures { result ≡ spec.osr_filled word registers }
+/// Fills the OSR with a new word.
+pub(crate) fn fill_osr(word: u32, registers: &mut Registers)
+    ensures { registers.new ≡ spec.osr_filled word registers.old }
 {
-    Registers {
-        osr: word,
-        out_count: 0,
-        ..registers
-    }
+    registers.osr = word;
+    registers.out_count = 0;
 }

@@ -1,9 +1,10 @@
 //! JMP (RP2040 Datasheet, section 3.4.2).
 ghost use Rattle.std.specs.Prelude.{◌≡◌, ◌<◌};
 ghost use Rattle.sm_registers.specs.Effects as spec;
+ghost use Rattle.sm_registers.specs.Outcomes.{effect_by};
 ghost use Rattle.sm_registers.specs.Ranges.{WritesOwnPins};
 
-use crate::effect::{Effect, quiet};
+use crate::outcome::{Deed, Outcome};
 use crate::registers::Registers;
 use crate::view::View;
 use pin_matrix::MachineSetup;
@@ -16,20 +17,18 @@ pub(crate) fn jmp_effect(
     address: u8,
     setup: &MachineSetup,
     view: &View,
-    registers: &Registers,
-) -> Effect
-    ensures value { result ≡ spec.jmp_effect condition address setup.now view.now registers.now }
-    ensures writes { WritesOwnPins result }
+    registers: &mut Registers,
+) -> Outcome
+    ensures value { effect_by registers.new result ≡ spec.jmp_effect condition address setup.now view.now registers.old }
+    ensures writes { WritesOwnPins (effect_by registers.new result) }
 {
-    let jump = if jumps(condition, setup, view, registers) {
-        Some(address)
+    let is_taken = jumps(condition, setup, view, registers);
+    count_down(condition, registers);
+    Outcome::Finishes(if is_taken {
+        Deed::Jump(address)
     } else {
-        None
-    };
-    Effect {
-        jump,
-        ..quiet(counted_down(condition, *registers))
-    }
+        Deed::Nothing
+    })
 }
 
 /// Whether the condition holds, by X and Y before the count.
@@ -49,23 +48,13 @@ fn jumps(condition: Condition, setup: &MachineSetup, view: &View, registers: &Re
 }
 
 /// X or Y one less, where the condition counts.
-fn counted_down(condition: Condition, registers: Registers) -> Registers
-    ensures { result ≡ spec.counted_down condition registers }
+fn count_down(condition: Condition, registers: &mut Registers)
+    ensures { registers.new ≡ spec.counted_down condition registers.old }
 {
     match condition {
-        Condition::XDecrement => {
-            Registers {
-                x: registers.x.wrapping_sub(1),
-                ..registers
-            }
-        }
-        Condition::YDecrement => {
-            Registers {
-                y: registers.y.wrapping_sub(1),
-                ..registers
-            }
-        }
-        _ => registers,
+        Condition::XDecrement => registers.x = registers.x.wrapping_sub(1),
+        Condition::YDecrement => registers.y = registers.y.wrapping_sub(1),
+        _ => {}
     }
 }
 

@@ -1,7 +1,6 @@
 //! One state machine of the RP2040's PIO: its registers, its FIFOs, and what one tick does to them.
 #![tactic(auto)]
 
-mod effect;
 mod fifo_moves;
 mod instruction;
 mod intent;
@@ -9,6 +8,7 @@ mod jump;
 mod laws;
 mod machine;
 mod moving;
+mod outcome;
 mod registers;
 mod shifting;
 mod shown;

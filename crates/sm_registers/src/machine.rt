@@ -2,6 +2,7 @@
 ghost use Rattle.std.specs.Prelude.{◌≡◌, ◌<◌, length, IsTrue, IsSome, IfOk};
 ghost use Rattle.std.specs.List.{AllByRecursion};
 ghost use Rattle.pin_matrix.specs.Pins.{IsWrite};
+ghost use Rattle.sm_registers.specs.Effects.{no_intent};
 ghost use Rattle.sm_registers.specs.State.{IsKept, first_machine, queues_of, settled_ports, shown_of};
 ghost use Rattle.sm_registers.specs.State as spec;
 ghost use Rattle.sm_registers.specs.Tick as spec_tick;
@@ -10,7 +11,7 @@ use crate::intent::{Intent, RX_UNDER, TX_OVER};
 use crate::registers::Registers;
 use crate::shown::Shown;
 use crate::tick::tick_of;
-use crate::view::{Queues, View};
+use crate::view::View;
 use fifo_pair::{Fifo, Pair};
 use pin_matrix::MachineSetup;
 use std::alloc::{AllocError, Global};
@@ -74,22 +75,25 @@ impl<F: Fifo> Machine<F> {
         ensures take { IsTrue result.take → 0 < length self.new.ports.fifos.tx }
         ensures word { IsSome result.word → length self.new.ports.fifos.rx < self.new.ports.fifos.rx_room }
     {
-        let queues = self.queues();
-        let (registers, intent) = tick_of(&self.setup, view, &queues, &self.registers);
-        self.registers = registers;
+        let mut intent = Intent::none();
+        self.tick_into(view, &mut intent);
         intent
     }
 
-    /// What a tick sees of its FIFOs.
-    fn queues(&self) -> Queues
-        ensures { result ≡ queues_of self.now.ports.fifos }
+    /// The same, with the intent put into one that wants nothing so far, which spares a copy in each clock.
+    pub fn tick_into(&mut self, view: &View, intent: &mut Intent)
+        requires { intent.old ≡ no_intent }
+        ensures intent { intent.new ≡ (spec_tick.tick_of self.old.setup view.now (queues_of self.old.ports.fifos) self.old.registers).1 }
+        ensures state { self.new ≡ record self.old {
+          registers =
+              (spec_tick.tick_of self.old.setup view.now (queues_of self.old.ports.fifos) self.old.registers).0;
+        } }
+        ensures level { AllByRecursion IsWrite intent.new.level }
+        ensures direction { AllByRecursion IsWrite intent.new.direction }
+        ensures take { IsTrue intent.new.take → 0 < length self.new.ports.fifos.tx }
+        ensures word { IsSome intent.new.word → length self.new.ports.fifos.rx < self.new.ports.fifos.rx_room }
     {
-        Queues {
-            front: self.fifos.tx_front(),
-            tx_level: self.tx_level(),
-            rx_level: self.rx_level(),
-            rx_full: self.fifos.rx_full(),
-        }
+        tick_of(&self.setup, view, &self.fifos, &mut self.registers, intent);
     }
 
     /// How many words are in TX.
@@ -108,12 +112,17 @@ impl<F: Fifo> Machine<F> {
 
     /// Ends a clock: the machine takes and gives what the intent says, and the system writes the word, if any, and reads
     /// RX or doesn't. A level is what it was at the clock's start.
-    #[tactic(auto, unfolding(crate::specs::State::settled_ports))]
+    #[tactic(auto, unfolding(crate::specs::State::settled_ports, fifo_pair::specs::Fifos::settled))]
     pub fn settle(&mut self, intent: &Intent, word: Option<u32>, read: bool)
         requires take { IsTrue intent.now.take → 0 < length self.old.ports.fifos.tx }
         requires word { IsSome intent.now.word → length self.old.ports.fifos.rx < self.old.ports.fifos.rx_room }
         ensures { self.new ≡ record self.old { ports = settled_ports intent.now word read self.old.ports } }
     {
+        if !intent.take && intent.word.is_none() && word.is_none() && !read {
+            // Nothing moves in the FIFOs.
+            self.sticky = intent.sticky | self.sticky;
+            return;
+        }
         let settled = self.fifos.settle(intent.take, intent.word, word, read);
         self.got = got_after(settled.got, self.got);
         self.sticky = told(settled.over, settled.under) | (intent.sticky | self.sticky);

@@ -1,65 +1,73 @@
 //! MOV and SET, which put a word or a number where it belongs (RP2040 Datasheet, sections 3.4.8 and 3.4.10).
 ghost use Rattle.std.specs.Prelude.{◌≡◌};
 ghost use Rattle.sm_registers.specs.Effects as spec;
+ghost use Rattle.sm_registers.specs.Outcomes.{effect_by, finished_by};
 ghost use Rattle.sm_registers.specs.Ranges.{WritesOwnPins};
+ghost use Rattle.sm_registers.specs.State.{queues_of};
 
-use crate::effect::{Effect, quiet};
-use crate::fifo_moves::osr_filled;
+use crate::fifo_moves::fill_osr;
+use crate::outcome::{Deed, Outcome};
 use crate::registers::Registers;
-use crate::view::{Queues, View};
+use crate::view::View;
+use fifo_pair::{Fifo, Pair};
 use pin_matrix::{MachineSetup, pins_from, writes_of};
 use pio_encode::{MovDestination, MovOperation, MovSource, SetDestination};
 use shift_engine::reverse_bits;
 
 /// Copies a word, inverted or with its bits reversed where that is asked.
 #[tactic(auto, unfolding(crate::specs::Effects::mov_effect))]
-pub(crate) fn mov_effect(
+pub(crate) fn mov_effect<F: Fifo>(
     destination: MovDestination,
     operation: MovOperation,
     source: MovSource,
     setup: &MachineSetup,
     view: &View,
-    queues: &Queues,
-    registers: &Registers,
-) -> Effect
-    ensures value { result ≡ spec.mov_effect destination operation source setup.now view.now queues.now registers.now }
-    ensures writes { WritesOwnPins result }
+    fifos: &Pair<F>,
+    registers: &mut Registers,
+) -> Outcome
+    ensures value { effect_by registers.new result
+        ≡ spec.mov_effect destination operation source setup.now view.now (queues_of fifos.now) registers.old }
+    ensures writes { WritesOwnPins (effect_by registers.new result) }
 {
-    let word = mov_word(source, setup, view, queues, registers);
-    mov_to(destination, operated(operation, word), setup, *registers)
+    let word = mov_word(source, setup, view, fifos, registers);
+    Outcome::Finishes(mov_to(destination, operated(operation, word), setup, registers))
 }
 
 /// The word that a MOV takes.
-fn mov_word(
+fn mov_word<F: Fifo>(
     source: MovSource,
     setup: &MachineSetup,
     view: &View,
-    queues: &Queues,
+    fifos: &Pair<F>,
     registers: &Registers,
 ) -> u32
-    ensures { result ≡ spec.mov_word source setup.now view.now queues.now registers.now }
+    ensures { result ≡ spec.mov_word source setup.now view.now (queues_of fifos.now) registers.now }
 {
     match source {
         MovSource::Pins => pins_from(view.seen, setup.in_base),
         MovSource::X => registers.x,
         MovSource::Y => registers.y,
         MovSource::Null => 0,
-        MovSource::Status => status(setup, queues),
+        MovSource::Status => status(setup, fifos),
         MovSource::Isr => registers.isr,
         MovSource::Osr => registers.osr,
     }
 }
 
 /// All ones where the chosen FIFO's level is below N, else 0.
-fn status(setup: &MachineSetup, queues: &Queues) -> u32
-    ensures { result ≡ spec.status setup.now queues.now }
+fn status<F: Fifo>(setup: &MachineSetup, fifos: &Pair<F>) -> u32
+    ensures { result ≡ spec.status setup.now (queues_of fifos.now) }
 {
     let level = if setup.status_rx {
-        queues.rx_level
+        fifos.rx_level()
     } else {
-        queues.tx_level
+        fifos.tx_level()
     };
-    if level < setup.status_n { u32::MAX } else { 0 }
+    if level < usize::from(setup.status_n) {
+        u32::MAX
+    } else {
+        0
+    }
 }
 
 /// What a MOV makes of its word.
@@ -78,51 +86,24 @@ fn mov_to(
     destination: MovDestination,
     value: u32,
     setup: &MachineSetup,
-    registers: Registers,
-) -> Effect
-    ensures value { result ≡ spec.mov_to destination value setup.now registers }
-    ensures writes { WritesOwnPins result }
+    registers: &mut Registers,
+) -> Deed
+    ensures value { finished_by registers.new result ≡ spec.mov_to destination value setup.now registers.old }
+    ensures writes { WritesOwnPins (finished_by registers.new result) }
 {
     match destination {
-        MovDestination::Pins => {
-            Effect {
-                level: writes_of(&setup.out, value),
-                ..quiet(registers)
-            }
-        }
-        MovDestination::X => {
-            quiet(Registers {
-                x: value,
-                ..registers
-            })
-        }
-        MovDestination::Y => {
-            quiet(Registers {
-                y: value,
-                ..registers
-            })
-        }
-        MovDestination::Exec => {
-            Effect {
-                pending: Some((value % 65_536) as u16),
-                ..quiet(registers)
-            }
-        }
-        MovDestination::Pc => {
-            Effect {
-                jump: Some((value % 32) as u8),
-                ..quiet(registers)
-            }
-        }
+        MovDestination::Pins => return Deed::WriteLevels(writes_of(&setup.out, value)),
+        MovDestination::X => registers.x = value,
+        MovDestination::Y => registers.y = value,
+        MovDestination::Exec => return Deed::Execute((value % 65_536) as u16),
+        MovDestination::Pc => return Deed::Jump((value % 32) as u8),
         MovDestination::Isr => {
-            quiet(Registers {
-                isr: value,
-                in_count: 0,
-                ..registers
-            })
+            registers.isr = value;
+            registers.in_count = 0;
         }
-        MovDestination::Osr => quiet(osr_filled(value, registers)),
+        MovDestination::Osr => fill_osr(value, registers),
     }
+    Deed::Nothing
 }
 
 /// Sets pins, directions, X or Y to a number of five bits.
@@ -131,36 +112,22 @@ pub(crate) fn set_effect(
     destination: SetDestination,
     value: u8,
     setup: &MachineSetup,
-    registers: &Registers,
-) -> Effect
-    ensures value { result ≡ spec.set_effect destination value setup.now registers.now }
-    ensures writes { WritesOwnPins result }
+    registers: &mut Registers,
+) -> Outcome
+    ensures value { effect_by registers.new result ≡ spec.set_effect destination value setup.now registers.old }
+    ensures writes { WritesOwnPins (effect_by registers.new result) }
 {
     let value = u32::from(value);
-    match destination {
-        SetDestination::Pins => {
-            Effect {
-                level: writes_of(&setup.set, value),
-                ..quiet(*registers)
-            }
-        }
+    Outcome::Finishes(match destination {
+        SetDestination::Pins => Deed::WriteLevels(writes_of(&setup.set, value)),
         SetDestination::X => {
-            quiet(Registers {
-                x: value,
-                ..*registers
-            })
+            registers.x = value;
+            Deed::Nothing
         }
         SetDestination::Y => {
-            quiet(Registers {
-                y: value,
-                ..*registers
-            })
+            registers.y = value;
+            Deed::Nothing
         }
-        SetDestination::Pindirs => {
-            Effect {
-                direction: writes_of(&setup.set, value),
-                ..quiet(*registers)
-            }
-        }
-    }
+        SetDestination::Pindirs => Deed::WriteDirections(writes_of(&setup.set, value)),
+    })
 }

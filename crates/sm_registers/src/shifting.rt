@@ -1,42 +1,40 @@
 //! IN and OUT: bits into the ISR and out of the OSR (RP2040 Datasheet, sections 3.4.4, 3.4.5 and 3.5.4).
-ghost use Rattle.std.specs.Prelude.{◌≡◌, ◌≤◌};
+ghost use Rattle.std.specs.Prelude.{◌≡◌, ◌≤◌, Some};
 ghost use Rattle.sm_registers.specs.Effects as spec;
+ghost use Rattle.sm_registers.specs.Outcomes.{effect_by, finished_by};
 ghost use Rattle.sm_registers.specs.Ranges.{WritesOwnPins};
+ghost use Rattle.sm_registers.specs.State.{queues_of};
 
-use crate::effect::{Effect, quiet, stall};
 use crate::intent::{RX_STALL, TX_STALL};
+use crate::outcome::{Deed, Outcome};
 use crate::registers::Registers;
-use crate::view::{Queues, View};
+use crate::view::View;
+use fifo_pair::{Fifo, Pair};
 use pin_matrix::{MachineSetup, pins_from, writes_of};
 use pio_encode::{InSource, OutDestination};
 use shift_engine::{shift_in, shift_out};
 
 /// Shifts bits in, in its first tick alone; with autopush it then pushes at the threshold, and stalls while RX is full.
 #[tactic(auto, unfolding(crate::specs::Effects::in_effect))]
-pub(crate) fn in_effect(
+pub(crate) fn in_effect<F: Fifo>(
     source: InSource,
     count: u8,
     setup: &MachineSetup,
     view: &View,
-    queues: &Queues,
-    registers: &Registers,
-) -> Effect
+    fifos: &Pair<F>,
+    registers: &mut Registers,
+) -> Outcome
     requires count { count ≤ 32 }
-    requires placed { registers.now.in_count ≤ 32 }
-    ensures value { result ≡ spec.in_effect source count setup.now view.now queues.now registers.now }
-    ensures writes { WritesOwnPins result }
+    requires placed { registers.old.in_count ≤ 32 }
+    ensures value { effect_by registers.new result
+        ≡ spec.in_effect source count setup.now view.now (queues_of fifos.now) registers.old }
+    ensures writes { WritesOwnPins (effect_by registers.new result) }
 {
-    let shifted = if registers.begun {
-        *registers
-    } else {
-        with_bits_in(
-            in_word(source, setup, view, registers),
-            count,
-            setup,
-            *registers,
-        )
-    };
-    autopushed(setup, queues, shifted)
+    if !registers.begun {
+        let word = in_word(source, setup, view, registers);
+        put_bits_in(word, count, setup, registers);
+    }
+    autopush(setup, fifos, registers)
 }
 
 /// The word that an IN takes bits of.
@@ -53,80 +51,77 @@ fn in_word(source: InSource, setup: &MachineSetup, view: &View, registers: &Regi
     }
 }
 
-/// The registers with bits of a word shifted into the ISR.
-fn with_bits_in(word: u32, count: u8, setup: &MachineSetup, registers: Registers) -> Registers
+/// Shifts bits of a word into the ISR.
+fn put_bits_in(word: u32, count: u8, setup: &MachineSetup, registers: &mut Registers)
     requires count { count ≤ 32 }
-    requires placed { registers.in_count ≤ 32 }
-    ensures { result ≡ spec.with_bits_in word count setup.now registers }
+    requires placed { registers.old.in_count ≤ 32 }
+    ensures { registers.new ≡ spec.with_bits_in word count setup.now registers.old }
 {
-    Registers {
-        isr: shift_in(registers.isr, word, count, setup.in_right),
-        in_count: (registers.in_count + count).min(32),
-        ..registers
-    }
+    registers.isr = shift_in(registers.isr, word, count, setup.in_right);
+    registers.in_count = (registers.in_count + count).min(32);
 }
 
 /// With autopush, pushes an ISR whose count has reached the threshold.
-fn autopushed(setup: &MachineSetup, queues: &Queues, registers: Registers) -> Effect
-    ensures value { result ≡ spec.autopushed setup.now queues.now registers }
-    ensures writes { WritesOwnPins result }
+fn autopush<F: Fifo>(setup: &MachineSetup, fifos: &Pair<F>, registers: &mut Registers) -> Outcome
+    ensures value { effect_by registers.new result ≡ spec.autopushed setup.now (queues_of fifos.now) registers.old }
+    ensures writes { WritesOwnPins (effect_by registers.new result) }
 {
     if setup.autopush && setup.push_threshold <= registers.in_count {
-        if queues.rx_full {
-            Effect {
+        if fifos.rx_full() {
+            Outcome::Stalls {
+                sets: 0,
                 sticky: RX_STALL,
-                ..stall(registers)
             }
         } else {
-            Effect {
-                word: Some(registers.isr),
-                ..quiet(isr_emptied(registers))
-            }
+            Outcome::Finishes(give_isr(registers))
         }
     } else {
-        quiet(registers)
+        Outcome::Finishes(Deed::Nothing)
     }
 }
 
-/// The registers with an empty ISR.
-pub(crate) fn isr_emptied(registers: Registers) -> Registers
-    ensures { result ≡ spec.isr_emptied registers }
+/// Gives the ISR to RX, which leaves it empty.
+pub(crate) fn give_isr(registers: &mut Registers) -> Deed
+    ensures value { finished_by registers.new result
+        ≡ record (spec.quiet (spec.isr_emptied registers.old)) { word = Some registers.old.isr } }
+    ensures writes { WritesOwnPins (finished_by registers.new result) }
 {
-    Registers {
-        isr: 0,
-        in_count: 0,
-        ..registers
-    }
+    let word = registers.isr;
+    empty_isr(registers);
+    Deed::Give(word)
+}
+
+/// Empties the ISR.
+pub(crate) fn empty_isr(registers: &mut Registers)
+    ensures { registers.new ≡ spec.isr_emptied registers.old }
+{
+    registers.isr = 0;
+    registers.in_count = 0;
 }
 
 /// Shifts bits out; with autopull it stalls where the OSR is empty by its threshold.
 #[tactic(auto, unfolding(crate::specs::Effects::out_effect))]
-pub(crate) fn out_effect(
+pub(crate) fn out_effect<F: Fifo>(
     destination: OutDestination,
     count: u8,
     setup: &MachineSetup,
-    queues: &Queues,
-    registers: &Registers,
-) -> Effect
+    fifos: &Pair<F>,
+    registers: &mut Registers,
+) -> Outcome
     requires count { count ≤ 32 }
-    requires placed { registers.now.out_count ≤ 32 }
-    ensures value { result ≡ spec.out_effect destination count setup.now queues.now registers.now }
-    ensures writes { WritesOwnPins result }
+    requires placed { registers.old.out_count ≤ 32 }
+    ensures value { effect_by registers.new result
+        ≡ spec.out_effect destination count setup.now (queues_of fifos.now) registers.old }
+    ensures writes { WritesOwnPins (effect_by registers.new result) }
 {
     if setup.autopull && setup.pull_threshold <= registers.out_count {
-        let sticky = if queues.tx_level == 0 { TX_STALL } else { 0 };
-        return Effect {
-            sticky,
-            ..stall(*registers)
-        };
+        let sticky = if fifos.tx_level() == 0 { TX_STALL } else { 0 };
+        return Outcome::Stalls { sets: 0, sticky };
     }
     let (value, osr) = shift_out(registers.osr, count, setup.out_right);
-    let shifted = Registers {
-        osr,
-        out_count: (registers.out_count + count).min(32),
-        ..*registers
-    };
-    out_to(destination, value, count, setup, shifted)
+    registers.osr = osr;
+    registers.out_count = (registers.out_count + count).min(32);
+    Outcome::Finishes(out_to(destination, value, count, setup, registers))
 }
 
 /// Puts an OUT's bits where they go.
@@ -135,55 +130,23 @@ fn out_to(
     value: u32,
     count: u8,
     setup: &MachineSetup,
-    registers: Registers,
-) -> Effect
-    ensures value { result ≡ spec.out_to destination value count setup.now registers }
-    ensures writes { WritesOwnPins result }
+    registers: &mut Registers,
+) -> Deed
+    ensures value { finished_by registers.new result ≡ spec.out_to destination value count setup.now registers.old }
+    ensures writes { WritesOwnPins (finished_by registers.new result) }
 {
     match destination {
-        OutDestination::Pins => {
-            Effect {
-                level: writes_of(&setup.out, value),
-                ..quiet(registers)
-            }
-        }
-        OutDestination::X => {
-            quiet(Registers {
-                x: value,
-                ..registers
-            })
-        }
-        OutDestination::Y => {
-            quiet(Registers {
-                y: value,
-                ..registers
-            })
-        }
-        OutDestination::Null => quiet(registers),
-        OutDestination::Pindirs => {
-            Effect {
-                direction: writes_of(&setup.out, value),
-                ..quiet(registers)
-            }
-        }
-        OutDestination::Pc => {
-            Effect {
-                jump: Some((value % 32) as u8),
-                ..quiet(registers)
-            }
-        }
+        OutDestination::Pins => return Deed::WriteLevels(writes_of(&setup.out, value)),
+        OutDestination::X => registers.x = value,
+        OutDestination::Y => registers.y = value,
+        OutDestination::Null => {}
+        OutDestination::Pindirs => return Deed::WriteDirections(writes_of(&setup.out, value)),
+        OutDestination::Pc => return Deed::Jump((value % 32) as u8),
         OutDestination::Isr => {
-            quiet(Registers {
-                isr: value,
-                in_count: count,
-                ..registers
-            })
+            registers.isr = value;
+            registers.in_count = count;
         }
-        OutDestination::Exec => {
-            Effect {
-                pending: Some((value % 65_536) as u16),
-                ..quiet(registers)
-            }
-        }
+        OutDestination::Exec => return Deed::Execute((value % 65_536) as u16),
     }
+    Deed::Nothing
 }

@@ -1,38 +1,46 @@
 //! One tick: the current word's effect, and what each tick does besides (RP2040 Datasheet, sections 3.2.4 and 3.5).
-ghost use Rattle.std.specs.Prelude.{◌≡◌, ◌<◌, ◌≤◌};
-ghost use Rattle.pio_encode.specs.Ranges.{IsInRange};
+ghost use Rattle.std.specs.Prelude.{◌≡◌, ◌<◌, ◌≤◌, [], ◌∷◌, None, is_some, false, true};
 ghost use Rattle.sm_registers.specs.Ranges.{IsPlaced, WritesOwnPins};
 ghost use Rattle.std.specs.List.{AllByRecursion};
 ghost use Rattle.pin_matrix.specs.Pins.{IsWrite};
+ghost use Rattle.pio_encode.specs.Word.{reading_of};
+ghost use Rattle.sm_registers.specs.Effects.{no_intent};
+ghost use Rattle.sm_registers.specs.Outcomes.{effect_by, finished_by, side_intent, wanted_by};
+ghost use Rattle.sm_registers.specs.State.{queues_of};
 ghost use Rattle.sm_registers.specs.Tick as spec;
 
-use crate::effect::Effect;
-use crate::fifo_moves::osr_filled;
+use crate::fifo_moves::fill_osr;
 use crate::instruction::effect_of;
 use crate::intent::{Intent, Kind};
+use crate::outcome::{Deed, Outcome};
 use crate::registers::Registers;
-use crate::view::{Queues, View};
+use crate::view::View;
+use fifo_pair::{Fifo, Pair};
 use pin_matrix::{MachineSetup, writes_of};
 use pio_encode::{Op, decode};
 
-/// A tick: the registers after it, and what it does outside them.
-#[tactic(auto, unfolding(crate::specs::Tick::tick_of))]
-pub(crate) fn tick_of(
+/// A tick: changes the registers. The intent, of nothing so far, gets what it does outside them.
+#[tactic(auto, unfolding(crate::specs::Tick::tick_of, crate::specs::Tick::tick_delay))]
+pub(crate) fn tick_of<F: Fifo>(
     setup: &MachineSetup,
     view: &View,
-    queues: &Queues,
-    registers: &Registers,
-) -> (Registers, Intent)
-    requires { IsPlaced registers.now }
-    ensures value { result ≡ spec.tick_of setup.now view.now queues.now registers.now }
-    ensures level { AllByRecursion IsWrite result.1.level }
-    ensures direction { AllByRecursion IsWrite result.1.direction }
+    fifos: &Pair<F>,
+    registers: &mut Registers,
+    intent: &mut Intent,
+)
+    requires placed { IsPlaced registers.old }
+    requires fresh { intent.old ≡ no_intent }
+    ensures value { (registers.new, intent.new) ≡ spec.tick_of setup.now view.now (queues_of fifos.now) registers.old }
+    ensures level { AllByRecursion IsWrite intent.new.level }
+    ensures direction { AllByRecursion IsWrite intent.new.direction }
 {
     if registers.delay > 0 {
-        tick_delay(setup, queues, *registers)
+        registers.delay -= 1;
+        intent.kind = Kind::Delay;
+        intent.take = refill(setup, fifos, registers);
     } else {
-        let op = decode(current_word(view, registers), &setup.side_rule);
-        tick_word(&op, setup, view, queues, registers)
+        let word = current_word(view, registers);
+        tick_word(word, setup, view, fifos, registers, intent);
     }
 }
 
@@ -47,148 +55,142 @@ fn current_word(view: &View, registers: &Registers) -> u16
     }
 }
 
-/// A tick of a delay, of which some is left.
-#[tactic(auto, unfolding(crate::specs::Tick::tick_delay))]
-fn tick_delay(setup: &MachineSetup, queues: &Queues, registers: Registers) -> (Registers, Intent)
-    requires { 0 < registers.delay }
-    ensures value { result ≡ spec.tick_delay setup.now queues.now registers }
-    ensures level { AllByRecursion IsWrite result.1.level }
-    ensures direction { AllByRecursion IsWrite result.1.direction }
-{
-    let counted = Registers {
-        delay: registers.delay - 1,
-        ..registers
-    };
-    let intent = Intent {
-        take: refills(setup, queues, &counted),
-        kind: Kind::Delay,
-        ..Intent::none()
-    };
-    (refilled(setup, queues, counted), intent)
-}
-
-/// A tick of an instruction.
-#[tactic(auto, unfolding(crate::specs::Tick::tick_word))]
-fn tick_word(
-    op: &Op,
+/// A tick of an instruction, by its word. The intent, of nothing so far, gets what it does outside the registers.
+#[tactic(auto, unfolding(crate::specs::Tick::tick_word, crate::specs::Tick::tick_by))]
+fn tick_word<F: Fifo>(
+    word: u16,
     setup: &MachineSetup,
     view: &View,
-    queues: &Queues,
-    registers: &Registers,
-) -> (Registers, Intent)
-    requires act { IsInRange op.now.act }
-    requires placed { IsPlaced registers.now }
-    ensures value { result ≡ spec.tick_word op.now setup.now view.now queues.now registers.now }
-    ensures level { AllByRecursion IsWrite result.1.level }
-    ensures direction { AllByRecursion IsWrite result.1.direction }
+    fifos: &Pair<F>,
+    registers: &mut Registers,
+    intent: &mut Intent,
+)
+    requires placed { IsPlaced registers.old }
+    requires fresh { intent.old ≡ no_intent }
+    ensures value { (registers.new, intent.new)
+        ≡ spec.tick_word (reading_of word setup.now.side_rule) setup.now view.now (queues_of fifos.now) registers.old }
+    ensures level { AllByRecursion IsWrite intent.new.level }
+    ensures direction { AllByRecursion IsWrite intent.new.direction }
 {
-    let effect = effect_of(op.act, setup, view, queues, registers);
-    tick_by(op, setup, queues, registers, &effect)
+    let op = decode(word, &setup.side_rule);
+    let before = *registers;
+    let outcome = effect_of(op.act, setup, view, fifos, registers);
+    conclude(outcome, &op, setup, &before, registers, intent);
+    if refill(setup, fifos, registers) {
+        intent.take = true;
+    }
 }
 
-/// A tick of an instruction, by its effect.
-#[tactic(auto, unfolding(crate::specs::Tick::tick_by))]
-fn tick_by(
+/// Ends an instruction's tick, by the registers before it. The intent, of nothing so far, gets side-set and what it does.
+#[tactic(auto, unfolding(crate::specs::Tick::after_effect))]
+fn conclude(
+    outcome: Outcome,
     op: &Op,
     setup: &MachineSetup,
-    queues: &Queues,
-    registers: &Registers,
-    effect: &Effect,
-) -> (Registers, Intent)
-    requires pc { registers.now.pc < 32 }
-    requires writes { WritesOwnPins effect.now }
-    ensures value { result ≡ spec.tick_by op.now setup.now queues.now registers.now effect.now }
-    ensures level { AllByRecursion IsWrite result.1.level }
-    ensures direction { AllByRecursion IsWrite result.1.direction }
+    before: &Registers,
+    registers: &mut Registers,
+    intent: &mut Intent,
+)
+    requires pc { before.now.pc < 32 }
+    requires fresh { intent.old ≡ no_intent }
+    requires writes { WritesOwnPins (effect_by registers.old outcome) }
+    ensures registers { registers.new
+        ≡ spec.after_effect op.now.delay setup.now before.now (effect_by registers.old outcome) }
+    ensures intent { intent.new
+        ≡ wanted_by op.now setup.now before.now.begun (effect_by registers.old outcome) }
+    ensures level { AllByRecursion IsWrite intent.new.level }
+    ensures direction { AllByRecursion IsWrite intent.new.direction }
 {
-    let after = after_effect(op.delay, setup, registers, effect);
-    let side_set = side_writes(op.side, registers.begun, setup);
-    let pindirs = setup.side_rule.pindirs;
-    let intent = Intent {
-        level: [effect.level, if pindirs { (0, 0) } else { side_set }],
-        direction: [effect.direction, if pindirs { side_set } else { (0, 0) }],
-        clears: effect.clears,
-        sets: effect.sets,
-        take: effect.take || refills(setup, queues, &after),
-        word: effect.word,
-        sticky: effect.sticky,
-        kind: if registers.begun {
-            Kind::Late
-        } else {
-            Kind::First
-        },
-        stalled: effect.stalled,
-    };
-    (refilled(setup, queues, after), intent)
+    set_side(op.side, before.begun, setup, intent);
+    match outcome {
+        Outcome::Stalls { sets, sticky } => {
+            registers.begun = true;
+            intent.sets = sets;
+            intent.sticky = sticky;
+            intent.stalled = true;
+        }
+        Outcome::Finishes(deed) => finish(deed, op, setup, before, registers, intent),
+    }
 }
 
-/// The registers after an instruction's effect.
+/// Ends an instruction that is finished: PC, pending word and delay. The intent, of side-set alone so far, gets its deed.
 #[tactic(auto, unfolding(crate::specs::Tick::after_effect))]
-fn after_effect(
-    delay: u8,
+fn finish(
+    deed: Deed,
+    op: &Op,
     setup: &MachineSetup,
-    registers: &Registers,
-    effect: &Effect,
-) -> Registers
+    before: &Registers,
+    registers: &mut Registers,
+    intent: &mut Intent,
+)
+    requires pc { before.now.pc < 32 }
+    requires side_set { intent.old ≡ side_intent op.now.side setup.now before.now.begun }
+    ensures registers { registers.new
+        ≡ spec.after_effect op.now.delay setup.now before.now (finished_by registers.old deed) }
+    ensures intent { intent.new
+        ≡ wanted_by op.now setup.now before.now.begun (finished_by registers.old deed) }
+{
+    registers.pc = next_pc(before.pending.is_some(), setup, before);
+    registers.pending = None;
+    registers.delay = op.delay;
+    registers.begun = false;
+    match deed {
+        Deed::Nothing => {}
+        Deed::Jump(address) => registers.pc = address,
+        Deed::Execute(word) => {
+            registers.pending = Some(word);
+            registers.delay = 0;
+        }
+        Deed::WriteLevels(write) => intent.level[0] = write,
+        Deed::WriteDirections(write) => intent.direction[0] = write,
+        Deed::Lower(flags) => intent.clears = flags,
+        Deed::Raise(flags) => intent.sets = flags,
+        Deed::Take => intent.take = true,
+        Deed::Give(word) => intent.word = Some(word),
+        Deed::Tell(flags) => intent.sticky = flags,
+    }
+}
+
+/// PC behind an instruction that doesn't jump.
+fn next_pc(was_pending: bool, setup: &MachineSetup, registers: &Registers) -> u8
     requires { registers.now.pc < 32 }
-    ensures { result ≡ spec.after_effect delay setup.now registers.now effect.now }
+    ensures { result ≡ spec.pc_after None was_pending setup.now registers.now }
 {
-    if effect.stalled {
-        return Registers {
-            begun: true,
-            ..effect.registers
-        };
-    }
-    Registers {
-        pc: pc_after(effect.jump, registers.pending.is_some(), setup, registers),
-        pending: effect.pending,
-        delay: delay_after(effect.pending, delay),
-        begun: false,
-        ..effect.registers
+    if was_pending {
+        registers.pc
+    } else if registers.pc == setup.wrap_top {
+        setup.wrap_bottom
+    } else {
+        (registers.pc + 1) % 32
     }
 }
 
-/// PC after a finished instruction.
-fn pc_after(jump: Option<u8>, was_pending: bool, setup: &MachineSetup, registers: &Registers) -> u8
-    requires { registers.now.pc < 32 }
-    ensures { result ≡ spec.pc_after jump was_pending setup.now registers.now }
-{
-    match jump {
-        Some(address) => address,
-        None if was_pending => registers.pc,
-        None if registers.pc == setup.wrap_top => setup.wrap_bottom,
-        None => (registers.pc + 1) % 32,
-    }
-}
-
-/// The delay behind a finished instruction.
-fn delay_after(pending: Option<u16>, delay: u8) -> u8
-    ensures { result ≡ spec.delay_after pending delay }
-{
-    match pending {
-        Some(_) => 0,
-        None => delay,
-    }
-}
-
-/// Whether autopull takes a word of TX.
-fn refills(setup: &MachineSetup, queues: &Queues, registers: &Registers) -> bool
-    ensures { result ≡ spec.refills setup.now queues.now registers.now }
-{
-    setup.autopull && (setup.pull_threshold <= registers.out_count && queues.front.is_some())
-}
-
-/// The registers after autopull.
-fn refilled(setup: &MachineSetup, queues: &Queues, registers: Registers) -> Registers
-    ensures { result ≡ spec.refilled setup.now queues.now registers }
+/// Autopull: fills the OSR where it is due and TX has a word, and tells whether it took one.
+fn refill<F: Fifo>(setup: &MachineSetup, fifos: &Pair<F>, registers: &mut Registers) -> bool
+    ensures registers { registers.new ≡ spec.refilled setup.now (queues_of fifos.now) registers.old }
+    ensures taken { result ≡ spec.refills setup.now (queues_of fifos.now) registers.old }
 {
     if setup.autopull && setup.pull_threshold <= registers.out_count {
-        match queues.front {
-            Some(word) => osr_filled(word, registers),
-            None => registers,
+        if let Some(word) = fifos.tx_front() {
+            fill_osr(word, registers);
+            return true;
         }
+    }
+    false
+}
+
+/// Gives an intent, of nothing so far, its kind and what side-set writes.
+fn set_side(side: Option<u8>, begun: bool, setup: &MachineSetup, intent: &mut Intent)
+    requires { intent.old ≡ no_intent }
+    ensures value { intent.new ≡ side_intent side setup.now begun }
+    ensures write { IsWrite (spec.side_writes side begun setup.now) }
+{
+    intent.kind = if begun { Kind::Late } else { Kind::First };
+    let writes = side_writes(side, begun, setup);
+    if setup.side_rule.pindirs {
+        intent.direction[1] = writes;
     } else {
-        registers
+        intent.level[1] = writes;
     }
 }
 

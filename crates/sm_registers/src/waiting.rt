@@ -2,10 +2,11 @@
 ghost use Rattle.std.specs.Prelude.{◌≡◌, ◌<◌, ◌^◌};
 ghost use Rattle.irq_flags.specs.Flags.{flag_of};
 ghost use Rattle.sm_registers.specs.Effects as spec;
+ghost use Rattle.sm_registers.specs.Outcomes.{effect_by};
 ghost use Rattle.sm_registers.specs.Ranges.{WritesOwnPins};
 
-use crate::effect::{Effect, quiet, stall};
 use crate::jump::is_up;
+use crate::outcome::{Deed, Outcome};
 use crate::registers::Registers;
 use crate::view::View;
 use irq_flags::resolve;
@@ -21,20 +22,15 @@ pub(crate) fn wait_effect(
     setup: &MachineSetup,
     view: &View,
     registers: &Registers,
-) -> Effect
+) -> Outcome
     requires { index < 32 }
-    ensures value { result ≡ spec.wait_effect polarity source index setup.now view.now registers.now }
-    ensures writes { WritesOwnPins result }
+    ensures value { effect_by registers.now result ≡ spec.wait_effect polarity source index setup.now view.now registers.now }
+    ensures writes { WritesOwnPins (effect_by registers.now result) }
 {
-    let bit = waited_bit(source, index, setup, view);
-    let is_met = if polarity { bit } else { !bit };
-    if is_met {
-        Effect {
-            clears: waited_flag(polarity, source, index, setup),
-            ..quiet(*registers)
-        }
+    if waited_bit(source, index, setup, view) == polarity {
+        Outcome::Finishes(Deed::Lower(waited_flag(polarity, source, index, setup)))
     } else {
-        stall(*registers)
+        Outcome::Stalls { sets: 0, sticky: 0 }
     }
 }
 
@@ -70,31 +66,25 @@ pub(crate) fn irq_effect(
     setup: &MachineSetup,
     view: &View,
     registers: &Registers,
-) -> Effect
+) -> Outcome
     requires { index < 32 }
-    ensures value { result ≡ spec.irq_effect clear waits index setup.now view.now registers.now }
-    ensures writes { WritesOwnPins result }
+    ensures value { effect_by registers.now result ≡ spec.irq_effect clear waits index setup.now view.now registers.now }
+    ensures writes { WritesOwnPins (effect_by registers.now result) }
 {
     let flag = flag_bit(index, setup);
     if clear {
-        Effect {
-            clears: flag,
-            ..quiet(*registers)
-        }
+        Outcome::Finishes(Deed::Lower(flag))
     } else if !waits {
-        Effect {
-            sets: flag,
-            ..quiet(*registers)
-        }
+        Outcome::Finishes(Deed::Raise(flag))
     } else if !registers.begun {
-        Effect {
+        Outcome::Stalls {
             sets: flag,
-            ..stall(*registers)
+            sticky: 0,
         }
     } else if is_up(u32::from(view.flags.up), resolve(index, setup.id)) {
-        stall(*registers)
+        Outcome::Stalls { sets: 0, sticky: 0 }
     } else {
-        quiet(*registers)
+        Outcome::Finishes(Deed::Nothing)
     }
 }
 
