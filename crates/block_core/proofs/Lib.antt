@@ -2,3 +2,5 @@ pub mod Steps
 pub mod Runs
 pub mod Ticking
 pub mod Writes
+pub mod Wanting
+pub mod Unused

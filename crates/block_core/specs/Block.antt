@@ -8,8 +8,9 @@
 --   first_run       as a setup begins
 --   run_from        some clocks on
 --   run_at          the run of a setup in each clock
-use Rattle.std.specs.Prelude.{◌≡◌, ℕ, zero, suc, ◌+◌, ◌<◌, Option, None, option_map, List, [], ◌∷◌, map, flat_map, slice_index_or, bit_or}
+use Rattle.std.specs.Prelude.{◌≡◌, ℕ, zero, suc, ◌+◌, ◌<◌, Bool, Option, None, option_map, List, [], ◌∷◌, map, flat_map, slice_index_or, bit_or}
 use Rattle.std.specs.Int.{bit_at}
+use Rattle.std.specs.List.{list_any}
 use Rattle.irq_flags.specs.Flags.{merged_flags}
 use Rattle.pin_matrix.specs.declared.setup.Setup.{Setup}
 use Rattle.pin_matrix.specs.Pins.{written, merged, last_of}
@@ -18,7 +19,7 @@ use Rattle.pin_matrix.specs.Pads.{Synchroniser, pads_of, seen_of, first_synchron
 use Rattle.sm_registers.specs.declared.view.View.{View}
 use Rattle.sm_registers.specs.declared.intent.Intent.{Intent}
 use Rattle.dreq_pacing.specs.declared.due.Due.{Due}
-use Rattle.block_core.specs.Slots.{Slot, first_slot, place_after, place_intent}
+use Rattle.block_core.specs.Slots.{Slot, first_slot, place_after, place_intent, place_uses_fifos}
 
 -- The four machines' places, each with its machine where one is configured; the output levels and directions, the IRQ
 -- flags, and the levels that the outside drives.
@@ -69,11 +70,14 @@ level_writes intents = flat_map (λ i. two_writes i.level) intents
 abbrev pub direction_writes : List Intent → List (ℕ × ℕ)
 direction_writes intents = flat_map (λ i. two_writes i.direction) intents
 
--- the flags that any of these lowers, or raises
+-- these flags, and those that any of the machines lowers, or raises
+abbrev pub with_all : ℕ → List ℕ → ℕ
+with_all flags [] = flags
+with_all flags (x ∷ rest) = with_all (bit_or flags x) rest
+
+-- the flags that any of the machines lowers, or raises
 abbrev pub any_of : List ℕ → ℕ
-any_of [] = 0
-any_of (x ∷ []) = x
-any_of (x ∷ y ∷ rest) = bit_or x (any_of (y ∷ rest))
+any_of flags = with_all 0 flags
 
 -- The state after a clock. Every machine acts from the state at its start, in any order; then pins and flags are
 -- merged, as all machines want them (RP2040 Datasheet, sections 3.2 and 3.5).
@@ -96,6 +100,10 @@ seen_in d r = seen_of r.synchroniser.bypass (pads_in d r.state) r.synchroniser.p
 -- what the machines want in a clock of a run, in which the system does this
 abbrev pub wanted_in : Due → Run → List Intent
 wanted_in d r = intents_of (view_of r.memory (seen_in d r) r.state) d r.state.machines
+
+-- whether anything is done at a machine's FIFOs in a clock of a run
+abbrev pub uses_fifos_in : Due → Run → Bool
+uses_fifos_in d r = list_any (place_uses_fifos (view_of r.memory (seen_in d r) r.state) d) r.state.machines
 
 -- each pin has the bit that the last of some writes to it gives, and the old one where none does
 abbrev pub TakesLastWrites : (old new : ℕ) → List (ℕ × ℕ) → Type 0

@@ -5,3 +5,4 @@ pub mod Shown
 pub mod Hosted
 pub mod History
 pub mod Kept
+pub mod Merging

@@ -5,7 +5,9 @@
 --   has_tick        that the clock is a tick of it
 --   acted           its registers after the clock, and what it wants of its block
 --   slot_after      after the clock
+--   doing           what the system does, where it does anything
 use Rattle.std.specs.Prelude.{ℕ, ◌+◌, Bool, true, false, ◌&&◌, Option, Some, None, if◌then◌else◌, slice_index_or}
+use Rattle.std.specs.Borrow.{Bor}
 use Rattle.clock_divider.specs.Timing.{Timing, period_of, first, stepped, resumed}
 use Rattle.clock_divider.specs.Ticks.{is_tick}
 use Rattle.pin_matrix.specs.declared.machine.MachineSetup.{MachineSetup}
@@ -14,8 +16,9 @@ use Rattle.sm_registers.specs.declared.view.View.{View}
 use Rattle.sm_registers.specs.declared.intent.Intent.{Intent}
 use Rattle.sm_registers.specs.Effects.{no_intent}
 use Rattle.sm_registers.specs.Tick.{tick_of}
-use Rattle.sm_registers.specs.State.{MachineState, first_machine, queues_of, settled_ports}
+use Rattle.sm_registers.specs.State.{MachineState, first_machine, queues_of, settled_ports, uses_fifos}
 use Rattle.dreq_pacing.specs.declared.due.Due.{Due}
+use Rattle.dreq_pacing.specs.Due.{quiet}
 
 -- A machine, its divider, whether it is enabled, and how many words paced transfers moved into its TX and out of its RX.
 pub record Slot : Type 0 where
@@ -24,6 +27,11 @@ pub record Slot : Type 0 where
   pub enabled : Bool
   pub sent : ℕ
   pub received : ℕ
+
+-- what the system does in a clock, where it does anything
+abbrev pub doing : Option (Bor Due) → Due
+doing None = quiet
+doing (Some d) = d.now
 
 -- at the start it is enabled, and its divider's first tick is in clock 0 (choice of this profile)
 abbrev pub first_slot : MachineSetup → Slot
@@ -97,3 +105,17 @@ place_after v d (Some s) = Some (slot_after v d s)
 abbrev pub place_intent : View → Due → Option Slot → Intent
 place_intent v d None = no_intent
 place_intent v d (Some s) = slot_intent v d s
+
+-- whether it, which wants this, or the system does anything at its FIFOs in the clock
+abbrev pub used_by : Due → Slot → Intent → Bool
+used_by d s i = let id = s.machine.setup.id in
+    uses_fifos i (slice_index_or d.word id None) (slice_index_or d.read id false)
+
+-- the same by what it sees
+abbrev pub slot_uses_fifos : View → Due → Slot → Bool
+slot_uses_fifos v d s = used_by d s (slot_intent v d s)
+
+-- the same of a place in the block; an empty place has no FIFOs
+abbrev pub place_uses_fifos : View → Due → Option Slot → Bool
+place_uses_fifos v d None = false
+place_uses_fifos v d (Some s) = slot_uses_fifos v d s

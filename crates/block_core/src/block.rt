@@ -2,18 +2,22 @@
 ghost use Rattle.std.specs.Prelude.{◌≡◌, ◌<◌, ◌≤◌, ◌^◌, ◌+◌, option_map, IfOk};
 ghost use Rattle.std.specs.List.{AllByRecursion};
 ghost use Rattle.pin_matrix.specs.Pins.{IsWrite};
-ghost use Rattle.block_core.specs.Block.{first_run, next, wanted_in, level_writes, direction_writes, TakesLastWrites};
+ghost use Rattle.dreq_pacing.specs.Due.{quiet};
+ghost use Rattle.block_core.specs.Block.{first_run, next, wanted_in, uses_fifos_in, level_writes, direction_writes, TakesLastWrites};
 ghost use Rattle.block_core.specs.Kept.{IsInTime};
 ghost use Rattle.block_core.specs.Shown.{sample_of, requests_of, moved_of, shown_in, moved_in};
-ghost use Rattle.block_core.specs.Slots.{first_slot, place_after, place_intent};
+ghost use Rattle.block_core.specs.Slots.{doing, first_slot, place_after, place_intent, place_uses_fifos};
+ghost use Rattle.block_core.specs.Merging.{with_intent};
 
 use crate::Sample;
-use crate::merging::{directions_after, levels_after, merge_flags, outside_after};
+use crate::merging::{Wanted, outside_after};
 use crate::slot::Slot;
 use dreq_pacing::{Due, Requests};
 use fifo_pair::Fifo;
 use irq_flags::Flags;
-use pin_matrix::{MachineSetup, Setup, Sync, pad_of};
+use pin_matrix::{
+    MachineSetup, Setup, Sync, no_write_changes_nothing, pad_of, the_last_write_stands,
+};
 use sm_registers::{Intent, Shown, View};
 use std::alloc::{AllocError, Global};
 use std::marker::Model;
@@ -87,29 +91,60 @@ impl<F: Fifo> Block<F> {
     }
 
     /// One clock, in which the system does this. Every machine with a tick acts from what was there at the clock's start.
-    pub fn clock(&mut self, due: &Due)
+    /// True where a machine or the system did anything at a FIFO; else the machines ask for what they asked before.
+    pub fn clock(&mut self, due: &Due) -> bool
         requires { self.old.run.clock < 2 ^ 40 }
         ensures run { self.new.run ≡ next due.now self.old.run }
+        ensures used { result ≡ uses_fifos_in due.now self.old.run }
         ensures levels { TakesLastWrites self.old.run.state.levels self.new.run.state.levels
             (level_writes (wanted_in due.now self.old.run)) }
         ensures directions { TakesLastWrites self.old.run.state.directions self.new.run.state.directions
             (direction_writes (wanted_in due.now self.old.run)) }
         ensures calls { self.new.calls ≡ self.old.calls + 1 }
     {
+        self.step(Some(due))
+    }
+
+    /// The same, in which the system does nothing.
+    pub fn quiet_clock(&mut self) -> bool
+        requires { self.old.run.clock < 2 ^ 40 }
+        ensures run { self.new.run ≡ next quiet self.old.run }
+        ensures used { result ≡ uses_fifos_in quiet self.old.run }
+        ensures calls { self.new.calls ≡ self.old.calls + 1 }
+    {
+        self.step(None)
+    }
+
+    /// One clock, in which the system does this, where it does anything.
+    #[inline(always)]
+    fn step(&mut self, due: Option<&Due>) -> bool
+        requires { self.old.run.clock < 2 ^ 40 }
+        ensures run { self.new.run ≡ next (doing due.entry) self.old.run }
+        ensures used { result ≡ uses_fifos_in (doing due.entry) self.old.run }
+        ensures levels { TakesLastWrites self.old.run.state.levels self.new.run.state.levels
+            (level_writes (wanted_in (doing due.entry) self.old.run)) }
+        ensures directions { TakesLastWrites self.old.run.state.directions self.new.run.state.directions
+            (direction_writes (wanted_in (doing due.entry) self.old.run)) }
+        ensures calls { self.new.calls ≡ self.old.calls + 1 }
+    {
+        the_last_write_stands();
+        no_write_changes_nothing();
         let outside = outside_after(self.outside, due);
         let pad = pad_of(self.levels, self.directions, outside);
         self.outside = outside;
         self.view.seen = self.sync.seen(pad);
         self.sync.step(pad);
-        let first = step(&mut self.first, &self.view, due);
-        let second = step(&mut self.second, &self.view, due);
-        let third = step(&mut self.third, &self.view, due);
-        let fourth = step(&mut self.fourth, &self.view, due);
-        self.levels = levels_after(self.levels, &first, &second, &third, &fourth);
-        self.directions = directions_after(self.directions, &first, &second, &third, &fourth);
-        merge_flags(&mut self.view.flags, &first, &second, &third, &fourth);
+        let mut wanted = Wanted::new(self.levels, self.directions);
+        let first = step(&mut self.first, &self.view, due, &mut wanted);
+        let second = step(&mut self.second, &self.view, due, &mut wanted);
+        let third = step(&mut self.third, &self.view, due, &mut wanted);
+        let fourth = step(&mut self.fourth, &self.view, due, &mut wanted);
+        self.levels = wanted.levels;
+        self.directions = wanted.directions;
+        wanted.merge_flags(&mut self.view.flags);
         self.clock += 1;
         self.calls += 1;
+        first | (second | (third | fourth))
     }
 
     /// What the machines ask of the system, as at the start of the present clock.
@@ -181,20 +216,32 @@ fn slot_of<F: Fifo>(
     }
 }
 
-/// A clock of a place: what its machine wants of the block.
+/// A clock of a place, whose machine adds what it wants of the block. True where anything was done at its FIFOs.
 #[inline(always)]
-fn step<F: Fifo>(slot: &mut Option<Slot<F>>, view: &View, due: &Due) -> Intent
+#[tactic(auto, using(crate::proofs::Wanting::nothing_added))]
+fn step<F: Fifo>(
+    slot: &mut Option<Slot<F>>,
+    view: &View,
+    due: Option<&Due>,
+    wanted: &mut Wanted,
+) -> bool
     requires { IsInTime slot.old }
-    ensures after { slot.new ≡ place_after view.now due.now slot.old }
-    ensures intent { result ≡ place_intent view.now due.now slot.old }
-    ensures level { AllByRecursion IsWrite result.level }
-    ensures direction { AllByRecursion IsWrite result.direction }
+    ensures after { slot.new ≡ place_after view.now (doing due.entry) slot.old }
+    ensures wanted { wanted.new ≡ with_intent wanted.old
+        (place_intent view.now (doing due.entry) slot.old) }
+    ensures used { result ≡ place_uses_fifos view.now (doing due.entry) slot.old }
+    ensures level { AllByRecursion IsWrite
+        (place_intent view.now (doing due.entry) slot.old).level }
+    ensures direction { AllByRecursion IsWrite
+        (place_intent view.now (doing due.entry) slot.old).direction }
 {
+    let Some(slot) = slot else {
+        return false;
+    };
     let mut intent = Intent::none();
-    if let Some(slot) = slot {
-        slot.clock(view, due, &mut intent);
-    }
-    intent
+    let used = slot.clock(view, due, &mut intent);
+    wanted.add(&intent);
+    used
 }
 
 /// What is seen of a place.

@@ -10,13 +10,14 @@ ghost use Rattle.pin_matrix.specs.declared.setup.Setup.{Setup};
 ghost use Rattle.dreq_pacing.specs.declared.due.Due.{Due};
 ghost use Rattle.dreq_pacing.specs.declared.line.Line.{Line};
 ghost use Rattle.dreq_pacing.specs.Ports.{transfers_at, due_at};
-ghost use Rattle.block_core.specs.Block.{BlockState, Run, run_at, run_from, stepped, first_state, view_of, intents_of, level_writes, direction_writes};
+ghost use Rattle.block_core.specs.Block.{BlockState, Run, next, run_at, run_from, uses_fifos_in, stepped, first_state, view_of, intents_of, level_writes, direction_writes};
 ghost use Rattle.block_core.specs.History.{pad_at, pad_before, Ticks, OfEach};
 ghost use Rattle.block_core.specs.Slots.{Slot, lined, has_tick, slot_after, slot_intent};
 ghost use Rattle.block_core.specs.Hosted.{hosted_at, host_of, asked_at};
+ghost use Rattle.block_core.specs.Shown.{requests_of};
 
 use clock_divider::tick_test;
-use fifo_pair::{rx_loses_nothing, tx_loses_only_overruns};
+use fifo_pair::{a_quiet_clock_changes_nothing, rx_loses_nothing, tx_loses_only_overruns};
 use pin_matrix::the_last_write_stands;
 
 /// A machine sees of each pin the pad of two clocks ago, or of now where the pin bypasses its synchroniser: the state after
@@ -90,4 +91,12 @@ pub fn words_go_through_in_order()
 {
     tx_loses_only_overruns();
     rx_loses_nothing();
+}
+
+/// Where nothing is done at a FIFO in a clock, the machines ask for the same after it.
+pub fn unused_fifos_ask_as_before()
+    ensures { (d : Due) (r : Run) → uses_fifos_in d r ≡ false →
+        requests_of (next d r).state ≡ requests_of r.state }
+{
+    a_quiet_clock_changes_nothing();
 }

@@ -6,7 +6,7 @@ ghost use Rattle.pin_matrix.specs.Pins.{IsWrite};
 ghost use Rattle.sm_registers.specs.Effects.{no_intent};
 ghost use Rattle.sm_registers.specs.State as spec_shown;
 ghost use Rattle.block_core.specs.Slots as spec;
-ghost use Rattle.block_core.specs.Slots.{lined, acted, settled_slot, slot_after, slot_intent};
+ghost use Rattle.block_core.specs.Slots.{doing, lined, acted, settled_slot, slot_after, slot_intent, slot_uses_fifos, used_by};
 
 use clock_divider::Divider;
 use dreq_pacing::Due;
@@ -54,21 +54,23 @@ impl<F: Fifo> Slot<F> {
         })
     }
 
-    /// One clock. The intent, of nothing so far, gets what it wants of its block.
-    #[inline(never)]
-    pub fn clock(&mut self, view: &View, due: &Due, intent: &mut Intent)
+    /// One clock, in which the system does this, where it does anything. The intent, of nothing so far, gets what it wants of
+    /// its block. True where it or the system did anything at its FIFOs.
+    #[inline(always)]
+    pub fn clock(&mut self, view: &View, due: Option<&Due>, intent: &mut Intent) -> bool
         requires fresh { intent.old ≡ no_intent }
         requires clock { self.old.timing.clock < 2 ^ 40 }
         requires sent { self.old.sent < 2 ^ 40 }
         requires received { self.old.received < 2 ^ 40 }
-        ensures after { self.new ≡ slot_after view.now due.now self.old }
-        ensures intent { intent.new ≡ slot_intent view.now due.now self.old }
+        ensures after { self.new ≡ slot_after view.now (doing due.entry) self.old }
+        ensures intent { intent.new ≡ slot_intent view.now (doing due.entry) self.old }
+        ensures used { result ≡ slot_uses_fifos view.now (doing due.entry) self.old }
         ensures level { AllByRecursion IsWrite intent.new.level }
         ensures direction { AllByRecursion IsWrite intent.new.direction }
     {
         self.obey(due);
         self.act(view, intent);
-        self.settle(due, intent);
+        self.settle(due, intent)
     }
 
     /// The place of its lines in `Due`.
@@ -80,9 +82,13 @@ impl<F: Fifo> Slot<F> {
     }
 
     /// The lines that enable, disable or restart it.
-    fn obey(&mut self, due: &Due)
-        ensures { self.new ≡ lined due.now self.old }
+    #[inline(always)]
+    fn obey(&mut self, due: Option<&Due>)
+        ensures { self.new ≡ lined (doing due.entry) self.old }
     {
+        let Some(due) = due else {
+            return;
+        };
         let place = self.place();
         if due.enable[place] {
             self.enabled = true;
@@ -95,6 +101,7 @@ impl<F: Fifo> Slot<F> {
     }
 
     /// Its tick, where it has one in this clock.
+    #[inline(always)]
     #[tactic(auto, unfolding(crate::specs::Slots::acted))]
     fn act(&mut self, view: &View, intent: &mut Intent)
         requires { intent.old ≡ no_intent }
@@ -113,21 +120,26 @@ impl<F: Fifo> Slot<F> {
     }
 
     /// The end of the clock: its FIFOs, its divider, and what the transfers moved.
+    #[inline(always)]
     #[tactic(auto, unfolding(crate::specs::Slots::settled_slot))]
-    fn settle(&mut self, due: &Due, intent: &Intent)
+    fn settle(&mut self, due: Option<&Due>, intent: &Intent) -> bool
         requires take { IsTrue intent.now.take → 0 < length self.old.machine.ports.fifos.tx }
         requires word { IsSome intent.now.word → length self.old.machine.ports.fifos.rx < self.old.machine.ports.fifos.rx_room }
         requires clock { self.old.timing.clock < 2 ^ 40 }
         requires sent { self.old.sent < 2 ^ 40 }
         requires received { self.old.received < 2 ^ 40 }
-        ensures { self.new ≡ settled_slot due.now (self.old.machine.registers, intent.now) self.old }
+        ensures after { self.new ≡ settled_slot (doing due.entry) (self.old.machine.registers, intent.now) self.old }
+        ensures used { result ≡ used_by (doing due.entry) self.old intent.now }
     {
-        let place = self.place();
-        self.machine
-            .settle(intent, due.word[place], due.read[place]);
         self.divider.step();
+        let Some(due) = due else {
+            return self.machine.settle(intent, None, false);
+        };
+        let place = self.place();
         self.sent = counted(due.word_paced[place], self.sent);
         self.received = counted(due.read_paced[place], self.received);
+        self.machine
+            .settle(intent, due.word[place], due.read[place])
     }
 
     /// What is seen of it.

@@ -8,10 +8,10 @@ use Rattle.dreq_pacing.specs.declared.transfer.Moved.{Moved}
 use Rattle.dreq_pacing.specs.Lines.{has_lines, has_line, lines_in}
 use Rattle.dreq_pacing.specs.Due.{quiet, with_lines}
 use Rattle.dreq_pacing.specs.Transfers.{Feeding, Paced, Transfers, feed_moves, fed_word, fed, drain_moves, drained, moved}
-use Rattle.dreq_pacing.specs.Ports.{Ports, acts_in, all_asking, asked, due_at, due_in, first_ports, transfers_after, transfers_at, moves, moves_in, with_moves, done_in, begun_all, moved_all}
+use Rattle.dreq_pacing.specs.Ports.{Ports, acts_in, asked, due_at, due_in, first_ports, transfers_after, transfers_at, moves, moves_in, with_moves, done_in, begun_all, moved_all}
 use Rattle.dreq_pacing.specs.Runs.{Follows}
 
-pub or_false : (a b : Bool) → (a || b) ≡ false → (a ≡ false) × (b ≡ false)
+or_false : (a b : Bool) → (a || b) ≡ false → (a ≡ false) × (b ≡ false)
 or_false true b e = absurd (cc)
 or_false false b e = (refl, e)
 
@@ -97,41 +97,6 @@ quiet_transfers lines clock requests t e =
     let both = or_false (has_line clock lines) (moves_in clock requests t) e in
     ap (λ (ls : List Line). moved_all clock requests (with_lines ls quiet) (begun_all ls t)) (no_lines (lines_in clock lines) both.0)
     ∙ (still-all clock requests t both.1).1
-
--- a feed and a drain that aren't due
-fed-resting : (clock : ℕ) (up : Bool) (f : Feeding) → feed_moves clock true f ≡ false → feed_moves clock up f ≡ false
-fed-resting clock true f e = e
-fed-resting clock false f e = refl
-
-drained-resting : (clock : ℕ) (up : Bool) (d : Option Draining) → drain_moves clock true d ≡ false → drain_moves clock up d ≡ false
-drained-resting clock up None e = refl
-drained-resting clock true (Some d) e = e
-drained-resting clock false (Some d) e = refl
-
-neither : (a b : Bool) → a ≡ false → b ≡ false → (a || b) ≡ false
-neither a b p q = ap (λ (x : Bool). x || b) p ∙ q
-
-resting : (clock : ℕ) (tx rx : Bool) (p : Paced) → (feed_moves clock true p.feed || drain_moves clock true p.drain) ≡ false → (feed_moves clock tx p.feed || drain_moves clock rx p.drain) ≡ false
-resting clock tx rx p e =
-    let both = or_false (feed_moves clock true p.feed) (drain_moves clock true p.drain) e in
-    neither _ _ (fed-resting clock tx p.feed both.0) (drained-resting clock rx p.drain both.1)
-
-resting_all : (clock : ℕ) (requests : Requests) (t : Transfers) → moves_in clock all_asking t ≡ false → moves_in clock requests t ≡ false
-resting_all clock requests t e =
-    let a = or_false (moves 0 clock all_asking t.first) _ e in
-    let b = or_false (moves 1 clock all_asking t.second) _ a.1 in
-    let c = or_false (moves 2 clock all_asking t.third) (moves 3 clock all_asking t.fourth) b.1 in
-    neither _ _ (resting clock (slice_index_or requests.tx 0 false) (slice_index_or requests.rx 0 false) t.first a.0)
-    (neither _ _ (resting clock (slice_index_or requests.tx 1 false) (slice_index_or requests.rx 1 false) t.second b.0)
-    (neither _ _ (resting clock (slice_index_or requests.tx 2 false) (slice_index_or requests.rx 2 false) t.third c.0)
-    (resting clock (slice_index_or requests.tx 3 false) (slice_index_or requests.rx 3 false) t.fourth c.1)))
-
--- where nothing acts though every machine asks, nothing acts
-pub rests : (lines : List Line) (clock : ℕ) (requests : Requests) (t : Transfers) → acts_in lines clock all_asking t ≡ false → acts_in lines clock requests t ≡ false
-unfolding acts_in
-rests lines clock requests t e =
-    let both = or_false (has_line clock lines) (moves_in clock all_asking t) e in
-    neither _ _ both.0 (resting_all clock requests t both.1)
 
 pub left_out : (lines : List Line) (requests : ℕ → Requests) (from n : ℕ) → ((c : ℕ) → from ≤ c → c < from + n → acts_in lines c (requests c) (transfers_at lines requests from) ≡ false) → transfers_at lines requests (from + n) ≡ transfers_at lines requests from
 unfolding transfers_at

@@ -128,23 +128,3 @@ next_line-found lines next clock (k ∷ ks) l r le none some is =
 pub next_line-none : (lines : List Line) (next clock : ℕ) (rest : List Line) → IsRest lines next rest → next ≤ clock → length rest ≡ 0 → (c : ℕ) → clock ≤ c → has_line c lines ≡ false
 next_line-none lines next clock [] r le none c from = ap has_lines (r.same c (omega arith))
 next_line-none lines next clock (k ∷ ks) r le none c from = absurd (omega arith)
-
--- a clock in which no line stands leaves the rest as it is
-pub rest_passed : (lines : List Line) (next clock : ℕ) (rest : List Line) → IsRest lines next rest → next ≤ clock → NoneBetween lines next clock → has_line clock lines ≡ false → IsRest lines (clock + 1) rest
-rest_passed lines next clock rest r le none here = record {
-  schedule = r.schedule;
-  same = λ c h. r.same c (omega arith);
-  ahead = ahead-moved lines next (clock + 1) rest r (omega arith) (λ c from before.
-      elim (cases_lt c clock) [
-        | inl lt ↦ none c from lt
-        | inr ge ↦ (let same : c ≡ clock = omega arith in subst (λ (k : ℕ). has_line k lines ≡ false) (sym same) here)
-      ]);
-}
-
--- what the first line from a clock on says of the clock
-pub line_now : (lines : List Line) (clock found : ℕ) → (clock ≤ found) × (has_line found lines ≡ true) × ((c : ℕ) → clock ≤ c → c < found → has_line c lines ≡ false) → (found == clock) ≡ has_line clock lines
-line_now lines clock found h =
-    elim (cases_lt clock found) [
-      | inl lt ↦ (let no : (found == clock) ≡ false = grind (arith, nat_tests) in no ∙ sym (h.2 clock (omega arith) lt))
-      | inr ge ↦ (let low = h.0 in let same : found ≡ clock = omega arith in let yes : (found == clock) ≡ true = grind (arith, nat_tests) in yes ∙ sym (subst (λ (k : ℕ). has_line k lines ≡ true) same h.1))
-    ]

@@ -4,7 +4,6 @@
 --   transfers_at     the same from clock 0 on, by the history of requests
 --   due_at           what it does in a clock, by the history of requests
 --   acts_in          whether a line stands in the clock, or a transfer moves in it
---   all_asking       every machine asks for a transfer both ways
 use Rattle.std.specs.Prelude.{◌≡◌, ℕ, zero, suc, ◌+◌, ◌<◌, ◌≤◌, ◌&&◌, ◌||◌, nat_lt, not, Bool, true, false, Option, Some, None, is_some, List, [], ◌∷◌, if◌then◌else◌, slice_index_or}
 use Rattle.dreq_pacing.specs.declared.line.Line.{Line}
 use Rattle.dreq_pacing.specs.declared.due.Due.{Due}
@@ -100,14 +99,6 @@ moves_in clock requests t =
 -- Whether a line stands in the clock, or a transfer moves in it.
 unfoldable pub acts_in : List Line → ℕ → Requests → Transfers → Bool
 acts_in lines clock requests t = has_line clock lines || moves_in clock requests t
-
--- every machine
-abbrev pub every_machine : List Bool
-every_machine = true ∷ true ∷ true ∷ true ∷ []
-
--- every machine asks for a transfer both ways
-abbrev pub all_asking : Requests
-all_asking = record { tx = every_machine; rx = every_machine }
 
 -- What a contract sees of the ports: the lines, the first clock that may be asked of next, and what is left of the transfers at
 -- its start.

@@ -2,7 +2,6 @@
 ghost use Rattle.std.specs.Prelude.{◌≡◌, ◌<◌};
 ghost use Rattle.dreq_pacing.specs.Lines.{IsAct};
 ghost use Rattle.dreq_pacing.specs.Due as spec;
-ghost use Rattle.dreq_pacing.specs.Ports.{all_asking};
 
 use crate::line::Act;
 
@@ -13,18 +12,6 @@ pub struct Requests {
     pub tx: [bool; 4],
     /// RX isn't empty.
     pub rx: [bool; 4],
-}
-
-impl Requests {
-    /// Every machine asks for a transfer both ways.
-    pub(crate) fn all() -> Requests
-        ensures { result ≡ all_asking }
-    {
-        Requests {
-            tx: [true; 4],
-            rx: [true; 4],
-        }
-    }
 }
 
 /// What the system does in a clock. In `pins` and `values` bit p stands for pin p.

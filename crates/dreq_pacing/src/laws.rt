@@ -8,7 +8,7 @@ ghost use Rattle.dreq_pacing.specs.declared.due.Requests.{Requests};
 ghost use Rattle.dreq_pacing.specs.Lines.{IsLine};
 ghost use Rattle.dreq_pacing.specs.Due.{quiet, with_lines};
 ghost use Rattle.dreq_pacing.specs.Transfers.{Transfers, Feeding};
-ghost use Rattle.dreq_pacing.specs.Ports.{Ports, acts_in, all_asking, asked, due_at, due_in, first_ports, transfers_after, transfers_at};
+ghost use Rattle.dreq_pacing.specs.Ports.{Ports, acts_in, asked, due_at, due_in, first_ports, transfers_after, transfers_at};
 ghost use Rattle.dreq_pacing.specs.Runs.{FeedClock, Follows, fed_by, is_set, last_level, level_bit, words_moved};
 
 /// In a clock without a line and without a move the system does nothing, and the transfers stay as they are.
@@ -17,14 +17,6 @@ pub fn a_quiet_clock_changes_nothing()
         → acts_in lines clock requests t ≡ false → due_in lines clock requests t ≡ quiet }
     ensures transfers { (lines : List Line) (clock : ℕ) (requests : Requests) (t : Transfers)
         → acts_in lines clock requests t ≡ false → transfers_after lines clock requests t ≡ t }
-{}
-
-/// Nor does a clock in which nothing happened if every machine asked for transfers both ways, whatever they ask.
-pub fn a_clock_at_rest_changes_nothing()
-    ensures due { (lines : List Line) (clock : ℕ) (requests : Requests) (t : Transfers)
-        → acts_in lines clock all_asking t ≡ false → due_in lines clock requests t ≡ quiet }
-    ensures transfers { (lines : List Line) (clock : ℕ) (requests : Requests) (t : Transfers)
-        → acts_in lines clock all_asking t ≡ false → transfers_after lines clock requests t ≡ t }
 {}
 
 /// So clocks without a line and without a move may be left out.

@@ -1,14 +1,13 @@
 //! The system's ports, clock by clock.
-ghost use Rattle.std.specs.Prelude.{◌≡◌, ◌+◌, ◌<◌, ◌≤◌, ◌^◌, ◌||◌, length, not, false, IsTrue};
+ghost use Rattle.std.specs.Prelude.{◌≡◌, ◌+◌, ◌<◌, ◌≤◌, ◌^◌, ◌||◌, length};
 ghost use Rattle.std.specs.List.{AllByRecursion};
 ghost use Rattle.dreq_pacing.specs.Lines.{IsLine, IsSchedule, NoneBetween, lines_in, leading, has_line};
 ghost use Rattle.dreq_pacing.specs.Due.{quiet, with_lines};
 ghost use Rattle.dreq_pacing.specs.Ports as spec;
-ghost use Rattle.dreq_pacing.specs.Ports.{IsFirst, due_in, transfers_after, asked, acts_in, moves_in, all_asking};
-ghost use Rattle.dreq_pacing.specs.declared.due.Requests as asks;
+ghost use Rattle.dreq_pacing.specs.Ports.{IsFirst, due_in, transfers_after, asked, acts_in, moves_in};
 
 use crate::due::{Due, Requests};
-use crate::laws::{a_clock_at_rest_changes_nothing, a_quiet_clock_changes_nothing};
+use crate::laws::a_quiet_clock_changes_nothing;
 use crate::line::Line;
 use crate::schedule::Schedule;
 use crate::transfer::{Moved, Pacer};
@@ -75,37 +74,6 @@ impl<'a> HostPorts<'a> {
         self.act(clock, here, requests)
     }
 
-    /// Passes a clock in which nothing can happen, whatever the machines ask: no line stands in it, and no transfer is
-    /// due. True where it did; else nothing has changed. Clocks may be left out as for `at`.
-    #[tactic(auto, using(crate::proofs::Rests::rest_passed))]
-    pub fn pass(&mut self, clock: u64) -> bool
-        requires next { self.old.next ≤ clock }
-        requires lines { NoneBetween self.old.lines self.old.next clock }
-        requires clock { clock < 2 ^ 40 }
-        ensures value { result ≡ not (acts_in self.old.lines clock all_asking self.old.transfers) }
-        ensures due { IsTrue result → (requests : asks.Requests)
-            → due_in self.old.lines clock requests self.old.transfers ≡ quiet }
-        ensures after { IsTrue result → (requests : asks.Requests) → self.new ≡ asked clock requests self.old }
-        ensures same { result ≡ false → self.new ≡ self.old }
-    {
-        a_clock_at_rest_changes_nothing();
-        if self.acts(clock) {
-            return false;
-        }
-        self.next = clock + 1;
-        true
-    }
-
-    /// Whether a line stands in a clock, or a transfer is due.
-    #[tactic(auto, unfolding(crate::specs::Ports::acts_in))]
-    fn acts(&self, clock: u64) -> bool
-        requires next { self.now.next ≤ clock }
-        requires lines { NoneBetween self.now.lines self.now.next clock }
-        ensures { result ≡ acts_in self.now.lines clock all_asking self.now.transfers }
-    {
-        self.has_line(clock) || self.moves(clock, &Requests::all())
-    }
-
     /// Whether a transfer moves in a clock in which no line stands.
     fn moves(&self, clock: u64, requests: &Requests) -> bool
         ensures { result ≡ moves_in clock requests.now self.now.transfers }
@@ -164,19 +132,6 @@ impl<'a> HostPorts<'a> {
         match self.rest {
             [] => None,
             [line, ..] => Some(line.clock),
-        }
-    }
-
-    /// Whether a line stands in a clock.
-    #[tactic(auto, using(crate::proofs::Rests::line_now))]
-    fn has_line(&self, clock: u64) -> bool
-        requires next { self.now.next ≤ clock }
-        requires lines { NoneBetween self.now.lines self.now.next clock }
-        ensures { result ≡ has_line clock self.now.lines }
-    {
-        match self.next_line(clock) {
-            Some(next) => next == clock,
-            None => false,
         }
     }
 

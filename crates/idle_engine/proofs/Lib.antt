@@ -1,3 +1,4 @@
 mod SampleLists
 mod Steps
 mod Stopping
+mod Resting

@@ -2,17 +2,12 @@
 use Rattle.std.proofs.Common.{◌≡◌, ℕ, ◌+◌, List, refl, ap, ◌∙◌, sym, subst, add-one, suc}
 use Rattle.dreq_pacing.specs.declared.line.Line.{Line}
 use Rattle.dreq_pacing.specs.declared.due.Due.{Due}
-use Rattle.dreq_pacing.specs.declared.due.Requests.{Requests}
 use Rattle.dreq_pacing.specs.Transfers.{Transfers}
-use Rattle.dreq_pacing.specs.Ports.{Ports, asked, due_in, transfers_after}
+use Rattle.dreq_pacing.specs.Ports.{due_in, transfers_after}
 use Rattle.block_core.specs.declared.sample.Sample.{Sample}
 use Rattle.block_core.specs.Block.{Run, next}
 use Rattle.block_core.specs.Shown.{sample_of, requests_of}
 use Rattle.block_core.specs.Hosted.{hosted_at, hosted_next, due_of, sample_at}
-
--- the ports of a run in each clock
-abbrev pub ports_at : Run → List Line → ℕ → Ports
-ports_at start lines clock = record { lines = lines; next = clock; transfers = (hosted_at start lines clock).transfers }
 
 -- the clock of a block moves on by one
 pub clock-next : (due : Due) (before : Run) → (next due before).clock ≡ before.clock + 1
@@ -20,30 +15,30 @@ unfolding next
 clock-next due before = refl
 
 -- the clock leads from the run before it to the run after it
-pub run-next : (start : Run) (lines : List Line) (n : ℕ) (before after : Run) (ports : Ports) (asks : Requests) (due : Due) → before ≡ (hosted_at start lines n).run → before.clock ≡ n → ports ≡ ports_at start lines n → asks ≡ requests_of before.state → due ≡ due_in ports.lines n asks ports.transfers → after ≡ next due before → after ≡ (hosted_at start lines (n + 1)).run
+pub run-next : (start : Run) (lines own : List Line) (n : ℕ) (before after : Run) (t : Transfers) → before ≡ (hosted_at start lines n).run → before.clock ≡ n → own ≡ lines → t ≡ (hosted_at start lines n).transfers → after ≡ next (due_in own n (requests_of before.state) t) before → after ≡ (hosted_at start lines (n + 1)).run
 unfolding hosted_at hosted_next
-run-next start lines n before after ports asks due is_run in_clock is_ports is_asks is_due is_next =
+run-next start lines own n before after t is_run in_clock is_own is_t is_next =
     let h = hosted_at start lines n in
     let clock : h.run.clock ≡ n = cc in
-    let d : due ≡ due_of lines h = is_due ∙ ap (λ (q : Requests). due_in ports.lines n q ports.transfers) is_asks
-    ∙ ap (λ (p : Ports). due_in p.lines n (requests_of before.state) p.transfers) is_ports
+    let d : due_in own n (requests_of before.state) t ≡ due_of lines h =
+    ap (λ (l : List Line). due_in l n (requests_of before.state) t) is_own
+    ∙ ap (λ (x : Transfers). due_in lines n (requests_of before.state) x) is_t
     ∙ ap (λ (r : Run). due_in lines n (requests_of r.state) h.transfers) is_run
     ∙ ap (λ (k : ℕ). due_in lines k (requests_of h.run.state) h.transfers) (sym clock) in
-    rw add-one (is_next ∙ ap (λ (r : Run). next due r) is_run ∙ ap (λ (x : Due). next x h.run) d)
+    rw add-one (is_next ∙ ap (λ (r : Run). next (due_in own n (requests_of before.state) t) r) is_run ∙ ap (λ (x : Due). next x h.run) d)
 
--- and the ports likewise
-pub ports-next : (start : Run) (lines : List Line) (n : ℕ) (before : Run) (ports after : Ports) (asks : Requests) → before ≡ (hosted_at start lines n).run → before.clock ≡ n → ports ≡ ports_at start lines n → asks ≡ requests_of before.state → after ≡ asked n asks ports → after ≡ ports_at start lines (n + 1)
+-- and the transfers likewise
+pub transfers-next : (start : Run) (lines own : List Line) (n : ℕ) (before : Run) (t after : Transfers) → before ≡ (hosted_at start lines n).run → before.clock ≡ n → own ≡ lines → t ≡ (hosted_at start lines n).transfers → after ≡ transfers_after own n (requests_of before.state) t → after ≡ (hosted_at start lines (n + 1)).transfers
 unfolding hosted_at hosted_next
-ports-next start lines n before ports after asks is_run in_clock is_ports is_asks is_after =
+transfers-next start lines own n before t after is_run in_clock is_own is_t is_after =
     let h = hosted_at start lines n in
     let clock : h.run.clock ≡ n = cc in
-    let same : after ≡ asked n (requests_of h.run.state) (ports_at start lines n) =
-    is_after ∙ ap (λ (q : Requests). asked n q ports) is_asks
-    ∙ ap (λ (p : Ports). asked n (requests_of before.state) p) is_ports
-    ∙ ap (λ (r : Run). asked n (requests_of r.state) (ports_at start lines n)) is_run in
-    let t : transfers_after lines n (requests_of h.run.state) h.transfers ≡ (hosted_at start lines (n + 1)).transfers =
-    rw add-one (ap (λ (k : ℕ). transfers_after lines k (requests_of h.run.state) h.transfers) (sym clock)) in
-    same ∙ ap (λ (x : Transfers). record { lines = lines; next = n + 1; transfers = x }) t
+    let same : after ≡ transfers_after lines h.run.clock (requests_of h.run.state) h.transfers =
+    is_after ∙ ap (λ (l : List Line). transfers_after l n (requests_of before.state) t) is_own
+    ∙ ap (λ (x : Transfers). transfers_after lines n (requests_of before.state) x) is_t
+    ∙ ap (λ (r : Run). transfers_after lines n (requests_of r.state) h.transfers) is_run
+    ∙ ap (λ (k : ℕ). transfers_after lines k (requests_of h.run.state) h.transfers) (sym clock) in
+    rw add-one same
 
 -- what the run behind a clock shows is the clock's sample
 pub shown-run : (start : Run) (lines : List Line) (n : ℕ) (after : Run) (s : Sample) → after ≡ (hosted_at start lines (n + 1)).run → s ≡ sample_of after.state → s ≡ sample_at start lines n

@@ -1,14 +1,17 @@
 //! A run of a block beside a stimulus, clock by clock.
-ghost use Rattle.std.specs.Prelude.{◌≡◌, ℕ, ◌+◌, ◌<◌, ◌≤◌, ◌^◌, false, true, is_err, Option, List, OnOk, OnErr};
+ghost use Rattle.std.specs.Prelude.{◌≡◌, ℕ, ◌+◌, ◌<◌, ◌≤◌, ◌^◌, false, true, is_err, if◌then◌else◌, Option, List, OnOk, OnErr};
 ghost use Rattle.pio_edge.specs.Edge.{PutCounts};
 ghost use Rattle.dreq_pacing.specs.Lines.{NoneBetween};
-ghost use Rattle.dreq_pacing.specs.Ports.{asked, due_in};
+ghost use Rattle.dreq_pacing.specs.Due.{quiet};
+ghost use Rattle.dreq_pacing.specs.Ports.{asked, due_in, transfers_after};
+ghost use Rattle.block_core.specs.Block.{next, uses_fifos_in};
 ghost use Rattle.block_core.specs.Hosted.{hosted_at, samples};
 ghost use Rattle.block_core.specs.Shown.{requests_of};
+ghost use Rattle.idle_engine.specs.Resting.{Rests};
 ghost use Rattle.idle_engine.specs.Stops.{StopsAt};
 
-use block_core::Block;
-use dreq_pacing::{Due, HostPorts, Schedule};
+use block_core::{Block, unused_fifos_ask_as_before};
+use dreq_pacing::{HostPorts, Requests, Schedule, a_quiet_clock_changes_nothing};
 use fifo_pair::Fifo;
 use std::sync::ledger::Ledger;
 use step_count::Steps;
@@ -42,26 +45,89 @@ pub fn simulate<F: Fifo, T: Trace, L: Ledger>(
 {
     trace.begin()?;
     let mut ports = HostPorts::new(schedule);
+    let mut rests_until = 0;
     for clock in 0..clocks {
-        let due = due_now(&mut ports, block, clock);
-        block.clock(&due);
+        rests_until = step(block, &mut ports, clock, rests_until);
         steps.tick();
         trace.sample(clock, &block.view())?;
     }
     trace.end(clocks)
 }
 
-/// What the system does in a clock of a block, which is asked for its requests only where they can matter.
-fn due_now<F: Fifo>(ports: &mut HostPorts, block: &Block<F>, clock: u64) -> Due
+/// One clock of a block beside its ports, which are asked only if this is no clock in which they rest: until then the system
+/// does nothing, while the machines ask for the same. The result is until when they rest after this clock.
+#[inline]
+fn step<F: Fifo>(block: &mut Block<F>, ports: &mut HostPorts, clock: u64, rests_until: u64) -> u64
+    requires clock { block.old.run.clock ≡ clock }
+    requires within { clock < 2 ^ 40 }
     requires next { ports.old.next ≤ clock }
-    requires lines { NoneBetween ports.old.lines ports.old.next clock }
-    requires clock { clock < 2 ^ 40 }
-    ensures due { result ≡ due_in ports.old.lines clock (requests_of block.now.run.state) ports.old.transfers }
-    ensures after { ports.new ≡ asked clock (requests_of block.now.run.state) ports.old }
+    requires between { NoneBetween ports.old.lines ports.old.next clock }
+    requires rests { Rests ports.old.lines (requests_of block.old.run.state) ports.old.transfers clock rests_until }
+    ensures run { block.new.run
+        ≡ next (due_in ports.old.lines clock (requests_of block.old.run.state) ports.old.transfers) block.old.run }
+    ensures transfers { ports.new.transfers
+        ≡ transfers_after ports.old.lines clock (requests_of block.old.run.state) ports.old.transfers }
+    ensures lines { ports.new.lines ≡ ports.old.lines }
+    ensures next { ports.new.next ≤ clock + 1 }
+    ensures between { NoneBetween ports.new.lines ports.new.next (clock + 1) }
+    ensures rests { Rests ports.new.lines (requests_of block.new.run.state) ports.new.transfers (clock + 1) result }
+    ensures calls { block.new.calls ≡ block.old.calls + 1 }
 {
-    if ports.pass(clock) {
-        Due::quiet()
+    a_quiet_clock_changes_nothing();
+    unused_fifos_ask_as_before();
+    if clock < rests_until {
+        quiet_step(block, clock, rests_until)
     } else {
-        ports.at(clock, &block.requests())
+        asked_step(block, ports, clock)
+    }
+}
+
+/// One clock in which the ports rest. They rest as long as before where nobody did anything at a FIFO.
+#[inline(always)]
+fn quiet_step<F: Fifo>(block: &mut Block<F>, clock: u64, rests_until: u64) -> u64
+    requires time { block.old.run.clock < 2 ^ 40 }
+    requires within { clock < 2 ^ 40 }
+    ensures run { block.new.run ≡ next quiet block.old.run }
+    ensures rests { result ≡ (if uses_fifos_in quiet block.old.run then clock + 1 else rests_until) }
+    ensures calls { block.new.calls ≡ block.old.calls + 1 }
+{
+    if block.quiet_clock() {
+        clock + 1
+    } else {
+        rests_until
+    }
+}
+
+/// One clock for which the ports are asked.
+#[inline(never)]
+fn asked_step<F: Fifo>(block: &mut Block<F>, ports: &mut HostPorts, clock: u64) -> u64
+    requires clock { block.old.run.clock ≡ clock }
+    requires within { clock < 2 ^ 40 }
+    requires next { ports.old.next ≤ clock }
+    requires between { NoneBetween ports.old.lines ports.old.next clock }
+    ensures run { block.new.run
+        ≡ next (due_in ports.old.lines clock (requests_of block.old.run.state) ports.old.transfers) block.old.run }
+    ensures ports { ports.new ≡ asked clock (requests_of block.old.run.state) ports.old }
+    ensures rests { Rests ports.new.lines (requests_of block.new.run.state) ports.new.transfers (clock + 1) result }
+    ensures calls { block.new.calls ≡ block.old.calls + 1 }
+{
+    let due = ports.at(clock, &block.requests());
+    if block.clock(&due) {
+        clock + 1
+    } else {
+        rest_of(ports, clock + 1, &block.requests())
+    }
+}
+
+/// Until when the ports rest from a clock on, while the machines ask for this.
+fn rest_of(ports: &HostPorts, clock: u64, requests: &Requests) -> u64
+    requires within { clock ≤ 2 ^ 40 }
+    requires next { ports.now.next ≤ clock }
+    requires between { NoneBetween ports.now.lines ports.now.next clock }
+    ensures { Rests ports.now.lines requests.now ports.now.transfers clock result }
+{
+    match ports.next_due(clock, requests) {
+        Some(next) => next,
+        None => u64::MAX,
     }
 }

@@ -2,10 +2,10 @@
 //! setup.
 #![tactic(auto)]
 
+mod last_write;
 mod laws;
 mod machine;
 mod mapping;
-mod merge;
 mod pads;
 mod rotation;
 mod setup;
@@ -13,13 +13,13 @@ mod span;
 mod sync;
 mod writes;
 
+pub use last_write::{merge, merge4};
 pub use laws::{
     each_mapped_pin, each_pad, each_pin_from, no_write_changes_nothing, settled_pads_are_seen,
     the_last_write_stands, what_a_machine_sees, words_stay_words,
 };
 pub use machine::MachineSetup;
 pub use mapping::Mapping;
-pub use merge::merge4;
 pub use pads::pad_of;
 pub use rotation::pins_from;
 pub use setup::Setup;

@@ -31,7 +31,7 @@ use Rattle.pin_matrix.specs.Pins.{rotated_right, writes_of}
 use Rattle.pin_matrix.specs.declared.machine.MachineSetup.{MachineSetup}
 use Rattle.sm_registers.specs.declared.registers.Registers.{Registers}
 use Rattle.sm_registers.specs.declared.view.View.{View}
-use Rattle.sm_registers.specs.declared.view.Queues.{Queues}
+use Rattle.sm_registers.specs.Queues.{Queues}
 use Rattle.sm_registers.specs.declared.intent.Intent.{Intent}
 use Rattle.sm_registers.specs.declared.intent.Kind.TheVariants.{Off}
 use Rattle.sm_registers.specs.declared.intent.TheConstants.{TX_STALL, RX_STALL}

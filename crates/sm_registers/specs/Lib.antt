@@ -1,4 +1,6 @@
+pub mod Queues
 pub mod Effects
+pub mod Decoding
 pub mod Tick
 pub mod Outcomes
 pub mod Ranges

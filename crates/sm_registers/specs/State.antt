@@ -3,12 +3,13 @@
 --   first_machine           as a setup begins
 --   queues_of               what a tick sees of the FIFOs
 --   settled_ports           the ports after a clock
+--   uses_fifos              whether anything is done at the FIFOs in a clock
 --   shown_of                what can be seen of a machine
-use Rattle.std.specs.Prelude.{◌≡◌, ℕ, ◌+◌, ◌==◌, Bool, false, Option, Some, None, length, slice_get, if◌then◌else◌, bit_or}
+use Rattle.std.specs.Prelude.{◌≡◌, ℕ, ◌+◌, ◌==◌, Bool, false, ◌||◌, Option, Some, None, is_some, length, slice_get, if◌then◌else◌, bit_or}
 use Rattle.fifo_pair.specs.Fifos.{Fifos, Fits, first_fifos, settled, is_full, is_over, is_under, got_word, room_of}
 use Rattle.pin_matrix.specs.declared.machine.MachineSetup.{MachineSetup}
 use Rattle.sm_registers.specs.declared.registers.Registers.{Registers}
-use Rattle.sm_registers.specs.declared.view.Queues.{Queues}
+use Rattle.sm_registers.specs.Queues.{Queues}
 use Rattle.sm_registers.specs.declared.intent.Intent.{Intent}
 use Rattle.sm_registers.specs.declared.intent.TheConstants.{TX_OVER, RX_UNDER}
 use Rattle.sm_registers.specs.declared.shown.Shown.{Shown}
@@ -75,6 +76,10 @@ settled_ports i system_word system_read p = record {
   got = got_after (got_word system_read p.fifos) p.got;
   sticky = bit_or (told (is_over system_word p.fifos) (is_under system_read p.fifos)) (bit_or i.sticky p.sticky);
 }
+
+-- whether the machine or the system does anything at the FIFOs in the clock
+abbrev pub uses_fifos : Intent → (system_word : Option ℕ) → (system_read : Bool) → Bool
+uses_fifos i system_word system_read = i.take || (is_some i.word || (is_some system_word || system_read))
 
 -- what can be seen of a machine
 abbrev pub shown_of : Ports → Shown

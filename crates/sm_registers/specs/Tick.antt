@@ -13,7 +13,7 @@ use Rattle.pin_matrix.specs.Pins.{writes_of}
 use Rattle.pin_matrix.specs.declared.machine.MachineSetup.{MachineSetup}
 use Rattle.sm_registers.specs.declared.registers.Registers.{Registers}
 use Rattle.sm_registers.specs.declared.view.View.{View}
-use Rattle.sm_registers.specs.declared.view.Queues.{Queues}
+use Rattle.sm_registers.specs.Queues.{Queues}
 use Rattle.sm_registers.specs.declared.intent.Intent.{Intent}
 use Rattle.sm_registers.specs.declared.intent.Kind.TheVariants.{First, Late, Delay}
 use Rattle.sm_registers.specs.Effects.{Effect, no_intent, osr_filled, effect_of}

@@ -3,7 +3,7 @@ ghost use Rattle.std.specs.Prelude.{◌≡◌, ℕ, ◌-◌, ◌^◌, ◌<◌, B
 ghost use Rattle.pin_matrix.specs.declared.machine.MachineSetup as setup;
 ghost use Rattle.sm_registers.specs.declared.registers.Registers as registers;
 ghost use Rattle.sm_registers.specs.declared.view.View as view;
-ghost use Rattle.sm_registers.specs.declared.view.Queues as queues;
+ghost use Rattle.sm_registers.specs.Queues as queues;
 ghost use Rattle.sm_registers.specs.declared.intent.Kind.TheVariants as kind;
 ghost use Rattle.sm_registers.specs.Effects.{no_intent};
 ghost use Rattle.sm_registers.specs.Laws.{AreWords, AreWordsSeen, IsAlike, IsFair, TakesInto, GivesAll, WritesPins};

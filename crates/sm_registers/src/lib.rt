@@ -1,6 +1,7 @@
 //! One state machine of the RP2040's PIO: its registers, its FIFOs, and what one tick does to them.
 #![tactic(auto)]
 
+mod decoded;
 mod fifo_moves;
 mod instruction;
 mod intent;
@@ -24,7 +25,7 @@ pub use laws::{
 pub use machine::Machine;
 pub use registers::Registers;
 pub use shown::Shown;
-pub use view::{Queues, View};
+pub use view::View;
 
 #[cfg(test)]
 mod rows;

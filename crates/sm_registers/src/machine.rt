@@ -3,10 +3,11 @@ ghost use Rattle.std.specs.Prelude.{◌≡◌, ◌<◌, length, IsTrue, IsSome, 
 ghost use Rattle.std.specs.List.{AllByRecursion};
 ghost use Rattle.pin_matrix.specs.Pins.{IsWrite};
 ghost use Rattle.sm_registers.specs.Effects.{no_intent};
-ghost use Rattle.sm_registers.specs.State.{IsKept, first_machine, queues_of, settled_ports, shown_of};
+ghost use Rattle.sm_registers.specs.State.{IsKept, first_machine, queues_of, settled_ports, shown_of, uses_fifos};
 ghost use Rattle.sm_registers.specs.State as spec;
 ghost use Rattle.sm_registers.specs.Tick as spec_tick;
 
+use crate::decoded::Decoded;
 use crate::intent::{Intent, RX_UNDER, TX_OVER};
 use crate::registers::Registers;
 use crate::shown::Shown;
@@ -25,9 +26,11 @@ pub struct Machine<F: Fifo> {
     fifos: Pair<F>,
     got: u32,
     sticky: u8,
+    decoded: Decoded,
 }
 
 impl<F: Fifo> Model for Machine<F> {
+    ghost use Rattle.std.specs.Prelude.{◌≡◌};
     ghost use Rattle.sm_registers.specs.State.{MachineState, IsKept};
 
     ghost Value = { MachineState };
@@ -38,7 +41,7 @@ impl<F: Fifo> Model for Machine<F> {
       ports = record { fifos = m.fifos; got = m.got; sticky = m.sticky };
     } };
 
-    ghost invariant = { λ m. IsKept m.setup m.registers m.fifos };
+    ghost invariant = { λ m. IsKept m.setup m.registers m.fifos × (m.decoded.rule ≡ m.setup.side_rule) };
 }
 
 impl<F: Fifo> Machine<F> {
@@ -52,6 +55,7 @@ impl<F: Fifo> Machine<F> {
             fifos: Pair::new(alloc, setup.join_tx, setup.join_rx)?,
             got: 0,
             sticky: 0,
+            decoded: Decoded::new(&setup.side_rule),
         })
     }
 
@@ -81,6 +85,7 @@ impl<F: Fifo> Machine<F> {
     }
 
     /// The same, with the intent put into one that wants nothing so far, which spares a copy in each clock.
+    #[inline(always)]
     pub fn tick_into(&mut self, view: &View, intent: &mut Intent)
         requires { intent.old ≡ no_intent }
         ensures intent { intent.new ≡ (spec_tick.tick_of self.old.setup view.now (queues_of self.old.ports.fifos) self.old.registers).1 }
@@ -93,7 +98,14 @@ impl<F: Fifo> Machine<F> {
         ensures take { IsTrue intent.new.take → 0 < length self.new.ports.fifos.tx }
         ensures word { IsSome intent.new.word → length self.new.ports.fifos.rx < self.new.ports.fifos.rx_room }
     {
-        tick_of(&self.setup, view, &self.fifos, &mut self.registers, intent);
+        tick_of(
+            &self.setup,
+            view,
+            &self.fifos,
+            &mut self.decoded,
+            &mut self.registers,
+            intent,
+        );
     }
 
     /// How many words are in TX.
@@ -111,18 +123,32 @@ impl<F: Fifo> Machine<F> {
     }
 
     /// Ends a clock: the machine takes and gives what the intent says, and the system writes the word, if any, and reads
-    /// RX or doesn't. A level is what it was at the clock's start.
+    /// RX or doesn't. A level is what it was at the clock's start. True where any of them did anything at the FIFOs.
+    #[inline(always)]
     #[tactic(auto, unfolding(crate::specs::State::settled_ports, fifo_pair::specs::Fifos::settled))]
-    pub fn settle(&mut self, intent: &Intent, word: Option<u32>, read: bool)
+    pub fn settle(&mut self, intent: &Intent, word: Option<u32>, read: bool) -> bool
+        requires take { IsTrue intent.now.take → 0 < length self.old.ports.fifos.tx }
+        requires word { IsSome intent.now.word → length self.old.ports.fifos.rx < self.old.ports.fifos.rx_room }
+        ensures after { self.new ≡ record self.old { ports = settled_ports intent.now word read self.old.ports } }
+        ensures used { result ≡ uses_fifos intent.now word read }
+    {
+        if !intent.take && intent.word.is_none() && word.is_none() && !read {
+            self.sticky = intent.sticky | self.sticky;
+            false
+        } else {
+            self.settle_words(intent, word, read);
+            true
+        }
+    }
+
+    /// The same where somebody does something.
+    #[inline(never)]
+    #[tactic(auto, unfolding(crate::specs::State::settled_ports, fifo_pair::specs::Fifos::settled))]
+    fn settle_words(&mut self, intent: &Intent, word: Option<u32>, read: bool)
         requires take { IsTrue intent.now.take → 0 < length self.old.ports.fifos.tx }
         requires word { IsSome intent.now.word → length self.old.ports.fifos.rx < self.old.ports.fifos.rx_room }
         ensures { self.new ≡ record self.old { ports = settled_ports intent.now word read self.old.ports } }
     {
-        if !intent.take && intent.word.is_none() && word.is_none() && !read {
-            // Nothing moves in the FIFOs.
-            self.sticky = intent.sticky | self.sticky;
-            return;
-        }
         let settled = self.fifos.settle(intent.take, intent.word, word, read);
         self.got = got_after(settled.got, self.got);
         self.sticky = told(settled.over, settled.under) | (intent.sticky | self.sticky);

@@ -1,14 +1,17 @@
 //! One tick: the current word's effect, and what each tick does besides (RP2040 Datasheet, sections 3.2.4 and 3.5).
-ghost use Rattle.std.specs.Prelude.{◌≡◌, ◌<◌, ◌≤◌, [], ◌∷◌, None, is_some, false, true};
+ghost use Rattle.std.specs.Prelude.{◌≡◌, ◌<◌, ◌≤◌, [], ◌∷◌, None, is_some, false, true, if◌then◌else◌};
 ghost use Rattle.sm_registers.specs.Ranges.{IsPlaced, WritesOwnPins};
 ghost use Rattle.std.specs.List.{AllByRecursion};
 ghost use Rattle.pin_matrix.specs.Pins.{IsWrite};
+ghost use Rattle.pin_matrix.specs.Pins as pins;
+ghost use Rattle.pio_encode.specs.Ranges.{IsInRange};
 ghost use Rattle.pio_encode.specs.Word.{reading_of};
 ghost use Rattle.sm_registers.specs.Effects.{no_intent};
 ghost use Rattle.sm_registers.specs.Outcomes.{effect_by, finished_by, side_intent, wanted_by};
 ghost use Rattle.sm_registers.specs.State.{queues_of};
 ghost use Rattle.sm_registers.specs.Tick as spec;
 
+use crate::decoded::Decoded;
 use crate::fifo_moves::fill_osr;
 use crate::instruction::effect_of;
 use crate::intent::{Intent, Kind};
@@ -20,62 +23,88 @@ use pin_matrix::{MachineSetup, writes_of};
 use pio_encode::{Op, decode};
 
 /// A tick: changes the registers. The intent, of nothing so far, gets what it does outside them.
+#[inline(always)]
 #[tactic(auto, unfolding(crate::specs::Tick::tick_of, crate::specs::Tick::tick_delay))]
 pub(crate) fn tick_of<F: Fifo>(
     setup: &MachineSetup,
     view: &View,
     fifos: &Pair<F>,
+    decoded: &mut Decoded,
     registers: &mut Registers,
     intent: &mut Intent,
 )
     requires placed { IsPlaced registers.old }
+    requires rule { decoded.old.rule ≡ setup.now.side_rule }
     requires fresh { intent.old ≡ no_intent }
     ensures value { (registers.new, intent.new) ≡ spec.tick_of setup.now view.now (queues_of fifos.now) registers.old }
     ensures level { AllByRecursion IsWrite intent.new.level }
     ensures direction { AllByRecursion IsWrite intent.new.direction }
+    ensures same { decoded.new.rule ≡ decoded.old.rule }
 {
     if registers.delay > 0 {
         registers.delay -= 1;
         intent.kind = Kind::Delay;
         intent.take = refill(setup, fifos, registers);
     } else {
-        let word = current_word(view, registers);
-        tick_word(word, setup, view, fifos, registers, intent);
+        tick_current(setup, view, fifos, decoded, registers, intent);
     }
 }
 
-/// The pending word, else memory at PC.
-fn current_word(view: &View, registers: &Registers) -> u16
-    requires { registers.now.pc < 32 }
-    ensures { result ≡ spec.current_word view.now registers.now }
+/// A tick of the pending word, else of memory at PC.
+#[inline(always)]
+fn tick_current<F: Fifo>(
+    setup: &MachineSetup,
+    view: &View,
+    fifos: &Pair<F>,
+    decoded: &mut Decoded,
+    registers: &mut Registers,
+    intent: &mut Intent,
+)
+    requires placed { IsPlaced registers.old }
+    requires rule { decoded.old.rule ≡ setup.now.side_rule }
+    requires fresh { intent.old ≡ no_intent }
+    ensures value { (registers.new, intent.new)
+        ≡ spec.tick_word (reading_of (spec.current_word view.now registers.old) setup.now.side_rule)
+        setup.now view.now (queues_of fifos.now) registers.old }
+    ensures level { AllByRecursion IsWrite intent.new.level }
+    ensures direction { AllByRecursion IsWrite intent.new.direction }
+    ensures same { decoded.new.rule ≡ decoded.old.rule }
 {
     match registers.pending {
-        Some(word) => word,
-        None => view.memory[usize::from(registers.pc)],
+        Some(word) => {
+            let op = decode(word, &setup.side_rule);
+            tick_op(&op, setup, view, fifos, registers, intent);
+        }
+        None => {
+            let address = registers.pc;
+            decoded.read(address, view.memory[usize::from(address)]);
+            tick_op(decoded.op(address), setup, view, fifos, registers, intent);
+        }
     }
 }
 
-/// A tick of an instruction, by its word. The intent, of nothing so far, gets what it does outside the registers.
+/// A tick of an instruction. The intent, of nothing so far, gets what it does outside the registers.
+#[inline(never)]
 #[tactic(auto, unfolding(crate::specs::Tick::tick_word, crate::specs::Tick::tick_by))]
-fn tick_word<F: Fifo>(
-    word: u16,
+fn tick_op<F: Fifo>(
+    op: &Op,
     setup: &MachineSetup,
     view: &View,
     fifos: &Pair<F>,
     registers: &mut Registers,
     intent: &mut Intent,
 )
+    requires act { IsInRange op.now.act }
     requires placed { IsPlaced registers.old }
     requires fresh { intent.old ≡ no_intent }
     ensures value { (registers.new, intent.new)
-        ≡ spec.tick_word (reading_of word setup.now.side_rule) setup.now view.now (queues_of fifos.now) registers.old }
+        ≡ spec.tick_word op.now setup.now view.now (queues_of fifos.now) registers.old }
     ensures level { AllByRecursion IsWrite intent.new.level }
     ensures direction { AllByRecursion IsWrite intent.new.direction }
 {
-    let op = decode(word, &setup.side_rule);
     let before = *registers;
     let outcome = effect_of(op.act, setup, view, fifos, registers);
-    conclude(outcome, &op, setup, &before, registers, intent);
+    conclude(outcome, op, setup, &before, registers, intent);
     if refill(setup, fifos, registers) {
         intent.take = true;
     }
@@ -179,28 +208,33 @@ fn refill<F: Fifo>(setup: &MachineSetup, fifos: &Pair<F>, registers: &mut Regist
     false
 }
 
-/// Gives an intent, of nothing so far, its kind and what side-set writes.
+/// Gives an intent, of nothing so far, its kind and what side-set writes, in the first tick of an instruction alone.
 fn set_side(side: Option<u8>, begun: bool, setup: &MachineSetup, intent: &mut Intent)
     requires { intent.old ≡ no_intent }
     ensures value { intent.new ≡ side_intent side setup.now begun }
     ensures write { IsWrite (spec.side_writes side begun setup.now) }
 {
     intent.kind = if begun { Kind::Late } else { Kind::First };
-    let writes = side_writes(side, begun, setup);
+    match side {
+        Some(value) if !begun => write_side(value, setup, intent),
+        _ => {}
+    }
+}
+
+/// Gives an intent without side-set the writes of a side-set value.
+fn write_side(value: u8, setup: &MachineSetup, intent: &mut Intent)
+    requires level { intent.old.level ≡ no_intent.level }
+    requires direction { intent.old.direction ≡ no_intent.direction }
+    ensures value { intent.new ≡ record intent.old {
+      level = (0, 0) ∷ (if setup.now.side_rule.pindirs then (0, 0) else pins.writes_of setup.now.side value) ∷ [];
+      direction = (0, 0) ∷ (if setup.now.side_rule.pindirs then pins.writes_of setup.now.side value else (0, 0)) ∷ [];
+    } }
+    ensures write { IsWrite (pins.writes_of setup.now.side value) }
+{
+    let writes = writes_of(&setup.side, u32::from(value));
     if setup.side_rule.pindirs {
         intent.direction[1] = writes;
     } else {
         intent.level[1] = writes;
-    }
-}
-
-/// What side-set writes, in the first tick of an instruction alone.
-fn side_writes(side: Option<u8>, begun: bool, setup: &MachineSetup) -> (u32, u32)
-    ensures value { result ≡ spec.side_writes side begun setup.now }
-    ensures write { IsWrite result }
-{
-    match side {
-        Some(value) if !begun => writes_of(&setup.side, u32::from(value)),
-        _ => (0, 0),
     }
 }

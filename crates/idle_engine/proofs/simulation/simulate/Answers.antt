@@ -1,9 +1,10 @@
 use Rattle.std.proofs.Common.{rules, arith, ◌≡◌, ℕ, ◌+◌, false, true, List, Result, Ok, Err, OnErr, OnOk, subst, refl, ap, ◌∙◌}
 use Rattle.block_core.specs.declared.sample.Sample.{Sample}
+use Rattle.dreq_pacing.specs.Ports.{Ports}
 use Rattle.block_core.specs.Block.{Run}
 use Rattle.block_core.specs.Hosted.{hosted_at, samples}
 use Rattle.idle_engine.proofs.SampleLists.{next-samples, held_to-samples, told_at-samples}
-use Rattle.idle_engine.proofs.Steps.{clock-next, run-next, ports-next, shown-run}
+use Rattle.idle_engine.proofs.Steps.{clock-next, run-next, transfers-next, shown-run}
 use Rattle.idle_engine.proofs.simulation.simulate.Goals as goal
 
 -- what holds at all holds at an error
@@ -39,7 +40,11 @@ loop-clock-init g c =
     record {
       run = refl;
       in_clock = search rules;
-      ports = c.new-ports.ensures;
+      lines = ap (λ (p : Ports). p.lines) c.new-ports.ensures;
+      transfers = ap (λ (p : Ports). p.transfers) c.new-ports.ensures;
+      next = search rules;
+      between = λ k from to. search rules;
+      rests = λ k from to. search rules;
       working = search rules;
       told = c.in_ok-begin.ensures.ok;
       count = search rules;
@@ -54,8 +59,8 @@ returns-in_err-sample-clause-err g c =
     let start = c.args.block.now.run in
     let lines = c.args.schedule.now in
     let n = c.loop-clock.clock in
-    let run = run-next start lines n c.loop-clock.block.run c.clock.new.self.run c.loop-clock.ports _ c.due_now-due.result inv.run inv.in_clock inv.ports refl c.due_now-due.ensures.due c.clock.ensures.run in
-    let s = shown-run start lines n c.clock.new.self.run c.view.result run c.view.ensures in
+    let run = run-next start lines c.loop-clock.ports.lines n c.loop-clock.block.run c.step-rests_until.new.block.run c.loop-clock.ports.transfers inv.run inv.in_clock inv.lines inv.transfers c.step-rests_until.ensures.run in
+    let s = shown-run start lines n c.step-rests_until.new.block.run c.view.result run c.view.ensures in
     on_err c.from_residual-in_err-sample.result (record {
       count = n + 1;
       within = omega arith;
@@ -74,12 +79,16 @@ loop-clock-preserved g c =
     let start = c.args.block.now.run in
     let lines = c.args.schedule.now in
     let n = c.loop-clock.clock in
-    let run = run-next start lines n c.loop-clock.block.run c.clock.new.self.run c.loop-clock.ports _ c.due_now-due.result inv.run inv.in_clock inv.ports refl c.due_now-due.ensures.due c.clock.ensures.run in
-    let s = shown-run start lines n c.clock.new.self.run c.view.result run c.view.ensures in
+    let run = run-next start lines c.loop-clock.ports.lines n c.loop-clock.block.run c.step-rests_until.new.block.run c.loop-clock.ports.transfers inv.run inv.in_clock inv.lines inv.transfers c.step-rests_until.ensures.run in
+    let s = shown-run start lines n c.step-rests_until.new.block.run c.view.result run c.view.ensures in
     record {
       run = run;
-      in_clock = ap (λ (r : Run). r.clock) c.clock.ensures.run ∙ clock-next c.due_now-due.result c.loop-clock.block.run ∙ ap (λ (k : ℕ). k + 1) inv.in_clock;
-      ports = ports-next start lines n c.loop-clock.block.run c.loop-clock.ports c.due_now-due.new.ports _ inv.run inv.in_clock inv.ports refl c.due_now-due.ensures.after;
+      in_clock = ap (λ (r : Run). r.clock) c.step-rests_until.ensures.run ∙ clock-next _ c.loop-clock.block.run ∙ ap (λ (k : ℕ). k + 1) inv.in_clock;
+      lines = c.step-rests_until.ensures.lines ∙ inv.lines;
+      transfers = transfers-next start lines c.loop-clock.ports.lines n c.loop-clock.block.run c.loop-clock.ports.transfers c.step-rests_until.new.ports.transfers inv.run inv.in_clock inv.lines inv.transfers c.step-rests_until.ensures.transfers;
+      next = c.step-rests_until.ensures.next;
+      between = c.step-rests_until.ensures.between;
+      rests = c.step-rests_until.ensures.rests;
       working = search rules;
       told = λ b r. subst (λ (l : List Sample). g.T.Trace.stands c.sample.new.self b l false) (told_at-samples start lines n c.view.result s) (c.in_ok-sample.ensures.ok b (samples start lines n) (inv.told b r) (next-samples start lines n));
       count = search rules;

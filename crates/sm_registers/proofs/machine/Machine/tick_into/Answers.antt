@@ -1,5 +1,5 @@
 -- A tick keeps the registers in their ranges, takes a word only where TX has one, and gives one only where RX has room.
-use Rattle.std.proofs.Common.{ap, subst, sym}
+use Rattle.std.proofs.Common.{ap, subst, sym, ◌∙◌}
 use Rattle.sm_registers.specs.Ranges.{IsPlaced}
 use Rattle.sm_registers.specs.State.{queues_of}
 use Rattle.sm_registers.proofs.Placed.{placed_tick}
@@ -7,13 +7,16 @@ use Rattle.sm_registers.proofs.Fair.{some_front, has_room, fair_takes, fair_give
 use Rattle.sm_registers.proofs.machine.Machine.tick_into.Goals as goal
 
 pub invariant_of-self : goal.invariant_of-self
-invariant_of-self g c = record {
-  placed = subst IsPlaced (sym (ap (λ x. x.0) c.tick_of.ensures.value))
-      (placed_tick c.self.inside.setup c.args.view.now (queues_of c.self.inside.fifos) c.self.inside.registers c.self.invariant.placed);
-  fits = c.self.invariant.fits;
-  tx_room = c.self.invariant.tx_room;
-  rx_room = c.self.invariant.rx_room;
-}
+invariant_of-self g c = let kept = c.self.invariant.0 in (
+  record {
+    placed = subst IsPlaced (sym (ap (λ x. x.0) c.tick_of.ensures.value))
+        (placed_tick c.self.inside.setup c.args.view.now (queues_of c.self.inside.fifos) c.self.inside.registers kept.placed);
+    fits = kept.fits;
+    tx_room = kept.tx_room;
+    rx_room = kept.rx_room;
+  },
+  c.tick_of.ensures.same ∙ c.self.invariant.1,
+)
 
 pub returns-clause-take : goal.returns-clause-take
 returns-clause-take g c = λ t. some_front c.self.inside.fifos.tx

@@ -1,7 +1,7 @@
 -- The writes one by one.
 use Rattle.std.proofs.Common.{sym, ◌∙◌, arith}
 use Rattle.pin_matrix.proofs.Merging.{merged-drop, merged-past}
-use Rattle.pin_matrix.proofs.merge.merge4.Goals as goal
+use Rattle.pin_matrix.proofs.last_write.merge.Goals as goal
 
 pub loop-write-preserved : goal.loop-write-preserved
 loop-write-preserved c =

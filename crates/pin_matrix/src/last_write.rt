@@ -7,6 +7,14 @@ ghost use Rattle.pin_matrix.specs.Pins as spec;
 pub fn merge4(old: u32, writes: &[(u32, u32); 8]) -> u32
     ensures { result ≡ spec.merged old writes.now }
 {
+    merge(old, writes)
+}
+
+/// The same after any writes, such as the two of one machine.
+#[inline]
+pub fn merge(old: u32, writes: &[(u32, u32)]) -> u32
+    ensures { result ≡ spec.merged old writes.now }
+{
     let mut pins = old;
     for write in writes {
         pins = written(pins, *write);
@@ -15,6 +23,7 @@ pub fn merge4(old: u32, writes: &[(u32, u32); 8]) -> u32
 }
 
 /// The pins after one write.
+#[inline]
 fn written(old: u32, write: (u32, u32)) -> u32
     ensures { result ≡ spec.written old write }
 {

@@ -1,0 +1,28 @@
+-- A clock in which the ports rest has no line.
+use Rattle.std.proofs.Common.{◌≡◌, ℕ, ◌+◌, ◌<◌, ◌≤◌, ◌||◌, ◌⊎◌, inl, inr, Bool, true, false, List, refl, arith, sym, subst}
+use Rattle.std.proofs.Math.Nat.{eq-or-lt_of_le}
+use Rattle.dreq_pacing.specs.declared.line.Line.{Line}
+use Rattle.dreq_pacing.specs.declared.due.Requests.{Requests}
+use Rattle.dreq_pacing.specs.Transfers.{Transfers}
+use Rattle.dreq_pacing.specs.Lines.{NoneBetween, has_line}
+use Rattle.dreq_pacing.specs.Ports.{acts_in, moves_in}
+use Rattle.idle_engine.specs.Resting.{Rests}
+
+first_false : (a b : Bool) → (a || b) ≡ false → a ≡ false
+first_false false b h = refl
+first_false true b h = cc
+
+no_line : (lines : List Line) (c : ℕ) (requests : Requests) (t : Transfers) → acts_in lines c requests t ≡ false → has_line c lines ≡ false
+unfolding acts_in
+no_line lines c requests t h = first_false (has_line c lines) (moves_in c requests t) h
+
+by_order : (lines : List Line) (requests : Requests) (t : Transfers) (next clock until c : ℕ) → NoneBetween lines next clock → Rests lines requests t clock until → clock < until → next ≤ c → (c ≡ clock) ⊎ (c < clock) → has_line c lines ≡ false
+by_order lines requests t next clock until c none rests lt from (inl e) =
+    no_line lines c requests t (rests c (omega arith) (omega arith))
+by_order lines requests t next clock until c none rests lt from (inr less) = none c from less
+
+-- so the ports needn't be asked of it
+pub none_up_to : (lines : List Line) (requests : Requests) (t : Transfers) (next clock until : ℕ) → NoneBetween lines next clock → Rests lines requests t clock until → clock < until → NoneBetween lines next (clock + 1)
+none_up_to lines requests t next clock until none rests lt c from below =
+    let le : c ≤ clock = omega arith in
+    by_order lines requests t next clock until c none rests lt from (eq-or-lt_of_le le)
