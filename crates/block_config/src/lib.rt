@@ -36,16 +36,3 @@ pub use laws::{
     a_machine_starts_in_its_program, a_setup_is_what_it_says, loads_share_no_address,
     memory_outside_all_loads_is_0,
 };
-
-#[cfg(test)]
-mod config_rows;
-#[cfg(test)]
-mod config_tests;
-#[cfg(test)]
-mod machine_rows;
-#[cfg(test)]
-mod span_rows;
-#[cfg(test)]
-mod tests;
-#[cfg(test)]
-mod toml_rows;

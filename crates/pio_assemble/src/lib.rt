@@ -26,10 +26,3 @@ pub use program::Program;
 pub use quantity::Quantity;
 pub use source::assemble;
 pub use symbols::{Symbol, Symbols};
-
-#[cfg(test)]
-mod rows;
-#[cfg(test)]
-mod rows_faults;
-#[cfg(test)]
-mod tests;

@@ -23,12 +23,3 @@ pub use laws::own_value;
 pub use parse::parse_expr;
 pub use scope::Scope;
 pub use symbol::Symbol;
-
-#[cfg(test)]
-mod rows;
-#[cfg(test)]
-mod tests;
-#[cfg(test)]
-mod value_rows;
-#[cfg(test)]
-mod value_tests;

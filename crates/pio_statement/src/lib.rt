@@ -21,10 +21,3 @@ pub use instruction::{Form, Instruction, IrqMode, Suffix};
 pub use laws::a_line_has_one_answer;
 pub use line::{line_end, read_statement};
 pub use statement::{Code, Statement};
-
-#[cfg(test)]
-mod rows;
-#[cfg(test)]
-mod tests;
-#[cfg(test)]
-mod texts;

@@ -1,9 +1,9 @@
-//! Configurations over four small programs: whole setups, and which fault is the first.
+//! Configurations over four small programs: whole setups, which fault is the first, and its text.
 use crate::config_rows::{FILES, SETUPS};
 use crate::machine_rows::{HEADS, KEYS, MACHINE, RUNS};
 use crate::span_rows::{BOUNDS, ENDS, SPAN, SPANS};
 use crate::toml_rows::{TEXTS, VALUES};
-use crate::{ConfigFault, read_config};
+use block_config::{ConfigFault, ConfigKind, read_config};
 use pin_matrix::{MachineSetup, Setup, Span, SpanUnit};
 use pio_assemble::{Program, assemble};
 use std::alloc::{AllocError, Global};
@@ -129,6 +129,58 @@ fn many_of_one_kind(rt: HostRuntime) -> Result<(), Fail> {
             fault_of(rt.alloc(), &programs, &[&text])?
         };
         assert_eq!(rt; found.as_str(), want, "{before:?} {count}");
+    }
+    Ok(())
+}
+
+/// What a text begins with, what is repeated behind it and how often, what ends it; the first fault's kind, and its text.
+const FAULTS: [(&[u8], &[u8], usize, &[u8], ConfigKind, &str); 4] = [
+    (
+        b"[[load]]\nprogram = \"square\"\n[[load]]\nprogram = \"ahead\"\nat = 3\n",
+        b"",
+        0,
+        b"",
+        ConfigKind::Overlap(3),
+        "load[1].at: C7 3",
+    ),
+    (
+        b"[[load]]\nprogram = \"square\"\n[[machine]]\nid = 0\nprogram = \"square\"\ndivider = 0\nfraction = 1\n",
+        b"",
+        0,
+        b"",
+        ConfigKind::Divider,
+        "machine[0].fraction: C11",
+    ),
+    (
+        b"[[load]]\nprogram = \"square\"\n[[machine]]\nid = 2\nprogram = \"square\"\n",
+        b"[[span]]\nname = \"a\"\nmachine = 2\nfrom_pin = 3\nto_pin = 4\nfrom_edge = \"rise\"\nto_edge = \"fall\"\nmin = 0\nmax = 1\n",
+        63,
+        b"[[span]]\nname = \"a\"\nmachine = 2\nfrom_pin = 3\nto_pin = 4\nfrom_edge = \"rise\"\nto_edge = \"fall\"\nmin = 0\nmax = 16777216\n",
+        ConfigKind::Range,
+        "span[63].max: C4",
+    ),
+    (
+        b"[pins]\nhi = []\n",
+        b"",
+        0,
+        b"",
+        ConfigKind::UnknownKey,
+        "pins: C2",
+    ),
+];
+
+#[test]
+fn fault_texts(rt: HostRuntime) -> Result<(), Fail> {
+    let programs = programs(rt.alloc())?;
+    for (before, each, count, behind, want, text) in FAULTS {
+        let file = repeated(rt.alloc(), before, each, count, behind)?;
+        match read_config(rt.alloc(), &file, &programs) {
+            Err(ConfigFault::At { key, kind }) => {
+                assert_eq!(rt; kind, want, "{text}");
+                assert_eq!(rt; format!(in rt.alloc(); "{key}: {kind}")?.as_str(), text);
+            }
+            _ => return Err("no fault".into()),
+        }
     }
     Ok(())
 }

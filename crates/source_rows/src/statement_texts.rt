@@ -1,6 +1,6 @@
 //! Statements as short texts, for the tests.
-use crate::{Code, Form, Instruction, Statement, Suffix};
 use pio_expr::{Expr, Item};
+use pio_statement::{Code, Form, Instruction, Statement, Suffix};
 use std::alloc::{AllocError, Global};
 
 /// A statement: its name, then its operands.

@@ -1,7 +1,7 @@
 //! Sources worked by hand, and the largest ones.
-use crate::rows::{SHAPES, WORDS};
-use crate::rows_faults::{FAULTS, LARGEST, REPEATED};
-use crate::{Program, SourceFault, Symbol, assemble};
+use crate::program_faults::{FAULTS, LARGEST, REPEATED};
+use crate::program_rows::{SHAPES, WORDS};
+use pio_assemble::{Program, SourceFault, Symbol, assemble};
 use std::alloc::{AllocError, Global};
 use std::test::Fail;
 

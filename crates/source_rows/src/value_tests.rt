@@ -1,7 +1,7 @@
 //! Values worked by hand, and the longest chains.
 use crate::value_rows::{Defines, VALUES, Worth};
-use crate::{Expr, Scope, Symbol, ValueFault, parse_expr};
 use pio_encode::Name;
+use pio_expr::{Expr, Scope, Symbol, ValueFault, parse_expr};
 use pio_lex::tokens;
 use std::alloc::{AllocError, Global};
 use std::test::Fail;

@@ -1,6 +1,6 @@
 //! Expressions, each with its items or its first fault, worked by hand from the language's rules (Pico SDK manual,
 //! section 3.3.2, and the choices of this profile).
-use crate::ExprKind;
+use pio_expr::ExprKind;
 
 /// A source; its expression in postfix order, with `~` for a sign; and the token behind it.
 pub static EXPRESSIONS: [(&[u8], &[u8], usize); 24] = [

@@ -1,6 +1,6 @@
 //! Expressions worked by hand, and the deepest ones.
-use crate::rows::{DEPTHS, EXPRESSIONS, FAULTS};
-use crate::{ExprFault, ExprKind, Item, parse_expr};
+use crate::expression_rows::{DEPTHS, EXPRESSIONS, FAULTS};
+use pio_expr::{ExprFault, ExprKind, Item, parse_expr};
 use pio_lex::tokens;
 use std::alloc::{AllocError, Global};
 use std::test::Fail;

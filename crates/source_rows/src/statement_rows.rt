@@ -1,6 +1,6 @@
 //! Lines, each with its statement or its fault, worked by hand from the language's rules (Pico SDK manual, section 3.3,
 //! and the choices of this profile).
-use crate::StatementKind;
+use pio_statement::StatementKind;
 
 /// A line, and its statement: a form's name, then operands, expressions in postfix order with `~` for a sign.
 pub static STATEMENTS: [(&[u8], &str); 95] = [

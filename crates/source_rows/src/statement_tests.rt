@@ -1,8 +1,8 @@
 //! Lines worked by hand, the deepest ones, and the lines of a source one behind the other.
-use crate::rows::{DEPTHS, FAULTS, LINES, SOURCE, STATEMENTS, VALUES};
-use crate::texts::statement_text;
-use crate::{StatementFault, StatementKind, line_end, read_statement};
+use crate::statement_rows::{DEPTHS, FAULTS, LINES, SOURCE, STATEMENTS, VALUES};
+use crate::statement_texts::statement_text;
 use pio_lex::tokens;
+use pio_statement::{StatementFault, StatementKind, line_end, read_statement};
 use std::alloc::{AllocError, Global};
 use std::test::Fail;
 

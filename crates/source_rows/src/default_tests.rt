@@ -1,12 +1,9 @@
-//! Default setups of small sources, with memory worked by hand from the RP2040 Datasheet, section 3.4; and the texts of
-//! faults.
+//! Default setups of small sources, with memory worked by hand from the RP2040 Datasheet, section 3.4.
 ghost use Rattle.std.specs.Prelude.{◌≤◌, unwrap_or};
 
-use crate::path::{Section, fault_of_key, fault_of_section};
-use crate::{ConfigFault, ConfigKind, default_setup};
+use block_config::{ConfigFault, ConfigKind, default_setup};
 use pio_assemble::{Program, assemble};
 use std::alloc::Global;
-use std::process::Abort;
 use std::test::Fail;
 
 const SQUARE: &[u8] =
@@ -73,36 +70,4 @@ fn no_program(rt: HostRuntime) -> Result<(), Fail> {
         }
         _ => Err("a setup of no program".into()),
     }
-}
-
-#[test]
-fn fault_texts(rt: HostRuntime) -> Result<(), Fail> {
-    let alloc = rt.alloc();
-    let faults = [
-        (
-            fault_of_key(alloc, Section::Load(1), "at", ConfigKind::Overlap(3)),
-            "load[1].at: C7 3",
-        ),
-        (
-            fault_of_key(alloc, Section::Machine(0), "fraction", ConfigKind::Divider),
-            "machine[0].fraction: C11",
-        ),
-        (
-            fault_of_key(alloc, Section::Span(63), "max", ConfigKind::Range),
-            "span[63].max: C4",
-        ),
-        (
-            fault_of_section(alloc, Section::Pins, ConfigKind::UnknownKey),
-            "pins: C2",
-        ),
-    ];
-    for (fault, text) in faults {
-        match fault {
-            ConfigFault::At { key, kind } => {
-                assert_eq!(rt; format!(in alloc; "{key}: {kind}")?.as_str(), text);
-            }
-            ConfigFault::Memory => return Err("memory".into()),
-        }
-    }
-    Ok(())
 }

@@ -1,0 +1,35 @@
+//! The worked rows of expressions, statements, sources and configurations, run over the public calls of their readers.
+#![tactic(auto)]
+
+#[cfg(test)]
+mod config_rows;
+#[cfg(test)]
+mod config_tests;
+#[cfg(test)]
+mod default_tests;
+#[cfg(test)]
+mod expression_rows;
+#[cfg(test)]
+mod expression_tests;
+#[cfg(test)]
+mod machine_rows;
+#[cfg(test)]
+mod program_faults;
+#[cfg(test)]
+mod program_rows;
+#[cfg(test)]
+mod program_tests;
+#[cfg(test)]
+mod span_rows;
+#[cfg(test)]
+mod statement_rows;
+#[cfg(test)]
+mod statement_tests;
+#[cfg(test)]
+mod statement_texts;
+#[cfg(test)]
+mod toml_rows;
+#[cfg(test)]
+mod value_rows;
+#[cfg(test)]
+mod value_tests;
