@@ -1,5 +1,9 @@
 //! What follows from the definitions alone.
-ghost use Rattle.std.specs.Prelude.{◌≡◌, ℕ, List, Some};
+ghost use Rattle.std.specs.Prelude.{◌≡◌, ℕ, ◌+◌, List, Some, slice_range};
+ghost use Rattle.std.specs.Str.{IsUtf8};
+ghost use Rattle.pio_lex.specs.declared.token.Token.{Token};
+ghost use Rattle.pio_lex.specs.declared.token.TokenKind.TheVariants as kind;
+ghost use Rattle.pio_lex.specs.Tokens.{IsTokenOf};
 ghost use Rattle.pio_expr.specs.declared.expr.Item.{Item};
 ghost use Rattle.pio_expr.specs.declared.symbol.Symbol.TheVariants.{Define};
 ghost use Rattle.pio_expr.specs.Values.{Scope, symbol_of, value_of, value_of_name};
@@ -9,4 +13,10 @@ pub fn own_value()
     ensures { (scope : Scope) (name : List ℕ) (items : List Item)
         → symbol_of scope name ≡ Some (Define items)
         → value_of scope (Some name) items ≡ value_of_name scope name }
+{}
+
+/// A name's bytes, as they stand in the source, are a text.
+pub fn a_name_is_a_text()
+    ensures { (source : List ℕ) (token : Token) → IsTokenOf source token → token.kind ≡ kind.Name
+        → IsUtf8 (slice_range source token.first (token.first + token.length)) }
 {}

@@ -19,7 +19,7 @@ mod work;
 
 pub use expr::{Expr, Item};
 pub use fault::{ExprFault, ExprKind, ValueFault};
-pub use laws::own_value;
+pub use laws::{a_name_is_a_text, own_value};
 pub use parse::parse_expr;
 pub use scope::Scope;
 pub use symbol::Symbol;

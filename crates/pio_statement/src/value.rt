@@ -8,7 +8,7 @@ ghost use Rattle.pio_statement.specs.Tokens as spec;
 
 use crate::{StatementFault, StatementKind};
 use pio_encode::Name;
-use pio_expr::{Expr, ExprFault, ExprKind, parse_expr};
+use pio_expr::{Expr, ExprFault, ExprKind, a_name_is_a_text, parse_expr};
 use pio_lex::{Token, TokenKind};
 use std::alloc::Global;
 
@@ -40,6 +40,7 @@ fn text(alloc: Global, source: &[u8], token: &Token) -> Result<Name, StatementFa
         ≡ slice_range source.now token.now.first (token.now.first + token.now.length)) }
     ensures memory { IfErr result (λ fault. fault ≡ StatementFault.Memory) }
 {
+    a_name_is_a_text();
     let text = &source[token.first..token.first + token.length];
     Ok(Name::new(String::from_utf8_lossy(alloc, text)?))
 }
