@@ -1,3 +1,4 @@
+pub mod BitLaws
 pub mod ChangesLaws
 pub mod Digits
 pub mod HeaderLaws

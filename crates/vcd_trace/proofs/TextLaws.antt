@@ -55,21 +55,10 @@ pub bit_changes-same : (id count now : ℕ) → bit_changes id count now now ≡
 unfolding bit_changes
 bit_changes-same id count now = change_lines-same id (replicate count 1) (bits_of count now)
 
-pub bit_changes-none : (id before now : ℕ) → bit_changes id 0 before now ≡ []
-unfolding bit_changes
-bit_changes-none id before now = refl
-
 -- bit 0, then the bits of the halves
 pub bit_changes-step : (id more before now : ℕ) → bit_changes id (suc more) before now ≡ cond (eqb (before % 2) (now % 2)) [] (bit_line id (now % 2)) ++ bit_changes (id + 1) more (before / 2) (now / 2)
 unfolding bit_changes bits_of
 bit_changes-step id more before now = refl
-
--- the bits from one on: its line where it changes, then those behind it
-pub bit_changes-turn : (first count step before now : ℕ) → step < count → bit_changes (first + step) (count - step) before now ≡ cond (eqb (before % 2) (now % 2)) [] (bit_line (first + step) (now % 2)) ++ bit_changes (first + (step + 1)) (count - (step + 1)) (before / 2) (now / 2)
-bit_changes-turn first count step before now h =
-    ap (λ k. bit_changes (first + step) k before now) (let e : count - step ≡ suc (count - (step + 1)) = omega arith in e)
-    ∙ bit_changes-step (first + step) (count - (step + 1)) before now
-    ∙ ap (λ i. cond (eqb (before % 2) (now % 2)) [] (bit_line (first + step) (now % 2)) ++ bit_changes i (count - (step + 1)) (before / 2) (now / 2)) (let e : first + step + 1 ≡ first + (step + 1) = omega arith in e)
 
 -- the elements from a place on are the one there and those behind it
 drop_at : (xs : List ℕ) (i : ℕ) → i < length xs → drop i xs ≡ get_or xs i 0 ∷ drop (i + 1) xs

@@ -1,5 +1,5 @@
 //! The values that a clock changes, in the order of their identifiers.
-ghost use Rattle.std.specs.Prelude.{◌≡◌, ℕ, ◌+◌, ◌≤◌};
+ghost use Rattle.std.specs.Prelude.{◌≡◌, ℕ, ◌+◌, ◌^◌, ◌<◌, ◌≤◌};
 ghost use Rattle.pio_edge.specs.Edge.{Takes, PutCounts};
 ghost use Rattle.vcd_trace.specs.VcdText.{changes_text};
 ghost use Rattle.vcd_trace.specs.Groups.{bit_changes, vector_changes};
@@ -26,31 +26,29 @@ pub(crate) fn put_changes<S: Sink>(
     put_changed_vectors(sink, VECTOR, &vectors_before, &vectors_now)
 }
 
-// The low `count` bits, from bit 0 on.
+// The low `count` bits, from bit 0 on; the others are 0.
 fn put_changed_bits<S: Sink>(
     sink: &mut S,
     first: u8,
     count: u8,
-    mut before: u32,
-    mut now: u32,
+    before: u32,
+    now: u32,
 ) -> Result<(), SinkFailed>
-    requires { first + count ≤ 256 }
+    requires room { first + count ≤ 256 }
+    requires before { before < 2 ^ count }
+    requires now { now < 2 ^ count }
     ensures bytes { Takes (S.taken sink.old) (bit_changes first count before now)
         (S.taken sink.new) result }
     ensures cause { PutCounts (S.faults sink.old) (S.faults sink.new) result }
 {
-    for step in 0..count {
-        if before == now {
-            return Ok(());
+    let mut changed = before ^ now;
+    while changed != 0 {
+        let place = changed.trailing_zeros();
+        match put_bit(sink, first + place as u8, ((now >> place) % 2) as u8) {
+            Ok(()) => {}
+            Err(failed) => return Err(failed),
         }
-        if before % 2 != now % 2 {
-            match put_bit(sink, first + step, (now % 2) as u8) {
-                Ok(()) => {}
-                Err(failed) => return Err(failed),
-            }
-        }
-        before /= 2;
-        now /= 2;
+        changed &= changed - 1;
     }
     Ok(())
 }
