@@ -21,7 +21,7 @@ use vcd_trace::{Trace, TraceFailed};
 /// and that the samples end there.
 ///
 /// The block is in clock 0, and the clocks are up to 10^12. One step is one clock worked out singly, by a call of
-/// `Block::clock`. Where the trace fails, the run stops behind the clock whose sample it was told.
+/// `Block::clock` or `Block::quiet_clock`. Where the trace fails, the run stops behind the clock whose sample it was told.
 pub fn simulate<F: Fifo, T: Trace, L: Ledger>(
     block: &mut Block<F>,
     schedule: &Schedule,
@@ -54,8 +54,8 @@ pub fn simulate<F: Fifo, T: Trace, L: Ledger>(
     trace.end(clocks)
 }
 
-/// One clock of a block beside its ports, which are asked only if this is no clock in which they rest: until then the system
-/// does nothing, while the machines ask for the same. The result is until when they rest after this clock.
+/// One clock of a block beside its ports, which rest up to a clock: the system does nothing before it while the machines ask
+/// for the same, so the ports aren't asked. The result is up to which clock they rest after this one.
 #[inline]
 fn step<F: Fifo>(block: &mut Block<F>, ports: &mut HostPorts, clock: u64, rests_until: u64) -> u64
     requires clock { block.old.run.clock ≡ clock }
@@ -119,7 +119,7 @@ fn asked_step<F: Fifo>(block: &mut Block<F>, ports: &mut HostPorts, clock: u64) 
     }
 }
 
-/// Until when the ports rest from a clock on, while the machines ask for this.
+/// Up to which clock the ports rest from this one on, while the machines ask for this.
 fn rest_of(ports: &HostPorts, clock: u64, requests: &Requests) -> u64
     requires within { clock ≤ 2 ^ 40 }
     requires next { ports.now.next ≤ clock }
