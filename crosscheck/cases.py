@@ -107,8 +107,17 @@ class Run:
             if word != "pin" and access in known:
                 continue
             known.add(access)
-            self.lines.append((clock, word, numbers))
-            self.stimulus += f"{clock} {word} {' '.join(map(str, numbers))}\n"
+            self.say(clock, word, numbers)
+            if word == "tx" and random.random() < 0.2:
+                # A row of writes, so that TX is full in some clock of a take.
+                for _ in range(random.randrange(10)):
+                    clock += 1
+                    known.add(("tx", machine, clock))
+                    self.say(clock, word, [machine, random.randint(0, ALL_ONES)])
+
+    def say(self, clock, word, numbers):
+        self.lines.append((clock, word, numbers))
+        self.stimulus += f"{clock} {word} {' '.join(map(str, numbers))}\n"
 
 
 # Sources.
