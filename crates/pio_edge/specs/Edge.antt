@@ -1,28 +1,20 @@
 -- What the edge promises: files as a map from names to bytes, what a sink has taken, and counts of faults.
-use Rattle.std.specs.Prelude.{◌≡◌, ℕ, ◌+◌, ◌-◌, ◌^◌, ◌≤◌, min, Option, Some, List, ◌++◌, length, take, Result, OnOk, OnErr, IsErrOf, IfSome, MatchResult}
+use Rattle.std.specs.Prelude.{◌≡◌, ℕ, ◌≤◌, Option, Some, List, ◌++◌, length, take, Result, OnOk, OnErr, IfSome, MatchResult}
 use Rattle.std.specs.Option.{option_map}
 use Rattle.std.specs.Ordering.{nat_cmp}
 use Rattle.std.specs.Cmp.Lexicographic.{slice_cmp}
 use Rattle.std.specs.FinMap.{FinMap, get}
-use Rattle.pio_edge.specs.declared.shelf.Fetch.{Fetch}
-use Rattle.pio_edge.specs.declared.shelf.Fetch.TheVariants.{Failed, Memory}
+use Rattle.pio_edge.specs.Count.{one_more}
 
--- a count is greater than before, or stands at the last value that 64 bits keep
+-- a count is greater than before, or is the last value that 64 bits keep
 abbrev pub Rose : ℕ → ℕ → Type 0
-Rose before now = min (before + 1) (2 ^ 64 - 1) ≤ now
+Rose before now = one_more before ≤ now
 
 -- how a put or a finish counts: never down, as it was at Ok, up at a failure
 pub record PutCounts {T E : Type 0} (before now : ℕ) (result : Result T E) : Type 0 where
   pub later : before ≤ now
   pub ok : OnOk result (now ≡ before)
   pub failed : OnErr result (Rose before now)
-
--- how a fetch counts: never down, as it was at Ok and where memory ran out, up at a failure
-pub record FetchCounts {T : Type 0} (before now : ℕ) (result : Result T Fetch) : Type 0 where
-  pub later : before ≤ now
-  pub ok : OnOk result (now ≡ before)
-  pub memory : IsErrOf result Memory → now ≡ before
-  pub failed : IsErrOf result Failed → Rose before now
 
 -- files by name: bytes under the bytes of a name
 abbrev pub Files : Type 0
@@ -32,7 +24,7 @@ Files = FinMap (slice_cmp nat_cmp) (List ℕ)
 abbrev pub IsFetched : Option Files → List ℕ → ℕ → List ℕ → Type 0
 IsFetched files name cap bytes = IfSome files (λ f. (all : List ℕ) × (get f name ≡ Some all) × (bytes ≡ take cap all))
 
--- what was taken, with more bytes behind it, where it is told
+-- what was taken, with more bytes after it, where it is told
 abbrev pub with_bytes : Option (List ℕ) → List ℕ → Option (List ℕ)
 with_bytes taken bytes = option_map (λ t. t ++ bytes) taken
 

@@ -1,18 +1,20 @@
 -- What a shelf in memory is: the files that it holds, and which of its fetches fail.
-use Rattle.std.specs.Prelude.{ℕ, Bool, ◌==◌, Option, None, List, if◌then◌else◌, refl}
+use Rattle.std.specs.Prelude.{◌≡◌, ℕ, Bool, true, false, ◌==◌, Option, None, List, Result, Ok, Err, if◌then◌else◌, refl}
 use Rattle.std.specs.Option.{is_none}
 use Rattle.std.specs.List.{list_any}
 use Rattle.std.specs.Coded.{Coded, code_by, coded×, coded_ℕ, coded_list}
 use Rattle.std.specs.FinMap.{get, code}
 use Rattle.pio_edge.specs.Edge.{Files}
-use Rattle.pio_edge.specs.Count.{one_more}
+use Rattle.pio_edge.specs.declared.shelf.Fetch.{Fetch}
+use Rattle.pio_edge.specs.declared.shelf.Fetch.TheVariants.{Failed, Memory}
+use Rattle.pio_edge.specs.Count.{Faults, faults_code, one_more, after_fetch}
 
--- the files, the numbers of the fetches that fail, how many fetches there were, and how many faults
+-- the files, the numbers of the fetches that fail, how many fetches there were, and the faults
 pub record Stock : Type 0 where
   pub files : Files
   pub fails : List ℕ
   pub calls : ℕ
-  pub faults : ℕ
+  pub faults : Faults
 
 -- files are stored as their entries
 abbrev pub files_code : Coded Files
@@ -22,8 +24,8 @@ files_code = code (coded_list coded_ℕ) (coded_list coded_ℕ)
 abbrev pub stock_code : Coded Stock
 stock_code =
     code_by
-    (Files × (List ℕ × (ℕ × ℕ)))
-    (coded× files_code (coded× (coded_list coded_ℕ) (coded× coded_ℕ coded_ℕ)))
+    (Files × (List ℕ × (ℕ × Faults)))
+    (coded× files_code (coded× (coded_list coded_ℕ) (coded× coded_ℕ faults_code)))
     (λ s. (s.files, (s.fails, (s.calls, s.faults))))
     (λ p. record { files = p.0; fails = p.1.0; calls = p.1.1.0; faults = p.1.1.1 })
     (λ _. refl)
@@ -36,9 +38,12 @@ found_at fails call held = if list_any (λ n. n == call) fails then None else he
 abbrev pub fetch_fails : Stock → List ℕ → Bool
 fetch_fails s name = is_none (found_at s.fails (one_more s.calls) (get s.files name))
 
--- the shelf after a fetch: one more call, and one more fault where it fails
-abbrev pub after_fetch : Stock → List ℕ → Stock
-after_fetch s name = record s {
-  calls = one_more s.calls;
-  faults = if fetch_fails s name then one_more s.faults else s.faults;
-}
+-- the shelf after a fetch that answered so: one more call, and one more fault where it failed
+abbrev pub after_call : {T : Type 0} → List ℕ → Result T Fetch → Stock → Stock
+after_call name result s = record s { calls = one_more s.calls; faults = after_fetch name result s.faults }
+
+-- what a fetch answers besides want of memory: a file exactly where the fetch isn't to fail
+abbrev pub Answers : {T : Type 0} → Bool → Result T Fetch → Type 0
+Answers fails (Ok _) = fails ≡ false
+Answers fails (Err Failed) = fails ≡ true
+Answers fails (Err Memory) = Unit {0}

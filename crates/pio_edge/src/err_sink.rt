@@ -1,5 +1,5 @@
 //! A sink over a writer, such as standard error, that hands each piece on at once.
-ghost use Rattle.std.specs.Prelude.{◌≡◌, None, OnOk};
+ghost use Rattle.std.specs.Prelude.{◌≡◌, None, [], OnOk};
 ghost use Rattle.std.specs.Io.KnownBytes.{Appends, Keeps};
 ghost use Rattle.pio_edge.specs.Edge.{PutCounts};
 ghost use Rattle.pio_edge.specs.Count.{call_faults};
@@ -35,6 +35,8 @@ impl<W: Write + Drop> ErrSink<W> {
 
 impl<W: Write + Drop> Sink for ErrSink<W> {
     ghost taken = { λ _. None };
+
+    ghost waiting = { λ _. [] };
 
     ghost faults = { λ s. s.faults };
 

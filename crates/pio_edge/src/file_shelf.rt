@@ -1,8 +1,9 @@
 //! A shelf over the files of the runtime: a name is a path.
 ghost use Rattle.std.specs.Prelude.{◌≡◌, ◌≤◌, None, IfOk, vec_len};
-ghost use Rattle.pio_edge.specs.Edge.{IsFetched, FetchCounts};
-ghost use Rattle.pio_edge.specs.Count.{fetch_faults};
+ghost use Rattle.pio_edge.specs.Edge.{IsFetched};
+ghost use Rattle.pio_edge.specs.Count.{after_fetch};
 
+use crate::failures::Failures;
 use crate::shelf::{Fetch, Shelf};
 use std::alloc::Global;
 use std::fs;
@@ -15,42 +16,43 @@ use std::rt::Files;
 #[derive(Drop)]
 pub struct FileShelf<'a, R: Files> {
     runtime: &'a R,
-    faults: u64,
+    failures: Failures,
 }
 
 impl<'a, R: Files> FileShelf<'a, R> {
     /// The files that the runtime reaches.
     pub fn new(runtime: &'a R) -> Self
-        ensures { result.faults ≡ 0 }
+        ensures { result.failures ≡ record { count = 0; last = None } }
     {
-        FileShelf { runtime, faults: 0 }
+        FileShelf {
+            runtime,
+            failures: Failures::none(),
+        }
     }
 
     /// How many fetches failed, up to `u64::MAX`.
     pub fn faults(&self) -> u64
-        ensures { result ≡ self.now.faults }
+        ensures { result ≡ self.now.failures.count }
     {
-        self.faults
+        self.failures.count()
     }
 }
 
 impl<R: Files> Shelf for FileShelf<'_, R> {
     ghost holds = { λ _. None };
 
-    ghost faults = { λ s. s.faults };
+    ghost faults = { λ s. s.failures };
 
     fn fetch(&mut self, alloc: Global, name: &str, cap: usize) -> Result<Vec<u8>, Fetch>
         ensures capped { IfOk result (λ bytes. vec_len bytes ≤ cap) }
         ensures bytes { IfOk result (λ bytes. IsFetched None name.now cap bytes.items) }
-        ensures cause { FetchCounts self.old.faults self.new.faults result }
-        // One fault exactly where it answers Failed.
-        ensures counted { self.new.faults ≡ fetch_faults self.old.faults result }
+        // One fault, at this name, exactly where it answers Failed.
+        ensures cause { self.new.failures ≡ after_fetch name.now result self.old.failures }
     {
-        let fetched = read_file(self.runtime, alloc, name, cap);
-        if let Err(Fetch::Failed) = fetched {
-            self.faults = self.faults.saturating_add(1);
+        match read_file(self.runtime, alloc, name, cap) {
+            Err(Fetch::Failed) => Err(self.failures.note(alloc, name)),
+            fetched => fetched,
         }
-        fetched
     }
 }
 

@@ -3,6 +3,7 @@
 
 mod answer;
 mod err_sink;
+mod failures;
 mod file_shelf;
 mod held;
 mod memory_shelf;

@@ -1,9 +1,11 @@
 //! A shelf in memory, whose fetches fail as its maker lists. It stands in for real files in tests.
-ghost use Rattle.std.specs.Prelude.{◌≡◌, ◌≤◌, ◌↔◌, Some, IfOk, OnOk, OnErr, IsTrue, take, vec_len};
+ghost use Rattle.std.specs.Prelude.{◌≡◌, ◌≤◌, Some, None, IfOk, OnOk, OnErr, take, vec_len};
 ghost use Rattle.std.specs.FinMap.{empty, insert};
-ghost use Rattle.pio_edge.specs.Edge.{IsFetched, FetchCounts};
-ghost use Rattle.pio_edge.specs.Stock.{fetch_fails, after_fetch};
+ghost use Rattle.pio_edge.specs.Edge.{IsFetched};
+ghost use Rattle.pio_edge.specs.Count.{after_fetch};
+ghost use Rattle.pio_edge.specs.Stock.{Answers, fetch_fails, after_call};
 
+use crate::failures::Failures;
 use crate::held::{Held, found};
 use crate::shelf::{Fetch, Shelf};
 use std::alloc::{AllocError, Global};
@@ -13,11 +15,11 @@ use std::marker::Model;
 /// Files in memory, with a list of the fetches that fail, numbered from 1.
 #[derive(Drop)]
 pub struct MemShelf {
-    // The newest stands in front, and hides what was held under its name before.
+    // The newest comes first, and hides what was held under its name before.
     held: VecDeque<Held>,
     fails: Vec<u64>,
     calls: u64,
-    faults: u64,
+    failures: Failures,
 }
 
 impl Model for MemShelf {
@@ -32,7 +34,7 @@ impl Model for MemShelf {
       files = files_of s.held.items;
       fails = s.fails.items;
       calls = s.calls;
-      faults = s.faults;
+      faults = s.failures;
     } };
 }
 
@@ -40,13 +42,13 @@ impl MemShelf {
     /// An empty shelf. `fails` has the numbers, from 1 on, of the fetches that are to fail.
     pub fn new(alloc: Global, fails: &[u64]) -> Result<Self, AllocError>
         ensures { IfOk result (λ s.
-            s ≡ record { files = empty; fails = fails.now; calls = 0; faults = 0 }) }
+            s ≡ record { files = empty; fails = fails.now; calls = 0; faults = record { count = 0; last = None } }) }
     {
         Ok(MemShelf {
             held: VecDeque::new(alloc),
             fails: fails.to_vec(alloc)?,
             calls: 0,
-            faults: 0,
+            failures: Failures::none(),
         })
     }
 
@@ -69,9 +71,9 @@ impl MemShelf {
 
     /// How many fetches failed, up to `u64::MAX`.
     pub fn faults(&self) -> u64
-        ensures { result ≡ self.now.faults }
+        ensures { result ≡ self.now.faults.count }
     {
-        self.faults
+        self.failures.count()
     }
 }
 
@@ -85,15 +87,15 @@ impl Shelf for MemShelf {
         ensures bytes { IfOk result (λ bytes.
             IsFetched (Some self.old.files) name.now cap bytes.items) }
         ensures same { Some self.new.files ≡ Some self.old.files }
-        ensures cause { FetchCounts self.old.faults self.new.faults result }
-        // Failed exactly at a listed fetch and at an absent name.
-        ensures failed { (result ≡ Err Fetch.Failed) ↔ IsTrue (fetch_fails self.old name.now) }
-        ensures after { self.new ≡ after_fetch self.old name.now }
+        // One fault, at this name, exactly where it answers Failed.
+        ensures cause { self.new.faults ≡ after_fetch name.now result self.old.faults }
+        // Failed exactly at a listed fetch and at an absent name, unless memory ran out.
+        ensures failed { Answers (fetch_fails self.old name.now) result }
+        ensures after { self.new ≡ after_call name.now result self.old }
     {
         self.calls = self.calls.saturating_add(1);
         let Some(all) = found(&self.held, name, &self.fails, self.calls) else {
-            self.faults = self.faults.saturating_add(1);
-            return Err(Fetch::Failed);
+            return Err(self.failures.note(alloc, name));
         };
         match first_bytes(alloc, all, cap) {
             Ok(bytes) => Ok(bytes),

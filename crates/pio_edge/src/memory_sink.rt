@@ -74,6 +74,8 @@ impl MemSink {
 impl Sink for MemSink {
     ghost taken = { λ s. Some s.bytes };
 
+    ghost waiting = { λ _. [] };
+
     ghost faults = { λ s. s.faults };
 
     fn put(&mut self, piece: &[u8]) -> Result<(), SinkFailed>

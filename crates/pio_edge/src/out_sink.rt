@@ -46,6 +46,8 @@ impl<W: Write + Drop> OutSink<W> {
 impl<W: Write + Drop> Sink for OutSink<W> {
     ghost taken = { λ _. None };
 
+    ghost waiting = { λ s. writer_buffer s.writer };
+
     ghost faults = { λ s. s.faults };
 
     fn put(&mut self, piece: &[u8]) -> Result<(), SinkFailed>
@@ -65,7 +67,7 @@ impl<W: Write + Drop> Sink for OutSink<W> {
         // One fault exactly where it fails.
         ensures counted { self.new.faults ≡ call_faults self.old.faults result }
         // At Ok the writer has everything, and nothing was appended.
-        ensures emptied { OnOk result (writer_buffer self.new.writer ≡ []) }
+        ensures handed { OnOk result (writer_buffer self.new.writer ≡ []) }
         ensures keeps { Keeps (writer_contents W.contents self.old.writer)
             (writer_contents W.contents self.new.writer) }
     {

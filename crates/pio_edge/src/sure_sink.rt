@@ -1,5 +1,5 @@
 //! A sink that never fails, and keeps only how many bytes were put.
-ghost use Rattle.std.specs.Prelude.{◌≡◌, ◌+◌, ◌-◌, ◌^◌, None, IsOk, length, min};
+ghost use Rattle.std.specs.Prelude.{◌≡◌, ◌+◌, ◌-◌, ◌^◌, None, [], IsOk, length, min};
 
 use crate::sink::{Sink, SinkFailed};
 
@@ -27,6 +27,8 @@ impl SureSink {
 
 impl Sink for SureSink {
     ghost taken = { λ _. None };
+
+    ghost waiting = { λ _. [] };
 
     ghost faults = { λ _. 0 };
 
