@@ -94,7 +94,7 @@ fn divided(machine: MachineSetup, int: u16, frac: u8) -> MachineSetup
 /// The machine with SET on other pins.
 fn setting(machine: MachineSetup, base: u8, count: u8) -> MachineSetup
     requires base { base < 32 }
-    requires count { count ≤ 32 }
+    requires count { count ≤ 5 }
 {
     let mut setting = machine;
     setting.set = Mapping { base, count };

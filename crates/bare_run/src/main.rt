@@ -73,7 +73,7 @@ fn asked<L: Ledger, R: Env + Files + AllocGlobal>(rt: &R, blank: Blank) -> Optio
 
 /// The load of a name.
 fn setup_of(alloc: Global, name: &str) -> Option<Setup> {
-    let spans = Spans::new(Vec::new(alloc));
+    let spans = Spans::empty(alloc);
     match name {
         "square" => Some(square_wave(spans)),
         "waiting" => Some(waiting(spans)),

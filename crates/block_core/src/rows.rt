@@ -1,5 +1,7 @@
 //! What a row of the tables is: programs on some machines of a block, a stimulus, and what is seen after which clocks.
 //! The rows were worked by hand from the rules of the datasheet and of this profile.
+ghost use Rattle.std.specs.Prelude.{◌≤◌};
+
 use pin_matrix::{MachineSetup, Mapping, Setup, Spans};
 use pio_encode::SideRule;
 
@@ -140,7 +142,7 @@ fn machine_of(keys: &Keys) -> MachineSetup {
         in_base: keys.in_base.min(31),
         jmp_pin: 0,
         out: mapping_of(keys.out),
-        set: mapping_of(keys.set),
+        set: set_mapping_of(keys.set),
         side: mapping_of(keys.side),
         in_right: true,
         out_right: true,
@@ -159,5 +161,15 @@ fn mapping_of((base, count): (u8, u8)) -> Mapping {
     Mapping {
         base: base.min(31),
         count: count.min(32),
+    }
+}
+
+fn set_mapping_of(pins: (u8, u8)) -> Mapping
+    ensures { result.count ≤ 5 }
+{
+    let (base, count) = pins;
+    Mapping {
+        base: base.min(31),
+        count: count.min(5),
     }
 }

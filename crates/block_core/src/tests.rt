@@ -40,7 +40,7 @@ fn clocks_of(row: &Row) -> u64
 
 /// The row's clocks, one after the other.
 fn run<F: Fifo>(rt: &impl Abort, alloc: Global, row: &Row) -> Result<(), Fail> {
-    let setup = setup_of(row, Spans::new(Vec::new(alloc)));
+    let setup = setup_of(row, Spans::empty(alloc));
     let schedule = match read_stimulus(alloc, row.stimulus.as_bytes()) {
         Ok(schedule) => schedule,
         Err(fault) => panic!(rt; "{}: {fault:?}", row.shows),

@@ -90,7 +90,7 @@ fn setup_of(alloc: Global) -> Setup {
         level: 0,
         out: 0,
         bypass: 0,
-        spans: Spans::new(Vec::new(alloc)),
+        spans: Spans::empty(alloc),
     }
 }
 

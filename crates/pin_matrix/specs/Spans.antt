@@ -1,5 +1,10 @@
--- What the types of a span keep.
-use Rattle.std.specs.Prelude.{ℕ, nat_lt, Bool, true, false, List}
+-- What the types of a span keep (choices of this profile).
+--   is_in_ticks     what a span's bounds count
+--   is_span_name    the form of a span's name
+--   are_addresses   where stalls may be named
+--   are_stalls      the stalls that a span may leave out
+use Rattle.std.specs.Prelude.{ℕ, nat_le, nat_lt, ◌==◌, ◌&&◌, ◌||◌, Bool, true, false, List, length}
+use Rattle.std.specs.Char.{is_ascii_alphanumeric}
 use Rattle.std.specs.List.{list_all}
 use Rattle.pin_matrix.specs.declared.span.SpanUnit.{SpanUnit}
 use Rattle.pin_matrix.specs.declared.span.SpanUnit.TheVariants.{Ticks, Clocks}
@@ -9,6 +14,26 @@ abbrev pub is_in_ticks : SpanUnit → Bool
 is_in_ticks Ticks = true
 is_in_ticks Clocks = false
 
+-- the character `_` in ASCII
+abbrev pub underscore : ℕ
+underscore = 95
+
+-- the character `-` in ASCII
+abbrev pub hyphen : ℕ
+hyphen = 45
+
+-- a letter, a digit, `_` or `-`
+abbrev pub is_name_byte : ℕ → Bool
+is_name_byte b = (is_ascii_alphanumeric b || b == underscore) || b == hyphen
+
+-- 1 to 32 of them
+abbrev pub is_span_name : List ℕ → Bool
+is_span_name name = (nat_le 1 (length name) && nat_le (length name) 32) && list_all (λ b. is_name_byte b) name
+
 -- each is an address of the instruction memory
 abbrev pub are_addresses : List ℕ → Bool
 are_addresses addresses = list_all (λ a. nat_lt a 32) addresses
+
+-- at most 16 addresses
+abbrev pub are_stalls : List ℕ → Bool
+are_stalls addresses = nat_le (length addresses) 16 && are_addresses addresses

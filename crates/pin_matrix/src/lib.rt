@@ -10,6 +10,7 @@ mod pads;
 mod rotation;
 mod setup;
 mod span;
+mod span_name;
 mod sync;
 mod writes;
 
@@ -24,6 +25,7 @@ pub use pads::pad_of;
 pub use rotation::pins_from;
 pub use setup::Setup;
 pub use span::{Span, SpanUnit, Spans, Stalls};
+pub use span_name::is_span_name;
 pub use sync::Sync;
 pub use writes::writes_of;
 

@@ -31,7 +31,7 @@ pub struct MachineSetup {
     pub jmp_pin: u8,
     /// The pins of OUT and of MOV to PINS.
     pub out: Mapping,
-    /// The pins of SET.
+    /// The pins of SET: up to 5.
     pub set: Mapping,
     /// The pins of side-set. Its count decides how many are written, whatever the rule's bits.
     pub side: Mapping,
@@ -62,6 +62,7 @@ pub struct MachineSetup {
     pub ghost wrap_top_in_memory: { wrap_top < 32 },
     pub ghost in_base_is_a_pin: { in_base < 32 },
     pub ghost jmp_pin_is_a_pin: { jmp_pin < 32 },
+    pub ghost sets_five_at_most: { set.count ≤ 5 },
     pub ghost pushes_some: { 1 ≤ push_threshold },
     pub ghost pushes_a_word: { push_threshold ≤ 32 },
     pub ghost pulls_some: { 1 ≤ pull_threshold },

@@ -1,11 +1,17 @@
 //! A span between two edges of pins, with its bounds.
 ghost use Rattle.std.specs.Prelude.{◌≡◌, ◌<◌, ◌≤◌, ◌||◌, ◌==◌, ◌^◌, length, IsTrue};
 ghost use Rattle.pin_matrix.specs.Spans as spec;
-ghost use Rattle.pin_matrix.specs.Spans.{is_in_ticks};
+ghost use Rattle.pin_matrix.specs.Spans.{is_in_ticks, is_span_name};
 
 use pio_encode::Name;
 use std::alloc::Global;
 use std::marker::Model;
+
+/// The most addresses of a span at which stalls don't count.
+const MOST_STALLS: usize = 16;
+
+/// The most spans of a block.
+const MOST_SPANS: usize = 64;
 
 /// What a span's bounds count.
 #[derive(Clone, Copy, Debug, PartialEq, Eq)]
@@ -16,7 +22,7 @@ pub enum SpanUnit {
     Clocks,
 }
 
-/// The addresses, each 0 to 31, at which stalls don't count.
+/// The addresses, each 0 to 31 and at most 16, at which stalls don't count.
 #[derive(Debug, Drop)]
 pub struct Stalls {
     addresses: Vec<u8>,
@@ -24,25 +30,25 @@ pub struct Stalls {
 
 impl Model for Stalls {
     ghost use Rattle.std.specs.Prelude.{List, ℕ, IsTrue};
-    ghost use Rattle.pin_matrix.specs.Spans.{are_addresses};
+    ghost use Rattle.pin_matrix.specs.Spans.{are_stalls};
 
     ghost Value = { List ℕ };
 
     ghost view = { λ s. s.addresses.items };
 
-    ghost invariant = { λ s. IsTrue (are_addresses s.addresses.items) };
+    ghost invariant = { λ s. IsTrue (are_stalls s.addresses.items) };
 }
 
 impl Stalls {
-    ghost use Rattle.std.specs.Prelude.{◌≡◌, if◌then◌else◌, Some, None, []};
-    ghost use Rattle.pin_matrix.specs.Spans.{are_addresses};
+    ghost use Rattle.std.specs.Prelude.{◌≡◌, if◌then◌else◌, Some, None, [], IsTrue};
+    ghost use Rattle.pin_matrix.specs.Spans.{are_stalls};
 
-    /// These addresses, unless one is above 31. It takes no memory.
+    /// These addresses, unless there are more than 16 or one is above 31. It takes no memory.
     pub fn new(addresses: Vec<u8>) -> Option<Stalls>
         ensures { result
-            ≡ (if are_addresses addresses.items then Some addresses.items else None) }
+            ≡ (if are_stalls addresses.items then Some addresses.items else None) }
     {
-        if are_addresses(&addresses) {
+        if are_stalls(&addresses) {
             Some(Stalls { addresses })
         } else {
             None
@@ -60,7 +66,8 @@ impl Stalls {
 
     /// The addresses in their order.
     pub fn as_slice(&self) -> &[u8]
-        ensures { result.now ≡ self.now }
+        ensures list { result.now ≡ self.now }
+        ensures kept { IsTrue (are_stalls self.now) }
     {
         self.addresses.as_slice()
     }
@@ -73,6 +80,12 @@ impl Stalls {
     }
 }
 
+fn are_stalls(addresses: &[u8]) -> bool
+    ensures { result ≡ spec.are_stalls addresses.now }
+{
+    addresses.len() <= MOST_STALLS && are_addresses(addresses)
+}
+
 fn are_addresses(bytes: &[u8]) -> bool
     ensures { result ≡ spec.are_addresses bytes.now }
 {
@@ -82,6 +95,7 @@ fn are_addresses(bytes: &[u8]) -> bool
 /// From each from-edge to the first to-edge after it, so much time is asked.
 #[derive(Debug, Drop)]
 pub struct Span {
+    /// 1 to 32 letters, digits, `_` or `-`.
     pub name: Name,
     /// The machine whose ticks count: 0 to 3.
     pub machine: u8,
@@ -100,6 +114,7 @@ pub struct Span {
     pub max: u32,
     /// Empty for a span in clocks.
     pub stalls: Stalls,
+    pub ghost named: { IsTrue (is_span_name name) },
     pub ghost machine_in_block: { machine < 4 },
     pub ghost from_pin_is_a_pin: { from_pin < 32 },
     pub ghost to_pin_is_a_pin: { to_pin < 32 },
@@ -108,34 +123,51 @@ pub struct Span {
     pub ghost stalls_in_ticks: { IsTrue (is_in_ticks unit || length stalls == 0) },
 }
 
-/// Spans in the order of their configuration, seen as their list.
+/// At most 64 spans in the order of their configuration, seen as their list.
 #[derive(Debug, Drop)]
 pub struct Spans {
     spans: Vec<Span>,
 }
 
 impl Model for Spans {
-    ghost use Rattle.std.specs.Prelude.{List};
+    ghost use Rattle.std.specs.Prelude.{List, length, ◌≤◌};
     ghost use Rattle.pin_matrix.specs.declared.span.Span.{Span};
 
     ghost Value = { List Span };
 
     ghost view = { λ s. s.spans.items };
+
+    ghost invariant = { λ s. length s.spans.items ≤ 64 };
 }
 
 impl Spans {
-    ghost use Rattle.std.specs.Prelude.{◌≡◌};
+    ghost use Rattle.std.specs.Prelude.{◌≡◌, ◌≤◌, nat_le, length, if◌then◌else◌, Some, None, []};
 
-    /// These spans. It takes no memory.
-    pub fn new(spans: Vec<Span>) -> Spans
-        ensures { result ≡ spans.items }
+    /// These spans, unless there are more than 64. It takes no memory.
+    pub fn new(spans: Vec<Span>) -> Option<Spans>
+        ensures { result
+            ≡ (if nat_le (length spans.items) 64 then Some spans.items else None) }
     {
-        Spans { spans }
+        if spans.len() <= MOST_SPANS {
+            Some(Spans { spans })
+        } else {
+            None
+        }
+    }
+
+    /// No spans. It takes no memory.
+    pub fn empty(alloc: Global) -> Spans
+        ensures { result ≡ [] }
+    {
+        Spans {
+            spans: Vec::new(alloc),
+        }
     }
 
     /// The spans in their order.
     pub fn as_slice(&self) -> &[Span]
-        ensures { result.now ≡ self.now }
+        ensures list { result.now ≡ self.now }
+        ensures few { length self.now ≤ 64 }
     {
         self.spans.as_slice()
     }

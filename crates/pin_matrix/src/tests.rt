@@ -1,9 +1,11 @@
 //! Rows of pins, worked by hand from the datasheet's rules, and setups as their readers build them.
-ghost use Rattle.std.specs.Prelude.{◌≡◌, ◌<◌};
+ghost use Rattle.std.specs.Prelude.{◌≡◌, ◌<◌, IsTrue};
+ghost use Rattle.pin_matrix.specs.Spans as spec;
 
 use super::*;
 use pio_encode::{Name, SideRule};
 use std::alloc::Global;
+use std::process::Abort;
 
 const NONE: (u32, u32) = (0, 0);
 
@@ -162,7 +164,9 @@ fn machine(id: u8) -> MachineSetup
 }
 
 // From a rise of pin 0 to its fall in the same clock: a span in clocks, which leaves out no stalls.
-fn clocks(alloc: Global, name: Name) -> Span {
+fn clocks(alloc: Global, name: Name) -> Span
+    requires { IsTrue (spec.is_span_name name) }
+{
     Span {
         name,
         machine: 0,
@@ -177,6 +181,15 @@ fn clocks(alloc: Global, name: Name) -> Span {
     }
 }
 
+// The name of this text.
+fn named(rt: &impl Abort, alloc: Global, text: &str) -> Name
+    ensures { IsTrue (spec.is_span_name result) }
+{
+    let name = Name::new(String::from_str(alloc, text).expect(rt, "memory"));
+    assert!(rt; is_span_name(name.as_bytes()), "{text}");
+    name
+}
+
 #[test]
 fn takes_a_setup(rt: HostRuntime) {
     let stalls = Stalls::new(vec![in rt.alloc(); 0, 31].expect(&rt, "memory")).expect(
@@ -185,7 +198,7 @@ fn takes_a_setup(rt: HostRuntime) {
     );
     assert_eq!(rt; stalls.as_slice(), [0, 31].as_slice());
     let span = Span {
-        name: Name::new(String::from_str(rt.alloc(), "high").expect(&rt, "memory")),
+        name: named(&rt, rt.alloc(), "high"),
         machine: 3,
         from_pin: 31,
         from_rise: true,
@@ -196,6 +209,7 @@ fn takes_a_setup(rt: HostRuntime) {
         max: 16_777_215,
         stalls,
     };
+    let spans = Spans::new(vec![in rt.alloc(); span].expect(&rt, "memory")).expect(&rt, "spans");
     let mut setup = Setup {
         memory: [0; 32],
         machines: [None, None, None, Some(machine(3))],
@@ -203,7 +217,7 @@ fn takes_a_setup(rt: HostRuntime) {
         level: 2,
         out: 3,
         bypass: 4,
-        spans: Spans::new(vec![in rt.alloc(); span].expect(&rt, "memory")),
+        spans,
     };
     setup.place(machine(0));
     assert!(rt; setup.machines[0].is_some() && setup.machines[1].is_none());
@@ -215,11 +229,9 @@ fn takes_a_setup(rt: HostRuntime) {
 
 #[test]
 fn starts_with_no_machine(rt: HostRuntime) {
-    let name = Name::new(String::from_str(rt.alloc(), "at_once").expect(&rt, "memory"));
-    let spans = vec![in rt.alloc(); clocks(rt.alloc(), name)].expect(&rt, "memory");
-    let setup = Setup::of([0; 32], Spans::new(spans));
+    let setup = Setup::of([0; 32], Spans::empty(rt.alloc()));
     assert!(rt; setup.machines.iter().all(|machine| machine.is_none()));
-    assert_eq!(rt; setup.spans.as_slice()[0].unit, SpanUnit::Clocks);
+    assert!(rt; setup.spans.as_slice().is_empty());
 }
 
 #[test]
@@ -227,5 +239,42 @@ fn refuses_an_address_above_31(rt: HostRuntime) {
     for address in [31, 32, 255] {
         let stalls = Stalls::new(vec![in rt.alloc(); 0, address].expect(&rt, "memory"));
         assert_eq!(rt; stalls.is_some(), address < 32, "{address}");
+    }
+}
+
+#[test]
+fn keeps_at_most_16_stalls(rt: HostRuntime) {
+    for count in [16, 17] {
+        let stalls = Stalls::new(vec![in rt.alloc(); 7; count].expect(&rt, "memory"));
+        assert_eq!(rt; stalls.is_some(), count == 16, "{count}");
+    }
+}
+
+#[test]
+fn keeps_at_most_64_spans(rt: HostRuntime) {
+    for count in [64, 65] {
+        let mut spans = Vec::new(rt.alloc());
+        for _ in 0..count {
+            spans
+                .push(clocks(rt.alloc(), named(&rt, rt.alloc(), "at-once_1")))
+                .expect(&rt, "memory");
+        }
+        assert_eq!(rt; Spans::new(spans).is_some(), count == 64, "{count}");
+    }
+}
+
+#[test]
+fn knows_names_of_spans(rt: HostRuntime) {
+    // 32 and 33 bytes, and what isn't a name's.
+    let rows = [
+        ("a234567890123456789012345678901Z", true),
+        ("a234567890123456789012345678901Zz", false),
+        ("_-", true),
+        ("", false),
+        ("a b", false),
+        ("a.b", false),
+    ];
+    for (name, wanted) in rows {
+        assert_eq!(rt; is_span_name(name.as_bytes()), wanted, "{name}");
     }
 }

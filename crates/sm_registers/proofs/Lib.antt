@@ -4,3 +4,7 @@ pub mod Calm
 pub mod Words
 pub mod Decoding
 pub mod Taken
+pub mod Ticks
+pub mod Flow
+pub mod Waits
+pub mod Autopull

@@ -20,11 +20,11 @@ use Rattle.sm_registers.specs.Effects.{Effect, osr_filled, jmp_effect, wait_effe
 use Rattle.sm_registers.specs.Tick.{osr_filled_from, refilled, current_word, after_effect, refills, tick_delay, tick_by, tick_word, tick_of}
 
 -- a word that an effect takes fills the OSR, and one that it gives leaves an empty ISR
-record IsTidyEffect (q : Queues) (e : Effect) : Type 0 where
-  osr : e.take ≡ true → (w : ℕ) → q.front ≡ Some w → e.registers.osr ≡ w
-  out_count : e.take ≡ true → e.registers.out_count ≡ 0
-  isr : is_some e.word ≡ true → e.registers.isr ≡ 0
-  in_count : is_some e.word ≡ true → e.registers.in_count ≡ 0
+pub record IsTidyEffect (q : Queues) (e : Effect) : Type 0 where
+  pub osr : e.take ≡ true → (w : ℕ) → q.front ≡ Some w → e.registers.osr ≡ w
+  pub out_count : e.take ≡ true → e.registers.out_count ≡ 0
+  pub isr : is_some e.word ≡ true → e.registers.isr ≡ 0
+  pub in_count : is_some e.word ≡ true → e.registers.in_count ≡ 0
 
 tidy_none : (q : Queues) (e : Effect) → e.take ≡ false → is_some e.word ≡ false → IsTidyEffect q e
 tidy_none q e h k = record { osr = λ t w f. cc; out_count = λ t. cc; isr = λ t. cc; in_count = λ t. cc }
@@ -77,7 +77,7 @@ tidy_pulled q (Some word) block r h = record {
   in_count = λ t. cc;
 }
 
-tidy_effect : (a : Act) (s : MachineSetup) (v : View) (q : Queues) (r : Registers) → IsTidyEffect q (effect_of a s v q r)
+pub tidy_effect : (a : Act) (s : MachineSetup) (v : View) (q : Queues) (r : Registers) → IsTidyEffect q (effect_of a s v q r)
 unfolding effect_of jmp_effect wait_effect in_effect out_effect push_effect pull_effect mov_effect irq_effect
 tidy_effect (Jmp c a) s v q r = tidy_none q _ refl refl
 tidy_effect (Wait polarity source index) s v q r = search (rules, tidy_if, tidy_none)
@@ -91,17 +91,17 @@ tidy_effect (Set d value) s v q r = tidy_set d value s q r
 tidy_effect Nothing s v q r = tidy_none q _ refl refl
 
 -- what comes after an effect leaves the shift registers
-record SameShifts (x y : Registers) : Type 0 where
-  osr : x.osr ≡ y.osr
-  out_count : x.out_count ≡ y.out_count
-  isr : x.isr ≡ y.isr
-  in_count : x.in_count ≡ y.in_count
+pub record SameShifts (x y : Registers) : Type 0 where
+  pub osr : x.osr ≡ y.osr
+  pub out_count : x.out_count ≡ y.out_count
+  pub isr : x.isr ≡ y.isr
+  pub in_count : x.in_count ≡ y.in_count
 
 shifts_if : (b : Bool) (x y z : Registers) → SameShifts x z → SameShifts y z → SameShifts (cond b x y) z
 shifts_if true x y z h k = h
 shifts_if false x y z h k = k
 
-after_keeps : (d : ℕ) (s : MachineSetup) (r : Registers) (e : Effect) → SameShifts (after_effect d s r e) e.registers
+pub after_keeps : (d : ℕ) (s : MachineSetup) (r : Registers) (e : Effect) → SameShifts (after_effect d s r e) e.registers
 unfolding after_effect
 after_keeps d s r e =
     shifts_if e.stalled _ _ _ (record { osr = refl; out_count = refl; isr = refl; in_count = refl })

@@ -6,3 +6,4 @@ pub mod Outcomes
 pub mod Ranges
 pub mod State
 pub mod Laws
+pub mod Rules

@@ -2,6 +2,7 @@
 #![tactic(auto)]
 
 mod decoded;
+mod fifo_laws;
 mod fifo_moves;
 mod instruction;
 mod intent;
@@ -9,6 +10,7 @@ mod jump;
 mod laws;
 mod machine;
 mod moving;
+mod order_laws;
 mod outcome;
 mod registers;
 mod shifting;
@@ -17,12 +19,17 @@ mod tick;
 mod view;
 mod waiting;
 
+pub use fifo_laws::{autopull_takes_what_it_can, in_shifts_once, txstall_tells_an_empty_tx};
 pub use intent::{Intent, Kind, RX_STALL, RX_UNDER, TX_OVER, TX_STALL};
 pub use laws::{
     a_delay_only_counts, a_late_stall_only_waits, a_tick_sees_what_it_reads, moves_are_fair,
     no_word_is_lost, ranges_are_kept, writes_are_of_pins,
 };
 pub use machine::Machine;
+pub use order_laws::{
+    a_pending_word_leaves_pc, a_taken_jump_does_not_wrap, an_exec_leaves_no_delay,
+    irq_with_wait_stalls_first, side_set_is_written_once,
+};
 pub use registers::Registers;
 pub use shown::Shown;
 pub use view::View;

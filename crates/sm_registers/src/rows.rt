@@ -1,5 +1,7 @@
 //! What a row of the tables is: a program on one machine, what goes on around it, and what is seen after which clocks.
 //! The machine ticks in each clock. The rows were worked by hand from the rules of the datasheet and of this profile.
+ghost use Rattle.std.specs.Prelude.{◌≤◌};
+
 use pin_matrix::{MachineSetup, Mapping};
 use pio_encode::SideRule;
 
@@ -134,7 +136,7 @@ pub fn setup_of(keys: &Keys, words: usize) -> MachineSetup {
         in_base: keys.in_base.min(31),
         jmp_pin: keys.jmp_pin.min(31),
         out: mapping_of(keys.out),
-        set: mapping_of(keys.set),
+        set: set_mapping_of(keys.set),
         side: mapping_of(keys.side),
         in_right: keys.in_right,
         out_right: keys.out_right,
@@ -161,5 +163,15 @@ fn mapping_of((base, count): (u8, u8)) -> Mapping {
     Mapping {
         base: base.min(31),
         count: count.min(32),
+    }
+}
+
+fn set_mapping_of(pins: (u8, u8)) -> Mapping
+    ensures { result.count ≤ 5 }
+{
+    let (base, count) = pins;
+    Mapping {
+        base: base.min(31),
+        count: count.min(5),
     }
 }
