@@ -3,7 +3,7 @@ use Rattle.std.proofs.Common.{◌≡◌, ℕ, ◌<◌, ◌≤◌, ◌^◌, ◌==
 use Rattle.std.proofs.Math.Bridge.{le_prop}
 use Rattle.std.proofs.Math.Bool.{Bool-set}
 use Rattle.pin_matrix.specs.Setups.{ids_are_places}
-use Rattle.pin_matrix.specs.Spans.{is_in_ticks}
+use Rattle.pin_matrix.specs.Spans.{is_in_ticks, is_span_name}
 use Rattle.pin_matrix.specs.declared.machine.MachineSetup.{MachineSetup}
 use Rattle.pin_matrix.specs.declared.setup.Setup.{Setup}
 use Rattle.pin_matrix.specs.declared.span.Span.{Span}
@@ -11,25 +11,26 @@ use Rattle.block_config.specs.Block.{MachineKeys, SpanKeys, keys_of_machine, key
 
 -- what the type of a machine's setup keeps
 pub record Facts (k : MachineKeys) : Type 0 where
-  id_in_block : k.id < 4
-  start_in_memory : k.start < 32
-  divides : (not (k.int == 0) || k.frac == 0) ≡ true
-  wrap_bottom_in_memory : k.wrap_bottom < 32
-  wrap_top_in_memory : k.wrap_top < 32
-  in_base_is_a_pin : k.in_base < 32
-  jmp_pin_is_a_pin : k.jmp_pin < 32
-  pushes_some : 1 ≤ k.push_threshold
-  pushes_a_word : k.push_threshold ≤ 32
-  pulls_some : 1 ≤ k.pull_threshold
-  pulls_a_word : k.pull_threshold ≤ 32
-  joins_one_way : not (k.join_tx && k.join_rx) ≡ true
-  status_in_field : k.status_n < 16
-  out_base_is_a_pin : k.out_base < 32
-  out_count_fits : k.out_count ≤ 32
-  set_base_is_a_pin : k.set_base < 32
-  set_count_fits : k.set_count ≤ 32
-  side_base_is_a_pin : k.side_base < 32
-  side_count_fits : k.side_count ≤ 32
+  pub id_in_block : k.id < 4
+  pub start_in_memory : k.start < 32
+  pub divides : (not (k.int == 0) || k.frac == 0) ≡ true
+  pub wrap_bottom_in_memory : k.wrap_bottom < 32
+  pub wrap_top_in_memory : k.wrap_top < 32
+  pub in_base_is_a_pin : k.in_base < 32
+  pub jmp_pin_is_a_pin : k.jmp_pin < 32
+  pub pushes_some : 1 ≤ k.push_threshold
+  pub pushes_a_word : k.push_threshold ≤ 32
+  pub pulls_some : 1 ≤ k.pull_threshold
+  pub pulls_a_word : k.pull_threshold ≤ 32
+  pub joins_one_way : not (k.join_tx && k.join_rx) ≡ true
+  pub status_in_field : k.status_n < 16
+  pub out_base_is_a_pin : k.out_base < 32
+  pub out_count_fits : k.out_count ≤ 32
+  pub set_base_is_a_pin : k.set_base < 32
+  pub set_count_fits : k.set_count ≤ 32
+  pub sets_five_at_most : k.set_count ≤ 5
+  pub side_base_is_a_pin : k.side_base < 32
+  pub side_count_fits : k.side_count ≤ 32
 
 abbrev facts : (m : MachineSetup) → Facts (keys_of_machine m)
 facts m = record {
@@ -50,11 +51,12 @@ facts m = record {
   out_count_fits = m.out.count_fits;
   set_base_is_a_pin = m.set.base_is_a_pin;
   set_count_fits = m.set.count_fits;
+  sets_five_at_most = m.sets_five_at_most;
   side_base_is_a_pin = m.side.base_is_a_pin;
   side_count_fits = m.side.count_fits;
 }
 
-abbrev machine_with : (k : MachineKeys) → Facts k → MachineSetup
+abbrev pub machine_with : (k : MachineKeys) → Facts k → MachineSetup
 machine_with k f = record {
   id = k.id;
   start = k.start;
@@ -87,6 +89,7 @@ machine_with k f = record {
   wrap_top_in_memory = f.wrap_top_in_memory;
   in_base_is_a_pin = f.in_base_is_a_pin;
   jmp_pin_is_a_pin = f.jmp_pin_is_a_pin;
+  sets_five_at_most = f.sets_five_at_most;
   pushes_some = f.pushes_some;
   pushes_a_word = f.pushes_a_word;
   pulls_some = f.pulls_some;
@@ -105,15 +108,17 @@ same_machine a b e =
 
 -- what the type of a span keeps
 pub record Bounds (k : SpanKeys) : Type 0 where
-  machine_in_block : k.machine < 4
-  from_pin_is_a_pin : k.from_pin < 32
-  to_pin_is_a_pin : k.to_pin < 32
-  ordered : k.least ≤ k.most
-  bounded : k.most < 2 ^ 24
-  stalls_in_ticks : (is_in_ticks k.unit || length k.stalls == 0) ≡ true
+  pub named : is_span_name k.name ≡ true
+  pub machine_in_block : k.machine < 4
+  pub from_pin_is_a_pin : k.from_pin < 32
+  pub to_pin_is_a_pin : k.to_pin < 32
+  pub ordered : k.least ≤ k.most
+  pub bounded : k.most < 2 ^ 24
+  pub stalls_in_ticks : (is_in_ticks k.unit || length k.stalls == 0) ≡ true
 
 abbrev bounds : (s : Span) → Bounds (keys_of_span s)
 bounds s = record {
+  named = s.named;
   machine_in_block = s.machine_in_block;
   from_pin_is_a_pin = s.from_pin_is_a_pin;
   to_pin_is_a_pin = s.to_pin_is_a_pin;
@@ -122,7 +127,7 @@ bounds s = record {
   stalls_in_ticks = s.stalls_in_ticks;
 }
 
-abbrev span_with : (k : SpanKeys) → Bounds k → Span
+abbrev pub span_with : (k : SpanKeys) → Bounds k → Span
 span_with k f = record {
   name = k.name;
   machine = k.machine;
@@ -134,6 +139,7 @@ span_with k f = record {
   min = k.least;
   max = k.most;
   stalls = k.stalls;
+  named = f.named;
   machine_in_block = f.machine_in_block;
   from_pin_is_a_pin = f.from_pin_is_a_pin;
   to_pin_is_a_pin = f.to_pin_is_a_pin;

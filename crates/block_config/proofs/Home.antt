@@ -5,7 +5,6 @@ use Rattle.std.specs.Str.{bytes_eq}
 use Rattle.std.proofs.lemmas.Bool.{cases_Bool, false≢true, and_parts, ltb-true, lt-ltb, le-leb}
 use Rattle.toml.specs.Data.{Members, get_member}
 use Rattle.pio_assemble.specs.declared.symbols.Symbol.{Symbol}
-use Rattle.block_config.specs.Answer.{Refusal}
 use Rattle.block_config.specs.Apart.{AreApart}
 use Rattle.block_config.specs.declared.fault.ConfigKind.TheVariants.{NoProgram}
 use Rattle.block_config.specs.SpanTable.{load_of_machine}
@@ -15,7 +14,7 @@ use Rattle.block_config.specs.MachineTable.{named_load, load_at, moved_place, st
 use Rattle.block_config.specs.Programs.{Loaded, find_loaded, place_in, place_of, label_of}
 use Rattle.block_config.specs.Tables.{and_then}
 use Rattle.block_config.specs.Values.{or_fault, text_of}
-use Rattle.block_config.proofs.Ranges.{goes_on, off_key}
+use Rattle.block_config.proofs.Ranges.{goes_on, off_key, ok_same}
 
 found_covered : (p : Loaded → Bool) (ls : List Loaded) (l : Loaded) → find p ls ≡ Some l → list_any p ls ≡ true
 found_covered p [] l e = cc
@@ -82,24 +81,21 @@ moved_covered l (Some k) start below e =
     let within : k < length l.program.words = below k refl in
     covers_at l start (omega arith) (omega arith)
 
-start_covered : (l : Loaded) (o : Option (List ℕ)) (start : ℕ) → 1 ≤ length l.program.words → start_of l o ≡ Ok start → covers l start ≡ true
+pub start_covered : (l : Loaded) (o : Option (List ℕ)) (start : ℕ) → 1 ≤ length l.program.words → start_of l o ≡ Ok start → covers l start ≡ true
 start_covered l None start some e = let same : l.address ≡ start = cc in covers_at l start (omega arith) (omega arith)
 start_covered l (Some name) start some e = moved_covered l (label_of l.program name) start (label_below l.program.words _) e
-
-ok_same : {X : Type 0} (x y : X) → ◌≡◌ {A = Result X Refusal} (Ok x) (Ok y) → x ≡ y
-ok_same x y e = cc
 
 some_of : (o : Option Loaded) (l : Loaded) → or_fault NoProgram o ≡ Ok l → o ≡ Some l
 some_of None l e = cc
 some_of (Some x) l e = let same : x ≡ l = cc in ap Some same
 
-covered_below : (l : Loaded) (a : ℕ) → l.address + length l.program.words ≤ 32 → covers l a ≡ true → a < 32
+pub covered_below : (l : Loaded) (a : ℕ) → l.address + length l.program.words ≤ 32 → covers l a ≡ true → a < 32
 covered_below l a fits here =
     let (low, high) = and_parts (nat_le l.address a) (nat_lt a (l.address + length l.program.words)) here in
     let below : a < l.address + length l.program.words = ltb-true a (l.address + length l.program.words) high in
     omega arith
 
-named_found : (name : Option (List ℕ)) (loads : List Loaded) (l : Loaded) → named_load loads name ≡ Ok l → (n : List ℕ) × (find_loaded n loads ≡ Some l)
+pub named_found : (name : Option (List ℕ)) (loads : List Loaded) (l : Loaded) → named_load loads name ≡ Ok l → (n : List ℕ) × (find_loaded n loads ≡ Some l)
 named_found None loads l e = cc
 named_found (Some n) loads l e = (n, some_of (find_loaded n loads) l e)
 

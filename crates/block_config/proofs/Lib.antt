@@ -12,3 +12,9 @@ pub mod Says
 pub mod Outside
 pub mod Apart
 pub mod Home
+pub mod Gathered
+pub mod LoadsFit
+pub mod MachinesInRange
+pub mod SpansInRange
+pub mod Unclipped
+pub mod FewSpans

@@ -8,7 +8,8 @@ use Rattle.toml.specs.Parse.{parse_document}
 use Rattle.block_config.specs.declared.fault.ConfigFault.{ConfigFault}
 use Rattle.block_config.specs.declared.fault.ConfigFault.TheVariants.{Memory, At}
 use Rattle.block_config.specs.declared.fault.ConfigKind.TheVariants.{NotToml}
-use Rattle.block_config.specs.Answer.{Tells, Refuses}
+use Rattle.answers.specs.Answers.{Refuses}
+use Rattle.block_config.specs.Answer.{Tells, told}
 use Rattle.block_config.specs.Config.{document_of, parsed}
 
 pub parsed_table : (bytes : List ℕ) (t : Members) → IsUtf8 bytes → parse_document bytes ≡ Some t → parsed (document_of bytes) ≡ Ok t
@@ -21,6 +22,6 @@ no_document bytes h =
       | inr other ↦ rw other refl
     ]
 
-pub not_parsed : (fault : ConfigFault) (bytes : List ℕ) → (IsUtf8 bytes → parse_document bytes ≡ None) → Tells fault (codes "file") NotToml → Refuses fault (parsed (document_of bytes))
-not_parsed Memory bytes h told = tt
-not_parsed (At key kind) bytes h told = rw (no_document bytes h, told.0, told.1) refl
+pub not_parsed : (fault : ConfigFault) (bytes : List ℕ) → (IsUtf8 bytes → parse_document bytes ≡ None) → Tells fault (codes "file") NotToml → Refuses (told fault) (parsed (document_of bytes))
+not_parsed Memory bytes h tells = tt
+not_parsed (At key kind) bytes h tells = rw (no_document bytes h, tells.0, tells.1) refl

@@ -7,7 +7,8 @@ use Rattle.pin_matrix.specs.Placing.{HasRestOf}
 use Rattle.toml.specs.declared.value.Value.{Value}
 use Rattle.toml.specs.View.{view, items_view}
 use Rattle.toml.proofs.Views.{items_view-drop}
-use Rattle.block_config.specs.Answer.{Refusal, Refuses}
+use Rattle.answers.specs.Answers.{Refuses}
+use Rattle.block_config.specs.Answer.{Refusal, told}
 use Rattle.block_config.specs.Block.{MachineKeys, keys_of_machine}
 use Rattle.block_config.specs.Programs.{Loaded}
 use Rattle.block_config.specs.declared.fault.ConfigFault.{ConfigFault}
@@ -40,7 +41,7 @@ unfolding machines_from
 place_ends loads vs i ms all so_far past = so_far ∙ rw (drop_all i vs past) refl
 
 -- a fault of a part is one of the whole
-pub refuses_on : {X Y : Type 0} (fault : ConfigFault) (r : Result X Refusal) (s : Result Y Refusal) → ((e : Refusal) → r ≡ Err e → s ≡ Err e) → Refuses fault r → Refuses fault s
+pub refuses_on : {X Y : Type 0} (fault : ConfigFault) (r : Result X Refusal) (s : Result Y Refusal) → ((e : Refusal) → r ≡ Err e → s ≡ Err e) → Refuses (told fault) r → Refuses (told fault) s
 refuses_on Memory r s on h = tt
 refuses_on (At key kind) r s on h = on (record { key = key; kind = kind }) h
 

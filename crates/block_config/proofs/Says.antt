@@ -3,15 +3,17 @@ use Rattle.std.proofs.Common.{◌≡◌, ℕ, ◌≤◌, ◌%◌, ◌+◌, suc, 
 use Rattle.std.proofs.Math.Nat.{mod-eq_of_lt}
 use Rattle.std.proofs.lemmas.Bool.{and_parts, eqb-true}
 use Rattle.pin_matrix.specs.Setups.{ids_are_places}
-use Rattle.pin_matrix.specs.Spans.{is_in_ticks}
+use Rattle.pin_matrix.specs.Spans.{is_in_ticks, is_span_name, underscore}
 use Rattle.pin_matrix.specs.declared.machine.MachineSetup.{MachineSetup}
 use Rattle.pin_matrix.specs.declared.setup.Setup.{Setup}
 use Rattle.pin_matrix.specs.declared.span.Span.{Span}
-use Rattle.block_config.specs.Facts.{bits_of}
-use Rattle.block_config.specs.Block.{MachineKeys, BlockKeys, keys_of_machine, keys_of_span, keys_of_block, machine_of, span_of, setup_of}
+use Rattle.block_config.specs.Facts.{bits_of, formed}
+use Rattle.block_config.specs.Block.{MachineKeys, SpanKeys, BlockKeys, keys_of_machine, keys_of_span, keys_of_block}
+use Rattle.block_config.specs.SetupOf.{machine_of, span_of, setup_of}
 use Rattle.block_config.specs.declared.fault.ConfigFault.{ConfigFault}
 use Rattle.block_config.specs.declared.fault.ConfigFault.TheVariants.{Memory, At}
-use Rattle.block_config.specs.Answer.{Refusal, Refuses, made}
+use Rattle.answers.specs.Answers.{Refuses, made}
+use Rattle.block_config.specs.Answer.{Refusal, told}
 use Rattle.block_config.proofs.Alike.{same_machine, same_span, same_block}
 
 frac_in : (whole : Bool) (frac : ℕ) → (not whole || frac == 0) ≡ true → cond whole 0 frac ≡ frac
@@ -32,6 +34,10 @@ stalls_in true stalls h = refl
 stalls_in false [] h = refl
 stalls_in false (s ∷ ss) h = absurd (omega (arith, eqb-true (length (s ∷ ss)) 0 h))
 
+name_in : (has : Bool) (name : List ℕ) → is_span_name name ≡ has → has ≡ true → cond has name (underscore ∷ []) ≡ name
+name_in true name is h = refl
+name_in false name is h = cc
+
 pub machine_of-keys : (m : MachineSetup) (place : ℕ) → m.id ≡ place → machine_of place (keys_of_machine m) ≡ m
 unfolding machine_of
 machine_of-keys m place is =
@@ -45,7 +51,7 @@ machine_of-keys m place is =
     let sets : m.set.base % 32 ≡ m.set.base = mod-eq_of_lt m.set.base_is_a_pin in
     let side : m.side.base % 32 ≡ m.side.base = mod-eq_of_lt m.side.base_is_a_pin in
     let outs : min m.out.count 32 ≡ m.out.count = omega (arith, m.out.count_fits) in
-    let setss : min m.set.count 32 ≡ m.set.count = omega (arith, m.set.count_fits) in
+    let setss : min m.set.count 5 ≡ m.set.count = omega (arith, m.sets_five_at_most) in
     let sides : min m.side.count 32 ≡ m.side.count = omega (arith, m.side.count_fits) in
     let status : m.status_n % 16 ≡ m.status_n = mod-eq_of_lt m.status_in_field in
     same_machine _ m (rw (id, start, bottom, top, in_base, jmp, out, sets, side, outs, setss, sides, status, frac_in (m.int == 0) m.frac m.divides, join_in m.join_tx m.join_rx m.joins_one_way, bits_in m.push_threshold m.pushes_some m.pushes_a_word, bits_in m.pull_threshold m.pulls_some m.pulls_a_word) refl)
@@ -58,7 +64,8 @@ span_of-keys s =
     let to : s.to_pin % 32 ≡ s.to_pin = mod-eq_of_lt s.to_pin_is_a_pin in
     let most : s.max % 16777216 ≡ s.max = mod-eq_of_lt s.bounded in
     let least : min s.min s.max ≡ s.min = omega (arith, s.ordered) in
-    same_span _ s (rw (machine, from, to, most, least, stalls_in (is_in_ticks s.unit) s.stalls s.stalls_in_ticks) refl)
+    let name : formed s.name ≡ s.name = name_in (is_span_name s.name) s.name refl s.named in
+    same_span _ s (rw (name, machine, from, to, most, least, stalls_in (is_in_ticks s.unit) s.stalls s.stalls_in_ticks) refl)
 
 spans_of-keys : (ss : List Span) → map span_of (map keys_of_span ss) ≡ ss
 spans_of-keys [] = refl
@@ -101,6 +108,6 @@ pub answered : (s : Setup) (k : Result BlockKeys Refusal) → length s.machines 
 answered s k four e = rw e (ap Ok (setup_of-keys s four))
 
 -- a fault of a block is one of its setup
-pub refuses_setup : (fault : ConfigFault) (k : Result BlockKeys Refusal) → Refuses fault k → Refuses fault (made setup_of k)
+pub refuses_setup : (fault : ConfigFault) (k : Result BlockKeys Refusal) → Refuses (told fault) k → Refuses (told fault) (made setup_of k)
 refuses_setup Memory k e = tt
 refuses_setup (At key kind) k e = rw e refl

@@ -13,9 +13,11 @@ use Rattle.pin_matrix.specs.declared.setup.Setup.{Setup}
 use Rattle.block_config.specs.declared.fault.ConfigKind.{ConfigKind}
 use Rattle.block_config.specs.declared.fault.ConfigKind.TheVariants.{NotToml, UnknownKey, WrongType, Many}
 use Rattle.block_config.specs.declared.path.Section.TheVariants.{Pins}
-use Rattle.block_config.specs.Answer.{Refusal, refused, made}
+use Rattle.answers.specs.Answers.{made}
+use Rattle.block_config.specs.Answer.{Refusal, refused}
 use Rattle.block_config.specs.Arrays.{count_items, all_items}
-use Rattle.block_config.specs.Block.{MachineKeys, SpanKeys, BlockKeys, setup_of}
+use Rattle.block_config.specs.Block.{MachineKeys, SpanKeys, BlockKeys}
+use Rattle.block_config.specs.SetupOf.{setup_of}
 use Rattle.block_config.specs.Loads.{all_loads, memory_of}
 use Rattle.block_config.specs.Machines.{machines_from, section_at}
 use Rattle.block_config.specs.Memory.{no_words}

@@ -6,8 +6,10 @@ use Rattle.std.specs.Prelude.{ℕ, ◌+◌, true, false, if◌then◌else◌, un
 use Rattle.pio_assemble.specs.Program.{Assembled}
 use Rattle.block_config.specs.declared.fault.ConfigKind.TheVariants.{NoProgram, DoesNotFit}
 use Rattle.pin_matrix.specs.declared.setup.Setup.{Setup}
-use Rattle.block_config.specs.Answer.{Refusal, refused, made}
-use Rattle.block_config.specs.Block.{MachineKeys, BlockKeys, setup_of}
+use Rattle.answers.specs.Answers.{made}
+use Rattle.block_config.specs.Answer.{Refusal, refused}
+use Rattle.block_config.specs.Block.{MachineKeys, BlockKeys}
+use Rattle.block_config.specs.SetupOf.{setup_of}
 use Rattle.block_config.specs.Memory.{fits_at, loaded, no_words}
 
 -- A machine with all at its default: it starts at the program's first word and wraps as the program says, ticks in each clock,

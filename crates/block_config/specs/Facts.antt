@@ -1,8 +1,37 @@
 -- What the types of a setup keep, of numbers that are brought into range.
-use Rattle.std.specs.Prelude.{◌≡◌, ℕ, suc, ◌-◌, ◌%◌, ◌≤◌, ◌==◌, ◌||◌, ◌&&◌, not, cond, Bool, true, false, List, [], length, refl}
-use Rattle.std.proofs.Common.{lit<}
-use Rattle.std.proofs.Math.Nat.{zero-lt-suc}
+use Rattle.std.specs.Prelude.{◌≡◌, ℕ, suc, ◌-◌, ◌%◌, ◌^◌, ◌<◌, ◌≤◌, min, ◌==◌, ◌||◌, ◌&&◌, not, cond, if◌then◌else◌, Bool, true, false, List, [], ◌∷◌, length, refl}
+use Rattle.std.proofs.Common.{lit<, lit≤}
+use Rattle.std.proofs.Math.Nat.{zero-lt-suc, min-le_right, le_trans}
 use Rattle.std.proofs.lemmas.Nat.{mod_below}
+use Rattle.pin_matrix.specs.Spans.{underscore, is_span_name}
+
+-- a number brought below 4
+pub below_4 : (n : ℕ) → n % 4 < 4
+below_4 n = mod_below n 4 (lit< tt)
+
+-- a number brought below 16
+pub below_16 : (n : ℕ) → n % 16 < 16
+below_16 n = mod_below n 16 (lit< tt)
+
+-- a number brought below 32
+pub below_32 : (n : ℕ) → n % 32 < 32
+below_32 n = mod_below n 32 (lit< tt)
+
+-- a number brought below 2 ^ 24
+pub below_24_bits : (n : ℕ) → n % 2 ^ 24 < 2 ^ 24
+below_24_bits n = mod_below n (2 ^ 24) (lit< tt)
+
+-- a number brought to this one at most
+pub at_most : (n most : ℕ) → min n most ≤ most
+at_most n most = min-le_right n most
+
+-- SET writes five pins at most
+pub five_at_most : (count : ℕ) → min count 5 ≤ 5
+five_at_most count = min-le_right count 5
+
+-- five pins are in a mapping's range
+pub at_most_32 : (count : ℕ) → min count 5 ≤ 32
+at_most_32 count = le_trans (min-le_right count 5) (lit≤ tt)
 
 -- a divider of 0 has no fraction
 pub divides_at : (whole : Bool) (frac : ℕ) → (not whole || cond whole 0 frac == 0) ≡ true
@@ -31,3 +60,16 @@ few_bits n = mod_below (n - 1) 32 (lit< tt)
 pub ticks_at : (ticks : Bool) (stalls : List ℕ) → (ticks || length (cond ticks stalls []) == 0) ≡ true
 ticks_at true stalls = refl
 ticks_at false stalls = refl
+
+-- a span's name, `_` in place of one of another form
+abbrev pub formed : List ℕ → List ℕ
+formed name = if is_span_name name then name else underscore ∷ []
+
+-- it has the form, whether the name had it or not
+formed_at : (has : Bool) (name : List ℕ) → is_span_name name ≡ has → is_span_name (cond has name (underscore ∷ [])) ≡ true
+formed_at true name is = is
+formed_at false name is = refl
+
+-- it has the form
+pub has_form : (name : List ℕ) → is_span_name (formed name) ≡ true
+has_form name = formed_at (is_span_name name) name refl

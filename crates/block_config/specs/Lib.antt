@@ -14,6 +14,8 @@ pub mod Machines
 pub mod Pins
 pub mod PinView
 pub mod Block
+pub mod SetupOf
+pub mod Exact
 pub mod Memory
 pub mod Loads
 pub mod Apart

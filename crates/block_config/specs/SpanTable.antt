@@ -6,13 +6,12 @@
 --   span_in     the span of the table at a place
 --   all_spans   the spans of all tables
 use Rattle.std.specs.Prelude.{ℕ, nat_le, nat_lt, ◌==◌, ◌&&◌, ◌||◌, is_some, Bool, true, false, if◌then◌else◌, slice_index, slice_index_or, Option, Some, None, List, [], ◌∷◌, Result, Ok, Err, length, codes}
-use Rattle.std.specs.Char.{is_ascii_alphanumeric}
-use Rattle.std.specs.List.{find, list_all}
+use Rattle.std.specs.List.{find}
 use Rattle.std.specs.Str.{bytes_eq}
 use Rattle.toml.specs.Data.{Data, Items, Members, get_member, as_array, as_str, as_table}
 use Rattle.pin_matrix.specs.declared.span.SpanUnit.{SpanUnit}
 use Rattle.pin_matrix.specs.declared.span.SpanUnit.TheVariants.{Ticks, Clocks}
-use Rattle.pin_matrix.specs.Spans.{is_in_ticks}
+use Rattle.pin_matrix.specs.Spans.{is_in_ticks, is_span_name}
 use Rattle.block_config.specs.declared.fault.ConfigKind.{ConfigKind}
 use Rattle.block_config.specs.declared.fault.ConfigKind.TheVariants.{Missing, Range, WrongType, NoProgram, NoLabel, Many}
 use Rattle.block_config.specs.declared.path.Section.TheVariants.{Span}
@@ -36,14 +35,6 @@ span_names =
 -- a number that is required
 abbrev pub required : List ℕ → (high : ℕ) → Numbered
 required name high = record { name = name; low = 0; high = high; default = None }
-
--- a letter, a digit, `_` or `-`
-abbrev pub is_name_byte : ℕ → Bool
-is_name_byte b = (is_ascii_alphanumeric b || b == 95) || b == 45
-
--- 1 to 32 of them
-abbrev pub is_span_name : List ℕ → Bool
-is_span_name name = (nat_le 1 (length name) && nat_le (length name) 32) && list_all (λ b. is_name_byte b) name
 
 -- the name of a span, which another may have too
 abbrev pub name_of : Option (List ℕ) → Result (List ℕ) ConfigKind

@@ -1,8 +1,10 @@
 //! Where a run starts by a configuration.
-ghost use Rattle.std.specs.Prelude.{◌≡◌, map};
+ghost use Rattle.std.specs.Prelude.{◌≡◌, ◌≤◌, map};
 ghost use Rattle.pio_assemble.specs.Program.{assembled_of};
 ghost use Rattle.toml.specs.View.{items_view, table_view};
-ghost use Rattle.block_config.specs.Answer.{Answers, Gives, made};
+ghost use Rattle.answers.specs.Answers.{Answers, Gives, made};
+ghost use Rattle.block_config.specs.Answer.{told};
+ghost use Rattle.block_config.specs.Arrays.{count_items};
 ghost use Rattle.block_config.specs.Block.{keys_of_block, keys_of_span};
 ghost use Rattle.block_config.specs.Config as spec;
 ghost use Rattle.block_config.specs.Config.{config_setup_of};
@@ -22,8 +24,8 @@ use crate::pin_section::read_pins;
 use crate::pins::PinLists;
 use crate::programs::Load;
 use crate::sections::{Sections, sections_at};
-use crate::spans::read_spans;
-use pin_matrix::{Setup, Span, Spans};
+use crate::spans::{few_spans, read_spans};
+use pin_matrix::{Setup, Spans};
 use pio_assemble::Program;
 use std::alloc::Global;
 use toml::{Table, Value};
@@ -33,7 +35,7 @@ use toml::{Table, Value};
 /// Sections are read in the order load, machine, pins, span, and keys in the order of the tables' description.
 #[tactic(auto, using(crate::proofs::Says::answered, crate::proofs::Says::refuses_setup))]
 pub fn read_config(alloc: Global, bytes: &[u8], programs: &[Program]) -> Result<Setup, ConfigFault>
-    ensures value { Answers result (config_setup_of bytes.now (map assembled_of programs.now)) }
+    ensures value { Answers told result (config_setup_of bytes.now (map assembled_of programs.now)) }
 {
     match read_block(alloc, bytes, programs) {
         Ok(setup) => Ok(setup),
@@ -43,7 +45,7 @@ pub fn read_config(alloc: Global, bytes: &[u8], programs: &[Program]) -> Result<
 
 /// The setup, by what it says.
 fn read_block(alloc: Global, bytes: &[u8], programs: &[Program]) -> Result<Setup, ConfigFault>
-    ensures { Gives keys_of_block result
+    ensures { Gives told keys_of_block result
         (spec.config_block bytes.now (map assembled_of programs.now)) }
 {
     match document_of(alloc, bytes) {
@@ -54,7 +56,7 @@ fn read_block(alloc: Global, bytes: &[u8], programs: &[Program]) -> Result<Setup
 
 /// The table that the bytes are.
 fn document_of(alloc: Global, bytes: &[u8]) -> Result<Table, ConfigFault>
-    ensures { Gives table_view result (spec.parsed (spec.document_of bytes.now)) }
+    ensures { Gives told table_view result (spec.parsed (spec.document_of bytes.now)) }
 {
     match toml::table_from_slice(alloc, bytes) {
         Ok(table) => Ok(table),
@@ -64,8 +66,9 @@ fn document_of(alloc: Global, bytes: &[u8]) -> Result<Table, ConfigFault>
 }
 
 /// The setup of a configuration's table.
+#[tactic(auto, using(crate::proofs::FewSpans::few_in_sections))]
 fn block_of_table(alloc: Global, table: &Table, programs: &[Program]) -> Result<Setup, ConfigFault>
-    ensures { Gives keys_of_block result
+    ensures { Gives told keys_of_block result
         (spec.block_of_table (map assembled_of programs.now) (table_view table.now)) }
 {
     match sections_at(alloc, table) {
@@ -80,7 +83,8 @@ fn block_of_sections(
     sections: &Sections,
     programs: &[Program],
 ) -> Result<Setup, ConfigFault>
-    ensures { Gives keys_of_block result
+    requires { count_items (items_view sections.now.spans.now) ≤ 64 }
+    ensures { Gives told keys_of_block result
         (spec.block_of_sections (map assembled_of programs.now) (sections_view sections.now)) }
 {
     match read_loads(alloc, programs, sections.loads) {
@@ -90,8 +94,10 @@ fn block_of_sections(
 }
 
 /// The setup over the loads.
+#[tactic(auto, using(crate::proofs::FewSpans::few_read))]
 fn block_over(alloc: Global, sections: &Sections, loads: &[Load]) -> Result<Setup, ConfigFault>
-    ensures { Gives keys_of_block result
+    requires { count_items (items_view sections.now.spans.now) ≤ 64 }
+    ensures { Gives told keys_of_block result
         (spec.block_over (sections_view sections.now) (map loaded_of loads.now)) }
 {
     let setup = match bare_block(alloc, loads, sections.machines) {
@@ -103,18 +109,18 @@ fn block_over(alloc: Global, sections: &Sections, loads: &[Load]) -> Result<Setu
         Err(fault) => return Err(fault),
     };
     match read_spans(alloc, &setup.machines, loads, sections.spans) {
-        Ok(spans) => Ok(block_with(&setup, &pins, spans)),
+        Ok(spans) => Ok(block_with(&setup, &pins, few_spans(alloc, spans))),
         Err(fault) => Err(fault),
     }
 }
 
 /// The memory and the machines.
 fn bare_block(alloc: Global, loads: &[Load], values: &[Value]) -> Result<Setup, ConfigFault>
-    ensures { Gives keys_of_block result
+    ensures { Gives told keys_of_block result
         (made (quiet_block (memory_of no_words (map loaded_of loads.now)))
         (machines_from 0 spec.no_machines (map loaded_of loads.now) (items_view values.now))) }
 {
-    let mut setup = Setup::of(memory_of(loads), Spans::new(Vec::new(alloc)));
+    let mut setup = Setup::of(memory_of(loads), Spans::empty(alloc));
     match place_machines(alloc, loads, values, &mut setup) {
         Ok(()) => Ok(setup),
         Err(fault) => Err(fault),
@@ -122,10 +128,10 @@ fn bare_block(alloc: Global, loads: &[Load], values: &[Value]) -> Result<Setup, 
 }
 
 /// A block with these pins and spans.
-fn block_with(setup: &Setup, pins: &PinLists, spans: Vec<Span>) -> Setup
+fn block_with(setup: &Setup, pins: &PinLists, spans: Spans) -> Setup
     ensures { keys_of_block result
         ≡ spec.block_with setup.now.memory (keys_of_block setup.now).machines (pin_view pins.now)
-        (map keys_of_span spans.items) }
+        (map keys_of_span spans) }
 {
     Setup {
         memory: setup.memory,
@@ -134,6 +140,6 @@ fn block_with(setup: &Setup, pins: &PinLists, spans: Vec<Span>) -> Setup
         level: pins.level,
         out: pins.out,
         bypass: pins.bypass,
-        spans: Spans::new(spans),
+        spans,
     }
 }

@@ -1,11 +1,12 @@
 //! Where a run starts without a configuration.
 ghost use Rattle.std.specs.Prelude.{◌≡◌, ◌+◌, ◌≤◌, length, map, IsErr, Some, None, [], ◌∷◌};
 ghost use Rattle.pio_assemble.specs.Program.{assembled_of};
-ghost use Rattle.block_config.specs.Answer.{Answers, made};
-ghost use Rattle.block_config.specs.Block as spec;
+ghost use Rattle.answers.specs.Answers.{Answers, made};
+ghost use Rattle.block_config.specs.Answer.{told};
 ghost use Rattle.block_config.specs.Block.{keys_of_machine};
 ghost use Rattle.block_config.specs.Default as default;
 ghost use Rattle.block_config.specs.Default.{default_setup_of};
+ghost use Rattle.block_config.specs.SetupOf as spec;
 
 use crate::fault::{ConfigFault, ConfigKind};
 use crate::load::{fits_at, loaded};
@@ -17,7 +18,7 @@ use std::alloc::Global;
 /// The setup without a configuration: the first program, at its origin or else at address 0, on machine 0, with all else
 /// at its default. Its faults stand on `default`: `NoProgram` where there is none, `DoesNotFit` where it doesn't fit.
 pub fn default_setup(alloc: Global, programs: &[Program]) -> Result<Setup, ConfigFault>
-    ensures value { Answers result (default_setup_of (map assembled_of programs.now)) }
+    ensures value { Answers told result (default_setup_of (map assembled_of programs.now)) }
 
     // A setup takes no memory: only a fault does, for its key.
     ensures setup { IsErr result → IsErr (default_setup_of (map assembled_of programs.now)) }
@@ -31,7 +32,7 @@ pub fn default_setup(alloc: Global, programs: &[Program]) -> Result<Setup, Confi
 /// The setup with a program on machine 0.
 #[tactic(auto, using(crate::proofs::Says::says))]
 fn setup_of(alloc: Global, program: &Program) -> Result<Setup, ConfigFault>
-    ensures value { Answers result
+    ensures value { Answers told result
         (made spec.setup_of (default.block_of (assembled_of program.now))) }
     ensures setup { IsErr result → IsErr
         (made spec.setup_of (default.block_of (assembled_of program.now))) }
@@ -43,7 +44,7 @@ fn setup_of(alloc: Global, program: &Program) -> Result<Setup, ConfigFault>
     Ok(quiet_block(
         loaded(&[0; 32], address, &program.words),
         machine_of(program, address),
-        Spans::new(Vec::new(alloc)),
+        Spans::empty(alloc),
     ))
 }
 

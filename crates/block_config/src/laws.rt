@@ -1,19 +1,39 @@
 //! Laws of the definitions, each on a function that does nothing.
-ghost use Rattle.std.specs.Prelude.{◌≡◌, ℕ, ◌+◌, ◌<◌, ◌≤◌, List, Option, Some, Ok, false, length, slice_index};
+ghost use Rattle.std.specs.Prelude.{◌≡◌, ℕ, ◌+◌, ◌<◌, ◌≤◌, List, Option, Some, Ok, false, length, map, slice_index};
 ghost use Rattle.toml.specs.Data.{Items, Members};
-ghost use Rattle.pio_assemble.specs.Program.{Assembled};
+ghost use Rattle.pio_assemble.specs.Program.{Assembled, assembled_of};
+ghost use Rattle.pio_assemble.specs.declared.program.Program as program;
 ghost use Rattle.pin_matrix.specs.declared.setup.Setup as setup;
 ghost use Rattle.block_config.specs.Apart.{AreApart};
-ghost use Rattle.block_config.specs.Block.{MachineKeys, keys_of_block, setup_of};
+ghost use Rattle.block_config.specs.Block.{MachineKeys, keys_of_block};
+ghost use Rattle.block_config.specs.Config.{config_block, config_setup_of};
+ghost use Rattle.block_config.specs.Default.{default_block, default_setup_of};
+ghost use Rattle.block_config.specs.Exact.{SaysExactly};
 ghost use Rattle.block_config.specs.Loads.{all_loads, is_covered, memory_of};
 ghost use Rattle.block_config.specs.MachineTable.{load_at, machine_of_table};
 ghost use Rattle.block_config.specs.Memory.{no_words};
 ghost use Rattle.block_config.specs.Programs.{Loaded};
+ghost use Rattle.block_config.specs.SetupOf.{setup_of};
 ghost use Rattle.block_config.specs.SpanTable.{load_of_machine};
 
 /// A setup is what it says: of the plain numbers of a setup, the definitions make that setup again.
 pub fn a_setup_is_what_it_says()
     ensures { (s : setup.Setup) → length s.machines ≡ 4 → setup_of (keys_of_block s) ≡ s }
+{}
+
+/// Nothing that a configuration says is clipped: its setup says exactly these numbers, machine by machine and field by
+/// field, these pins, and these spans with their names, bounds and stalls.
+pub fn a_configuration_is_not_clipped()
+    ensures { (bytes : List ℕ) (programs : List program.Program)
+        → SaysExactly (config_setup_of bytes (map assembled_of programs))
+        (config_block bytes (map assembled_of programs)) }
+{}
+
+/// Nothing that the default says is clipped.
+pub fn the_default_is_not_clipped()
+    ensures { (programs : List program.Program)
+        → SaysExactly (default_setup_of (map assembled_of programs))
+        (default_block (map assembled_of programs)) }
 {}
 
 /// No address is covered by two of a configuration's loads.

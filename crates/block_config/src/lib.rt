@@ -33,6 +33,6 @@ pub use config::read_config;
 pub use defaults::default_setup;
 pub use fault::{ConfigFault, ConfigKind};
 pub use laws::{
-    a_machine_starts_in_its_program, a_setup_is_what_it_says, loads_share_no_address,
-    memory_outside_all_loads_is_0,
+    a_configuration_is_not_clipped, a_machine_starts_in_its_program, a_setup_is_what_it_says,
+    loads_share_no_address, memory_outside_all_loads_is_0, the_default_is_not_clipped,
 };

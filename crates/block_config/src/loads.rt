@@ -2,7 +2,8 @@
 ghost use Rattle.std.specs.Prelude.{◌≡◌, [], map};
 ghost use Rattle.pio_assemble.specs.Program.{assembled_of};
 ghost use Rattle.toml.specs.View.{items_view, table_view, view};
-ghost use Rattle.block_config.specs.Answer.{Gives};
+ghost use Rattle.answers.specs.Answers.{Gives};
+ghost use Rattle.block_config.specs.Answer.{told};
 ghost use Rattle.block_config.specs.LoadView.{loaded_of};
 ghost use Rattle.block_config.specs.Loads as spec;
 ghost use Rattle.block_config.specs.Machines.{section_at};
@@ -26,7 +27,7 @@ pub fn read_loads<'a>(
     programs: &'a [Program],
     values: &[Value],
 ) -> Result<Vec<Load<'a>>, ConfigFault>
-    ensures { Gives (λ v. map loaded_of v.items) result
+    ensures { Gives told (λ v. map loaded_of v.items) result
         (spec.all_loads (map assembled_of programs.entry.now) (items_view values.now)) }
 {
     let mut loads = Vec::new(alloc);
@@ -47,7 +48,7 @@ fn load_in<'a>(
     loads: &[Load<'a>],
     value: &Value,
 ) -> Result<Load<'a>, ConfigFault>
-    ensures { Gives loaded_of result
+    ensures { Gives told loaded_of result
         (spec.load_in (map assembled_of programs.entry.now) place (map loaded_of loads.now)
         (view value.now)) }
 {
@@ -65,7 +66,7 @@ fn load_at<'a>(
     loads: &[Load<'a>],
     table: &Table,
 ) -> Result<Load<'a>, ConfigFault>
-    ensures { Gives loaded_of result
+    ensures { Gives told loaded_of result
         (section_at section spec.load_names (table_view table.now)
         (spec.load_of_table (map assembled_of programs.entry.now) (map loaded_of loads.now) (table_view table.now))) }
 {

@@ -66,7 +66,7 @@ pub struct PinValues {
     pub ghost side_base_is_a_pin: { side_base < 32 },
     pub ghost jmp_pin_is_a_pin: { jmp_pin < 32 },
     pub ghost out_count_fits: { out_count ≤ 32 },
-    pub ghost set_count_fits: { set_count ≤ 32 },
+    pub ghost set_count_fits: { set_count ≤ 5 },
 }
 
 impl PinValues {

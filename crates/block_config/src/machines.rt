@@ -2,7 +2,8 @@
 ghost use Rattle.std.specs.Prelude.{◌≡◌, map, option_map};
 ghost use Rattle.pin_matrix.specs.Placing.{HasRestOf};
 ghost use Rattle.toml.specs.View.{items_view, table_view, view};
-ghost use Rattle.block_config.specs.Answer.{Gives};
+ghost use Rattle.answers.specs.Answers.{Gives};
+ghost use Rattle.block_config.specs.Answer.{told};
 ghost use Rattle.block_config.specs.Block.{keys_of_machine};
 ghost use Rattle.block_config.specs.LoadView.{loaded_of};
 ghost use Rattle.block_config.specs.Machines as spec;
@@ -51,7 +52,7 @@ pub fn place_machines(
     values: &[Value],
     setup: &mut Setup,
 ) -> Result<(), ConfigFault>
-    ensures value { Gives (λ _. map (option_map keys_of_machine) setup.new.machines) result
+    ensures value { Gives told (λ _. map (option_map keys_of_machine) setup.new.machines) result
         (spec.machines_from 0 (map (option_map keys_of_machine) setup.old.machines)
         (map loaded_of loads.now) (items_view values.now)) }
     ensures rest { HasRestOf setup.new setup.old }
@@ -73,7 +74,7 @@ fn machine_in(
     loads: &[Load],
     value: &Value,
 ) -> Result<MachineSetup, ConfigFault>
-    ensures { Gives keys_of_machine result
+    ensures { Gives told keys_of_machine result
         (spec.machine_in place (map (option_map keys_of_machine) machines.now)
         (map loaded_of loads.now) (view value.now)) }
 {
@@ -91,7 +92,7 @@ fn machine_at(
     loads: &[Load],
     table: &Table,
 ) -> Result<MachineSetup, ConfigFault>
-    ensures { Gives keys_of_machine result
+    ensures { Gives told keys_of_machine result
         (spec.section_at section spec.machine_names (table_view table.now)
         (machine_of_table (map (option_map keys_of_machine) machines.now) (map loaded_of loads.now) (table_view table.now))) }
 {

@@ -1,7 +1,8 @@
 //! The section of pins, which may be absent.
 ghost use Rattle.std.specs.Prelude.{◌≡◌, option_map};
 ghost use Rattle.toml.specs.View.{table_view};
-ghost use Rattle.block_config.specs.Answer.{Gives};
+ghost use Rattle.answers.specs.Answers.{Gives};
+ghost use Rattle.block_config.specs.Answer.{told};
 ghost use Rattle.block_config.specs.Config as spec;
 ghost use Rattle.block_config.specs.Machines.{section_at};
 ghost use Rattle.block_config.specs.PinView.{pin_view};
@@ -18,7 +19,7 @@ const NAMES: [&str; 4] = ["high", "level", "out", "bypass"];
 
 /// The pins of a configuration.
 pub fn read_pins(alloc: Global, table: Option<&Table>) -> Result<PinLists, ConfigFault>
-    ensures { Gives pin_view result
+    ensures { Gives told pin_view result
         (spec.pins_in (option_map (λ t. table_view t.now) table.entry)) }
 {
     match table {
@@ -34,7 +35,7 @@ pub fn read_pins(alloc: Global, table: Option<&Table>) -> Result<PinLists, Confi
 
 /// The pins of a table.
 fn pins_of(alloc: Global, section: Section, table: &Table) -> Result<PinLists, ConfigFault>
-    ensures { Gives pin_view result
+    ensures { Gives told pin_view result
         (section_at section spec.pin_names (table_view table.now)
         (pin_table_at (table_view table.now))) }
 {

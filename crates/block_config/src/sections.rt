@@ -3,7 +3,8 @@ ghost use Rattle.std.specs.Prelude.{◌≡◌, Some, is_some, option_map};
 ghost use Rattle.std.specs.List.{list_all};
 ghost use Rattle.toml.specs.Data.{as_table};
 ghost use Rattle.toml.specs.View.{items_view, table_view, view};
-ghost use Rattle.block_config.specs.Answer.{Gives};
+ghost use Rattle.answers.specs.Answers.{Gives};
+ghost use Rattle.block_config.specs.Answer.{told};
 ghost use Rattle.block_config.specs.Arrays.{all_items};
 ghost use Rattle.block_config.specs.Config as spec;
 ghost use Rattle.block_config.specs.SectionView.{sections_view};
@@ -30,7 +31,7 @@ pub struct Sections<'t> {
 
 /// The sections of a configuration's table.
 pub fn sections_at<'t>(alloc: Global, table: &'t Table) -> Result<Sections<'t>, ConfigFault>
-    ensures { Gives sections_view result (spec.sections_at (table_view table.entry.now)) }
+    ensures { Gives told sections_view result (spec.sections_at (table_view table.entry.now)) }
 {
     if !are_known(table, &NAMES) {
         return Err(fault_at(alloc, "top", ConfigKind::UnknownKey));

@@ -1,6 +1,5 @@
 //! The name of a span.
 ghost use Rattle.std.specs.Prelude.{◌≡◌, option_map};
-ghost use Rattle.std.specs.List.{list_all};
 ghost use Rattle.toml.specs.View.{table_view};
 ghost use Rattle.block_config.specs.SpanTable as spec;
 ghost use Rattle.block_config.specs.Tables.{seen};
@@ -9,6 +8,7 @@ ghost use Rattle.block_config.specs.Values.{map_ok};
 use crate::fault::ConfigKind;
 use crate::table::{Lack, value_at};
 use crate::value::text_of;
+use pin_matrix::is_span_name;
 use toml::Table;
 
 /// The name of a table: 1 to 32 letters, digits, `_` or `-`.
@@ -34,22 +34,4 @@ fn name_of<'t>(name: Option<&'t str>) -> Result<&'t str, ConfigKind>
         Some(_) => Err(ConfigKind::Range),
         None => Err(ConfigKind::Missing),
     }
-}
-
-fn is_span_name(name: &[u8]) -> bool
-    ensures { result ≡ spec.is_span_name name.now }
-{
-    1 <= name.len() && name.len() <= 32 && are_name_bytes(name)
-}
-
-fn are_name_bytes(name: &[u8]) -> bool
-    ensures { result ≡ list_all (λ b. spec.is_name_byte b) name.now }
-{
-    name.iter().all(|byte| is_name_byte(*byte))
-}
-
-fn is_name_byte(byte: u8) -> bool
-    ensures { result ≡ spec.is_name_byte byte }
-{
-    byte.is_ascii_alphanumeric() || byte == b'_' || byte == b'-'
 }

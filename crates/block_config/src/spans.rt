@@ -1,7 +1,9 @@
 //! All tables of spans.
-ghost use Rattle.std.specs.Prelude.{◌≡◌, Ok, [], map, option_map};
+ghost use Rattle.std.specs.Prelude.{◌≡◌, ◌≤◌, Ok, [], length, map, option_map, IsTrue};
+ghost use Rattle.pin_matrix.specs.Spans.{is_span_name};
 ghost use Rattle.toml.specs.View.{items_view, table_view, view};
-ghost use Rattle.block_config.specs.Answer.{Gives};
+ghost use Rattle.answers.specs.Answers.{Gives};
+ghost use Rattle.block_config.specs.Answer.{told};
 ghost use Rattle.block_config.specs.Block.{keys_of_machine, keys_of_span};
 ghost use Rattle.block_config.specs.LoadView.{loaded_of};
 ghost use Rattle.block_config.specs.Machines.{section_at};
@@ -14,7 +16,7 @@ use crate::programs::Load;
 use crate::span_name::name_at;
 use crate::span_table::SpanValues;
 use crate::table::are_known;
-use pin_matrix::{MachineSetup, Span, Stalls};
+use pin_matrix::{MachineSetup, Span, Spans, Stalls};
 use pio_encode::Name;
 use std::alloc::Global;
 use toml::{Table, Value};
@@ -39,7 +41,7 @@ pub fn read_spans(
     loads: &[Load],
     values: &[Value],
 ) -> Result<Vec<Span>, ConfigFault>
-    ensures { Gives (λ v. map keys_of_span v.items) result
+    ensures { Gives told (λ v. map keys_of_span v.items) result
         (spec.all_spans (map (option_map keys_of_machine) machines.now) (map loaded_of loads.now)
         (items_view values.now)) }
 {
@@ -53,6 +55,17 @@ pub fn read_spans(
     Ok(spans)
 }
 
+/// The spans, which are 64 at most.
+pub fn few_spans(alloc: Global, spans: Vec<Span>) -> Spans
+    requires { length spans.items ≤ 64 }
+    ensures { result ≡ spans.items }
+{
+    match Spans::new(spans) {
+        Some(spans) => spans,
+        None => Spans::empty(alloc),
+    }
+}
+
 /// The span of one table.
 fn span_in(
     alloc: Global,
@@ -61,7 +74,7 @@ fn span_in(
     loads: &[Load],
     value: &Value,
 ) -> Result<Span, ConfigFault>
-    ensures { Gives keys_of_span result
+    ensures { Gives told keys_of_span result
         (spec.span_in (map (option_map keys_of_machine) machines.now) (map loaded_of loads.now)
         place [] (view value.now)) }
 {
@@ -72,6 +85,7 @@ fn span_in(
 }
 
 /// The span of a table.
+#[tactic(auto, using(crate::proofs::SpansInRange::named))]
 fn span_at(
     alloc: Global,
     section: Section,
@@ -79,7 +93,7 @@ fn span_at(
     loads: &[Load],
     table: &Table,
 ) -> Result<Span, ConfigFault>
-    ensures { Gives keys_of_span result
+    ensures { Gives told keys_of_span result
         (section_at section spec.span_names (table_view table.now)
         (spec.span_of_table (map (option_map keys_of_machine) machines.now) (map loaded_of loads.now) (table_view table.now))) }
 {
@@ -98,7 +112,8 @@ fn span_at(
 
 /// A span of its parts; only for want of memory there is none.
 fn span_of(alloc: Global, name: &str, values: &SpanValues) -> Result<Span, ConfigFault>
-    ensures { Gives keys_of_span result (Ok (spec.span_keys_of name.now (values_view values.now))) }
+    requires { IsTrue (is_span_name name.now) }
+    ensures { Gives told keys_of_span result (Ok (spec.span_keys_of name.now (values_view values.now))) }
 {
     let text = name.to_string(alloc)?;
     let stalls = stalls_of(alloc, values)?;
@@ -118,7 +133,7 @@ fn span_of(alloc: Global, name: &str, values: &SpanValues) -> Result<Span, Confi
 
 /// The stalls of a span.
 fn stalls_of(alloc: Global, values: &SpanValues) -> Result<Stalls, ConfigFault>
-    ensures { Gives (λ s. s) result (Ok values.now.stalls.items) }
+    ensures { Gives told (λ s. s) result (Ok values.now.stalls.items) }
 {
     let addresses = values.stalls.as_slice().to_vec(alloc)?;
     match Stalls::new(addresses) {

@@ -1,4 +1,5 @@
 pub mod Fault
 pub mod Line
 pub mod Reading
+pub mod SideBits
 pub mod Listing

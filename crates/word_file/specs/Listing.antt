@@ -1,12 +1,13 @@
 -- The lines of words (choice of this profile).
 use Rattle.std.specs.Prelude.{ℕ, ◌+◌, ◌/◌, ◌%◌, min, Bool, true, false, List, [], ◌∷◌, ◌++◌, codes}
-use Rattle.std.proofs.Math.Nat.{add-le-add_iff_right, min-le_right}
+use Rattle.byte_lines.specs.Bytes.{digit_0}
 use Rattle.pio_encode.specs.declared.rule.SideRule.{SideRule}
 use Rattle.pio_encode.specs.Spelling.{hexadecimal_digit, spelled}
+use Rattle.word_file.specs.SideBits.{beside_enable_bit, alone}
 
 -- a place in the memory as two decimal digits
 abbrev pub place_text : ℕ → List ℕ
-place_text place = (48 + place / 10) ∷ (48 + place % 10) ∷ []
+place_text place = (digit_0 + place / 10) ∷ (digit_0 + place % 10) ∷ []
 
 -- a word as four lower-case hexadecimal digits
 abbrev pub hexadecimal : ℕ → List ℕ
@@ -27,5 +28,5 @@ word_lines rule words = lines_from rule 0 words
 
 -- the rule of so many side-set bits, at most as many as there is room for beside an enable bit (RP2040 Datasheet, section 3.5.1)
 unfoldable pub rule_for : ℕ → Bool → SideRule
-rule_for bits true = record { bits = min bits 4; opt = true; pindirs = false; fits = (add-le-add_iff_right 1 {n = min bits 4} {m = 4}).1 (min-le_right bits 4) }
-rule_for bits false = record { bits = min bits 5; opt = false; pindirs = false; fits = (add-le-add_iff_right 0 {n = min bits 5} {m = 5}).1 (min-le_right bits 5) }
+rule_for bits true = record { bits = min bits 4; opt = true; pindirs = false; fits = beside_enable_bit bits }
+rule_for bits false = record { bits = min bits 5; opt = false; pindirs = false; fits = alone bits }

@@ -1,7 +1,10 @@
 //! One line of a file of words: four hexadecimal digits with blanks around them, or blanks alone.
-ghost use Rattle.std.specs.Prelude.{◌≡◌, ◌<◌, IfSome};
+ghost use Rattle.std.specs.Prelude.{◌≡◌};
 ghost use Rattle.std.specs.List.{list_all};
+ghost use Rattle.byte_lines.specs.Bytes.{is_blank};
 ghost use Rattle.word_file.specs.Line as spec;
+
+use byte_lines::{digit_of, is_blank};
 
 /// What a line says.
 #[derive(Clone, Copy, Debug, PartialEq, Eq)]
@@ -50,37 +53,18 @@ fn said(line: &[u8]) -> Line
 }
 
 fn are_blank(bytes: &[u8]) -> bool
-    ensures { result ≡ list_all spec.is_blank bytes.now }
+    ensures { result ≡ list_all is_blank bytes.now }
 {
     bytes.iter().all(|b| is_blank(*b))
-}
-
-fn is_blank(byte: u8) -> bool
-    ensures { result ≡ spec.is_blank byte }
-{
-    byte == b' ' || byte == b'\t' || byte == b'\r'
 }
 
 /// The word of four hexadecimal digits, the highest first.
 fn word_of(a: u8, b: u8, c: u8, d: u8) -> Option<u16>
     ensures { result ≡ spec.word_of a b c d }
 {
-    let high = digit_of(a)?;
-    let second = digit_of(b)?;
-    let third = digit_of(c)?;
-    let low = digit_of(d)?;
-    Some(4096 * high + 256 * second + 16 * third + low)
-}
-
-/// The value of a hexadecimal digit of either case.
-fn digit_of(byte: u8) -> Option<u16>
-    ensures value { result ≡ spec.digit_of byte }
-    ensures range { IfSome result (λ d. d < 16) }
-{
-    match byte {
-        b'0'..=b'9' => Some(u16::from(byte - b'0')),
-        b'a'..=b'f' => Some(u16::from(byte - b'a') + 10),
-        b'A'..=b'F' => Some(u16::from(byte - b'A') + 10),
-        _ => None,
-    }
+    let high = digit_of(16, a)?;
+    let second = digit_of(16, b)?;
+    let third = digit_of(16, c)?;
+    let low = digit_of(16, d)?;
+    Some((4096 * high + 256 * second + 16 * third + low) as u16)
 }

@@ -1,8 +1,8 @@
 use Rattle.std.proofs.Common.{◌≡◌, ◌≤◌, List, [], ◌∷◌, length, get_or, map, ap, sym, arith}
 use Rattle.pio_assemble.specs.declared.program.Program.{Program}
 use Rattle.pio_assemble.specs.Program.{assembled_of}
-use Rattle.block_config.specs.Answer.{made}
-use Rattle.block_config.specs.Block.{setup_of}
+use Rattle.answers.specs.Answers.{made}
+use Rattle.block_config.specs.SetupOf.{setup_of}
 use Rattle.block_config.specs.Default.{block_of, default_setup_of}
 use Rattle.block_config.proofs.defaults.default_setup.Goals as goal
 

@@ -1,0 +1,145 @@
+-- The spans of a configuration are in the ranges that their type keeps.
+use Rattle.std.proofs.Common.{◌≡◌, ℕ, suc, ◌+◌, ◌<◌, ◌≤◌, ◌^◌, ◌==◌, ◌||◌, ◌&&◌, not, cond, nat_le, nat_lt, Bool, true, false, Option, Some, None, is_some, Result, Ok, Err, List, [], ◌∷◌, length, slice_index, slice_index_or, refl, subst, codes, arith}
+use Rattle.std.specs.List.{AllByRecursion}
+use Rattle.std.proofs.lemmas.Bool.{ltb-false, eqb-true}
+use Rattle.toml.specs.Data.{Data, Items, no_items, item, Members, as_array, as_str, as_table, get_member}
+use Rattle.pin_matrix.specs.declared.span.SpanUnit.{SpanUnit}
+use Rattle.pin_matrix.specs.Spans.{is_in_ticks, is_span_name}
+use Rattle.block_config.specs.Answer.{Refusal}
+use Rattle.block_config.specs.Arrays.{count_items, all_items, gather}
+use Rattle.block_config.specs.Block.{MachineKeys, SpanKeys}
+use Rattle.block_config.specs.declared.fault.ConfigKind.{ConfigKind}
+use Rattle.block_config.specs.declared.fault.ConfigKind.TheVariants.{Many, WrongType, Range}
+use Rattle.block_config.specs.declared.path.Section.TheVariants.{Span}
+use Rattle.block_config.specs.Programs.{Loaded}
+use Rattle.block_config.specs.SpanTable.{span_names, required, name_of, name_at, configured, machine_at, span_pins, edge_at, Ends, ends_at, unit_at, bound_keys, Bounds, ordered, bounds_at, load_of_machine, stall_of, stall_addresses, stalls_in, stalls_of, stalls_at, SpanValues, values_at, span_keys_of, span_of_table, span_in, all_spans}
+use Rattle.block_config.specs.Tables.{and_then, number_at, each_at}
+use Rattle.block_config.specs.Values.{text_of}
+use Rattle.block_config.proofs.Alike.{Bounds as Facts}
+use Rattle.block_config.proofs.Gathered.{gather_keeps, read_table}
+use Rattle.block_config.proofs.Ranges.{goes_on, off_key, ok_same, number_within, all_within, all_defaulted}
+
+record AreEnds (e : Ends) : Type 0 where
+  machine : e.machine < 4
+  from_pin : e.from_pin < 32
+  to_pin : e.to_pin < 32
+
+record AreOrdered (b : Bounds) : Type 0 where
+  ordered : b.least ≤ b.most
+  bounded : b.most < 2 ^ 24
+
+name_tested : (name found : List ℕ) (b : Bool) → is_span_name name ≡ b → cond b (Ok name) (Err Range) ≡ Ok found → is_span_name found ≡ true
+name_tested name found true is e = subst (λ (n : List ℕ). is_span_name n ≡ true) (ok_same name found e) is
+name_tested name found false is e = cc
+
+has_form : (o : Option (List ℕ)) (name : List ℕ) → name_of o ≡ Ok name → is_span_name name ≡ true
+has_form None name e = cc
+has_form (Some n) name e = name_tested n name _ refl e
+
+pub named : (t : Members) (name : List ℕ) → name_at t ≡ Ok name → is_span_name name ≡ true
+named t name e =
+    let read = goes_on (text_of (get_member (codes "name") t)) name_of name (off_key (codes "name") _ name e) in
+    has_form read.value name read.rest
+
+same_machine : (b : Bool) (id found : ℕ) (r : Refusal) → cond b (Ok id) (Err r) ≡ Ok found → id ≡ found
+same_machine true id found r e = ok_same id found e
+same_machine false id found r e = cc
+
+machine_within : (machines : List (Option MachineKeys)) (t : Members) (id : ℕ) → machine_at machines t ≡ Ok id → id < 4
+machine_within machines t id e =
+    let read = goes_on (number_at t (required (codes "machine") 3)) (configured machines) id e in
+    let within = number_within t (required (codes "machine") 3) read.value refl read.found in
+    let same : read.value ≡ id = same_machine (is_some (slice_index_or machines read.value None)) read.value id _ read.rest in
+    let high : read.value ≤ 3 = within.1 in
+    omega arith
+
+are_ends : (machines : List (Option MachineKeys)) (t : Members) (ends : Ends) → ends_at machines t ≡ Ok ends → AreEnds ends
+are_ends machines t ends e =
+    let machine = goes_on (machine_at machines t) (λ machine. and_then (each_at (number_at t) span_pins) (λ pins. and_then (edge_at t (codes "from_edge")) (λ from_rise. and_then (edge_at t (codes "to_edge")) (λ to_rise.
+    Ok (record { machine = machine; from_pin = slice_index pins 0; to_pin = slice_index pins 1; from_rise = from_rise; to_rise = to_rise }))))) ends e in
+    let pins = goes_on (each_at (number_at t) span_pins) (λ pins. and_then (edge_at t (codes "from_edge")) (λ from_rise. and_then (edge_at t (codes "to_edge")) (λ to_rise.
+    Ok (record { machine = machine.value; from_pin = slice_index pins 0; to_pin = slice_index pins 1; from_rise = from_rise; to_rise = to_rise })))) ends machine.rest in
+    let from = goes_on (edge_at t (codes "from_edge")) (λ from_rise. and_then (edge_at t (codes "to_edge")) (λ to_rise.
+    Ok (record { machine = machine.value; from_pin = slice_index pins.value 0; to_pin = slice_index pins.value 1; from_rise = from_rise; to_rise = to_rise }))) ends pins.rest in
+    let to = goes_on (edge_at t (codes "to_edge")) (λ to_rise.
+    Ok (record { machine = machine.value; from_pin = slice_index pins.value 0; to_pin = slice_index pins.value 1; from_rise = from.value; to_rise = to_rise })) ends from.rest in
+    let w = all_within t span_pins pins.value [] 0 (all_defaulted span_pins refl) refl pins.found in
+    let whole : record { machine = machine.value; from_pin = slice_index pins.value 0; to_pin = slice_index pins.value 1; from_rise = from.value; to_rise = to.value } ≡ ends = ok_same _ ends to.rest in
+    subst AreEnds whole (record { machine = machine_within machines t machine.value machine.found; from_pin = omega (arith, w.1); to_pin = omega (arith, w.2.1) })
+
+ordered_tested : (k found : Bounds) (r : Refusal) (b : Bool) → nat_lt k.most k.least ≡ b → cond b (Err r) (Ok k) ≡ Ok found → k.most ≤ 16777215 → AreOrdered found
+ordered_tested k found r true is e high = cc
+ordered_tested k found r false is e high = subst AreOrdered (ok_same k found e) (record { ordered = ltb-false k.most k.least is; bounded = omega arith })
+
+are_ordered : (t : Members) (bounds : Bounds) → bounds_at t ≡ Ok bounds → AreOrdered bounds
+are_ordered t bounds e =
+    let unit = goes_on (unit_at t) (λ unit. and_then (each_at (number_at t) bound_keys) (λ bounds. ordered (record { unit = unit; least = slice_index bounds 0; most = slice_index bounds 1 }))) bounds e in
+    let read = goes_on (each_at (number_at t) bound_keys) (λ bounds. ordered (record { unit = unit.value; least = slice_index bounds 0; most = slice_index bounds 1 })) bounds unit.rest in
+    let w = all_within t bound_keys read.value [] 0 (all_defaulted bound_keys refl) refl read.found in
+    ordered_tested (record { unit = unit.value; least = slice_index read.value 0; most = slice_index read.value 1 }) bounds _ _ refl read.rest w.2.1
+
+-- stalls stand in a span in ticks alone
+abbrev AreInTicks : SpanUnit → List ℕ → Type 0
+AreInTicks unit stalls = (is_in_ticks unit || length stalls == 0) ≡ true
+
+none_in_ticks : (ticks : Bool) → (ticks || true) ≡ true
+none_in_ticks true = refl
+none_in_ticks false = refl
+
+no_addresses : (load : Option Loaded) (ds : Items) (stalls : List ℕ) → count_items ds ≡ 0 → stall_addresses load ds ≡ Ok stalls → [] ≡ stalls
+unfolding gather
+no_addresses load no_items stalls none e = ok_same [] stalls e
+no_addresses load (item d ds) stalls none e = absurd (omega arith)
+
+addresses_in_ticks : (ticks : Bool) (load : Option Loaded) (ds : Items) (stalls : List ℕ) (b : Bool) → (ticks || count_items ds == 0) ≡ b → cond b (stall_addresses load ds) (Err Range) ≡ Ok stalls → (ticks || length stalls == 0) ≡ true
+addresses_in_ticks true load ds stalls b is e = refl
+addresses_in_ticks false load ds stalls true is e =
+    let none : count_items ds ≡ 0 = eqb-true (count_items ds) 0 is in
+    subst (λ (s : List ℕ). (length s == 0) ≡ true) (no_addresses load ds stalls none e) refl
+addresses_in_ticks false load ds stalls false is e = cc
+
+array_in_ticks : (unit : SpanUnit) (load : Option Loaded) (ds : Items) (stalls : List ℕ) (texts few : Bool)
+    → cond texts (cond few (cond (is_in_ticks unit || count_items ds == 0) (stall_addresses load ds) (Err Range)) (Err Many)) (Err WrongType) ≡ Ok stalls → AreInTicks unit stalls
+array_in_ticks unit load ds stalls true true e = addresses_in_ticks (is_in_ticks unit) load ds stalls _ refl e
+array_in_ticks unit load ds stalls true false e = cc
+array_in_ticks unit load ds stalls false few e = cc
+
+in_ticks : (unit : SpanUnit) (load : Option Loaded) (o : Option Items) (stalls : List ℕ) → stalls_in unit load o ≡ Ok stalls → AreInTicks unit stalls
+in_ticks unit load None stalls e = cc
+in_ticks unit load (Some ds) stalls e = array_in_ticks unit load ds stalls (all_items (λ d. is_some (as_str d)) ds) (nat_le (count_items ds) 16) e
+
+value_in_ticks : (unit : SpanUnit) (load : Option Loaded) (o : Option Data) (stalls : List ℕ) → stalls_of unit load o ≡ Ok stalls → AreInTicks unit stalls
+value_in_ticks unit load None stalls e = subst (AreInTicks unit) (ok_same [] stalls e) (none_in_ticks (is_in_ticks unit))
+value_in_ticks unit load (Some d) stalls e = in_ticks unit load (as_array d) stalls e
+
+parts_in_range : (name : List ℕ) (v : SpanValues) → is_span_name name ≡ true → AreEnds v.ends → AreOrdered v.bounds → AreInTicks v.bounds.unit v.stalls → Facts (span_keys_of name v)
+parts_in_range name v n e b s = record {
+  named = n;
+  machine_in_block = e.machine;
+  from_pin_is_a_pin = e.from_pin;
+  to_pin_is_a_pin = e.to_pin;
+  ordered = b.ordered;
+  bounded = b.bounded;
+  stalls_in_ticks = s;
+}
+
+table_in_range : (machines : List (Option MachineKeys)) (loads : List Loaded) (t : Members) (s : SpanKeys) → span_of_table machines loads t ≡ Ok s → Facts s
+table_in_range machines loads t s e =
+    let name = goes_on (name_at t) (λ name. and_then (values_at machines loads t) (λ values. Ok (span_keys_of name values))) s e in
+    let values = goes_on (values_at machines loads t) (λ values. Ok (span_keys_of name.value values)) s name.rest in
+    let v = values.value in
+    let ends = goes_on (ends_at machines t) (λ ends. and_then (bounds_at t) (λ bounds. and_then (stalls_at bounds.unit (load_of_machine loads (slice_index_or machines ends.machine None)) t) (λ stalls. Ok (record { ends = ends; bounds = bounds; stalls = stalls })))) v values.found in
+    let load = load_of_machine loads (slice_index_or machines ends.value.machine None) in
+    let bounds = goes_on (bounds_at t) (λ bounds. and_then (stalls_at bounds.unit load t) (λ stalls. Ok (record { ends = ends.value; bounds = bounds; stalls = stalls }))) v ends.rest in
+    let stalls = goes_on (stalls_at bounds.value.unit load t) (λ stalls. Ok (record { ends = ends.value; bounds = bounds.value; stalls = stalls })) v bounds.rest in
+    let whole : record { ends = ends.value; bounds = bounds.value; stalls = stalls.value } ≡ v = ok_same _ v stalls.rest in
+    let told : AreInTicks bounds.value.unit stalls.value = value_in_ticks bounds.value.unit load (get_member (codes "stalls") t) stalls.value (off_key (codes "stalls") _ stalls.value stalls.found) in
+    let parts : Facts (span_keys_of name.value (record { ends = ends.value; bounds = bounds.value; stalls = stalls.value })) =
+    parts_in_range name.value _ (named t name.value name.found) (are_ends machines t ends.value ends.found) (are_ordered t bounds.value bounds.found) told in
+    subst Facts (ok_same (span_keys_of name.value v) s values.rest) (subst (λ (x : SpanValues). Facts (span_keys_of name.value x)) whole parts)
+
+pub spans_in_range : (machines : List (Option MachineKeys)) (loads : List Loaded) (tables : Items) (spans : List SpanKeys) → all_spans machines loads tables ≡ Ok spans → AllByRecursion Facts spans
+spans_in_range machines loads tables spans e =
+    gather_keeps Facts (span_in machines loads) (λ place front d s _ read.
+    let table = read_table (codes "span") (as_table d) (Span place) span_names (span_of_table machines loads) s read in
+    table_in_range machines loads table.0 s table.1) tables 0 [] spans tt e

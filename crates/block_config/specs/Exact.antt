@@ -1,0 +1,11 @@
+-- A setup says exactly what its configuration says (`a_configuration_is_not_clipped`, `the_default_is_not_clipped`).
+use Rattle.std.specs.Prelude.{◌≡◌, Result}
+use Rattle.pin_matrix.specs.declared.setup.Setup.{Setup}
+use Rattle.answers.specs.Answers.{made}
+use Rattle.block_config.specs.Answer.{Refusal}
+use Rattle.block_config.specs.Block.{BlockKeys, keys_of_block}
+
+-- What the setup says, field by field, is what was said: every number of every machine, the pins, and each span with its name,
+-- its bounds and its stalls. Where nothing was said for a fault, the fault is the same.
+abbrev pub SaysExactly : Result Setup Refusal → Result BlockKeys Refusal → Type 0
+SaysExactly setup said = made keys_of_block setup ≡ said
