@@ -1,3 +1,4 @@
 pub mod Values
 pub mod Causes
 pub mod Usual
+pub mod Made

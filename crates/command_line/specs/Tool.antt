@@ -26,51 +26,52 @@ abbrev pub up_to : ℕ → Rule → Rule
 up_to most rule = record rule { parser = Some (Unsigned 0 most) }
 
 -- `--source S`: the source's name
-abbrev pub source_rule : Rule
+unfoldable pub source_rule : Rule
 source_rule = required (option_rule (codes "source"))
 
 -- `--config C`: the name of a configuration, which need not be given
-abbrev pub config_rule : Rule
+unfoldable pub config_rule : Rule
 config_rule = option_rule (codes "config")
 
 -- `--stimulus T`: the name of a stimulus, which need not be given
-abbrev pub stimulus_rule : Rule
+unfoldable pub stimulus_rule : Rule
 stimulus_rule = option_rule (codes "stimulus")
 
 -- `--clocks N`: a number of clocks
-abbrev pub clocks_rule : Rule
+unfoldable pub clocks_rule : Rule
 clocks_rule = up_to clock_limit (required (option_rule (codes "clocks")))
 
 -- `FILE`, a name that stands alone
-abbrev pub file_rule : Rule
+unfoldable pub file_rule : Rule
 file_rule = required (record (new_rule (codes "file")) { action = Some Set })
 
 -- `--side n`: a number of side-set bits, and 0 where it isn't given
-abbrev pub side_rule : Rule
+unfoldable pub side_rule : Rule
 side_rule = record (up_to side_limit (option_rule (codes "side"))) { defaults = codes "0" ∷ [] }
 
 -- `--opt`, a flag: the side-set value is optional
-abbrev pub opt_rule : Rule
+unfoldable pub opt_rule : Rule
 opt_rule = record (new_rule (codes "opt")) { long = Some (codes "opt"); action = Some SetTrue }
 
 -- `asm FILE`
-abbrev pub asm_app : App
+unfoldable pub asm_app : App
 asm_app = with_rule (new_app (codes "asm")) file_rule
 
 -- `run --source S [--config C] [--stimulus T] --clocks N`
-abbrev pub run_app : App
+unfoldable pub run_app : App
 run_app = with_rule (with_rule (with_rule (with_rule (new_app (codes "run")) source_rule) config_rule) stimulus_rule) clocks_rule
 
 -- `dis FILE [--side n] [--opt]`
-abbrev pub dis_app : App
+unfoldable pub dis_app : App
 dis_app = with_rule (with_rule (with_rule (new_app (codes "dis")) file_rule) side_rule) opt_rule
 
 -- `piotool` with no arguments of its own, which wants a subcommand
-abbrev pub bare_app : App
+unfoldable pub bare_app : App
 bare_app = record (new_app (codes "piotool")) {
   top = record (new_app (codes "piotool")).top { subcommand_required = true };
 }
 
--- `piotool` with its subcommands
+-- `piotool` with its subcommands; who unfolds it unfolds all that it is made of
 unfoldable pub tool : App
+unfolding bare_app asm_app run_app dis_app file_rule source_rule config_rule stimulus_rule clocks_rule side_rule opt_rule
 tool = with_subcommand (with_subcommand (with_subcommand bare_app asm_app.top) run_app.top) dis_app.top

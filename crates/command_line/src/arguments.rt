@@ -17,6 +17,7 @@ fn option<'a>(alloc: Global, name: &'a str) -> Arg<'a>
 }
 
 /// `--source S`: the source's name, any text.
+#[tactic(auto, unfolding(crate::specs::Tool::source_rule))]
 pub fn source<'a>(alloc: Global) -> Arg<'a>
     ensures rule { rule_of result ≡ source_rule }
     ensures local { result.global ≡ false }
@@ -27,6 +28,7 @@ pub fn source<'a>(alloc: Global) -> Arg<'a>
 }
 
 /// `--config C`: the configuration's name, any text, where one is given.
+#[tactic(auto, unfolding(crate::specs::Tool::config_rule))]
 pub fn config<'a>(alloc: Global) -> Arg<'a>
     ensures rule { rule_of result ≡ config_rule }
     ensures local { result.global ≡ false }
@@ -35,6 +37,7 @@ pub fn config<'a>(alloc: Global) -> Arg<'a>
 }
 
 /// `--stimulus T`: the stimulus's name, any text, where one is given.
+#[tactic(auto, unfolding(crate::specs::Tool::stimulus_rule))]
 pub fn stimulus<'a>(alloc: Global) -> Arg<'a>
     ensures rule { rule_of result ≡ stimulus_rule }
     ensures local { result.global ≡ false }
@@ -43,6 +46,7 @@ pub fn stimulus<'a>(alloc: Global) -> Arg<'a>
 }
 
 /// `--clocks N`: 0 to 10^12 clocks.
+#[tactic(auto, unfolding(crate::specs::Tool::clocks_rule))]
 pub fn clocks<'a>(alloc: Global) -> Arg<'a>
     ensures rule { rule_of result ≡ clocks_rule }
     ensures local { result.global ≡ false }
@@ -54,6 +58,7 @@ pub fn clocks<'a>(alloc: Global) -> Arg<'a>
 }
 
 /// `FILE`: the name of a file, any text.
+#[tactic(auto, unfolding(crate::specs::Tool::file_rule))]
 pub fn file<'a>(alloc: Global, help: &'a str) -> Arg<'a>
     ensures rule { rule_of result ≡ file_rule }
     ensures local { result.global ≡ false }
@@ -65,6 +70,7 @@ pub fn file<'a>(alloc: Global, help: &'a str) -> Arg<'a>
 }
 
 /// `--side n`: 0 to 5 side-set bits, 0 where it isn't given.
+#[tactic(auto, unfolding(crate::specs::Tool::side_rule))]
 pub fn side<'a>(alloc: Global) -> Arg<'a>
     ensures rule { rule_of result ≡ side_rule }
     ensures local { result.global ≡ false }
@@ -76,6 +82,7 @@ pub fn side<'a>(alloc: Global) -> Arg<'a>
 }
 
 /// `--opt`: one side-set bit says whether a word has a side-set value.
+#[tactic(auto, unfolding(crate::specs::Tool::opt_rule))]
 pub fn opt<'a>(alloc: Global) -> Arg<'a>
     ensures rule { rule_of result ≡ opt_rule }
     ensures local { result.global ≡ false }

@@ -1,14 +1,14 @@
 //! The command `piotool` for clap, one function for each subcommand.
 ghost use Rattle.std.specs.Prelude.{◌≡◌, IfOk, false};
-ghost use Rattle.clap.specs.Simple.{app_of, with_subcommand};
+ghost use Rattle.clap.specs.Simple.{app_of, with_rule, with_subcommand};
+ghost use Rattle.clap.specs.Walk.{rule_of};
 ghost use Rattle.clap.specs.declared.builder.command.Command.TheViews.{out-Command as fields_of};
 ghost use Rattle.command_line.specs.Tool.{asm_app, bare_app, dis_app, run_app, tool as tool_app};
 
 use crate::arguments;
-use clap::Command;
+use clap::{Arg, Command};
 use std::alloc::{AllocError, Global};
 
-#[tactic(auto, unfolding(crate::specs::Tool::tool))]
 /// The command with all its subcommands.
 pub fn tool<'a>(alloc: Global) -> Result<Command<'a>, AllocError>
     ensures app { IfOk result (λ c. app_of c ≡ tool_app) }
@@ -21,6 +21,7 @@ pub fn tool<'a>(alloc: Global) -> Result<Command<'a>, AllocError>
     Ok(command)
 }
 
+#[tactic(auto, unfolding(crate::specs::Tool::bare_app))]
 fn bare<'a>(alloc: Global) -> Command<'a>
     ensures app { app_of result ≡ bare_app }
     ensures local { (fields_of result).has_globals ≡ false }
@@ -30,36 +31,52 @@ fn bare<'a>(alloc: Global) -> Command<'a>
         .subcommand_required(true)
 }
 
+#[tactic(auto, unfolding(crate::specs::Tool::asm_app))]
 fn asm<'a>(alloc: Global) -> Result<Command<'a>, AllocError>
     ensures app { IfOk result (λ c. app_of c ≡ asm_app) }
     ensures local { IfOk result (λ c. (fields_of c).has_globals ≡ false) }
 {
-    Command::new(alloc, "asm")
-        .about("Writes the words of each program, with what they mean")
-        .arg(arguments::file(alloc, "The programs, in pioasm"))
+    let command = Command::new(alloc, "asm").about(
+        "Writes the words of each program, with what they mean",
+    );
+    with_argument(command, arguments::file(alloc, "The programs, in pioasm"))
 }
 
+#[tactic(auto, unfolding(crate::specs::Tool::run_app))]
 fn run<'a>(alloc: Global) -> Result<Command<'a>, AllocError>
     ensures app { IfOk result (λ c. app_of c ≡ run_app) }
     ensures local { IfOk result (λ c. (fields_of c).has_globals ≡ false) }
 {
-    Command::new(alloc, "run")
-        .about("Traces the pins of a program clock by clock, as a value-change dump")
-        .arg(arguments::source(alloc))?
-        .arg(arguments::config(alloc))?
-        .arg(arguments::stimulus(alloc))?
-        .arg(arguments::clocks(alloc))
+    let command = Command::new(alloc, "run").about(
+        "Traces the pins of a program clock by clock, as a value-change dump",
+    );
+    let command = with_argument(command, arguments::source(alloc))?;
+    let command = with_argument(command, arguments::config(alloc))?;
+    let command = with_argument(command, arguments::stimulus(alloc))?;
+    with_argument(command, arguments::clocks(alloc))
 }
 
+#[tactic(auto, unfolding(crate::specs::Tool::dis_app))]
 fn dis<'a>(alloc: Global) -> Result<Command<'a>, AllocError>
     ensures app { IfOk result (λ c. app_of c ≡ dis_app) }
     ensures local { IfOk result (λ c. (fields_of c).has_globals ≡ false) }
 {
-    Command::new(alloc, "dis")
-        .about("Writes the instruction that each word means")
-        .arg(arguments::file(alloc, "The words, four hexadecimal digits a line"))?
-        .arg(arguments::side(alloc))?
-        .arg(arguments::opt(alloc))
+    let command = Command::new(alloc, "dis").about("Writes the instruction that each word means");
+    let file = arguments::file(alloc, "The words, four hexadecimal digits a line");
+    let command = with_argument(command, file)?;
+    let command = with_argument(command, arguments::side(alloc))?;
+    with_argument(command, arguments::opt(alloc))
+}
+
+/// The command with one argument more.
+fn with_argument<'a>(command: Command<'a>, argument: Arg<'a>) -> Result<Command<'a>, AllocError>
+    requires local { (fields_of command).has_globals ≡ false }
+    requires argument_local { argument.global ≡ false }
+    ensures app { IfOk result (λ c.
+        app_of c ≡ with_rule (app_of command.entry) (rule_of argument.entry)) }
+    ensures local { IfOk result (λ c. (fields_of c).has_globals ≡ false) }
+{
+    command.arg(argument)
 }
 
 /// The command with one subcommand more.

@@ -8,8 +8,6 @@ mod laws;
 mod matching;
 mod order;
 mod reading;
-#[cfg(test)]
-mod tests;
 
 pub use laws::{asm_words, dis_words, run_words};
 pub use order::{Order, WordsFault};

@@ -4,7 +4,8 @@ use Rattle.std.specs.Prelude.{option_map, option_and_then, is_some}
 use Rattle.std.proofs.lemmas.List.{at_drop_more}
 use Rattle.std.proofs.lemmas.Bool.{cases_lt}
 use Rattle.std.proofs.lemmas.Nat.{mul-le}
-use Rattle.dreq_pacing.specs.Number.{number_from, digit_of, capped}
+use Rattle.byte_lines.specs.Bytes.{digit_of}
+use Rattle.dreq_pacing.specs.Number.{number_from, capped}
 
 -- one more digit
 more : (base a b d : ℕ) → 1 ≤ base → capped a ≡ capped b → capped (a * base + d) ≡ capped (b * base + d)

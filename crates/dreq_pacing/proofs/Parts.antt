@@ -4,7 +4,8 @@ use Rattle.std.specs.List.{filter, AllByRecursion}
 use Rattle.std.proofs.lemmas.List.{at_drop_more, take-append-drop, take_all, take_more}
 use Rattle.std.proofs.lemmas.List.Elements.{All-from_recursion}
 use Rattle.std.proofs.lemmas.List.Splits.{slice_split_none, slice_split_at}
-use Rattle.dreq_pacing.specs.Fields.{is_blank, has_bytes, parted, with_field}
+use Rattle.byte_lines.specs.Bytes.{is_blank}
+use Rattle.dreq_pacing.specs.Fields.{has_bytes, parted, with_field}
 
 -- no blank is in it
 abbrev pub HasNoBlank : List ℕ → Type 0

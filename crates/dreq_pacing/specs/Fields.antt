@@ -1,15 +1,16 @@
 -- The fields of a line: the parts between blanks of what stands before `#`, without the empty ones (choice of this profile).
-use Rattle.std.specs.Prelude.{ℕ, ◌==◌, ◌||◌, Bool, true, false, List, [], ◌∷◌, if◌then◌else◌}
+use Rattle.std.specs.Prelude.{ℕ, ◌==◌, Bool, true, false, List, [], ◌∷◌, if◌then◌else◌}
 use Rattle.std.specs.List.{filter, slice_split}
+use Rattle.byte_lines.specs.Bytes.{is_blank}
 
--- space, tab or CR
-abbrev pub is_blank : ℕ → Bool
-is_blank b = b == 32 || (b == 9 || b == 13)
+-- `#`, which begins a comment
+abbrev pub number_sign : ℕ
+number_sign = 35
 
 -- what stands before the first `#`
 abbrev pub before_comment : List ℕ → List ℕ
 before_comment [] = []
-before_comment (b ∷ bs) = if b == 35 then [] else b ∷ before_comment bs
+before_comment (b ∷ bs) = if b == number_sign then [] else b ∷ before_comment bs
 
 -- whether there is a byte
 abbrev pub has_bytes : List ℕ → Bool

@@ -6,6 +6,7 @@
 use Rattle.std.specs.Prelude.{ℕ, ◌==◌, ◌&&◌, min, Bool, Option, Some, None, option_and_then, List, [], ◌∷◌, drop, slice_get, length, Result, Ok, Err, if◌then◌else◌, codes}
 use Rattle.std.specs.List.{list_all}
 use Rattle.std.specs.Str.{bytes_eq}
+use Rattle.answers.specs.Steps.{◌>>=◌}
 use Rattle.dreq_pacing.specs.declared.fault.StimKind.{StimKind}
 use Rattle.dreq_pacing.specs.declared.fault.StimKind.TheVariants.{BadLine, Range}
 use Rattle.dreq_pacing.specs.declared.verb.Verb.{Verb}
@@ -15,11 +16,6 @@ use Rattle.dreq_pacing.specs.declared.line.Act.TheVariants as act
 use Rattle.dreq_pacing.specs.declared.line.Line.{Line}
 use Rattle.dreq_pacing.specs.Lines.{last_clock, longest_period}
 use Rattle.dreq_pacing.specs.Number.{is_number, in_range}
-
--- what comes next, where something is there
-infixl 10 ◌>>=◌
-abbrev pub ◌>>=◌ : {A B : Type 0} → Option A → (A → Option B) → Option B
-o >>= f = option_and_then f o
 
 -- the greatest word
 abbrev pub greatest_word : ℕ

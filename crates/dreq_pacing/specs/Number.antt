@@ -1,17 +1,11 @@
 -- Numbers of a stimulus: decimal digits, or `0x` and hexadecimal digits of either case, as many as there are
 -- (choice of this profile).
-use Rattle.std.specs.Prelude.{ℕ, ◌+◌, ◌-◌, ◌*◌, ◌==◌, ◌&&◌, nat_le, nat_lt, min, Bool, Option, Some, None, is_some, option_and_then, List, [], ◌∷◌, if◌then◌else◌}
+use Rattle.std.specs.Prelude.{ℕ, ◌+◌, ◌*◌, ◌==◌, ◌&&◌, nat_le, min, Bool, Option, Some, None, is_some, option_and_then, List, [], ◌∷◌, if◌then◌else◌}
+use Rattle.byte_lines.specs.Bytes.{digit_0, digit_of}
 
--- a digit below a base
-abbrev pub below : ℕ → ℕ → Option ℕ
-below base d = if nat_lt d base then Some d else None
-
--- the value of a digit of either case
-abbrev pub digit_of : ℕ → ℕ → Option ℕ
-digit_of base b =
-    if nat_le 48 b && nat_le b 57 then below base (b - 48) else
-    if nat_le 97 b && nat_le b 102 then below base (b - 97 + 10) else
-    if nat_le 65 b && nat_le b 70 then below base (b - 65 + 10) else None
+-- `x`, which stands behind `0` in front of hexadecimal digits
+abbrev pub small_x : ℕ
+small_x = 120
 
 -- the number whose first digits have this value, and whose others are these
 abbrev pub number_from : ℕ → ℕ → List ℕ → Option ℕ
@@ -27,7 +21,7 @@ number_in base (b ∷ bs) = number_from base 0 (b ∷ bs)
 abbrev pub number_of : List ℕ → Option ℕ
 number_of [] = None
 number_of (b ∷ []) = number_in 10 (b ∷ [])
-number_of (b ∷ c ∷ digits) = if b == 48 && c == 120 then number_in 16 digits else number_in 10 (b ∷ c ∷ digits)
+number_of (b ∷ c ∷ digits) = if b == digit_0 && c == small_x then number_in 16 digits else number_in 10 (b ∷ c ∷ digits)
 
 -- whether a field is a number
 abbrev pub is_number : List ℕ → Bool

@@ -1,8 +1,9 @@
 -- What a stimulus has: its lines, or its first fault (choice of this profile).
+--   Refusal      a fault with its line
 --   version_of   the version that a version line tells
 --   after_line   a reader after one more line
 --   stimulus_of  the lines of a text, or its first fault
-use Rattle.std.specs.Prelude.{◌≡◌, ℕ, ◌+◌, ◌==◌, ◌&&◌, nat_lt, Bool, false, Option, Some, None, List, [], ◌∷◌, Result, Ok, Err, map, if◌then◌else◌, codes}
+use Rattle.std.specs.Prelude.{ℕ, ◌+◌, ◌==◌, ◌&&◌, nat_lt, Bool, false, Option, Some, None, List, [], ◌∷◌, Result, Ok, Err, map, if◌then◌else◌, codes}
 use Rattle.std.specs.Str.{bytes_eq}
 use Rattle.byte_lines.specs.Lines.{lines_of}
 use Rattle.dreq_pacing.specs.declared.fault.StimKind.{StimKind}
@@ -15,6 +16,11 @@ use Rattle.dreq_pacing.specs.Drafts.{first_draft, objection, with_line}
 use Rattle.dreq_pacing.specs.Fields.{fields_of}
 use Rattle.dreq_pacing.specs.Form.{line_of}
 use Rattle.dreq_pacing.specs.Number.{is_number, in_range}
+
+-- where a stimulus is faulty, and why
+pub record Refusal : Type 0 where
+  pub line : ℕ
+  pub kind : StimKind
 
 -- the most lines with fields
 abbrev pub most_lines : ℕ
@@ -61,18 +67,18 @@ after_line r (field ∷ fields) =
     else Err Many
 
 -- the lines of a reader after lines with these fields, or the first fault; the first of them has this number
-abbrev pub lines_from : ℕ → Reader → List (List (List ℕ)) → Result (List Line) StimFault
+abbrev pub lines_from : ℕ → Reader → List (List (List ℕ)) → Result (List Line) Refusal
 lines_from number r [] = Ok r.draft.lines
 lines_from number r (fields ∷ rest) = elim (after_line r fields) [
   | Ok after ↦ lines_from (number + 1) after rest
-  | Err kind ↦ Err (At number kind)
+  | Err kind ↦ Err (record { line = number; kind = kind })
 ]
 
 -- The lines of a text, or its first fault.
-unfoldable pub stimulus_of : List ℕ → Result (List Line) StimFault
+unfoldable pub stimulus_of : List ℕ → Result (List Line) Refusal
 stimulus_of text = lines_from 1 first_reader (map fields_of (lines_of text))
 
--- that memory ran out, or this is the text's first fault
-abbrev pub IsRefused : StimFault → List ℕ → Type 0
-IsRefused Memory text = Unit {0}
-IsRefused (At line kind) text = stimulus_of text ≡ Err (At line kind)
+-- the fault that is told, nothing where memory ran out
+abbrev pub told : StimFault → Option Refusal
+told Memory = None
+told (At line kind) = Some (record { line = line; kind = kind })

@@ -2,6 +2,7 @@
 ghost use Rattle.std.specs.Prelude.{◌≡◌, ◌∷◌, ◌<◌, ◌≤◌, [], drop, length, option_copied, slice_get, MatchOption};
 ghost use Rattle.dreq_pacing.specs.Fields as spec;
 
+use byte_lines::is_blank;
 use std::marker::Model;
 
 /// The fields of a line that are still to be read, which contracts see as their list.
@@ -80,10 +81,4 @@ fn first_part(text: &[u8]) -> (&[u8], &[u8])
         }
     }
     (text, &[])
-}
-
-fn is_blank(byte: u8) -> bool
-    ensures { result ≡ spec.is_blank byte }
-{
-    byte == b' ' || byte == b'\t' || byte == b'\r'
 }

@@ -26,8 +26,3 @@ pub use line::{Act, Line, Words};
 pub use ports::HostPorts;
 pub use reading::read_stimulus;
 pub use schedule::Schedule;
-
-#[cfg(test)]
-mod port_tests;
-#[cfg(test)]
-mod tests;

@@ -1,7 +1,9 @@
 //! Numbers of a stimulus: decimal digits, or `0x` and hexadecimal digits of either case, as many as there are
 //! (choice of this profile).
-ghost use Rattle.std.specs.Prelude.{◌≡◌, ◌<◌, ◌≤◌, IfSome, is_some, option_map};
+ghost use Rattle.std.specs.Prelude.{◌≡◌, ◌≤◌, IfSome, is_some, option_map};
 ghost use Rattle.dreq_pacing.specs.Number as spec;
+
+use byte_lines::digit_of;
 
 /// Past every range: a number from here on counts as this.
 const PAST: u64 = 1_000_000_000_001;
@@ -63,27 +65,4 @@ fn value_of(base: u64, digits: &[u8]) -> Option<u64>
         value = (value * base + digit_of(base, *byte)?).min(PAST);
     }
     Some(value)
-}
-
-/// The value of a digit of either case.
-fn digit_of(base: u64, byte: u8) -> Option<u64>
-    requires { base ≤ 16 }
-    ensures value { result ≡ spec.digit_of base byte }
-    ensures range { IfSome result (λ d. d < 16) }
-{
-    match byte {
-        b'0'..=b'9' => below(base, u64::from(byte - b'0')),
-        b'a'..=b'f' => below(base, u64::from(byte - b'a') + 10),
-        b'A'..=b'F' => below(base, u64::from(byte - b'A') + 10),
-        _ => None,
-    }
-}
-
-/// The digit, where it is one to the base.
-fn below(base: u64, digit: u64) -> Option<u64>
-    requires { base ≤ 16 }
-    ensures value { result ≡ spec.below base digit }
-    ensures range { IfSome result (λ d. d < 16) }
-{
-    if digit < base { Some(digit) } else { None }
 }

@@ -1,9 +1,10 @@
 //! A stimulus, line by line: its version, and then its lines in order (choice of this profile).
-ghost use Rattle.std.specs.Prelude.{◌≡◌, ◌<◌, Ok, Err, IfOk, IfErr, MatchOption, MatchResult};
+ghost use Rattle.std.specs.Prelude.{◌≡◌, ◌<◌, Ok, Err, IfOk, IfErr, MatchOption};
+ghost use Rattle.answers.specs.Answers.{Answers};
 ghost use Rattle.dreq_pacing.specs.declared.fault.StimFault.TheVariants.{Memory};
 ghost use Rattle.dreq_pacing.specs.Form.{line_of};
 ghost use Rattle.dreq_pacing.specs.Reading as spec;
-ghost use Rattle.dreq_pacing.specs.Reading.{after_line, stimulus_of, IsRefused};
+ghost use Rattle.dreq_pacing.specs.Reading.{after_line, stimulus_of, told};
 
 use crate::draft::Draft;
 use crate::fault::{StimFault, StimKind};
@@ -19,8 +20,7 @@ use std::alloc::Global;
 /// A file holds at most 1,000,000 lines with fields; how long it may be is up to the caller. It takes memory in
 /// proportion to its lines with fields and to the words of its feeds.
 pub fn read_stimulus(alloc: Global, text: &[u8]) -> Result<Schedule, StimFault>
-    ensures { MatchResult result (λ schedule. stimulus_of text.now ≡ Ok schedule)
-        (λ fault. IsRefused fault text.now) }
+    ensures { Answers told result (stimulus_of text.now) }
 {
     let mut reader = Reader::new(alloc);
     let mut rest = Some(text);

@@ -1,5 +1,5 @@
-//! Rows of stimuli: what is read of them, and what the ports do clock by clock, worked by hand from the rules.
-use super::*;
+//! Rows of stimuli: what is read of them, worked by hand from the rules.
+use dreq_pacing::{StimFault, StimKind, read_stimulus};
 use std::alloc::{AllocError, Global};
 
 // How many lines a text has, or its fault.

@@ -1,5 +1,5 @@
 //! Rows of the ports, worked by hand from the rules of transfers: what they do in the first twelve clocks.
-use super::*;
+use dreq_pacing::{Due, HostPorts, Requests, Schedule, read_stimulus};
 
 const NONE: Requests = Requests {
     tx: [false; 4],

@@ -1,7 +1,6 @@
 //! What word lists ask for. A row has the words behind the program's name, and what they give, worked by hand from the
 //! usage of the subcommands and the rules of Rust's crate clap, version 4.
-use crate::order::{Order, WordsFault};
-use crate::reading::read;
+use command_line::{Order, WordsFault, read};
 use std::alloc::{AllocError, Global};
 use std::test::Fail;
 

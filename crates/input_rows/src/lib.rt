@@ -1,0 +1,9 @@
+//! The worked rows of stimuli and of the words of a call, run over the public calls of their readers.
+#![tactic(auto)]
+
+#[cfg(test)]
+mod port_tests;
+#[cfg(test)]
+mod stimulus_tests;
+#[cfg(test)]
+mod word_tests;
