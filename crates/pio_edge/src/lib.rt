@@ -23,8 +23,3 @@ pub use puts::put_all;
 pub use shelf::{Fetch, Shelf};
 pub use sink::{Sink, SinkFailed};
 pub use sure_sink::SureSink;
-
-#[cfg(test)]
-mod memory_tests;
-#[cfg(test)]
-mod outside_tests;

@@ -27,6 +27,3 @@ pub use relocation::relocate;
 pub use rule::SideRule;
 pub use spelling::spell;
 pub use word::{encode, op_fits};
-
-#[cfg(test)]
-mod tests;

@@ -1,2 +1,4 @@
 pub mod Quiet
+pub mod Preparing
+pub mod Wanting
 pub mod Pieces

@@ -1,19 +1,16 @@
--- What a quiet call comes to, end by end.
-use Rattle.std.proofs.Common.{◌≡◌, ℕ, true, false, inl, inr, Option, Some, None, List, IfSome, refl, sym, ◌∙◌, subst}
-use Rattle.pio_edge.specs.Edge.{Files, with_bytes}
+-- Completeness: what a quiet call comes to, end by end.
+use Rattle.std.proofs.Common.{◌≡◌, ◌≢◌, ℕ, Option, Some, None, List, IfSome, refl, sym, ap, subst, le_refl}
+use Rattle.pio_edge.specs.Count.{Faults, failed_at, one_more}
+use Rattle.pio_edge.specs.Edge.{Files, Rose, with_bytes}
 use Rattle.piotool.specs.declared.fault.Fault.{Fault}
 use Rattle.piotool.specs.declared.fault.Fault.TheVariants as fault
 use Rattle.clap.specs.Walk.{Text}
-use Rattle.command_line.specs.Words.{Asked, Asks, IsRefused, has_no_room}
-use Rattle.piotool.specs.Judged.{Judged, right, wrong, IfRight, judge}
-use Rattle.piotool.specs.Promise.{Call}
-use Rattle.piotool.specs.Complete.{Quiet, EndsByFiles}
-
--- words ask for one thing
-one_asked : (words : List Text) (a b : Asked) → Asks words a → Asks words b → a ≡ b
-one_asked words a b p q =
-    let e : Some a ≡ Some b = sym p.asked ∙ q.asked in
-    cc
+use Rattle.command_line.specs.Words.{Asked, IsTaken}
+use Rattle.piotool.specs.Judged.{Judged, right, wrong, IfRight, judge, file_in}
+use Rattle.piotool.specs.Outside.{HasSuch, Call}
+use Rattle.piotool.specs.Promise.{Ends, EndsAs}
+use Rattle.piotool.specs.Wanted.{wanted}
+use Rattle.piotool.specs.Complete.{Quiet, EndsByFiles, FilesDecide}
 
 -- of files that are told, what holds of them holds
 of_told : (P : Files → Type 0) (files : Option Files) (f : Files) → files ≡ Some f → IfSome files P → P f
@@ -22,7 +19,7 @@ of_told P files f e h =
     k
 
 -- a text that was taken
-of_right : (c : Call) (j : Judged (List ℕ)) → IfRight j (λ text. c.out_after ≡ with_bytes c.out_before text) → EndsByFiles c j None
+of_right : (c : Call) (j : Judged (List ℕ)) → IfRight j (λ text. c.out_after.taken ≡ with_bytes c.out_before.taken text) → EndsByFiles c j None
 of_right c (right text) h = (refl, h)
 of_right c (wrong e) h = absurd h
 
@@ -30,41 +27,38 @@ of_right c (wrong e) h = absurd h
 of_wrong : (c : Call) (j : Judged (List ℕ)) (e : Fault) → j ≡ wrong e → EndsByFiles c j (Some e)
 of_wrong c j e h = subst (λ (k : Judged (List ℕ)). EndsByFiles c k (Some e)) (sym h) refl
 
--- words that ask for something with room for it aren't refused
-not_refused : (words : List Text) (a : Asked) → Asks words a → has_no_room a ≡ false → IsRefused words → ⊥
-not_refused words a asks room (inl refused) = refused asks.taken
-not_refused words a asks room (inr pair) =
-    let same = one_asked words pair.0 a pair.1 asks in
-    let full : has_no_room a ≡ true = subst (λ (b : Asked). has_no_room b ≡ true) same pair.2 in
-    let bad : true ≡ false = sym full ∙ room in
-    cc
+-- the same of told files
+of_faulty : (c : Call) (f : Files) (a : Asked) (e : Fault) → c.files ≡ Some f → IfSome c.files (λ g. judge g a ≡ wrong e) → EndsByFiles c (judge f a) (Some e)
+of_faulty c f a e told h = of_wrong c (judge f a) e (of_told (λ g. judge g a ≡ wrong e) c.files f told h)
 
-pub quiet_ends : (words : List Text) (c : Call) (f : Files) (a : Asked) (found : Option Fault) → Quiet words c f a found → EndsByFiles c (judge f a) found
-quiet_ends words c f a None q =
-    let same = one_asked words q.ends.0 a q.ends.1 q.asks in
-    let passes = of_told (λ g. IfRight (judge g q.ends.0) (λ text. c.out_after ≡ with_bytes c.out_before text)) c.files f q.told q.ends.2.0 in
-    subst (λ (b : Asked). EndsByFiles c (judge f b) None) same (of_right c (judge f q.ends.0) passes)
-quiet_ends words c f a (Some fault.Usage) q = absurd (not_refused words a q.asks q.room q.ends.0)
-quiet_ends words c f a (Some (fault.Shelf role)) q = absurd (q.shelf q.ends.2.0)
-quiet_ends words c f a (Some (fault.TooLong role)) q =
-    let same = one_asked words q.ends.0 a q.ends.1 q.asks in
-    let faulty = of_told (λ g. judge g q.ends.0 ≡ wrong (fault.TooLong role)) c.files f q.told q.ends.2.0 in
-    subst (λ (b : Asked). EndsByFiles c (judge f b) (Some (fault.TooLong role))) same (of_wrong c (judge f q.ends.0) (fault.TooLong role) faulty)
-quiet_ends words c f a (Some (fault.Words line kind)) q =
-    let same = one_asked words q.ends.0 a q.ends.1 q.asks in
-    let faulty = of_told (λ g. judge g q.ends.0 ≡ wrong (fault.Words line kind)) c.files f q.told q.ends.2.0 in
-    subst (λ (b : Asked). EndsByFiles c (judge f b) (Some (fault.Words line kind))) same (of_wrong c (judge f q.ends.0) (fault.Words line kind) faulty)
-quiet_ends words c f a (Some (fault.Source line kind)) q =
-    let same = one_asked words q.ends.0 a q.ends.1 q.asks in
-    let faulty = of_told (λ g. judge g q.ends.0 ≡ wrong (fault.Source line kind)) c.files f q.told q.ends.2.0 in
-    subst (λ (b : Asked). EndsByFiles c (judge f b) (Some (fault.Source line kind))) same (of_wrong c (judge f q.ends.0) (fault.Source line kind) faulty)
-quiet_ends words c f a (Some (fault.Config key kind)) q =
-    let same = one_asked words q.ends.0 a q.ends.1 q.asks in
-    let faulty = of_told (λ g. judge g q.ends.0 ≡ wrong (fault.Config key kind)) c.files f q.told q.ends.2.0 in
-    subst (λ (b : Asked). EndsByFiles c (judge f b) (Some (fault.Config key kind))) same (of_wrong c (judge f q.ends.0) (fault.Config key kind) faulty)
-quiet_ends words c f a (Some (fault.Stim line kind)) q =
-    let same = one_asked words q.ends.0 a q.ends.1 q.asks in
-    let faulty = of_told (λ g. judge g q.ends.0 ≡ wrong (fault.Stim line kind)) c.files f q.told q.ends.2.0 in
-    subst (λ (b : Asked). EndsByFiles c (judge f b) (Some (fault.Stim line kind))) same (of_wrong c (judge f q.ends.0) (fault.Stim line kind) faulty)
-quiet_ends words c f a (Some fault.Out) q = absurd (q.out q.ends.2.2)
-quiet_ends words c f a (Some fault.Memory) q = absurd (q.memory refl)
+-- a failed fetch raises the count
+failed_rose : (name : Option (List ℕ)) (before after : Faults) → HasSuch name (λ n. after ≡ failed_at n before) → Rose before.count after.count
+failed_rose None before after h = absurd h
+failed_rose (Some n) before after h = subst (λ (a : Faults). Rose before.count a.count) (sym h) (le_refl (one_more before.count))
+
+-- how a quiet call ends whose words ask for this, or for nothing
+ends_by_files : (asked : Option Asked) (c : Call) (f : Files) (found : Option Fault) → Ends asked c found → c.files ≡ Some f → found ≢ Some fault.Usage → found ≢ Some fault.Memory → (Rose c.shelf_before.count c.shelf_after.count → ⊥) → (Rose c.out_before.faults c.out_after.faults → ⊥) → HasSuch asked (λ a. EndsByFiles c (judge f a) found)
+ends_by_files (Some a) c f None h told usage memory shelf out =
+    of_right c (judge f a) (of_told (λ g. IfRight (judge g a) (λ text. c.out_after.taken ≡ with_bytes c.out_before.taken text)) c.files f told h.text)
+ends_by_files None c f None h told usage memory shelf out = absurd h
+ends_by_files asked c f (Some fault.Usage) h told usage memory shelf out = absurd (usage refl)
+ends_by_files asked c f (Some fault.Memory) h told usage memory shelf out = absurd (memory refl)
+ends_by_files (Some a) c f (Some (fault.Shelf role)) h told usage memory shelf out =
+    absurd (shelf (failed_rose (file_in a role) c.shelf_before c.shelf_after h.named))
+ends_by_files (Some a) c f (Some fault.Out) h told usage memory shelf out = absurd (out h.rose)
+ends_by_files (Some a) c f (Some (fault.TooLong role)) h told usage memory shelf out = of_faulty c f a _ told h.judged
+ends_by_files (Some a) c f (Some (fault.Words line kind)) h told usage memory shelf out = of_faulty c f a _ told h.judged
+ends_by_files (Some a) c f (Some (fault.Source line kind)) h told usage memory shelf out = of_faulty c f a _ told h.judged
+ends_by_files (Some a) c f (Some (fault.Config key kind)) h told usage memory shelf out = of_faulty c f a _ told h.judged
+ends_by_files (Some a) c f (Some (fault.Stim line kind)) h told usage memory shelf out = of_faulty c f a _ told h.judged
+ends_by_files None c f (Some (fault.Shelf role)) h told usage memory shelf out = absurd h
+ends_by_files None c f (Some fault.Out) h told usage memory shelf out = absurd h
+ends_by_files None c f (Some (fault.TooLong role)) h told usage memory shelf out = absurd h
+ends_by_files None c f (Some (fault.Words line kind)) h told usage memory shelf out = absurd h
+ends_by_files None c f (Some (fault.Source line kind)) h told usage memory shelf out = absurd h
+ends_by_files None c f (Some (fault.Config key kind)) h told usage memory shelf out = absurd h
+ends_by_files None c f (Some (fault.Stim line kind)) h told usage memory shelf out = absurd h
+
+-- the files decide how a call ends that ends as promised, and not with Usage where its words are taken
+pub files_decide : (words : List Text) (c : Call) (found : Option Fault) → EndsAs words c found → (IsTaken words → found ≢ Some fault.Usage) → FilesDecide words c found
+files_decide words c found ends taken f q = ends_by_files (wanted words) c f found ends q.told (taken q.words_taken) q.memory q.shelf q.out

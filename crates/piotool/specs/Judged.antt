@@ -1,7 +1,8 @@
--- What a command comes to, from its files alone: its text, or the first fault in the order of reading.
-use Rattle.std.specs.Prelude.{◌≡◌, ℕ, nat_lt, if◌then◌else◌, Option, Some, None, IfSome, List, [], ◌∷◌, length, Result, Ok, Err}
+-- What a command comes to, from its files alone: its text, or the first fault in the order of reading; and which files it
+-- reads in this order.
+use Rattle.std.specs.Prelude.{ℕ, nat_lt, Bool, true, false, if◌then◌else◌, Option, Some, None, List, [], length, Result, Ok, Err}
 use Rattle.std.specs.FinMap.{get}
-use Rattle.pio_edge.specs.Edge.{Files, Rose}
+use Rattle.pio_edge.specs.Edge.{Files}
 use Rattle.vcd_trace.specs.VcdText.{vcd_text}
 use Rattle.pio_assemble.specs.Program.{Assembled}
 use Rattle.pio_assemble.specs.Answers.{Refusal}
@@ -11,8 +12,7 @@ use Rattle.piotool.specs.declared.fault.File.TheVariants as file
 use Rattle.piotool.specs.declared.fault.Fault.{Fault}
 use Rattle.piotool.specs.declared.fault.Fault.TheVariants as fault
 use Rattle.dreq_pacing.specs.declared.line.Line.{Line}
-use Rattle.dreq_pacing.specs.declared.fault.StimFault.{StimFault}
-use Rattle.dreq_pacing.specs.declared.fault.StimFault.TheVariants.{Memory, At}
+use Rattle.dreq_pacing.specs.Reading as stimulus
 use Rattle.dreq_pacing.specs.Reading.{stimulus_of}
 use Rattle.block_core.specs.Block.{Run, first_run}
 use Rattle.block_core.specs.Hosted.{samples}
@@ -85,11 +85,10 @@ abbrev pub setup_at : Files → Option (List ℕ) → List Assembled → Judged 
 setup_at files None programs = judged_setup (default_setup_of programs)
 setup_at files (Some name) programs = config_at files name programs
 
--- a reading of a stimulus, or its fault; want of memory is none of its answers
-abbrev pub judged_stimulus : Result (List Line) StimFault → Judged (List Line)
+-- a reading of a stimulus, or its fault
+abbrev pub judged_stimulus : Result (List Line) stimulus.Refusal → Judged (List Line)
 judged_stimulus (Ok lines) = right lines
-judged_stimulus (Err (At line kind)) = wrong (fault.Stim line kind)
-judged_stimulus (Err Memory) = wrong fault.Memory
+judged_stimulus (Err refusal) = wrong (fault.Stim refusal.line refusal.kind)
 
 -- the lines of the stimulus with this name
 unfoldable pub stimulus_at : Files → List ℕ → Judged (List Line)
@@ -110,21 +109,56 @@ prepared_at files source config stimulus =
 unfoldable pub trace_text : Run → List Line → ℕ → List ℕ
 trace_text start lines clocks = vcd_text (samples start lines clocks)
 
--- a stage passes with a value: the shelf had no fault, and where the files are told they come to it
-abbrev pub StagePasses : {X : Type 0} → Option Files → ℕ → ℕ → (Files → Judged X) → X → Type 0
-StagePasses files before now comes_to x = (now ≡ before) × IfSome files (λ f. comes_to f ≡ right x)
-
--- a stage ends with a fault: the shelf's where its count rose, want of memory at any time, else the one that the files come to
-abbrev pub StageFails : {X : Type 0} → Option Files → ℕ → ℕ → (Files → Judged X) → Fault → Type 0
-StageFails files before now comes_to (fault.Shelf role) = Rose before now
-StageFails files before now comes_to fault.Memory = now ≡ before
-StageFails files before now comes_to fault.Usage = ⊥
-StageFails files before now comes_to fault.Out = ⊥
-StageFails files before now comes_to e = (now ≡ before) × IfSome files (λ f. comes_to f ≡ wrong e)
-
 -- what a command comes to
 unfoldable pub judge : Files → Asked → Judged (List ℕ)
 judge files (asm name) = and_then (source_at files name) (λ programs. right (listing_text programs))
 judge files (run source config stimulus clocks) =
     and_then (prepared_at files source config stimulus) (λ prepared. right (trace_text (first_run prepared.0) prepared.1 clocks))
 judge files (dis name side opt) = and_then (words_at files name) (λ words. right (word_lines (rule_for side opt) words))
+
+-- ---- which files a command reads, and when it comes to them
+
+-- the source, and no other file
+abbrev pub source_alone : List ℕ → File → Option (List ℕ)
+source_alone name file.Source = Some name
+source_alone name file.Words = None
+source_alone name file.Config = None
+source_alone name file.Stimulus = None
+
+-- the file of words, and no other
+abbrev pub words_alone : List ℕ → File → Option (List ℕ)
+words_alone name file.Source = None
+words_alone name file.Words = Some name
+words_alone name file.Config = None
+words_alone name file.Stimulus = None
+
+-- the files of a run: a configuration and a stimulus where they are named
+abbrev pub run_files : List ℕ → Option (List ℕ) → Option (List ℕ) → File → Option (List ℕ)
+run_files source config stimulus file.Source = Some source
+run_files source config stimulus file.Words = None
+run_files source config stimulus file.Config = config
+run_files source config stimulus file.Stimulus = stimulus
+
+-- the name of the file that a command reads in this role, where it reads one
+abbrev pub file_in : Asked → File → Option (List ℕ)
+file_in (asm name) role = source_alone name role
+file_in (run source config stimulus clocks) role = run_files source config stimulus role
+file_in (dis name side opt) role = words_alone name role
+
+-- it is right
+abbrev pub is_right : {X : Type 0} → Judged X → Bool
+is_right (right x) = true
+is_right (wrong e) = false
+
+-- a run comes to the file of this role: what it reads before is right
+abbrev pub run_reaches : Files → List ℕ → Option (List ℕ) → File → Bool
+run_reaches files source config file.Source = true
+run_reaches files source config file.Words = true
+run_reaches files source config file.Config = is_right (source_at files source)
+run_reaches files source config file.Stimulus = is_right (and_then (source_at files source) (setup_at files config))
+
+-- a command comes to the file of this role: what it reads before is right
+abbrev pub reaches : Files → Asked → File → Bool
+reaches files (asm name) role = true
+reaches files (run source config stimulus clocks) role = run_reaches files source config role
+reaches files (dis name side opt) role = true

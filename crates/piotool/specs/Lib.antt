@@ -1,5 +1,7 @@
-pub mod Run
+pub mod Outside
+pub mod Wanted
 pub mod Judged
-pub mod Told
 pub mod Promise
 pub mod Complete
+pub mod Told
+pub mod Stages

@@ -1,69 +1,51 @@
 -- The end-to-end promise: which end a call has, what it wrote, and why.
-use Rattle.std.specs.Prelude.{◌≡◌, ℕ, Option, Some, None, IfSome, List, Result, MatchResult}
+use Rattle.std.specs.Prelude.{◌≡◌, ℕ, Bool, true, Option, Some, None, IfSome, List, []}
+use Rattle.pio_edge.specs.Count.{Faults, failed_at}
 use Rattle.pio_edge.specs.Edge.{Files, Rose, with_bytes, TakesPrefix}
+use Rattle.piotool.specs.declared.fault.File.{File}
 use Rattle.piotool.specs.declared.fault.Fault.{Fault}
 use Rattle.piotool.specs.declared.fault.Fault.TheVariants as fault
 use Rattle.clap.specs.Walk.{Text}
-use Rattle.command_line.specs.Words.{Asked, Asks, IsRefused}
-use Rattle.piotool.specs.Judged.{judge, wrong, IfRight}
+use Rattle.command_line.specs.Words.{Asked}
+use Rattle.piotool.specs.Outside.{HasSuch, Call, Untouched, SameShelf, SameOut}
+use Rattle.piotool.specs.Wanted.{wanted}
+use Rattle.piotool.specs.Judged.{judge, wrong, IfRight, file_in, reaches}
 
--- the outside before and after a call: the files, what the output has taken, and the two counts of faults
-pub record Call : Type 0 where
-  pub files : Option Files
-  pub shelf_before : ℕ
-  pub shelf_after : ℕ
-  pub out_before : Option (List ℕ)
-  pub out_after : Option (List ℕ)
-  pub count_before : ℕ
-  pub count_after : ℕ
+-- all was done: the output took exactly the text that the told files come to, and handed all of it on; nothing failed
+pub record Passes (c : Call) (a : Asked) : Type 0 where
+  pub text : IfSome c.files (λ f. IfRight (judge f a) (λ text. c.out_after.taken ≡ with_bytes c.out_before.taken text))
+  pub handed : c.out_after.waiting ≡ []
+  pub out : c.out_after.faults ≡ c.out_before.faults
+  pub shelf : SameShelf c
 
--- the outside of a call, by its parts
-abbrev pub call_of : Option Files → ℕ → ℕ → Option (List ℕ) → Option (List ℕ) → ℕ → ℕ → Call
-call_of files shelf_before shelf_after out_before out_after count_before count_after = record {
-  files = files;
-  shelf_before = shelf_before;
-  shelf_after = shelf_after;
-  out_before = out_before;
-  out_after = out_after;
-  count_before = count_before;
-  count_after = count_after;
-}
+-- one fetch failed, and it was that of the command's file of this role, to which it comes
+pub record ShelfFails (c : Call) (a : Asked) (role : File) : Type 0 where
+  pub named : HasSuch (file_in a role) (λ name. c.shelf_after ≡ failed_at name c.shelf_before)
+  pub reached : IfSome c.files (λ f. reaches f a role ≡ true)
+  pub out : SameOut c
 
--- the shelf had no fault
-abbrev pub SameShelf : Call → Type 0
-SameShelf c = c.shelf_after ≡ c.shelf_before
+-- the output failed, after a first part of the text
+pub record OutFails (c : Call) (a : Asked) : Type 0 where
+  pub part : IfSome c.files (λ f. IfRight (judge f a) (λ text. TakesPrefix c.out_before.taken text c.out_after.taken))
+  pub rose : Rose c.out_before.faults c.out_after.faults
+  pub shelf : SameShelf c
 
--- the output has taken nothing, and had no fault
-abbrev pub SameOut : Call → Type 0
-SameOut c = (c.out_after ≡ c.out_before) × (c.count_after ≡ c.count_before)
+-- the told files come to this fault first, and nothing was written
+pub record Faulty (c : Call) (a : Asked) (e : Fault) : Type 0 where
+  pub judged : IfSome c.files (λ f. judge f a ≡ wrong e)
+  pub untouched : Untouched c
 
--- all was done: where the files are told, the output took exactly the command's text
-abbrev pub CommandPasses : Call → Asked → Type 0
-CommandPasses c a =
-    IfSome c.files (λ f. IfRight (judge f a) (λ text. c.out_after ≡ with_bytes c.out_before text))
-    × SameShelf c × (c.count_after ≡ c.count_before)
+-- how a call ends whose words ask for this, or for nothing
+abbrev pub Ends : Option Asked → Call → Option Fault → Type 0
+Ends (Some a) c None = Passes c a
+Ends None c (Some fault.Usage) = Untouched c
+Ends asked c (Some fault.Memory) = Untouched c
+Ends (Some a) c (Some (fault.Shelf role)) = ShelfFails c a role
+Ends (Some a) c (Some fault.Out) = OutFails c a
+Ends None c found = ⊥
+Ends (Some a) c (Some fault.Usage) = ⊥
+Ends (Some a) c (Some e) = Faulty c a e
 
--- each fault has its cause
-abbrev pub CommandFails : Call → Asked → Fault → Type 0
-CommandFails c a fault.Usage = ⊥
-CommandFails c a (fault.Shelf role) = Rose c.shelf_before c.shelf_after × SameOut c
-CommandFails c a fault.Out =
-    IfSome c.files (λ f. IfRight (judge f a) (λ text. TakesPrefix c.out_before text c.out_after))
-    × SameShelf c × Rose c.count_before c.count_after
-CommandFails c a fault.Memory = SameShelf c × SameOut c
-CommandFails c a e = IfSome c.files (λ f. judge f a ≡ wrong e) × SameShelf c × SameOut c
-
--- how a call ends
+-- how a call of these words ends
 abbrev pub EndsAs : List Text → Call → Option Fault → Type 0
-EndsAs words c None = (a : Asked) × Asks words a × CommandPasses c a
-EndsAs words c (Some fault.Usage) = IsRefused words × SameShelf c × SameOut c
-EndsAs words c (Some fault.Memory) = SameShelf c × SameOut c
-EndsAs words c (Some e) = (a : Asked) × Asks words a × CommandFails c a e
-
--- how a command ends
-abbrev pub CommandEnds : Call → Asked → Result (Unit {0}) Fault → Type 0
-CommandEnds c a result = MatchResult result (λ _. CommandPasses c a) (CommandFails c a)
-
--- how the work of a call ends
-abbrev pub WorkEnds : List Text → Call → Result (Unit {0}) Fault → Type 0
-WorkEnds words c result = MatchResult result (λ _. EndsAs words c None) (λ e. EndsAs words c (Some e))
+EndsAs words c found = Ends (wanted words) c found

@@ -1,5 +1,5 @@
 -- How an end is told: its status and its line (choice of this profile).
-use Rattle.std.specs.Prelude.{◌≡◌, ℕ, ◌⊎◌, ◌++◌, Option, Some, None, List, codes, decimal}
+use Rattle.std.specs.Prelude.{◌≡◌, ℕ, ◌⊎◌, ◌++◌, Option, Some, None, List, [], codes, decimal}
 use Rattle.pio_edge.specs.Edge.{Rose, with_bytes, TakesPrefix}
 use Rattle.pio_assemble.specs.declared.fault.SourceKind.{SourceKind}
 use Rattle.pio_assemble.specs.Fault.{kind_text as source_text}
@@ -9,6 +9,7 @@ use Rattle.word_file.specs.declared.fault.WordKind.{WordKind}
 use Rattle.word_file.specs.Fault.{code_of as word_code}
 use Rattle.dreq_pacing.specs.declared.fault.StimKind.{StimKind}
 use Rattle.dreq_pacing.specs.Fault.{code_of as stim_code}
+use Rattle.piotool.specs.Outside.{Output}
 use Rattle.piotool.specs.declared.fault.File.{File}
 use Rattle.piotool.specs.declared.fault.File.TheVariants as file
 use Rattle.piotool.specs.declared.fault.Fault.{Fault}
@@ -42,7 +43,7 @@ shelf_line role = codes "piotool: shelf " ++ file_word role ++ codes "\n"
 abbrev pub long_line : File → List ℕ
 long_line role = codes "piotool: long " ++ file_word role ++ codes "\n"
 
--- a line that tells a place: what stands in front of its number, the number, and a fault's text
+-- a line that tells a place: what comes before its number, the number, and a fault's text
 abbrev pub line_fault : List ℕ → ℕ → List ℕ → List ℕ
 line_fault front line code = front ++ decimal line ++ codes ": " ++ code ++ codes "\n"
 
@@ -50,7 +51,7 @@ line_fault front line code = front ++ decimal line ++ codes ": " ++ code ++ code
 abbrev pub words_line : ℕ → WordKind → List ℕ
 words_line line kind = line_fault (codes "piotool: words line ") line (word_code kind)
 
--- the line of a source's fault, with this text behind its number
+-- the line of a source's fault, with this text after its number
 abbrev pub source_fault : ℕ → List ℕ → List ℕ
 source_fault line text = line_fault (codes "piotool: source line ") line text
 
@@ -58,7 +59,7 @@ source_fault line text = line_fault (codes "piotool: source line ") line text
 abbrev pub source_line : ℕ → SourceKind → List ℕ
 source_line line kind = source_fault line (source_text kind)
 
--- the line of a key of the configuration, with this text behind it
+-- the line of a key of the configuration, with this text after it
 abbrev pub key_line : List ℕ → List ℕ → List ℕ
 key_line key text = codes "piotool: config " ++ key ++ codes ": " ++ text ++ codes "\n"
 
@@ -82,12 +83,13 @@ fault_line (fault.Stim line kind) = stimulus_line line kind
 fault_line fault.Out = codes "piotool: out\n"
 fault_line fault.Memory = codes "piotool: memory\n"
 
--- the line was told, or a first part of it where the count rose
-abbrev pub TellsLine : Option (List ℕ) → Option (List ℕ) → ℕ → ℕ → List ℕ → Type 0
-TellsLine before after count_before count_after line =
-    (after ≡ with_bytes before line) ⊎ (TakesPrefix before line after × Rose count_before count_after)
+-- the line was told and handed on, or a first part of it taken where the count rose
+abbrev pub TellsLine : Output → Output → List ℕ → Type 0
+TellsLine before after line =
+    ((after.taken ≡ with_bytes before.taken line) × (after.waiting ≡ []))
+    ⊎ (TakesPrefix before.taken line after.taken × Rose before.faults after.faults)
 
 -- a fault is told by its line, and the end of a whole command by nothing
-abbrev pub TellsFault : Option (List ℕ) → Option (List ℕ) → ℕ → ℕ → Option Fault → Type 0
-TellsFault before after count_before count_after None = (after ≡ before) × (count_after ≡ count_before)
-TellsFault before after count_before count_after (Some fault) = TellsLine before after count_before count_after (fault_line fault)
+abbrev pub TellsFault : Output → Output → Option Fault → Type 0
+TellsFault before after None = after ≡ before
+TellsFault before after (Some fault) = TellsLine before after (fault_line fault)

@@ -3,8 +3,8 @@ ghost use Rattle.std.specs.Prelude.{◌≡◌, map};
 ghost use Rattle.pio_assemble.specs.Program.{assembled_of};
 ghost use Rattle.program_listing.specs.Listing.{listing_text};
 ghost use Rattle.command_line.specs.Words.{asm as asm_asked};
-ghost use Rattle.piotool.specs.Run.{Writes};
-ghost use Rattle.piotool.specs.Promise.{call_of, CommandEnds};
+ghost use Rattle.piotool.specs.Outside.{call_of, output_of};
+ghost use Rattle.piotool.specs.Stages.{CommandEnds, Writes};
 
 use crate::fault::Fault;
 use crate::source::read_source;
@@ -21,10 +21,11 @@ pub fn asm<F: Shelf, O: Sink>(
     shelf: &mut F,
     out: &mut O,
 ) -> Result<(), Fault>
-    ensures ends { CommandEnds
+    ensures ends { CommandEnds (asm_asked file.now)
         (call_of (F.holds shelf.old) (F.faults shelf.old) (F.faults shelf.new)
-        (O.taken out.old) (O.taken out.new) (O.faults out.old) (O.faults out.new))
-        (asm_asked file.now) result }
+        (output_of (O.taken out.old) (O.waiting out.old) (O.faults out.old))
+        (output_of (O.taken out.new) (O.waiting out.new) (O.faults out.new)))
+        result }
     ensures same { F.holds shelf.new ≡ F.holds shelf.old }
 {
     let programs = read_source(alloc, shelf, file)?;
@@ -33,7 +34,8 @@ pub fn asm<F: Shelf, O: Sink>(
 
 /// Writes the listing of programs, and hands on what the output still keeps.
 fn write_listing<O: Sink>(out: &mut O, programs: &[Program]) -> Result<(), Fault>
-    ensures { Writes (O.taken out.old) (O.taken out.new) (O.faults out.old) (O.faults out.new)
+    ensures { Writes (output_of (O.taken out.old) (O.waiting out.old) (O.faults out.old))
+        (output_of (O.taken out.new) (O.waiting out.new) (O.faults out.new))
         (listing_text (map assembled_of programs.now)) result }
 {
     match put_listing(out, programs) {

@@ -1,10 +1,9 @@
 //! The command `dis`: the text of each word of a file.
-ghost use Rattle.std.specs.Prelude.{◌≡◌, ◌+◌, ◌≤◌, if◌then◌else◌, length, MatchResult};
+ghost use Rattle.std.specs.Prelude.{◌≡◌, ◌+◌, ◌≤◌, if◌then◌else◌, length};
 ghost use Rattle.command_line.specs.Words.{dis as dis_asked};
 ghost use Rattle.word_file.specs.Listing.{word_lines};
-ghost use Rattle.piotool.specs.Judged.{words_at, StagePasses, StageFails};
-ghost use Rattle.piotool.specs.Run.{Writes};
-ghost use Rattle.piotool.specs.Promise.{call_of, CommandEnds};
+ghost use Rattle.piotool.specs.Outside.{call_of, output_of};
+ghost use Rattle.piotool.specs.Stages.{CommandEnds, Reads, Writes, shelved, words_plan};
 
 use crate::fault::{Fault, File};
 use crate::fetch::fetch_file;
@@ -26,10 +25,11 @@ pub fn dis<F: Shelf, O: Sink>(
     out: &mut O,
 ) -> Result<(), Fault>
     requires { side + (if opt then 1 else 0) ≤ 5 }
-    ensures ends { CommandEnds
+    ensures ends { CommandEnds (dis_asked file.now side opt)
         (call_of (F.holds shelf.old) (F.faults shelf.old) (F.faults shelf.new)
-        (O.taken out.old) (O.taken out.new) (O.faults out.old) (O.faults out.new))
-        (dis_asked file.now side opt) result }
+        (output_of (O.taken out.old) (O.waiting out.old) (O.faults out.old))
+        (output_of (O.taken out.new) (O.waiting out.new) (O.faults out.new)))
+        result }
     ensures same { F.holds shelf.new ≡ F.holds shelf.old }
 {
     let words = fetch_words(alloc, shelf, file)?;
@@ -44,10 +44,8 @@ fn fetch_words<F: Shelf>(
     name: &str,
 ) -> Result<ArrayVec<u16, 32>, Fault>
     ensures same { F.holds shelf.new ≡ F.holds shelf.old }
-    ensures stage { MatchResult result
-        (λ words. StagePasses (F.holds shelf.old) (F.faults shelf.old) (F.faults shelf.new)
-        (λ f. words_at f name.now) words.items)
-        (StageFails (F.holds shelf.old) (F.faults shelf.old) (F.faults shelf.new) (λ f. words_at f name.now)) }
+    ensures stage { Reads (λ words. words.items) (shelved (F.holds shelf.old) (F.faults shelf.old) (F.faults shelf.new))
+        (words_plan name.now) result }
 {
     let bytes = fetch_file(alloc, shelf, File::Words, name)?;
     match read_words(&bytes) {
@@ -59,7 +57,8 @@ fn fetch_words<F: Shelf>(
 /// Writes the lines of words, and hands on what the output still keeps.
 fn write_words<O: Sink>(out: &mut O, words: &[u16], rule: &SideRule) -> Result<(), Fault>
     requires { length words.now ≤ 32 }
-    ensures { Writes (O.taken out.old) (O.taken out.new) (O.faults out.old) (O.faults out.new)
+    ensures { Writes (output_of (O.taken out.old) (O.waiting out.old) (O.faults out.old))
+        (output_of (O.taken out.new) (O.waiting out.new) (O.faults out.new))
         (word_lines rule.now words.now) result }
 {
     match put_words(out, words, rule) {

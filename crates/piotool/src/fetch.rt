@@ -1,7 +1,7 @@
 //! A file of a command, fetched whole.
-ghost use Rattle.std.specs.Prelude.{◌≡◌, ◌≤◌, IfOk, MatchResult, vec_len};
-ghost use Rattle.std.specs.FinMap.{get};
-ghost use Rattle.piotool.specs.Judged.{read_at, limit, StagePasses, StageFails};
+ghost use Rattle.std.specs.Prelude.{◌≡◌, ◌≤◌, IfOk, vec_len};
+ghost use Rattle.piotool.specs.Judged.{limit};
+ghost use Rattle.piotool.specs.Stages.{Reads, file_plan, shelved};
 
 use crate::fault::{Fault, File};
 use pio_edge::{Fetch, Shelf};
@@ -17,11 +17,8 @@ pub fn fetch_file<F: Shelf>(
 ) -> Result<Vec<u8>, Fault>
     ensures same { F.holds shelf.new ≡ F.holds shelf.old }
     ensures within { IfOk result (λ bytes. vec_len bytes ≤ limit role) }
-    ensures stage { MatchResult result
-        (λ bytes. StagePasses (F.holds shelf.old) (F.faults shelf.old) (F.faults shelf.new)
-        (λ f. read_at role (get f name.now)) bytes.items)
-        (StageFails (F.holds shelf.old) (F.faults shelf.old) (F.faults shelf.new)
-        (λ f. read_at role (get f name.now))) }
+    ensures stage { Reads (λ bytes. bytes.items) (shelved (F.holds shelf.old) (F.faults shelf.old) (F.faults shelf.new))
+        (file_plan role name.now) result }
 {
     let most = limit_of(role);
     match shelf.fetch(alloc, name, most + 1) {

@@ -1,10 +1,11 @@
 //! The command `run`: the trace of the first clocks of a block that a source and a configuration set up, beside a stimulus.
-ghost use Rattle.std.specs.Prelude.{◌≡◌, ◌+◌, ◌≤◌, ◌^◌, false, option_map, MatchResult};
+ghost use Rattle.std.specs.Prelude.{◌≡◌, ◌+◌, ◌≤◌, ◌^◌, false, option_map};
 ghost use Rattle.block_core.specs.Block.{first_run};
 ghost use Rattle.command_line.specs.Words.{run as run_asked};
-ghost use Rattle.piotool.specs.Judged.{prepared_at, trace_text, StagePasses, StageFails};
-ghost use Rattle.piotool.specs.Run.{Writes, MayWrite};
-ghost use Rattle.piotool.specs.Promise.{call_of, CommandEnds};
+ghost use Rattle.pio_edge.specs.Edge.{PutCounts, Takes};
+ghost use Rattle.piotool.specs.Judged.{trace_text};
+ghost use Rattle.piotool.specs.Outside.{call_of, output_of};
+ghost use Rattle.piotool.specs.Stages.{CommandEnds, Reads, Writes, run_plan, shelved};
 
 use crate::fault::Fault;
 use crate::setup::read_setup;
@@ -42,9 +43,10 @@ pub fn run<F: Shelf, O: Sink, L: Ledger>(
 ) -> Result<(), Fault>
     requires { clocks ≤ 10 ^ 12 }
     ensures ends { CommandEnds
-        (call_of (F.holds shelf.old) (F.faults shelf.old) (F.faults shelf.new)
-        (O.taken out.old) (O.taken out.new) (O.faults out.old) (O.faults out.new))
         (run_asked files.entry.source.now (option_map (λ t. t.now) files.entry.config) (option_map (λ t. t.now) files.entry.stimulus) clocks)
+        (call_of (F.holds shelf.old) (F.faults shelf.old) (F.faults shelf.new)
+        (output_of (O.taken out.old) (O.waiting out.old) (O.faults out.old))
+        (output_of (O.taken out.new) (O.waiting out.new) (O.faults out.new)))
         result }
     ensures same { F.holds shelf.new ≡ F.holds shelf.old }
     ensures steps { steps.new ≤ steps.old + clocks }
@@ -61,12 +63,8 @@ fn prepare<F: Shelf>(
     files: RunFiles,
 ) -> Result<(Setup, Schedule), Fault>
     ensures same { F.holds shelf.new ≡ F.holds shelf.old }
-    ensures stage { MatchResult result
-        (λ p. StagePasses (F.holds shelf.old) (F.faults shelf.old) (F.faults shelf.new)
-        (λ f. prepared_at f files.entry.source.now (option_map (λ t. t.now) files.entry.config) (option_map (λ t. t.now) files.entry.stimulus))
-        (p.0, p.1))
-        (StageFails (F.holds shelf.old) (F.faults shelf.old) (F.faults shelf.new)
-        (λ f. prepared_at f files.entry.source.now (option_map (λ t. t.now) files.entry.config) (option_map (λ t. t.now) files.entry.stimulus))) }
+    ensures stage { Reads (λ p. (p.0, p.1)) (shelved (F.holds shelf.old) (F.faults shelf.old) (F.faults shelf.new))
+        (run_plan files.entry.source.now (option_map (λ t. t.now) files.entry.config) (option_map (λ t. t.now) files.entry.stimulus)) result }
 {
     let programs = read_source(alloc, shelf, files.source)?;
     let setup = read_setup(alloc, shelf, files.config, &programs)?;
@@ -85,7 +83,8 @@ fn write_run<O: Sink, L: Ledger>(
     steps: &mut Steps<L>,
 ) -> Result<(), Fault>
     requires { clocks ≤ 10 ^ 12 }
-    ensures ends { MayWrite (O.taken out.old) (O.taken out.new) (O.faults out.old) (O.faults out.new)
+    ensures ends { Writes (output_of (O.taken out.old) (O.waiting out.old) (O.faults out.old))
+        (output_of (O.taken out.new) (O.waiting out.new) (O.faults out.new))
         (trace_text (first_run setup.now) schedule.now clocks) result }
     ensures steps { steps.new ≤ steps.old + clocks }
 {
@@ -105,11 +104,15 @@ fn write_trace<O: Sink, L: Ledger>(
 ) -> Result<(), Fault>
     requires fresh { block.old.run.clock ≡ 0 }
     requires within { clocks ≤ 10 ^ 12 }
-    ensures ends { Writes (O.taken out.old) (O.taken out.new) (O.faults out.old) (O.faults out.new)
+    ensures ends { Writes (output_of (O.taken out.old) (O.waiting out.old) (O.faults out.old))
+        (output_of (O.taken out.new) (O.waiting out.new) (O.faults out.new))
         (trace_text block.old.run schedule.now clocks) result }
     ensures steps { steps.new ≤ steps.old + clocks }
 {
-    put_trace(block, schedule, clocks, out, steps)?;
+    match put_trace(block, schedule, clocks, out, steps) {
+        Ok(()) => {}
+        Err(TraceFailed) => return Err(Fault::Out),
+    }
     match out.finish() {
         Ok(()) => Ok(()),
         Err(SinkFailed) => Err(Fault::Out),
@@ -123,11 +126,11 @@ fn put_trace<O: Sink, L: Ledger>(
     clocks: u64,
     out: &mut O,
     steps: &mut Steps<L>,
-) -> Result<(), Fault>
+) -> Result<(), TraceFailed>
     requires fresh { block.old.run.clock ≡ 0 }
     requires within { clocks ≤ 10 ^ 12 }
-    ensures ends { Writes (O.taken out.old) (O.taken out.new) (O.faults out.old) (O.faults out.new)
-        (trace_text block.old.run schedule.now clocks) result }
+    ensures bytes { Takes (O.taken out.old) (trace_text block.old.run schedule.now clocks) (O.taken out.new) result }
+    ensures cause { PutCounts (O.faults out.old) (O.faults out.new) result }
     ensures steps { steps.new ≤ steps.old + clocks }
 {
     let mut trace = VcdTrace::new(out);
@@ -142,19 +145,19 @@ fn trace_run<O: Sink, L: Ledger>(
     clocks: u64,
     trace: &mut VcdTrace<'_, O>,
     steps: &mut Steps<L>,
-) -> Result<(), Fault>
+) -> Result<(), TraceFailed>
     requires fresh { block.old.run.clock ≡ 0 }
     requires within { clocks ≤ 10 ^ 12 }
     requires working { trace.old.failed ≡ false }
-    ensures ends { Writes (O.taken trace.old.sink.now) (O.taken trace.new.sink.now)
-        (O.faults trace.old.sink.now) (O.faults trace.new.sink.now)
-        (trace_text block.old.run schedule.now clocks) result }
+    ensures bytes { Takes (O.taken trace.old.sink.now) (trace_text block.old.run schedule.now clocks)
+        (O.taken trace.new.sink.now) result }
+    ensures cause { PutCounts (O.faults trace.old.sink.now) (O.faults trace.new.sink.now) result }
     ensures same { trace.new.sink.ghost_name ≡ trace.old.sink.ghost_name }
     ensures steps { steps.new ≤ steps.old + clocks }
 {
     a_stopped_run_leaves_a_first_part();
     match simulate(block, schedule, clocks, trace, steps) {
         Ok(()) => Ok(()),
-        Err(TraceFailed) => Err(Fault::Out),
+        Err(failed) => Err(failed),
     }
 }

@@ -1,7 +1,7 @@
 //! From the programs of a source to what the block starts from.
-ghost use Rattle.std.specs.Prelude.{◌≡◌, map, option_map, MatchResult};
+ghost use Rattle.std.specs.Prelude.{◌≡◌, Some, map, option_map};
 ghost use Rattle.pio_assemble.specs.Program.{assembled_of};
-ghost use Rattle.piotool.specs.Judged.{config_at, setup_at, StagePasses, StageFails};
+ghost use Rattle.piotool.specs.Stages.{Reads, setup_plan, shelved};
 
 use crate::fault::{Fault, File};
 use crate::fetch::fetch_file;
@@ -19,11 +19,8 @@ pub fn read_setup<F: Shelf>(
     programs: &[Program],
 ) -> Result<Setup, Fault>
     ensures same { F.holds shelf.new ≡ F.holds shelf.old }
-    ensures stage { MatchResult result
-        (λ setup. StagePasses (F.holds shelf.old) (F.faults shelf.old) (F.faults shelf.new)
-        (λ f. setup_at f (option_map (λ t. t.now) name.entry) (map assembled_of programs.now)) setup)
-        (StageFails (F.holds shelf.old) (F.faults shelf.old) (F.faults shelf.new)
-        (λ f. setup_at f (option_map (λ t. t.now) name.entry) (map assembled_of programs.now))) }
+    ensures stage { Reads (λ setup. setup) (shelved (F.holds shelf.old) (F.faults shelf.old) (F.faults shelf.new))
+        (setup_plan (option_map (λ t. t.now) name.entry) (map assembled_of programs.now)) result }
 {
     match name {
         Some(name) => read_named(alloc, shelf, name, programs),
@@ -44,11 +41,8 @@ fn read_named<F: Shelf>(
     programs: &[Program],
 ) -> Result<Setup, Fault>
     ensures same { F.holds shelf.new ≡ F.holds shelf.old }
-    ensures stage { MatchResult result
-        (λ setup. StagePasses (F.holds shelf.old) (F.faults shelf.old) (F.faults shelf.new)
-        (λ f. config_at f name.now (map assembled_of programs.now)) setup)
-        (StageFails (F.holds shelf.old) (F.faults shelf.old) (F.faults shelf.new)
-        (λ f. config_at f name.now (map assembled_of programs.now))) }
+    ensures stage { Reads (λ setup. setup) (shelved (F.holds shelf.old) (F.faults shelf.old) (F.faults shelf.new))
+        (setup_plan (Some name.now) (map assembled_of programs.now)) result }
 {
     let bytes = fetch_file(alloc, shelf, File::Config, name)?;
     match read_config(alloc, &bytes, programs) {

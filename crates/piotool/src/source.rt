@@ -1,7 +1,7 @@
 //! From a source's name to the programs in it.
-ghost use Rattle.std.specs.Prelude.{◌≡◌, map, MatchResult};
+ghost use Rattle.std.specs.Prelude.{◌≡◌, map};
 ghost use Rattle.pio_assemble.specs.Program.{assembled_of};
-ghost use Rattle.piotool.specs.Judged.{source_at, StagePasses, StageFails};
+ghost use Rattle.piotool.specs.Stages.{Reads, shelved, source_plan};
 
 use crate::fault::{Fault, File};
 use crate::fetch::fetch_file;
@@ -17,10 +17,8 @@ pub fn read_source<F: Shelf>(
     name: &str,
 ) -> Result<Vec<Program>, Fault>
     ensures same { F.holds shelf.new ≡ F.holds shelf.old }
-    ensures stage { MatchResult result
-        (λ programs. StagePasses (F.holds shelf.old) (F.faults shelf.old) (F.faults shelf.new)
-        (λ f. source_at f name.now) (map assembled_of programs.items))
-        (StageFails (F.holds shelf.old) (F.faults shelf.old) (F.faults shelf.new) (λ f. source_at f name.now)) }
+    ensures stage { Reads (λ programs. map assembled_of programs.items) (shelved (F.holds shelf.old) (F.faults shelf.old) (F.faults shelf.new))
+        (source_plan name.now) result }
 {
     let bytes = fetch_file(alloc, shelf, File::Source, name)?;
     match assemble(alloc, &bytes) {

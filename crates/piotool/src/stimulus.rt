@@ -1,6 +1,6 @@
 //! From a stimulus's name to its lines.
-ghost use Rattle.std.specs.Prelude.{◌≡◌, option_map, MatchResult};
-ghost use Rattle.piotool.specs.Judged.{schedule_at, stimulus_at, StagePasses, StageFails};
+ghost use Rattle.std.specs.Prelude.{◌≡◌, Some, option_map};
+ghost use Rattle.piotool.specs.Stages.{Reads, schedule_plan, shelved};
 
 use crate::fault::{Fault, File};
 use crate::fetch::fetch_file;
@@ -15,11 +15,8 @@ pub fn read_schedule<F: Shelf>(
     name: Option<&str>,
 ) -> Result<Schedule, Fault>
     ensures same { F.holds shelf.new ≡ F.holds shelf.old }
-    ensures stage { MatchResult result
-        (λ schedule. StagePasses (F.holds shelf.old) (F.faults shelf.old) (F.faults shelf.new)
-        (λ f. schedule_at f (option_map (λ t. t.now) name.entry)) schedule)
-        (StageFails (F.holds shelf.old) (F.faults shelf.old) (F.faults shelf.new)
-        (λ f. schedule_at f (option_map (λ t. t.now) name.entry))) }
+    ensures stage { Reads (λ schedule. schedule) (shelved (F.holds shelf.old) (F.faults shelf.old) (F.faults shelf.new))
+        (schedule_plan (option_map (λ t. t.now) name.entry)) result }
 {
     match name {
         Some(name) => read_named(alloc, shelf, name),
@@ -31,10 +28,8 @@ pub fn read_schedule<F: Shelf>(
 #[tactic(auto, unfolding(crate::specs::Judged::stimulus_at))]
 fn read_named<F: Shelf>(alloc: Global, shelf: &mut F, name: &str) -> Result<Schedule, Fault>
     ensures same { F.holds shelf.new ≡ F.holds shelf.old }
-    ensures stage { MatchResult result
-        (λ schedule. StagePasses (F.holds shelf.old) (F.faults shelf.old) (F.faults shelf.new)
-        (λ f. stimulus_at f name.now) schedule)
-        (StageFails (F.holds shelf.old) (F.faults shelf.old) (F.faults shelf.new) (λ f. stimulus_at f name.now)) }
+    ensures stage { Reads (λ schedule. schedule) (shelved (F.holds shelf.old) (F.faults shelf.old) (F.faults shelf.new))
+        (schedule_plan (Some name.now)) result }
 {
     let bytes = fetch_file(alloc, shelf, File::Stimulus, name)?;
     match read_stimulus(alloc, &bytes) {

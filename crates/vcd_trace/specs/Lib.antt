@@ -1,3 +1,4 @@
+pub mod Characters
 pub mod Told
 pub mod VcdText
 pub mod Standing

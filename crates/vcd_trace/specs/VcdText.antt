@@ -1,6 +1,7 @@
 -- What the value-change text of a list of samples is (IEEE 1364-2005, section 18.2), for the 88 variables of this profile.
 use Rattle.std.specs.Prelude.{ℕ, ◌+◌, ◌==◌, Bool, true, false, List, [], ◌∷◌, ◌++◌, length, zero, suc, codes, decimal, map, if◌then◌else◌}
 use Rattle.std.specs.Fmt.{digits}
+use Rattle.vcd_trace.specs.Characters.{newline, blank, hash, digit_0, letter_b, letter_d, letter_f, letter_p, letter_r, letter_s, letter_t, letter_w}
 use Rattle.block_core.specs.declared.sample.Sample.{Sample}
 use Rattle.block_core.specs.Sample.{values_of, same_sample}
 
@@ -20,19 +21,21 @@ numbered letter width from (suc more) = variable letter width from ∷ numbered 
 
 -- levels p, directions d, flags f, TX levels t, RX levels r, words read w, sticky flags s, in the order of a sample's values (choice of this profile)
 unfoldable pub variables : List Variable
-variables = numbered 112 1 0 32 ++ numbered 100 1 0 32 ++ numbered 102 1 0 8 ++ numbered 116 4 0 4 ++ numbered 114 4 0 4 ++ numbered 119 32 0 4 ++ numbered 115 4 0 4
+variables =
+    numbered letter_p 1 0 32 ++ numbered letter_d 1 0 32 ++ numbered letter_f 1 0 8 ++ numbered letter_t 4 0 4
+    ++ numbered letter_r 4 0 4 ++ numbered letter_w 32 0 4 ++ numbered letter_s 4 0 4
 
 -- the widths of the variables in order
 unfoldable pub widths : List ℕ
 widths = map (λ v. v.width) variables
 
--- the identifier of the first variable, the first printable character but the blank (IEEE 1364-2005, section 18.2.1); those behind it count on
+-- the identifier of the first variable, the first printable character but the blank (IEEE 1364-2005, section 18.2.1); those after it count on
 abbrev pub first_identifier : ℕ
 first_identifier = 33
 
 -- `$var wire W ID NAME $end` (IEEE 1364-2005, section 18.2.3.7)
 abbrev pub declaration : ℕ → Variable → List ℕ
-declaration id v = codes "$var wire " ++ decimal v.width ++ 32 ∷ id ∷ 32 ∷ (v.name ++ codes " $end\n")
+declaration id v = codes "$var wire " ++ decimal v.width ++ blank ∷ id ∷ blank ∷ (v.name ++ codes " $end\n")
 
 -- the declarations of variables whose identifiers count on from one
 abbrev pub declarations : ℕ → List Variable → List ℕ
@@ -45,15 +48,15 @@ header_text = codes "$timescale 1 ns $end\n" ++ codes "$scope module pio $end\n"
 
 -- `#` and a clock (IEEE 1364-2005, section 18.2.2)
 abbrev pub clock_line : ℕ → List ℕ
-clock_line clock = 35 ∷ (decimal clock ++ 10 ∷ [])
+clock_line clock = hash ∷ (decimal clock ++ newline ∷ [])
 
 -- a value of one bit: its digit and the identifier
 abbrev pub bit_line : ℕ → ℕ → List ℕ
-bit_line id value = (48 + value) ∷ id ∷ 10 ∷ []
+bit_line id value = (digit_0 + value) ∷ id ∷ newline ∷ []
 
 -- a value of more bits: `b`, its binary digits without leading zeros, a blank and the identifier
 abbrev pub vector_line : ℕ → ℕ → List ℕ
-vector_line id value = 98 ∷ (digits 2 false value ++ 32 ∷ id ∷ 10 ∷ [])
+vector_line id value = letter_b ∷ (digits 2 false value ++ blank ∷ id ∷ newline ∷ [])
 
 -- the line of a value of this width
 abbrev pub value_line : ℕ → ℕ → ℕ → List ℕ

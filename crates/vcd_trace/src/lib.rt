@@ -20,6 +20,3 @@ pub use laws::{
 pub use list::ListTrace;
 pub use trace::{Trace, TraceFailed};
 pub use vcd::VcdTrace;
-
-#[cfg(test)]
-mod tests;

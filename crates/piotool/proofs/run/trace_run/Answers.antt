@@ -2,13 +2,13 @@ use Rattle.std.proofs.Common.{refl}
 use Rattle.piotool.specs.Judged.{trace_text}
 use Rattle.piotool.proofs.run.trace_run.Goals as goal
 
-pub returns-in-Err-clause-ends : goal.returns-in-Err-clause-ends
+pub returns-in-Err-clause-bytes : goal.returns-in-Err-clause-bytes
 unfolding trace_text
-returns-in-Err-clause-ends g c =
+returns-in-Err-clause-bytes g c =
     let before = g.O.Sink.taken c.args.trace.now.sink.now in
     let after = g.O.Sink.taken c.simulate.new.trace.sink.now in
     let stops = c.in-Err.ensures.err in
-    let part = c.a_stopped_run_leaves_a_first_part.ensures before after c.args.block.now.run c.simulate.new.block.run c.args.schedule.now c.args.clocks
+    c.a_stopped_run_leaves_a_first_part.ensures before after c.args.block.now.run c.simulate.new.block.run c.args.schedule.now c.args.clocks
     (record {
       count = stops.count;
       within = stops.within;
@@ -16,5 +16,4 @@ returns-in-Err-clause-ends g c =
       whole = stops.whole;
       run = stops.run;
       breaks = stops.breaks before refl;
-    }) in
-    (refl, part, c.in-Err.ensures.cause.failed)
+    })

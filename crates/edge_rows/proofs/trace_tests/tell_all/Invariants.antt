@@ -1,5 +1,5 @@
 use Rattle.std.proofs.Common.{◌≡◌, ℕ, Option, List, false, take}
-use Rattle.vcd_trace.proofs.tests.tell_all.Given as goal
+use Rattle.edge_rows.proofs.trace_tests.tell_all.Given as goal
 
 -- the samples before this clock were told
 abbrev pub invariant-loop-clock : goal.invariant-loop-clock

@@ -3,11 +3,11 @@ ghost use Rattle.std.specs.Prelude.{◌≡◌, ℕ, Option, List, true, false, O
 ghost use Rattle.pio_edge.specs.Edge.{with_bytes};
 ghost use Rattle.vcd_trace.specs.VcdText.{vcd_text};
 
-use super::{ListTrace, Trace, TraceFailed, VcdTrace};
 use block_core::Sample;
 use pio_edge::{MemSink, Sink};
 use std::alloc::{AllocError, Global};
 use std::test::Fail;
+use vcd_trace::{ListTrace, Trace, TraceFailed, VcdTrace};
 
 // Tells the samples of the clocks from 0 on, and their end.
 fn tell_all<T: Trace>(trace: &mut T, samples: &[Sample]) -> Result<(), TraceFailed>

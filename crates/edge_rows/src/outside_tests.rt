@@ -1,5 +1,5 @@
 //! The shelf over files and the sinks over writers: what their contracts can't see of the outside.
-use super::{ErrSink, Fetch, FileShelf, OutSink, Shelf, Sink};
+use pio_edge::{ErrSink, Fetch, FileShelf, OutSink, Shelf, Sink};
 use std::alloc::Global;
 use std::io::{self, ErrorKind, Write};
 use std::test::Fail;

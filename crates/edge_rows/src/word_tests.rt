@@ -1,5 +1,5 @@
 //! Words with their texts, worked by hand from the instruction table, and every word under every rule.
-use crate::{Act, Name, SideRule, WaitSource, decode, encode, op_fits, relocate, spell};
+use pio_encode::{Act, Name, SideRule, WaitSource, decode, encode, op_fits, relocate, spell};
 use std::process::Abort;
 use std::test::Fail;
 

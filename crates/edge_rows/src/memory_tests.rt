@@ -1,5 +1,5 @@
 //! The shelf and the sinks in memory, through their bounds: which calls fail, and what is there afterwards.
-use super::{Fetch, MemShelf, MemSink, Shelf, Sink, SinkFailed, SureSink, put_all};
+use pio_edge::{Fetch, MemShelf, MemSink, Shelf, Sink, SinkFailed, SureSink, put_all};
 use std::alloc::Global;
 use std::test::Fail;
 

@@ -1,0 +1,41 @@
+-- What words want that were read, and that were refused.
+use Rattle.std.proofs.Common.{arith, ◌≡◌, ◌≢◌, ◌∙◌, ℕ, ◌+◌, ◌≤◌, ◌&&◌, ◌==◌, Bool, true, false, inl, inr, Option, Some, None, List, [], ◌∷◌, refl, ap, if◌then◌else◌}
+use Rattle.std.proofs.lemmas.Bool.{and_left, and_right, ne_eqb}
+use Rattle.clap.specs.Walk.{Text}
+use Rattle.clap.specs.Faults.{fault_of}
+use Rattle.command_line.specs.Tool.{tool, side_limit}
+use Rattle.command_line.specs.Words.{Asked, Asks, IsRefused, IsWithinRange, asm, run, dis, asked_of, has_no_room}
+use Rattle.piotool.specs.Wanted.{wanted, with_room, unless_faulty}
+
+-- what is in range has room
+room_within : (a : Asked) → IsWithinRange a → has_no_room a ≡ false
+room_within (asm file) h = refl
+room_within (run source config stimulus clocks) h = refl
+room_within (dis file side false) h = and_right (side == side_limit) false refl
+room_within (dis file side true) h =
+    let bound : side + 1 ≤ 5 = h in
+    and_left (side == side_limit) true (ne_eqb side 5 (λ e. omega (arith, bound, e)))
+
+-- what words ask for with room is what they want
+wanted_of : (words : List Text) (a : Asked) → Asks words a → has_no_room a ≡ false → wanted words ≡ Some a
+unfolding wanted
+wanted_of words a asks room =
+    ap (λ faults. unless_faulty faults (asked_of words)) asks.taken ∙ ap (λ asked. unless_faulty [] asked) asks.asked
+    ∙ ap (λ (full : Bool). if full then None else Some a) room
+
+-- words that were read want what was read
+pub wanted_as_read : (words : List Text) (a : Asked) → Asks words a → IsWithinRange a → wanted words ≡ Some a
+wanted_as_read words a asks range = wanted_of words a asks (room_within a range)
+
+-- where there are faults nothing is wanted
+none_of_faulty : {F : Type 0} (faults : List F) (asked : Option Asked) → faults ≢ [] → unless_faulty faults asked ≡ None
+none_of_faulty [] asked h = absurd (h refl)
+none_of_faulty (fault ∷ faults) asked h = refl
+
+-- words that are refused want nothing
+pub refused_wants_nothing : (words : List Text) → IsRefused words → wanted words ≡ None
+unfolding wanted
+refused_wants_nothing words (inl faulty) = none_of_faulty (fault_of tool words) (asked_of words) faulty
+refused_wants_nothing words (inr pair) =
+    ap (λ faults. unless_faulty faults (asked_of words)) pair.1.taken ∙ ap (λ asked. unless_faulty [] asked) pair.1.asked
+    ∙ ap (λ (full : Bool). if full then None else Some pair.0) pair.2

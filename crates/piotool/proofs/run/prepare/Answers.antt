@@ -1,0 +1,25 @@
+use Rattle.std.proofs.Common.{◌≡◌, map, option_map, Result, sym, subst}
+use Rattle.pio_assemble.specs.Program.{assembled_of}
+use Rattle.piotool.specs.Stages.{Reads, run_plan, shelved}
+use Rattle.piotool.proofs.Preparing.{source_fails, setup_fails, lines_fail}
+use Rattle.piotool.proofs.run.prepare.Goals as goal
+
+pub returns-in_err-programs-clause-stage : goal.returns-in_err-programs-clause-stage
+returns-in_err-programs-clause-stage g c =
+    rw c.from_residual.ensures in
+    source_fails _ _ _ c.args.files.source.now (option_map (λ t. t.now) c.args.files.config) (option_map (λ t. t.now) c.args.files.stimulus) _ c.in_err-programs.ensures.stage
+
+pub returns-in_err-setup-clause-stage : goal.returns-in_err-setup-clause-stage
+returns-in_err-setup-clause-stage g c =
+    rw c.from_residual-in_err-setup.ensures in
+    setup_fails _ _ _ _ _ c.args.files.source.now (option_map (λ t. t.now) c.args.files.config) (option_map (λ t. t.now) c.args.files.stimulus)
+    (map assembled_of c.in_ok-programs.programs.items) _ c.in_ok-programs.ensures.same c.in_ok-programs.ensures.stage.0 c.in_ok-programs.ensures.stage.1
+    c.in_err-setup.ensures.stage
+
+pub returns-in_err-schedule-clause-stage : goal.returns-in_err-schedule-clause-stage
+returns-in_err-schedule-clause-stage g c =
+    rw c.from_residual-in_err-schedule.ensures in
+    lines_fail _ _ _ _ _ _ _ c.args.files.source.now (option_map (λ t. t.now) c.args.files.config) (option_map (λ t. t.now) c.args.files.stimulus)
+    (map assembled_of c.in_ok-programs.programs.items) c.in_ok-setup.setup _ c.in_ok-programs.ensures.same c.in_ok-programs.ensures.stage.0
+    c.in_ok-setup.ensures.same c.in_ok-setup.ensures.stage.0 c.in_ok-programs.ensures.stage.1 c.in_ok-setup.ensures.stage.1
+    c.in_err-schedule.ensures.stage
