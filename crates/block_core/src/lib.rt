@@ -14,12 +14,3 @@ pub use laws::{
     words_go_through_in_order,
 };
 pub use sample::Sample;
-
-#[cfg(test)]
-mod rows;
-#[cfg(test)]
-mod rows_block;
-#[cfg(test)]
-mod rows_ports;
-#[cfg(test)]
-mod tests;

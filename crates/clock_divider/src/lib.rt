@@ -7,6 +7,3 @@ mod laws;
 
 pub use divider::Divider;
 pub use laws::{tick_test, ticks_add};
-
-#[cfg(test)]
-mod tests;

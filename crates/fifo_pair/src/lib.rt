@@ -17,8 +17,3 @@ pub use laws::{
 pub use pair::{Pair, Settled};
 pub use plain::PlainFifo;
 pub use ring::RingFifo;
-
-#[cfg(test)]
-mod rows;
-#[cfg(test)]
-mod tests;

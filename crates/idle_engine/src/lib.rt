@@ -6,6 +6,3 @@ mod simulation;
 
 pub use laws::{a_stopped_run_leaves_a_first_part, later_samples_stand_behind};
 pub use simulation::simulate;
-
-#[cfg(test)]
-mod tests;

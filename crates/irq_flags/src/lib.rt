@@ -5,6 +5,3 @@
 mod flags;
 
 pub use flags::{Flags, resolve};
-
-#[cfg(test)]
-mod tests;

@@ -6,11 +6,13 @@ ghost use Rattle.pin_matrix.specs.Pads.{pads_of, seen_of, first_synchroniser, af
 ghost use Rattle.pin_matrix.specs.Pins.{rotated_right, writes_of, place_of, IsWrite, IsFree, merged, last_of};
 ghost use Rattle.pin_matrix.specs.declared.mapping.Mapping.{Mapping};
 
-/// A mapped value is written to the pins whose place is below the count, and each gets the bit of its place.
+/// A mapped value, of any size, is written to the pins whose place is below the count, and each gets the bit of its place;
+/// so it is a write of pins.
 pub fn each_mapped_pin()
-    ensures pins { (m : Mapping) (value p : ℕ) → value < 2 ^ 32 → p < 32 →
+    ensures write { (m : Mapping) (value : ℕ) → IsWrite (writes_of m value) }
+    ensures pins { (m : Mapping) (value p : ℕ) → p < 32 →
         bit_at (writes_of m value).0 p ≡ (if nat_lt (place_of m p) m.count then 1 else 0) }
-    ensures bits { (m : Mapping) (value p : ℕ) → value < 2 ^ 32 → p < 32 →
+    ensures bits { (m : Mapping) (value p : ℕ) → p < 32 →
         bit_at (writes_of m value).1 p
         ≡ (if nat_lt (place_of m p) m.count then bit_at value (place_of m p) else 0) }
 {}

@@ -28,6 +28,3 @@ pub use span::{Span, SpanUnit, Spans, Stalls};
 pub use span_name::is_span_name;
 pub use sync::Sync;
 pub use writes::writes_of;
-
-#[cfg(test)]
-mod tests;

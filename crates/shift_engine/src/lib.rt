@@ -8,6 +8,3 @@ mod shift;
 pub use laws::{bits_in, bits_out};
 pub use reverse::{reverse_bits, reverse_bits_signed};
 pub use shift::{low_bits, shift_in, shift_out};
-
-#[cfg(test)]
-mod tests;

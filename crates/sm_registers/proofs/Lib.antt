@@ -8,3 +8,4 @@ pub mod Ticks
 pub mod Flow
 pub mod Waits
 pub mod Autopull
+pub mod OwnPins

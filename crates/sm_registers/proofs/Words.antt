@@ -1,7 +1,6 @@
 -- That a tick keeps X, Y, the shift registers and the pending word in their ranges.
 use Rattle.std.proofs.Common.{ℕ, zero, suc, ◌+◌, ◌-◌, ◌*◌, ◌/◌, ◌%◌, ◌^◌, ◌<◌, ◌≤◌, nat_lt, nat_le, Bool, true, false, cond, ◌&&◌, Option, Some, None, IfSome, rules, arith}
 use Rattle.std.proofs.lemmas.Nat.{mod_below, pow_pos, mul-le}
-use Rattle.std.proofs.Math.Pow.{pow_mono}
 use Rattle.std.proofs.Math.Nat.{mod-le, pow-suc, div-le_self}
 use Rattle.pio_encode.specs.declared.act.Act.{Act}
 use Rattle.pio_encode.specs.declared.act.Act.TheVariants.{Jmp, Wait, In, Out, Push, Pull, Mov, Irq, Set, Nothing}
@@ -19,22 +18,19 @@ use Rattle.pio_encode.specs.declared.act.MovSource.{MovSource}
 use Rattle.pio_encode.specs.declared.act.MovSource.TheVariants as mov_source
 use Rattle.pio_encode.specs.declared.act.SetDestination.{SetDestination}
 use Rattle.pio_encode.specs.declared.act.SetDestination.TheVariants as set_destination
-use Rattle.pio_encode.specs.Ranges.{IsInRange, delay_bits}
-use Rattle.pio_encode.specs.declared.rule.SideRule.{SideRule}
-use Rattle.pio_encode.specs.Word.{bits, act_of, reading_of, has_side, side_of}
+use Rattle.pio_encode.specs.Ranges.{IsInRange}
+use Rattle.pio_encode.specs.Word.{act_of, reading_of}
 use Rattle.shift_engine.specs.Shift.{shifted_in, shifted_out}
 use Rattle.shift_engine.specs.Reverse.{reversed_low, reversed_bits}
 use Rattle.pin_matrix.proofs.Bounds.{joined-lt}
-use Rattle.pin_matrix.proofs.Mapped.{IsWrite-writes_of}
-use Rattle.pin_matrix.proofs.Merging.{IsWrite-none}
-use Rattle.pin_matrix.specs.Pins.{IsWrite, rotated_right}
+use Rattle.pin_matrix.specs.Pins.{rotated_right}
 use Rattle.pin_matrix.specs.declared.machine.MachineSetup.{MachineSetup}
 use Rattle.sm_registers.specs.declared.registers.Registers.{Registers}
 use Rattle.sm_registers.specs.declared.view.View.{View}
 use Rattle.sm_registers.specs.Queues.{Queues}
-use Rattle.sm_registers.specs.Laws.{AreWords, AreWordsSeen, WritesPins}
+use Rattle.sm_registers.specs.Laws.{AreWords, AreWordsSeen}
 use Rattle.sm_registers.specs.Effects.{Effect, counted_down, in_word, with_bits_in, autopushed, with_bits_out, out_to, pulled, mov_word, mov_to, operated, jmp_effect, wait_effect, in_effect, out_effect, push_effect, pull_effect, mov_effect, irq_effect, set_effect, effect_of}
-use Rattle.sm_registers.specs.Tick.{current_word, side_writes, after_effect, osr_filled_from, refilled, tick_delay, tick_by, tick_word, tick_of}
+use Rattle.sm_registers.specs.Tick.{current_word, after_effect, osr_filled_from, refilled, tick_delay, tick_by, tick_word, tick_of}
 use Rattle.sm_registers.proofs.Placed.{ranged_word, placed_tick}
 
 -- the registers of 32 bits, and the pending word of 16
@@ -45,13 +41,11 @@ record AreWhole (r : Registers) : Type 0 where
   osr : r.osr < 2 ^ 32
   pending : IfSome r.pending (λ w. w < 2 ^ 16)
 
--- an effect keeps them, gives a word of 32 bits, and writes pins
+-- an effect keeps them, and gives a word of 32 bits
 record IsWholeEffect (e : Effect) : Type 0 where
   registers : AreWhole e.registers
   pending : IfSome e.pending (λ w. w < 2 ^ 16)
   word : IfSome e.word (λ w. w < 2 ^ 32)
-  level : IsWrite e.level
-  direction : IsWrite e.direction
 
 whole_if : (b : Bool) (x y : Effect) → IsWholeEffect x → IsWholeEffect y → IsWholeEffect (cond b x y)
 whole_if true x y h k = h
@@ -141,23 +135,23 @@ whole_bits_out n s r k = record {
 }
 
 whole_autopushed : (s : MachineSetup) (q : Queues) (r : Registers) → AreWhole r → IsWholeEffect (autopushed s q r)
-whole_autopushed s q r h = search (rules, IsWrite-none, whole_if)
+whole_autopushed s q r h = search (rules, whole_if)
 
 whole_out_to :
     (d : OutDestination) (value n : ℕ) (s : MachineSetup) (r : Registers) → value < 2 ^ 32 → AreWhole r → IsWholeEffect (out_to d value n s r)
-whole_out_to out_destination.Pins value n s r k h = search (rules, IsWrite-none, IsWrite-writes_of)
-whole_out_to out_destination.X value n s r k h = search (rules, IsWrite-none)
-whole_out_to out_destination.Y value n s r k h = search (rules, IsWrite-none)
-whole_out_to out_destination.Null value n s r k h = search (rules, IsWrite-none)
-whole_out_to out_destination.Pindirs value n s r k h = search (rules, IsWrite-none, IsWrite-writes_of)
-whole_out_to out_destination.Pc value n s r k h = search (rules, IsWrite-none)
-whole_out_to out_destination.Isr value n s r k h = search (rules, IsWrite-none)
-whole_out_to out_destination.Exec value n s r k h = search (rules, IsWrite-none, cut_16)
+whole_out_to out_destination.Pins value n s r k h = search rules
+whole_out_to out_destination.X value n s r k h = search rules
+whole_out_to out_destination.Y value n s r k h = search rules
+whole_out_to out_destination.Null value n s r k h = search rules
+whole_out_to out_destination.Pindirs value n s r k h = search rules
+whole_out_to out_destination.Pc value n s r k h = search rules
+whole_out_to out_destination.Isr value n s r k h = search rules
+whole_out_to out_destination.Exec value n s r k h = search (rules, cut_16)
 
 whole_pulled :
     (front : Option ℕ) (block : Bool) (r : Registers) → IfSome front (λ w. w < 2 ^ 32) → AreWhole r → IsWholeEffect (pulled front block r)
-whole_pulled None block r k h = search (rules, IsWrite-none, whole_if)
-whole_pulled (Some word) block r k h = search (rules, IsWrite-none)
+whole_pulled None block r k h = search (rules, whole_if)
+whole_pulled (Some word) block r k h = search rules
 
 mov_word_fits :
     (source : MovSource) (s : MachineSetup) (v : View) (q : Queues) (r : Registers) → v.seen < 2 ^ 32 → AreWhole r → mov_word source s v q r < 2 ^ 32
@@ -175,43 +169,43 @@ operated_fits mov_operation.Invert w h = omega arith
 operated_fits mov_operation.Reverse w h = reversed_fits w
 
 whole_mov_to : (d : MovDestination) (value : ℕ) (s : MachineSetup) (r : Registers) → value < 2 ^ 32 → AreWhole r → IsWholeEffect (mov_to d value s r)
-whole_mov_to mov_destination.Pins value s r k h = search (rules, IsWrite-none, IsWrite-writes_of)
-whole_mov_to mov_destination.X value s r k h = search (rules, IsWrite-none)
-whole_mov_to mov_destination.Y value s r k h = search (rules, IsWrite-none)
-whole_mov_to mov_destination.Exec value s r k h = search (rules, IsWrite-none, cut_16)
-whole_mov_to mov_destination.Pc value s r k h = search (rules, IsWrite-none)
-whole_mov_to mov_destination.Isr value s r k h = search (rules, IsWrite-none)
-whole_mov_to mov_destination.Osr value s r k h = search (rules, IsWrite-none)
+whole_mov_to mov_destination.Pins value s r k h = search rules
+whole_mov_to mov_destination.X value s r k h = search rules
+whole_mov_to mov_destination.Y value s r k h = search rules
+whole_mov_to mov_destination.Exec value s r k h = search (rules, cut_16)
+whole_mov_to mov_destination.Pc value s r k h = search rules
+whole_mov_to mov_destination.Isr value s r k h = search rules
+whole_mov_to mov_destination.Osr value s r k h = search rules
 
 whole_set : (d : SetDestination) (value : ℕ) (s : MachineSetup) (r : Registers) → value < 2 ^ 32 → AreWhole r → IsWholeEffect (set_effect d value s r)
 unfolding set_effect
-whole_set set_destination.Pins value s r k h = search (rules, IsWrite-none, IsWrite-writes_of)
-whole_set set_destination.X value s r k h = search (rules, IsWrite-none)
-whole_set set_destination.Y value s r k h = search (rules, IsWrite-none)
-whole_set set_destination.Pindirs value s r k h = search (rules, IsWrite-none, IsWrite-writes_of)
+whole_set set_destination.Pins value s r k h = search rules
+whole_set set_destination.X value s r k h = search rules
+whole_set set_destination.Y value s r k h = search rules
+whole_set set_destination.Pindirs value s r k h = search rules
 
 whole_jmp : (c : Condition) (a : ℕ) (s : MachineSetup) (v : View) (r : Registers) → AreWhole r → IsWholeEffect (jmp_effect c a s v r)
 unfolding jmp_effect
-whole_jmp c a s v r h = let kept : AreWhole (counted_down c r) = whole_counted_down c r h in search (rules, IsWrite-none)
+whole_jmp c a s v r h = let kept : AreWhole (counted_down c r) = whole_counted_down c r h in search rules
 
 whole_effect :
     (a : Act) (s : MachineSetup) (v : View) (q : Queues) (r : Registers) → IsInRange a → AreWordsSeen v q → AreWhole r
     → IsWholeEffect (effect_of a s v q r)
 unfolding effect_of wait_effect in_effect out_effect push_effect pull_effect mov_effect irq_effect
 whole_effect (Jmp c a) s v q r k g h = whole_jmp c a s v r h
-whole_effect (Wait polarity source index) s v q r k g h = search (rules, IsWrite-none, whole_if)
+whole_effect (Wait polarity source index) s v q r k g h = search (rules, whole_if)
 whole_effect (In source n) s v q r k g h =
     whole_autopushed s q _ (kept_if r.begun r _ h (whole_bits_in (in_word source s v r) n s r k.1 h))
 whole_effect (Out d n) s v q r k g h =
     let fits : (shifted_out r.osr n s.out_right).0 < 2 ^ 32 = out_fits r.osr n s.out_right h.osr in
-    search (rules, IsWrite-none, whole_if, whole_out_to, whole_bits_out)
-whole_effect (Push if_full block) s v q r k g h = search (rules, IsWrite-none, whole_if) depth 20
-whole_effect (Pull if_empty block) s v q r k g h = let word = g.front in search (rules, IsWrite-none, whole_if, whole_pulled)
+    search (rules, whole_if, whole_out_to, whole_bits_out)
+whole_effect (Push if_full block) s v q r k g h = search (rules, whole_if) depth 20
+whole_effect (Pull if_empty block) s v q r k g h = let word = g.front in search (rules, whole_if, whole_pulled)
 whole_effect (Mov d o source) s v q r k g h =
     whole_mov_to d _ s r (operated_fits o _ (mov_word_fits source s v q r g.seen h)) h
-whole_effect (Irq clear waits index) s v q r k g h = search (rules, IsWrite-none, whole_if) depth 20
+whole_effect (Irq clear waits index) s v q r k g h = search (rules, whole_if) depth 20
 whole_effect (Set d value) s v q r k g h = whole_set d value s r (omega (arith, k)) h
-whole_effect Nothing s v q r k g h = search (rules, IsWrite-none)
+whole_effect Nothing s v q r k g h = search rules
 
 whole_after : (delay : ℕ) (s : MachineSetup) (r : Registers) (e : Effect) → IsWholeEffect e → AreWhole (after_effect delay s r e)
 unfolding after_effect
@@ -267,43 +261,4 @@ word_fits s v q r h g =
     elim (nat_lt 0 r.delay) as (λ b. IfSome (cond b (tick_delay s q r) (tick_word (reading_of word s.side_rule) s v q r)).1.word (λ w. w < 2 ^ 32)) [
       | true ↦ tt
       | false ↦ effect.word
-    ]
-
-some_if : (b : Bool) (x : ℕ) → x < 2 ^ 32 → IfSome (cond b (Some x) None) (λ value. value < 2 ^ 32)
-some_if true x h = h
-some_if false x h = tt
-
--- side-set writes pins
-side_fits : (rule : SideRule) (field : ℕ) → IfSome (side_of rule field) (λ value. value < 2 ^ 32)
-unfolding side_of
-side_fits rule field =
-    let shifted : ℕ = field / 2 ^ delay_bits rule in
-    let few : rule.bits ≤ 32 = omega (arith, rule.fits) in
-    let power : 2 ^ rule.bits ≤ 2 ^ 32 = pow_mono few in
-    let below : shifted % 2 ^ rule.bits < 2 ^ rule.bits = mod_below shifted (2 ^ rule.bits) (pow_pos rule.bits) in
-    some_if (has_side rule field) (shifted % 2 ^ rule.bits) (omega (arith, below, power))
-
-write_if : (b : Bool) (x y : ℕ × ℕ) → IsWrite x → IsWrite y → IsWrite (cond b x y)
-write_if true x y h k = h
-write_if false x y h k = k
-
-side_is_write : (side : Option ℕ) (begun : Bool) (s : MachineSetup) → IfSome side (λ value. value < 2 ^ 32) → IsWrite (side_writes side begun s)
-side_is_write None begun s h = IsWrite-none
-side_is_write (Some value) begun s h = write_if begun (0, 0) _ IsWrite-none (IsWrite-writes_of s.side value h)
-
--- all that a tick writes are writes of pins
-pub tick_writes :
-    (s : MachineSetup) (v : View) (q : Queues) (r : Registers) → AreWords r → AreWordsSeen v q → WritesPins (tick_of s v q r).1
-unfolding tick_of tick_delay tick_word tick_by reading_of
-tick_writes s v q r h g =
-    let word : ℕ = current_word v r in
-    let effect : IsWholeEffect (effect_of (act_of word) s v q r) = whole_effect (act_of word) s v q r (ranged_word word).range g (whole r h) in
-    let side_set : IsWrite (side_writes (side_of s.side_rule (bits word 8 5)) r.begun s) =
-    side_is_write (side_of s.side_rule (bits word 8 5)) r.begun s (side_fits s.side_rule (bits word 8 5)) in
-    elim (nat_lt 0 r.delay) as (λ b. WritesPins (cond b (tick_delay s q r) (tick_word (reading_of word s.side_rule) s v q r)).1) [
-      | true ↦ record { level = (IsWrite-none, (IsWrite-none, tt)); direction = (IsWrite-none, (IsWrite-none, tt)) }
-      | false ↦ record {
-        level = (effect.level, (write_if s.side_rule.pindirs (0, 0) _ IsWrite-none side_set, tt));
-        direction = (effect.direction, (write_if s.side_rule.pindirs _ (0, 0) side_set IsWrite-none, tt));
-      }
     ]

@@ -9,7 +9,8 @@
 --   HasSideSet       what side-set writes in a tick
 --   HoldsOrGives     the ISR after a tick, or the word that was pushed of it
 --   raises           a sticky FIFO flag is among those raised
-use Rattle.std.specs.Prelude.{◌≡◌, ℕ, ◌/◌, ◌%◌, ◌==◌, Bool, true, false, Some, None, slice_index_or}
+--   holds            a pin is mapped
+use Rattle.std.specs.Prelude.{◌≡◌, nat_lt, ℕ, ◌/◌, ◌%◌, ◌==◌, Bool, true, false, Some, None, slice_index_or}
 use Rattle.pio_encode.specs.declared.act.Act.{Act}
 use Rattle.pio_encode.specs.declared.act.Act.TheVariants.{Jmp, Wait, In, Out, Push, Pull, Mov, Irq, Set, Nothing}
 use Rattle.pio_encode.specs.declared.act.OutDestination.{OutDestination}
@@ -17,7 +18,9 @@ use Rattle.pio_encode.specs.declared.act.OutDestination.TheVariants as out_desti
 use Rattle.pio_encode.specs.declared.act.MovDestination.{MovDestination}
 use Rattle.pio_encode.specs.declared.act.MovDestination.TheVariants as mov_destination
 use Rattle.pio_encode.specs.Word.{act_of}
+use Rattle.pin_matrix.specs.Pins.{place_of}
 use Rattle.pin_matrix.specs.declared.machine.MachineSetup.{MachineSetup}
+use Rattle.pin_matrix.specs.declared.mapping.Mapping.{Mapping}
 use Rattle.sm_registers.specs.declared.registers.Registers.{Registers}
 use Rattle.sm_registers.specs.declared.view.View.{View}
 use Rattle.sm_registers.specs.declared.intent.Intent.{Intent}
@@ -171,3 +174,7 @@ pub record HoldsOrGives (isr count : ℕ) (x : Registers × Intent) : Type 0 whe
 -- the flag, a power of 2, is among those raised
 abbrev pub raises : (flag : ℕ) → ℕ → Bool
 raises flag sticky = sticky / flag % 2 == 1
+
+-- the pin is one of a mapping (section 3.5.6)
+abbrev pub holds : Mapping → ℕ → Bool
+holds m p = nat_lt (place_of m p) m.count

@@ -1,5 +1,7 @@
 //! Laws of a tick, each on a function that does nothing. `tick_of` gives the registers after a tick and its intent.
-ghost use Rattle.std.specs.Prelude.{◌≡◌, ℕ, ◌-◌, ◌^◌, ◌<◌, Bool, true, false, Some, IfSome, is_some};
+ghost use Rattle.std.specs.Prelude.{◌≡◌, ℕ, ◌-◌, ◌^◌, ◌<◌, ◌||◌, not, Bool, true, false, Some, IfSome, is_some};
+ghost use Rattle.std.specs.List.{AllByRecursion};
+ghost use Rattle.pin_matrix.specs.Pins.{IsFree};
 ghost use Rattle.pin_matrix.specs.declared.machine.MachineSetup as setup;
 ghost use Rattle.sm_registers.specs.declared.registers.Registers as registers;
 ghost use Rattle.sm_registers.specs.declared.view.View as view;
@@ -8,6 +10,7 @@ ghost use Rattle.sm_registers.specs.declared.intent.Kind.TheVariants as kind;
 ghost use Rattle.sm_registers.specs.Effects.{no_intent};
 ghost use Rattle.sm_registers.specs.Laws.{AreWords, AreWordsSeen, IsAlike, IsFair, TakesInto, GivesAll, WritesPins};
 ghost use Rattle.sm_registers.specs.Ranges.{IsPlaced};
+ghost use Rattle.sm_registers.specs.Rules.{holds};
 ghost use Rattle.sm_registers.specs.Tick.{refills, tick_of};
 
 /// A tick keeps every register in its range, and gives a word of 32 bits.
@@ -20,10 +23,23 @@ pub fn ranges_are_kept()
         → AreWords r → AreWordsSeen v q → IfSome (tick_of s v q r).1.word (λ w. w < 2 ^ 32) }
 {}
 
-/// All that a tick writes are writes of pins: each has bits at its own pins alone.
+/// All that a tick writes are writes of pins: each has bits at its own pins alone, whatever the registers hold.
 pub fn writes_are_of_pins()
     ensures { (s : setup.MachineSetup) (v : view.View) (q : queues.Queues) (r : registers.Registers)
-        → AreWords r → AreWordsSeen v q → WritesPins (tick_of s v q r).1 }
+        → WritesPins (tick_of s v q r).1 }
+{}
+
+/// A tick writes the pins of its machine's own mappings alone: those of OUT and of SET, and of side-set's either levels or
+/// directions (RP2040 Datasheet, section 3.5.6).
+pub fn a_tick_writes_its_own_pins()
+    ensures level { (s : setup.MachineSetup) (v : view.View) (q : queues.Queues) (r : registers.Registers) (p : ℕ)
+        → p < 32 → holds s.out p ≡ false → holds s.set p ≡ false
+        → (s.side_rule.pindirs || not (holds s.side p)) ≡ true
+        → AllByRecursion (IsFree p) (tick_of s v q r).1.level }
+    ensures direction { (s : setup.MachineSetup) (v : view.View) (q : queues.Queues) (r : registers.Registers) (p : ℕ)
+        → p < 32 → holds s.out p ≡ false → holds s.set p ≡ false
+        → (not s.side_rule.pindirs || not (holds s.side p)) ≡ true
+        → AllByRecursion (IsFree p) (tick_of s v q r).1.direction }
 {}
 
 /// A tick takes a word only where TX has one, and gives one only where RX has room.

@@ -22,8 +22,9 @@ mod waiting;
 pub use fifo_laws::{autopull_takes_what_it_can, in_shifts_once, txstall_tells_an_empty_tx};
 pub use intent::{Intent, Kind, RX_STALL, RX_UNDER, TX_OVER, TX_STALL};
 pub use laws::{
-    a_delay_only_counts, a_late_stall_only_waits, a_tick_sees_what_it_reads, moves_are_fair,
-    no_word_is_lost, ranges_are_kept, writes_are_of_pins,
+    a_delay_only_counts, a_late_stall_only_waits, a_tick_sees_what_it_reads,
+    a_tick_writes_its_own_pins, moves_are_fair, no_word_is_lost, ranges_are_kept,
+    writes_are_of_pins,
 };
 pub use machine::Machine;
 pub use order_laws::{
@@ -33,16 +34,3 @@ pub use order_laws::{
 pub use registers::Registers;
 pub use shown::Shown;
 pub use view::View;
-
-#[cfg(test)]
-mod rows;
-#[cfg(test)]
-mod rows_fifos;
-#[cfg(test)]
-mod rows_flow;
-#[cfg(test)]
-mod rows_pins;
-#[cfg(test)]
-mod rows_shifts;
-#[cfg(test)]
-mod tests;

@@ -1,0 +1,77 @@
+//! The tables of rows, each run with both kinds of FIFO over the system's ports.
+ghost use Rattle.std.specs.Prelude.{◌≤◌};
+
+use crate::block_row::{Row, Seen, setup_of};
+use crate::block_rows::BLOCK;
+use crate::port_rows::PORTS;
+use block_core::{Block, Sample};
+use dreq_pacing::{HostPorts, read_stimulus};
+use fifo_pair::{Fifo, PlainFifo, RingFifo};
+use pin_matrix::Spans;
+use std::alloc::Global;
+use std::process::Abort;
+use std::test::Fail;
+
+/// Whether this is seen.
+fn is_seen(sample: &Sample, seen: Seen) -> bool {
+    match seen {
+        Seen::Levels(levels) => sample.level == levels,
+        Seen::Directions(directions) => sample.direction == directions,
+        Seen::Flags(flags) => sample.flags == flags,
+        Seen::Tx(machine, level) => sample.tx.get(machine as usize) == Some(&level),
+        Seen::Rx(machine, level) => sample.rx.get(machine as usize) == Some(&level),
+        Seen::Got(machine, word) => sample.got.get(machine as usize) == Some(&word),
+        Seen::Sticky(machine, flags) => sample.sticky.get(machine as usize) == Some(&flags),
+    }
+}
+
+/// How many clocks a row takes.
+fn clocks_of(row: &Row) -> u64
+    ensures { result ≤ 100001 }
+{
+    let mut last = 0;
+    for &(clock, _) in row.seen {
+        if clock > last {
+            last = clock;
+        }
+    }
+    last.min(100_000) + 1
+}
+
+/// The row's clocks, one after the other.
+fn run<F: Fifo>(rt: &impl Abort, alloc: Global, row: &Row) -> Result<(), Fail> {
+    let setup = setup_of(row, Spans::empty(alloc));
+    let schedule = match read_stimulus(alloc, row.stimulus.as_bytes()) {
+        Ok(schedule) => schedule,
+        Err(fault) => panic!(rt; "{}: {fault:?}", row.shows),
+    };
+    let mut ports = HostPorts::new(&schedule);
+    let mut block = Block::<F>::new(alloc, &setup)?;
+    for clock in 0..clocks_of(row) {
+        let due = ports.at(clock, &block.requests());
+        block.clock(&due);
+        let sample = block.view();
+        for &(at, seen) in row.seen {
+            assert!(rt;
+                at != clock || is_seen(&sample, seen),
+                "{}: {seen:?} after clock {clock}",
+                row.shows
+            );
+        }
+    }
+    Ok(())
+}
+
+fn run_all(rt: &impl Abort, alloc: Global, rows: &[Row]) -> Result<(), Fail> {
+    for row in rows {
+        run::<PlainFifo>(rt, alloc, row)?;
+        run::<RingFifo>(rt, alloc, row)?;
+    }
+    Ok(())
+}
+
+#[test]
+fn rows(rt: HostRuntime) -> Result<(), Fail> {
+    run_all(&rt, rt.alloc(), &BLOCK)?;
+    run_all(&rt, rt.alloc(), &PORTS)
+}

@@ -1,0 +1,233 @@
+//! One clock of a pair by the datasheet's rule, worked by hand, and a run of clocks against plain lists: each with both
+//! kinds of FIFO.
+use crate::fifo_rows::{Join, RX_ROWS, RxRow, TX_ROWS, TxRow};
+use fifo_pair::{Fifo, Pair, PlainFifo, RingFifo, Settled};
+use std::alloc::{AllocError, Global};
+use std::process::Abort;
+use std::test::Fail;
+
+#[derive(Clone, Copy)]
+struct Events {
+    take: bool,
+    machine_word: Option<u32>,
+    system_word: Option<u32>,
+    system_read: bool,
+}
+
+const NOTHING: Events = Events {
+    take: false,
+    machine_word: None,
+    system_word: None,
+    system_read: false,
+};
+
+const TAKE: Events = Events {
+    take: true,
+    ..NOTHING
+};
+
+const READ: Events = Events {
+    system_read: true,
+    ..NOTHING
+};
+
+// The system writes a word.
+const fn writes(word: u32) -> Events {
+    Events {
+        system_word: Some(word),
+        ..NOTHING
+    }
+}
+
+// The machine gives a word.
+const fn gives(word: u32) -> Events {
+    Events {
+        machine_word: Some(word),
+        ..NOTHING
+    }
+}
+
+fn joined<F: Fifo>(alloc: Global, join: Join) -> Result<Pair<F>, AllocError> {
+    match join {
+        Join::Neither => Pair::new(alloc, false, false),
+        Join::Tx => Pair::new(alloc, true, false),
+        Join::Rx => Pair::new(alloc, false, true),
+    }
+}
+
+// One clock; None where the machine takes from an empty TX or gives to a full RX.
+fn clock<F: Fifo>(pair: &mut Pair<F>, events: Events) -> Option<Settled> {
+    if events.take && pair.tx_level() == 0 || events.machine_word.is_some() && pair.rx_full() {
+        return None;
+    }
+    Some(pair.settle(
+        events.take,
+        events.machine_word,
+        events.system_word,
+        events.system_read,
+    ))
+}
+
+// A pair with these words in TX and in RX.
+fn filled<F: Fifo>(
+    alloc: Global,
+    join: Join,
+    tx: &[u32],
+    rx: &[u32],
+) -> Result<Pair<F>, AllocError> {
+    let mut pair = joined(alloc, join)?;
+    for &word in tx {
+        let _ = clock(&mut pair, writes(word));
+    }
+    for &word in rx {
+        let _ = clock(&mut pair, gives(word));
+    }
+    Ok(pair)
+}
+
+// All words of TX, as the machine takes them.
+fn words_of_tx<F: Fifo>(alloc: Global, mut pair: Pair<F>) -> Result<Vec<u32>, AllocError> {
+    let mut words = Vec::new(alloc);
+    for _ in 0..pair.tx_level() {
+        if let Some(word) = pair.tx_front() {
+            words.push(word)?;
+        }
+        let _ = clock(&mut pair, TAKE);
+    }
+    Ok(words)
+}
+
+// All words of RX, as the system reads them.
+fn words_of_rx<F: Fifo>(alloc: Global, mut pair: Pair<F>) -> Result<Vec<u32>, AllocError> {
+    let mut words = Vec::new(alloc);
+    for _ in 0..pair.rx_level() {
+        if let Some(settled) = clock(&mut pair, READ) {
+            words.extend(settled.got)?;
+        }
+    }
+    Ok(words)
+}
+
+fn tx_row<F: Fifo>(rt: &impl Abort, alloc: Global, row: &TxRow) -> Result<(), Fail> {
+    let mut pair = filled::<F>(alloc, row.join, row.before, &[])?;
+    assert_eq!(rt; pair.tx_level(), row.before.len(), "{}", row.shows);
+    let events = Events {
+        take: row.take,
+        system_word: row.word,
+        ..NOTHING
+    };
+    let settled = Settled {
+        got: None,
+        over: row.over,
+        under: false,
+    };
+    assert_eq!(rt; clock(&mut pair, events), Some(settled), "{}", row.shows);
+    assert_eq!(rt; pair.tx_full(), row.full, "{}", row.shows);
+    assert_eq!(rt;
+        words_of_tx(alloc, pair)?.as_slice(),
+        row.after,
+        "{}",
+        row.shows
+    );
+    Ok(())
+}
+
+fn rx_row<F: Fifo>(rt: &impl Abort, alloc: Global, row: &RxRow) -> Result<(), Fail> {
+    let mut pair = filled::<F>(alloc, row.join, &[], row.before)?;
+    assert_eq!(rt; pair.rx_level(), row.before.len(), "{}", row.shows);
+    let events = Events {
+        machine_word: row.word,
+        system_read: row.read,
+        ..NOTHING
+    };
+    let settled = Settled {
+        got: row.got,
+        over: false,
+        under: row.under,
+    };
+    assert_eq!(rt; clock(&mut pair, events), Some(settled), "{}", row.shows);
+    assert_eq!(rt; pair.rx_full(), row.full, "{}", row.shows);
+    assert_eq!(rt;
+        words_of_rx(alloc, pair)?.as_slice(),
+        row.after,
+        "{}",
+        row.shows
+    );
+    Ok(())
+}
+
+#[test]
+fn a_clock_settles_as_worked_by_hand(rt: HostRuntime) -> Result<(), Fail> {
+    for row in &TX_ROWS {
+        tx_row::<PlainFifo>(&rt, rt.alloc(), row)?;
+        tx_row::<RingFifo>(&rt, rt.alloc(), row)?;
+    }
+    for row in &RX_ROWS {
+        rx_row::<PlainFifo>(&rt, rt.alloc(), row)?;
+        rx_row::<RingFifo>(&rt, rt.alloc(), row)?;
+    }
+    Ok(())
+}
+
+// The rule on plain lists: what the system is told in a clock.
+fn settled_lists(
+    tx: &mut Vec<u32>,
+    rx: &mut Vec<u32>,
+    room: usize,
+    events: Events,
+) -> Result<Settled, AllocError> {
+    let over = events.system_word.is_some() && tx.len() == room;
+    let under = events.system_read && rx.is_empty();
+    let mut got = None;
+    if events.take && !tx.is_empty() {
+        tx.remove(0);
+    }
+    if events.system_read && !rx.is_empty() {
+        got = Some(rx.remove(0));
+    }
+    if !over {
+        tx.extend(events.system_word)?;
+    }
+    rx.extend(events.machine_word)?;
+    Ok(Settled { got, over, under })
+}
+
+// What happens in a clock, by five bits of a fixed sequence; words are the number of the clock, or 64 more.
+fn events_at(clock: u32, takes: bool, gives: bool) -> Events {
+    let bits = clock.wrapping_mul(0x9e37_79b9) >> 27;
+    Events {
+        take: takes && bits & 1 == 1,
+        machine_word: if gives && bits & 2 == 2 {
+            Some(clock | 64)
+        } else {
+            None
+        },
+        system_word: if bits & 20 != 0 { Some(clock) } else { None },
+        system_read: bits & 8 == 8,
+    }
+}
+
+fn run_beside_lists<F: Fifo>(rt: &impl Abort, alloc: Global) -> Result<(), Fail> {
+    let mut pair = joined::<F>(alloc, Join::Neither)?;
+    let mut tx = Vec::new(alloc);
+    let mut rx = Vec::new(alloc);
+    for number in 0..60u32 {
+        let events = events_at(number, !tx.is_empty(), rx.len() < 4);
+        let wanted = settled_lists(&mut tx, &mut rx, 4, events)?;
+        assert_eq!(rt; clock(&mut pair, events), Some(wanted), "clock {number}");
+        assert_eq!(rt; pair.tx_front(), tx.first().copied(), "clock {number}");
+        assert_eq!(rt;
+            (pair.tx_level(), pair.rx_level()),
+            (tx.len(), rx.len()),
+            "clock {number}"
+        );
+    }
+    assert_eq!(rt; words_of_tx(alloc, pair)?, tx);
+    Ok(())
+}
+
+#[test]
+fn a_run_of_clocks_is_that_of_plain_lists(rt: HostRuntime) -> Result<(), Fail> {
+    run_beside_lists::<PlainFifo>(&rt, rt.alloc())?;
+    run_beside_lists::<RingFifo>(&rt, rt.alloc())
+}

@@ -1,0 +1,149 @@
+//! The tables of rows, each run with both kinds of FIFO.
+use crate::machine_fifos::FIFOS;
+use crate::machine_flow::FLOW;
+use crate::machine_pins::PINS;
+use crate::machine_row::{Event, PLAIN, Row, Seen, setup_of};
+use crate::machine_shifts::SHIFTS;
+use fifo_pair::{Fifo, PlainFifo, RingFifo};
+use irq_flags::Flags;
+use sm_registers::{Machine, View};
+use std::alloc::Global;
+use std::process::Abort;
+use std::test::Fail;
+
+/// In how many clocks the rows are looked at.
+const CLOCKS: u8 = 70;
+
+/// The block around the machine: its view, and what becomes of its writes.
+#[derive(Drop)]
+struct Around {
+    view: View,
+    level: u32,
+    direction: u32,
+}
+
+/// Memory with the words from address 0 on.
+fn memory_of(words: &[u16]) -> [u16; 32] {
+    let mut memory = [0; 32];
+    for (place, &word) in memory.iter_mut().zip(words) {
+        *place = word;
+    }
+    memory
+}
+
+/// At the start all is 0, but for the words.
+fn with_memory(words: &[u16]) -> Around {
+    Around {
+        view: View {
+            memory: memory_of(words),
+            seen: 0,
+            flags: Flags { up: 0 },
+        },
+        level: 0,
+        direction: 0,
+    }
+}
+
+/// The pins after a machine's two writes to them.
+fn written(pins: u32, writes: [(u32, u32); 2]) -> u32 {
+    let [(pins_1, bits_1), (pins_2, bits_2)] = writes;
+    (pins & !pins_1 | bits_1) & !pins_2 | bits_2
+}
+
+/// One clock with its events.
+fn clock<F: Fifo>(machine: &mut Machine<F>, around: &mut Around, events: &[(u8, Event)], now: u8) {
+    let mut word = None;
+    let mut read = false;
+    let mut lowered = 0;
+    for &(clock, event) in events {
+        if clock == now {
+            match event {
+                Event::Write(written) => word = Some(written),
+                Event::Read => read = true,
+                Event::See(seen) => around.view.seen = seen,
+                Event::Lower(flags) => lowered = flags,
+                Event::Levels(level) => around.level = level,
+            }
+        }
+    }
+    let intent = machine.tick(&around.view);
+    machine.settle(&intent, word, read);
+    around.level = written(around.level, intent.level);
+    around.direction = written(around.direction, intent.direction);
+    around
+        .view
+        .flags
+        .merge(intent.clears | lowered, intent.sets);
+}
+
+/// Whether this is seen.
+fn is_seen<F: Fifo>(machine: &Machine<F>, around: &Around, seen: Seen) -> bool {
+    let shown = machine.shown();
+    match seen {
+        Seen::Level(level) => around.level == level,
+        Seen::Direction(direction) => around.direction == direction,
+        Seen::Tx(level) => shown.tx == level,
+        Seen::Rx(level) => shown.rx == level,
+        Seen::Got(word) => shown.got == word,
+        Seen::Sticky(flags) => shown.sticky == flags,
+        Seen::Flags(flags) => around.view.flags.up == flags,
+    }
+}
+
+/// The row's clocks, one after the other.
+fn run<F: Fifo>(rt: &impl Abort, alloc: Global, row: &Row) -> Result<(), Fail> {
+    let setup = setup_of(&row.setup, row.words.len());
+    let mut machine = Machine::<F>::new(alloc, &setup)?;
+    let mut around = with_memory(row.words);
+    for now in 0..CLOCKS {
+        clock(&mut machine, &mut around, row.events, now);
+        for &(clock, seen) in row.seen {
+            if clock == now {
+                assert!(rt;
+                    is_seen(&machine, &around, seen),
+                    "{}: {seen:?} after clock {now}",
+                    row.shows
+                );
+            }
+        }
+    }
+    for &(clock, _) in row.seen {
+        assert!(rt; clock < CLOCKS, "{}", row.shows);
+    }
+    Ok(())
+}
+
+fn run_all(rt: &impl Abort, alloc: Global, rows: &[Row]) -> Result<(), Fail> {
+    for row in rows {
+        run::<PlainFifo>(rt, alloc, row)?;
+        run::<RingFifo>(rt, alloc, row)?;
+    }
+    Ok(())
+}
+
+#[test]
+fn rows(rt: HostRuntime) -> Result<(), Fail> {
+    run_all(&rt, rt.alloc(), &FLOW)?;
+    run_all(&rt, rt.alloc(), &FIFOS)?;
+    run_all(&rt, rt.alloc(), &SHIFTS)?;
+    run_all(&rt, rt.alloc(), &PINS)
+}
+
+/// Reserved encodings, each with another stray bit or number.
+const RESERVED: [u16; 15] = [
+    0x20e0, 0x4088, 0x40a8, 0x8021, 0x80a1, 0xa061, 0xa039, 0xa004, 0xa024, 0xc080, 0xc0a0, 0xe061,
+    0xe0a1, 0xe0c1, 0xe0e1,
+];
+
+#[test]
+fn reserved_words_do_nothing(rt: HostRuntime) -> Result<(), Fail> {
+    for word in RESERVED {
+        let mut machine = Machine::<PlainFifo>::new(rt.alloc(), &setup_of(&PLAIN, 2))?;
+        let mut around = with_memory(&[word, 0xe001]);
+        clock(&mut machine, &mut around, &[], 0);
+        assert_eq!(rt; (around.level, around.direction), (0, 0), "{word:04x}");
+        clock(&mut machine, &mut around, &[], 1);
+        assert_eq!(rt; (around.level, around.direction), (1, 0), "{word:04x}");
+    }
+    Ok(())
+}
