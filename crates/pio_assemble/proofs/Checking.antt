@@ -5,7 +5,8 @@ use Rattle.pio_assemble.specs.declared.before.Before.{Before}
 use Rattle.pio_assemble.specs.declared.line.Line.{Line}
 use Rattle.pio_assemble.specs.declared.fault.LineFault.{LineFault}
 use Rattle.pio_assemble.specs.declared.fault.LineFault.TheVariants as line_fault
-use Rattle.pio_assemble.specs.Answers.{IsFound, IsFirst, located}
+use Rattle.answers.specs.Answers.{IsFound}
+use Rattle.pio_assemble.specs.Answers.{line_told, told, located}
 use Rattle.pio_assemble.specs.Checks.{first_fault, line_fault as fault_of_line, after, after_line, fault_or}
 use Rattle.pio_assemble.specs.Lines.{has_word, word_on}
 use Rattle.pio_assemble.proofs.Lining.{first_left}
@@ -19,8 +20,8 @@ word_left lines i l word within h says = ap has_word (first_left lines i l withi
 
 -- a fault of the first of the lines that are left is the first one
 pub fault_left : (b : Before) (lines : List Line) (i : ℕ) (l : Line) (fault : LineFault) → i < length lines → l ≡ get_or lines i l
-    → IsFound fault (fault_of_line b (has_word (drop (i + 1) lines)) l.reading)
-    → IsFirst (located l.number fault) (first_fault b (drop i lines))
+    → IsFound (line_told fault) (fault_of_line b (has_word (drop (i + 1) lines)) l.reading)
+    → IsFound (told (located l.number fault)) (first_fault b (drop i lines))
 fault_left b lines i l line_fault.Memory within h found = tt
 fault_left b lines i l (line_fault.Found kind) within h found = unfold first_fault in ap (first_fault b) (first_left lines i l within h) ∙ ap (λ f. fault_or l.number f (first_fault (after_line b l.reading) (drop (i + 1) lines))) found
 

@@ -5,8 +5,7 @@ use Rattle.std.proofs.lemmas.List.Folds.{list_any-append}
 use Rattle.std.proofs.lemmas.Slice.Eq.{bytes_eq-Decides}
 use Rattle.std.specs.List.{list_any}
 use Rattle.std.specs.Str.{bytes_eq}
-use Rattle.pio_lex.specs.declared.fault.LexFault.{LexFault}
-use Rattle.pio_lex.specs.declared.fault.LexFault.TheVariants as lex_fault
+use Rattle.pio_lex.specs.Fault.{Refusal as LexRefusal}
 use Rattle.pio_lex.specs.declared.token.Token.{Token}
 use Rattle.pio_lex.specs.Reading.{reading_of}
 use Rattle.pio_expr.specs.Values.{Scope}
@@ -18,7 +17,8 @@ use Rattle.pio_assemble.specs.declared.fault.SourceKind.{SourceKind}
 use Rattle.pio_assemble.specs.declared.fault.SourceKind.TheVariants.{Duplicate}
 use Rattle.pio_assemble.specs.declared.line.Line.{Line}
 use Rattle.pio_assemble.specs.declared.program.Program.{Program}
-use Rattle.pio_assemble.specs.Answers.{Refusal, Gives, at_line, ◌>>=◌}
+use Rattle.answers.specs.Answers.{◌>>=◌}
+use Rattle.pio_assemble.specs.Answers.{Refusal, Gives, at_line}
 use Rattle.pio_assemble.specs.Checks.{first_fault, line_fault as fault_of_line, statement_fault, nothing_before, after, after_line, is_among, with_name, duplicate}
 use Rattle.pio_assemble.specs.Drafts.{Draft, begun, drafted, finished}
 use Rattle.pio_assemble.specs.Lines.{has_word, lines_of}
@@ -162,9 +162,8 @@ distinct_names source programs h = by (reading_of source) h where
       let all = named lines nothing_before (global_scope lines) (begun None) programs e reads in
       rw (all.whole) all.distinct
 
-  by : (read : Result (List Token) LexFault) → reads_tokens source read ≡ Ok programs → AreDistinct (names_of programs)
-  by (Err lex_fault.Memory) reads = cc
-  by (Err (lex_fault.Found line kind)) reads = cc
+  by : (read : Result (List Token) LexRefusal) → reads_tokens source read ≡ Ok programs → AreDistinct (names_of programs)
+  by (Err refusal) reads = cc
   by (Ok tokens) reads = checked (lines_of source tokens) (first_fault nothing_before (lines_of source tokens)) refl reads
 
 -- as they are seen

@@ -1,7 +1,8 @@
 -- What follows where there is no fault.
 use Rattle.std.proofs.Common.{◌≡◌, ℕ, Bool, true, false, Option, Some, None, Result, Ok, Err, IfOk, refl}
 use Rattle.pio_assemble.specs.declared.fault.SourceKind.{SourceKind}
-use Rattle.pio_assemble.specs.Answers.{Refusal, ◌>>=◌}
+use Rattle.answers.specs.Answers.{◌>>=◌}
+use Rattle.pio_assemble.specs.Answers.{Refusal}
 use Rattle.pio_assemble.specs.Checks.{fault_or, fault_if, ◌<|>◌}
 
 -- none on a line, and none behind it

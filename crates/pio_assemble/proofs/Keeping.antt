@@ -7,7 +7,7 @@ use Rattle.pio_statement.specs.declared.statement.Statement.TheVariants as state
 use Rattle.pio_assemble.specs.declared.before.Before.{Before}
 use Rattle.pio_assemble.specs.declared.fault.SourceKind.{SourceKind}
 use Rattle.pio_assemble.specs.declared.fault.SourceKind.TheVariants.{TooLong}
-use Rattle.pio_assemble.specs.Answers.{◌>>=◌}
+use Rattle.answers.specs.Answers.{◌>>=◌}
 use Rattle.pio_assemble.specs.Checks.{statement_fault, program_fault, after, with_name}
 use Rattle.pio_assemble.specs.Drafts.{Draft, drafted, with_word, with_symbol, coded, labelled}
 use Rattle.pio_assemble.specs.Operands.{word_of_code, number_in, valued}

@@ -9,7 +9,7 @@ use Rattle.pio_assemble.specs.declared.before.Before.{Before}
 use Rattle.pio_assemble.specs.declared.fault.SourceKind.{SourceKind}
 use Rattle.pio_assemble.specs.declared.fault.SourceKind.TheVariants.{Twice, WrapPlace}
 use Rattle.pio_assemble.specs.declared.quantity.Quantity.TheVariants as quantity
-use Rattle.pio_assemble.specs.Answers.{◌>>=◌}
+use Rattle.answers.specs.Answers.{◌>>=◌}
 use Rattle.pio_assemble.specs.Checks.{statement_fault, symbol_fault, symbol_after, words_after, code_fault, fault_if, outside, after, ◌<|>◌}
 use Rattle.pio_assemble.specs.Drafts.{Draft, drafted, with_symbol, with_word, coded, labelled, finished}
 use Rattle.pio_assemble.specs.Lines.{word_by}

@@ -8,7 +8,8 @@ use Rattle.pio_assemble.specs.declared.before.Before.{Before}
 use Rattle.pio_assemble.specs.declared.fault.SourceKind.{SourceKind}
 use Rattle.pio_assemble.specs.declared.fault.SourceKind.TheVariants.{Many, EmptyProgram}
 use Rattle.pio_assemble.specs.declared.line.Line.{Line}
-use Rattle.pio_assemble.specs.Answers.{◌>>=◌, at_line}
+use Rattle.answers.specs.Answers.{◌>>=◌}
+use Rattle.pio_assemble.specs.Answers.{at_line}
 use Rattle.pio_assemble.specs.Checks.{first_fault, statement_fault, nothing_before, duplicate, fault_if, program_after, after, ◌<|>◌}
 use Rattle.pio_assemble.specs.Drafts.{Draft, begun, drafted, finished}
 use Rattle.pio_assemble.specs.Lines.{has_word, word_by}

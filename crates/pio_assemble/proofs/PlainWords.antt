@@ -17,7 +17,7 @@ use Rattle.pio_assemble.specs.declared.fault.SourceKind.TheVariants.{Range}
 use Rattle.pio_assemble.specs.declared.instruction.Extras.{Extras}
 use Rattle.pio_assemble.specs.declared.quantity.Quantity.{Quantity}
 use Rattle.pio_assemble.specs.declared.quantity.Quantity.TheVariants as quantity
-use Rattle.pio_assemble.specs.Answers.{◌>>=◌}
+use Rattle.answers.specs.Answers.{◌>>=◌}
 use Rattle.pio_assemble.specs.Checks.{code_fault, side_fault, room_fault, has_side}
 use Rattle.pio_assemble.specs.Operands.{valued, in_range, number_in, side_in, delay_in, suffix_of, act_of, side_kept, op_of, word_of_instruction, word_of_code}
 use Rattle.pio_assemble.specs.Plain.{plain_op_of, plain_word_of_instruction, plain_word_of_code}

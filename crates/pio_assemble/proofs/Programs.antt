@@ -3,12 +3,14 @@ use Rattle.std.proofs.Common.{◌≡◌, ℕ, ◌+◌, ◌<◌, [], ◌++◌, Li
 use Rattle.pio_lex.specs.declared.fault.LexFault.{LexFault}
 use Rattle.pio_lex.specs.declared.fault.LexFault.TheVariants as lex_fault
 use Rattle.pio_lex.specs.declared.token.Token.{Token}
-use Rattle.pio_lex.specs.Answers.{IsRead}
+use Rattle.answers.specs.Answers as answers
+use Rattle.pio_lex.specs.Fault.{Refusal as LexRefusal, told as lex_told}
 use Rattle.pio_expr.specs.Values.{Scope}
 use Rattle.pio_assemble.specs.declared.fault.LineFault.{LineFault}
 use Rattle.pio_assemble.specs.declared.fault.LineFault.TheVariants as line_fault
 use Rattle.pio_assemble.specs.declared.line.Line.{Line}
-use Rattle.pio_assemble.specs.Answers.{Refusal, Tells, Refuses, located, at_line, ◌>>=◌}
+use Rattle.answers.specs.Answers.{◌>>=◌}
+use Rattle.pio_assemble.specs.Answers.{Refusal, line_told, told, located, at_line}
 use Rattle.pio_assemble.specs.Drafts.{Draft, begun, finished}
 use Rattle.pio_assemble.specs.Program.{Assembled}
 use Rattle.pio_assemble.specs.Source.{program_on, program_scope, programs_from, programs_by, with_programs, drafted_on, behind_program, told_of_lex, reads_tokens}
@@ -53,8 +55,8 @@ module _ (lines : List Line) (i : ℕ) (l : Line) (within : i < length lines) (h
   behind_adds goes_on = sym (ap behind_program (first_left lines i l within here) ∙ program_goes_on l (drop (i + 1) lines) (ap is_some goes_on))
 
   -- its value has a fault
-  pub fault_left : (first : List Assembled) (scope : Scope) (d : Draft) (fault : LineFault) → program_on l.reading ≡ None → Tells fault (drafted_on scope d l.reading)
-      → Refuses (located l.number fault) (with_programs first (programs_from (drop i lines) scope d))
+  pub fault_left : (first : List Assembled) (scope : Scope) (d : Draft) (fault : LineFault) → program_on l.reading ≡ None → answers.Refuses (line_told fault) (drafted_on scope d l.reading)
+      → answers.Refuses (told (located l.number fault)) (with_programs first (programs_from (drop i lines) scope d))
   fault_left first scope d line_fault.Memory goes_on told = tt
   fault_left first scope d (line_fault.Found kind) goes_on told =
       unfold programs_from in
@@ -63,6 +65,6 @@ module _ (lines : List Line) (i : ℕ) (l : Line) (within : i < length lines) (h
       ∙ ap (λ r. at_line l.number r >>= programs_from rest scope) told)
 
 -- a source without tokens has the fault of its reading
-pub told_of_tokens : (source : List ℕ) (fault : LexFault) (read : Result (List Token) LexFault) → IsRead fault read → Refuses (told_of_lex fault) (reads_tokens source read)
+pub told_of_tokens : (source : List ℕ) (fault : LexFault) (read : Result (List Token) LexRefusal) → answers.Refuses (lex_told fault) read → answers.Refuses (told (told_of_lex fault)) (reads_tokens source read)
 told_of_tokens source lex_fault.Memory read h = tt
 told_of_tokens source (lex_fault.Found line kind) read h = ap (reads_tokens source) h

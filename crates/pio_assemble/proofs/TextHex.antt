@@ -9,7 +9,7 @@ use Rattle.pio_lex.specs.declared.token.TokenKind.TheVariants as kind
 use Rattle.pio_lex.specs.declared.piece.Piece.TheVariants as piece
 use Rattle.pio_lex.specs.Bytes.{is_name_byte}
 use Rattle.pio_lex.specs.Gaps.{gap_at, opens_block}
-use Rattle.pio_lex.specs.Numbers.{within, numeral, number_of}
+use Rattle.pio_lex.specs.Numbers.{within, numeral, word_number}
 use Rattle.pio_lex.specs.Pieces.{piece_at, token_piece}
 use Rattle.pio_lex.specs.Spellings.{counted, directive_at, token_at}
 use Rattle.pio_lex.specs.Words.{row_of, directives, directive_of}
@@ -73,13 +73,13 @@ module _ (a b c d : ℕ) (ha : a < 16) (hb : b < 16) (hc : c < 16) (hd : d < 16)
 
   -- they are one token
   four_piece : piece_at None (48 ∷ 120 ∷ four a b c d) ≡ Ok (piece.Token (kind.Number (((a * 16 + b) * 16 + c) * 16 + d)) 6)
-  unfolding piece_at gap_at opens_block token_at number_of
+  unfolding piece_at gap_at opens_block token_at word_number
   four_piece =
       let text : List ℕ = 48 ∷ 120 ∷ four a b c d in
-      let whole : piece_at None text ≡ token_piece (counted (prefix_len is_name_byte text) (number_of (take (prefix_len is_name_byte text) text))) = refl in
+      let whole : piece_at None text ≡ token_piece (counted (prefix_len is_name_byte text) (word_number (take (prefix_len is_name_byte text) text))) = refl in
       let all : prefix_len is_name_byte text ≡ 6 = all_pass is_name_byte text all_named in
-      let number : number_of text ≡ numeral 16 (four a b c d) = refl in
-      whole ∙ ap (λ (n : ℕ). token_piece (counted n (number_of (take n text)))) all ∙ ap (λ (o : Option ℕ). token_piece (counted 6 o)) (number ∙ four_numeral)
+      let number : word_number text ≡ numeral 16 (four a b c d) = refl in
+      whole ∙ ap (λ (n : ℕ). token_piece (counted n (word_number (take n text)))) all ∙ ap (λ (o : Option ℕ). token_piece (counted 6 o)) (number ∙ four_numeral)
 
 -- the number of a word's digits
 digits_of_word : (w : ℕ) → w < 2 ^ 16 → ((bits w 12 4 * 16 + bits w 8 4) * 16 + bits w 4 4) * 16 + bits w 0 4 ≡ w

@@ -13,7 +13,7 @@ use Rattle.pio_lex.specs.declared.token.TokenKind.TheVariants as kind
 use Rattle.pio_lex.specs.declared.piece.Piece.{Piece}
 use Rattle.pio_lex.specs.declared.piece.Piece.TheVariants as piece
 use Rattle.pio_lex.specs.Gaps.{gap_at, opens_block}
-use Rattle.pio_lex.specs.Numbers.{number_of}
+use Rattle.pio_lex.specs.Numbers.{word_number}
 use Rattle.pio_lex.specs.Spellings.{token_at}
 use Rattle.pio_lex.specs.Pieces.{piece_at}
 use Rattle.pio_assemble.proofs.TextRows.{may_stand, AreRow}
@@ -95,11 +95,11 @@ number_stands n text h =
 
 -- 0 to 32, by computing the tests
 gaps : (rest : List ℕ) → all_below (λ n. gap_test (32 ∷ decimal n ++ rest)) 33 ≡ true
-unfolding digits piece_at gap_at opens_block token_at number_of
+unfolding digits piece_at gap_at opens_block token_at word_number
 gaps rest = refl
 
 numbers : (f : Follow) → all_below (λ n. number_test n (decimal n ++ behind f)) 33 ≡ true
-unfolding digits piece_at gap_at opens_block token_at number_of
+unfolding digits piece_at gap_at opens_block token_at word_number
 numbers nothing = refl
 numbers (blank rest) = refl
 numbers (bracket rest) = refl

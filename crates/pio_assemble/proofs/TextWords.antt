@@ -12,7 +12,7 @@ use Rattle.pio_lex.specs.declared.piece.Piece.{Piece}
 use Rattle.pio_lex.specs.declared.piece.Piece.TheVariants as piece
 use Rattle.pio_lex.specs.Words.{row_of, keywords, keyword_of}
 use Rattle.pio_lex.specs.Gaps.{gap_at, opens_block}
-use Rattle.pio_lex.specs.Numbers.{number_of}
+use Rattle.pio_lex.specs.Numbers.{word_number}
 use Rattle.pio_lex.specs.Spellings.{mark_at, token_at}
 use Rattle.pio_lex.specs.Pieces.{piece_at}
 use Rattle.pio_encode.specs.declared.act.Act.{Act}
@@ -41,7 +41,7 @@ use Rattle.pio_assemble.proofs.TextSays.{word, jmp_pieces, rel_pieces, flag_piec
 
 -- what the tokens are computed by
 pub lexing : Unit {0}
-unfolding digits piece_at gap_at opens_block token_at mark_at number_of keyword_of keywords row_of
+unfolding digits piece_at gap_at opens_block token_at mark_at word_number keyword_of keywords row_of
 lexing = tt
 
 -- a word is one token, and so are a blank and a `!` before it

@@ -13,7 +13,7 @@ use Rattle.pio_assemble.specs.declared.fault.SourceKind.{SourceKind}
 use Rattle.pio_assemble.specs.declared.fault.SourceKind.TheVariants.{TooLong}
 use Rattle.pio_assemble.specs.declared.quantity.Quantity.TheVariants as quantity
 use Rattle.pio_assemble.specs.declared.symbols.Symbol.{Symbol}
-use Rattle.pio_assemble.specs.Answers.{◌>>=◌}
+use Rattle.answers.specs.Answers.{◌>>=◌}
 use Rattle.pio_assemble.specs.Operands.{number_in, valued, word_of_code}
 use Rattle.pio_assemble.specs.declared.program.Program.{Program}
 use Rattle.pio_assemble.specs.Program.{Assembled, assembled_of}

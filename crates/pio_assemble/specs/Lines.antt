@@ -12,9 +12,9 @@ use Rattle.pio_statement.specs.Lines.{line_end, statement_at}
 use Rattle.pio_assemble.specs.declared.line.Line.{Line}
 
 -- the line of a token; of no token there is none
-abbrev pub number_of : Option Token → ℕ
-number_of (Some token) = token.line
-number_of None = 0
+abbrev pub line_of : Option Token → ℕ
+line_of (Some token) = token.line
+line_of None = 0
 
 -- a statement without the place behind it
 abbrev pub said : Read Statement → Result Statement StatementKind
@@ -23,7 +23,7 @@ said (Err kind) = Err kind
 
 -- the line that begins at a token: its number is that of its first token
 abbrev pub line_at : List ℕ → List Token → ℕ → Line
-line_at source tokens from = record { number = number_of (slice_get tokens from); reading = said (statement_at source tokens from) }
+line_at source tokens from = record { number = line_of (slice_get tokens from); reading = said (statement_at source tokens from) }
 
 -- the lines from a token on, at most so many
 unfoldable pub lines_from : ℕ → List ℕ → List Token → ℕ → List Line

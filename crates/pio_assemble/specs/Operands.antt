@@ -19,6 +19,8 @@ use Rattle.pio_encode.specs.Word.{word_of}
 use Rattle.pio_expr.specs.declared.expr.Item.{Item}
 use Rattle.pio_expr.specs.declared.fault.ValueFault.{ValueFault}
 use Rattle.pio_expr.specs.declared.fault.ValueFault.TheVariants as value_fault
+use Rattle.pio_expr.specs.declared.fault.ValueKind.{ValueKind}
+use Rattle.pio_expr.specs.declared.fault.ValueKind.TheVariants as value_kind
 use Rattle.pio_expr.specs.Values.{Scope, value_of}
 use Rattle.pio_statement.specs.declared.instruction.Form.{Form}
 use Rattle.pio_statement.specs.declared.instruction.Form.TheVariants as form
@@ -36,25 +38,24 @@ use Rattle.pio_assemble.specs.declared.fault.SourceKind.TheVariants.{Unknown, Cy
 use Rattle.pio_assemble.specs.declared.instruction.Extras.{Extras}
 use Rattle.pio_assemble.specs.declared.quantity.Quantity.{Quantity}
 use Rattle.pio_assemble.specs.declared.quantity.Quantity.TheVariants as quantity
-use Rattle.pio_assemble.specs.Answers.{◌>>=◌}
+use Rattle.answers.specs.Answers.{◌>>=◌}
 
--- why an expression has no value; `value_of` never wants memory
-abbrev pub fault_of_value : ValueFault → SourceKind
-fault_of_value (value_fault.Unknown name) = Unknown name
-fault_of_value (value_fault.Cycle name) = Cycle name
-fault_of_value value_fault.DivZero = DivZero
-fault_of_value value_fault.Overflow = Overflow
-fault_of_value value_fault.Memory = Overflow
+-- why an expression has no value
+abbrev pub kind_of_value : ValueKind → SourceKind
+kind_of_value (value_kind.Unknown name) = Unknown name
+kind_of_value (value_kind.Cycle name) = Cycle name
+kind_of_value value_kind.DivZero = DivZero
+kind_of_value value_kind.Overflow = Overflow
 
 -- what is told of an expression without a value
 abbrev pub told_of_value : ValueFault → LineFault
 told_of_value value_fault.Memory = line_fault.Memory
-told_of_value fault = line_fault.Found (fault_of_value fault)
+told_of_value (value_fault.Found kind) = line_fault.Found (kind_of_value kind)
 
 -- the value of an expression that is own to a symbol, or to none
-abbrev pub valued : Result ℤ ValueFault → Result ℤ SourceKind
+abbrev pub valued : Result ℤ ValueKind → Result ℤ SourceKind
 valued (Ok n) = Ok n
-valued (Err fault) = Err (fault_of_value fault)
+valued (Err kind) = Err (kind_of_value kind)
 
 -- a number in a range
 abbrev pub in_range : Quantity → (low high : ℕ) → ℤ → Result ℕ SourceKind

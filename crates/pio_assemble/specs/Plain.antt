@@ -21,7 +21,8 @@ use Rattle.pio_assemble.specs.declared.fault.SourceKind.{SourceKind}
 use Rattle.pio_assemble.specs.declared.instruction.Extras.{Extras}
 use Rattle.pio_assemble.specs.declared.line.Line.{Line}
 use Rattle.pio_assemble.specs.declared.quantity.Quantity.TheVariants as quantity
-use Rattle.pio_assemble.specs.Answers.{Refusal, ◌>>=◌, at_line}
+use Rattle.answers.specs.Answers.{◌>>=◌}
+use Rattle.pio_assemble.specs.Answers.{Refusal, at_line}
 use Rattle.pio_assemble.specs.Checks.{kind_of}
 use Rattle.pio_assemble.specs.Drafts.{Draft, begun, defined, labelled, ruled}
 use Rattle.pio_assemble.specs.Lines.{word_count}

@@ -10,6 +10,7 @@ use Rattle.pio_lex.specs.declared.fault.LexKind.TheVariants as lex_kind
 use Rattle.pio_lex.specs.declared.fault.LexFault.{LexFault}
 use Rattle.pio_lex.specs.declared.fault.LexFault.TheVariants as lex_fault
 use Rattle.pio_lex.specs.declared.token.Token.{Token}
+use Rattle.pio_lex.specs.Fault.{Refusal as LexRefusal}
 use Rattle.pio_lex.specs.Reading.{reading_of}
 use Rattle.pio_expr.specs.declared.symbol.Symbol.{Symbol}
 use Rattle.pio_expr.specs.declared.symbol.Symbol.TheVariants as symbol
@@ -22,7 +23,8 @@ use Rattle.pio_assemble.specs.declared.fault.SourceKind.TheVariants.{BadByte, Ba
 use Rattle.pio_assemble.specs.declared.fault.SourceFault.{SourceFault}
 use Rattle.pio_assemble.specs.declared.fault.SourceFault.TheVariants as source_fault
 use Rattle.pio_assemble.specs.declared.line.Line.{Line}
-use Rattle.pio_assemble.specs.Answers.{Refusal, ◌>>=◌, at_line}
+use Rattle.answers.specs.Answers.{◌>>=◌}
+use Rattle.pio_assemble.specs.Answers.{Refusal, at_line}
 use Rattle.pio_assemble.specs.Checks.{nothing_before, first_fault}
 use Rattle.pio_assemble.specs.Drafts.{Draft, begun, drafted, finished}
 use Rattle.pio_assemble.specs.Lines.{lines_of, word_count}
@@ -137,11 +139,10 @@ abbrev pub told_of_lex : LexFault → SourceFault
 told_of_lex (lex_fault.Found line kind) = source_fault.Found line (kind_of_lex kind)
 told_of_lex lex_fault.Memory = source_fault.Memory
 
--- the programs of a source that is read as these tokens; reading never wants memory
-abbrev pub reads_tokens : List ℕ → Result (List Token) LexFault → Result (List Assembled) Refusal
+-- the programs of a source that is read as these tokens
+abbrev pub reads_tokens : List ℕ → Result (List Token) LexRefusal → Result (List Assembled) Refusal
 reads_tokens source (Ok tokens) = reads_lines (lines_of source tokens)
-reads_tokens source (Err (lex_fault.Found line kind)) = Err (record { line = line; kind = kind_of_lex kind })
-reads_tokens source (Err lex_fault.Memory) = Err (record { line = 0; kind = BadByte })
+reads_tokens source (Err refusal) = Err (record { line = refusal.line; kind = kind_of_lex refusal.kind })
 
 -- the programs of a source, or its first fault
 unfoldable pub reads_source : List ℕ → Result (List Assembled) Refusal

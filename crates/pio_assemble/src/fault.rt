@@ -4,12 +4,12 @@ ghost use Rattle.pio_assemble.specs.declared.fault.LineFault.TheVariants as line
 ghost use Rattle.pio_assemble.specs.declared.fault.SourceFault.TheVariants as source_fault;
 ghost use Rattle.pio_assemble.specs.Fault.{code_of, kind_text};
 ghost use Rattle.pio_assemble.specs.Answers.{located};
-ghost use Rattle.pio_assemble.specs.Operands.{told_of_value};
+ghost use Rattle.pio_assemble.specs.Operands.{told_of_value, kind_of_value};
 ghost use Rattle.pio_assemble.specs.Source as spec;
 
 use crate::Quantity;
 use pio_encode::Name;
-use pio_expr::ValueFault;
+use pio_expr::{ValueFault, ValueKind};
 use pio_lex::{LexFault, LexKind};
 use std::alloc::{AllocError, AllocFailed};
 use std::fmt;
@@ -145,11 +145,19 @@ impl From<ValueFault> for LineFault {
     fn from(fault: ValueFault) -> Self {
         match fault {
             ValueFault::Memory => LineFault::Memory,
-            ValueFault::Unknown(name) => LineFault::Found(SourceKind::Unknown(name)),
-            ValueFault::Cycle(name) => LineFault::Found(SourceKind::Cycle(name)),
-            ValueFault::DivZero => LineFault::Found(SourceKind::DivZero),
-            ValueFault::Overflow => LineFault::Found(SourceKind::Overflow),
+            ValueFault::Found(kind) => LineFault::Found(kind_of_value(kind)),
         }
+    }
+}
+
+fn kind_of_value(kind: ValueKind) -> SourceKind
+    ensures { result ≡ kind_of_value kind }
+{
+    match kind {
+        ValueKind::Unknown(name) => SourceKind::Unknown(name),
+        ValueKind::Cycle(name) => SourceKind::Cycle(name),
+        ValueKind::DivZero => SourceKind::DivZero,
+        ValueKind::Overflow => SourceKind::Overflow,
     }
 }
 

@@ -1,15 +1,12 @@
 -- Which values of names agree with what a frame uses.
-use Rattle.std.proofs.Common.{◌≡◌, ℕ, zero, suc, ◌+◌, ◌<◌, ◌≤◌, ℤ, pos, Bool, true, false, List, [], ◌∷◌, ◌++◌, length, take, Option, Some, None, Result, Ok, Err, refl, ap, sym, subst, ◌∙◌, ◌⊎◌, inl, inr, cond, arith, nat_eq, slice_get}
-use Rattle.std.specs.List.{list_any}
-use Rattle.std.proofs.lemmas.Bool.{eqb-true}
+use Rattle.std.proofs.Common.{◌≡◌, ℕ, zero, suc, ◌<◌, ◌≤◌, ℤ, Bool, true, false, List, [], ◌∷◌, ◌++◌, length, take, Option, Some, None, Result, refl, ap, sym, subst, ◌∙◌, ◌⊎◌, inl, inr, arith, nat_eq, slice_get}
 use Rattle.std.proofs.lemmas.List.{take-append-le}
 use Rattle.std.proofs.Math.Seq.{take-append_seam}
 use Rattle.pio_expr.specs.declared.expr.Item.{Item}
 use Rattle.pio_expr.specs.declared.symbol.Symbol.TheVariants.{Define, Label}
-use Rattle.pio_expr.specs.declared.fault.ValueFault.{ValueFault}
-use Rattle.pio_expr.specs.declared.fault.ValueFault.TheVariants.{Unknown, Cycle}
+use Rattle.pio_expr.specs.declared.fault.ValueKind.{ValueKind}
 use Rattle.pio_expr.specs.Values.{Scope, Found, found, is_among, by_symbol, name_value}
-use Rattle.pio_expr.specs.Frames.{Kept, kept_at, kept_value, by_kept, Look, number, wanted, look_by, looked_up, Agrees, AgreesBy, IsKept, IsKeptAt}
+use Rattle.pio_expr.specs.Frames.{Kept, kept_at, kept_value, by_kept, number, look_by, looked_up, Agrees, AgreesBy, IsKept, IsKeptAt}
 use Rattle.pio_expr.proofs.Keeping.{Apart, at_none, at_label, at_cycle, all_exact}
 use Rattle.pio_expr.proofs.Lookups.{some_same}
 
@@ -44,17 +41,17 @@ agrees_kept scope kept under local name = kept_by kept under name (found scope l
 abbrev pub IsMore : Kept → (ℕ → Bool) → Kept → (ℕ → Bool) → Type 0
 IsMore kept under kept' under' = (q : ℕ) → ((v : ℤ) → kept_at kept q ≡ Some v → kept_at kept' q ≡ Some v) × (kept_at kept q ≡ None → under q ≡ true → (kept_at kept' q ≡ None) × (under' q ≡ true))
 
-fewer_by : (name : List ℕ) (place : ℕ) (items : List Item) (r : Result ℤ ValueFault) (a b : Option ℤ) (u w : Bool) → ((v : ℤ) → a ≡ Some v → b ≡ Some v) → (a ≡ None → u ≡ true → (b ≡ None) × (w ≡ true)) → AgreesBy (look_by b w name place items) r → AgreesBy (look_by a u name place items) r
+fewer_by : (name : List ℕ) (place : ℕ) (items : List Item) (r : Result ℤ ValueKind) (a b : Option ℤ) (u w : Bool) → ((v : ℤ) → a ≡ Some v → b ≡ Some v) → (a ≡ None → u ≡ true → (b ≡ None) × (w ≡ true)) → AgreesBy (look_by b w name place items) r → AgreesBy (look_by a u name place items) r
 fewer_by name place items r (Some v) b u w same none h = rw (same v refl) at h
 fewer_by name place items r None b true w same none h = rw ((none refl refl).0, (none refl refl).1) at h
 fewer_by name place items r None b false w same none h = tt
 
-fewer_found : (kept kept' : Kept) (under under' : ℕ → Bool) (name : List ℕ) (r : Result ℤ ValueFault) → IsMore kept under kept' under' → (f : Found) → AgreesBy (by_symbol number (λ place items. look_by (kept_at kept' place) (under' place) name place items) name f) r → AgreesBy (by_symbol number (λ place items. look_by (kept_at kept place) (under place) name place items) name f) r
+fewer_found : (kept kept' : Kept) (under under' : ℕ → Bool) (name : List ℕ) (r : Result ℤ ValueKind) → IsMore kept under kept' under' → (f : Found) → AgreesBy (by_symbol number (λ place items. look_by (kept_at kept' place) (under' place) name place items) name f) r → AgreesBy (by_symbol number (λ place items. look_by (kept_at kept place) (under place) name place items) name f) r
 fewer_found kept kept' under under' name r more None h = h
 fewer_found kept kept' under under' name r more (Some (place, Label k)) h = h
 fewer_found kept kept' under under' name r more (Some (place, Define items)) h = fewer_by name place items r (kept_at kept place) (kept_at kept' place) (under place) (under' place) (more place).0 (more place).1 h
 
-pub agrees_fewer : (scope : Scope) (kept kept' : Kept) (under under' : ℕ → Bool) (local : Bool) (given : List ℕ → Result ℤ ValueFault) → IsMore kept under kept' under' → Agrees (looked_up scope kept' under' local) given → Agrees (looked_up scope kept under local) given
+pub agrees_fewer : (scope : Scope) (kept kept' : Kept) (under under' : ℕ → Bool) (local : Bool) (given : List ℕ → Result ℤ ValueKind) → IsMore kept under kept' under' → Agrees (looked_up scope kept' under' local) given → Agrees (looked_up scope kept under local) given
 agrees_fewer scope kept kept' under under' local given more h name = fewer_found kept kept' under under' name (given name) more (found scope local name) (h name)
 
 -- one value more is kept

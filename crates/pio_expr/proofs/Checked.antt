@@ -1,7 +1,7 @@
 -- What the checked operations of i32 give is what the definitions say.
 use Rattle.std.proofs.Common.{◌≡◌, ◌≢◌, ℤ, pos, negsuc, Bool, true, false, Option, Some, None, Ok, Err, FitsSigned, w32, ap, refl, cond, rules}
 use Rattle.std.specs.Option.{SomeIff, ok_or}
-use Rattle.pio_expr.specs.declared.fault.ValueFault.TheVariants.{Overflow}
+use Rattle.pio_expr.specs.declared.fault.ValueKind.TheVariants.{Overflow}
 use Rattle.std.specs.Int.{IsNonZero, CanDivide}
 use Rattle.std.specs.Prelude.{zero, suc, int_div}
 use Rattle.pio_expr.specs.Arithmetic.{in_32_bits, checked, quotient_of}

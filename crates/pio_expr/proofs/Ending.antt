@@ -1,5 +1,5 @@
 -- The end of the top frame: its value is kept, and the frame below goes on. And the first frame of all.
-use Rattle.std.proofs.Common.{◌≡◌, ℕ, zero, suc, ◌+◌, ◌-◌, ◌*◌, ◌<◌, ◌≤◌, ℤ, Bool, true, false, List, [], ◌∷◌, ◌++◌, length, Option, Some, None, Result, Ok, Err, refl, ap, sym, subst, ◌∙◌, ◌||◌, cond, arith, nat_eq, true≢false, append_assoc, slice_get, IfOk, OnOk, IfErr}
+use Rattle.std.proofs.Common.{◌≡◌, ℕ, suc, ◌+◌, ◌-◌, ◌<◌, ℤ, Bool, true, false, List, [], ◌∷◌, ◌++◌, length, Option, Some, None, Result, Ok, Err, refl, ap, sym, subst, ◌∙◌, ◌||◌, arith, nat_eq, true≢false, append_assoc, slice_get, IfOk, OnOk, IfErr}
 use Rattle.std.specs.List.{list_any, IsDistinct}
 use Rattle.std.specs.Map.{keys_of}
 use Rattle.std.proofs.lemmas.Bool.{eqb-true, eq-eqb}
@@ -14,14 +14,14 @@ use Rattle.pio_expr.specs.declared.fault.ValueFault.TheVariants.{Memory}
 use Rattle.pio_expr.specs.declared.frame.Frame.{Frame}
 use Rattle.pio_expr.specs.declared.work.Work.{Work}
 use Rattle.pio_expr.specs.Values.{Scope, in_program, count_of, is_among, worked_out, name_value, value_at, HasFault}
-use Rattle.pio_expr.specs.Frames.{Kept, kept_at, kept_value, is_local, items_at, looked_up, Agrees, IsKept, IsKeptAt}
-use Rattle.pio_expr.specs.Work.{placed, places_of, items_of, IsOwn, IsFrame, IsAwaited, AreFrames, IsLowest, seen_of, AreSeen, frames_of, Stands, left_to_do, Steps, Finished, IsNewlyKept, kept_of}
+use Rattle.pio_expr.specs.Frames.{Kept, kept_at, kept_value, is_local, items_at, IsKept}
+use Rattle.pio_expr.specs.Work.{placed, places_of, items_of, IsOwn, IsFrame, AreFrames, IsLowest, seen_of, AreSeen, frames_of, Stands, left_to_do, Steps, Finished, IsNewlyKept, kept_of}
 use Rattle.pio_expr.proofs.Finding.{items_of_symbol, place_within}
 use Rattle.std.proofs.lemmas.Map.Steps.{length-le_from_distinct_below}
 use Rattle.pio_expr.proofs.Keeping.{kept_exact}
 use Rattle.pio_expr.proofs.Agreeing.{agrees_kept, agrees_fewer, IsMore, pushed_some, pushed_none, kept_pushed}
-use Rattle.pio_expr.proofs.Framing.{all_none, head_new, or_left, or_right, or_there, not_key, not_kept, keys_length, seen_below, frame_value, value_of_whole}
-use Rattle.pio_expr.proofs.Stepping.{Shown, shown, defined, is_equivalence, seen_new, begun_on}
+use Rattle.pio_expr.proofs.Framing.{head_new, or_left, or_right, not_key, not_kept, keys_length, frame_value, value_of_whole}
+use Rattle.pio_expr.proofs.Stepping.{Shown, defined, is_equivalence, seen_new}
 
 -- a new place goes last
 inserted : (kept : Kept) (p : ℕ) (v : ℤ) → kept_at kept p ≡ None → insert_entry nat_eq kept p v ≡ kept ++ (p, v) ∷ []

@@ -1,21 +1,19 @@
 -- The frames: what a fault, an end or a wait of the top one means to the whole.
-use Rattle.std.proofs.Common.{◌≡◌, ℕ, zero, suc, ◌+◌, ◌-◌, ◌*◌, ◌<◌, ◌≤◌, ℤ, Bool, true, false, List, [], ◌∷◌, ◌++◌, length, Option, Some, None, Result, Ok, Err, refl, ap, sym, subst, ◌∙◌, ◌||◌, cond, arith, nat_eq, true≢false}
+use Rattle.std.proofs.Common.{◌≡◌, ℕ, suc, ◌+◌, ◌-◌, ◌≤◌, ℤ, Bool, true, false, List, [], ◌∷◌, ◌++◌, length, Option, Some, None, Result, Ok, Err, refl, ap, sym, ◌∙◌, ◌||◌, arith, nat_eq, true≢false}
 use Rattle.std.specs.List.{list_any, IsDistinct, AllByRecursion}
 use Rattle.std.specs.Map.{keys_of}
 use Rattle.std.proofs.lemmas.Bool.{eqb-true}
 use Rattle.std.proofs.lemmas.List.{length-append}
 use Rattle.std.proofs.lemmas.List.Folds.{list_any-append}
-use Rattle.std.proofs.lemmas.Map.Keys.{IsDistinct-tail, IsDistinct-head, IsDistinct-cons, IsDistinct-push}
+use Rattle.std.proofs.lemmas.Map.Keys.{IsDistinct-tail, IsDistinct-head}
 use Rattle.std.proofs.lemmas.Map.Steps.{length-le_from_distinct_below}
 use Rattle.pio_expr.specs.declared.expr.Item.{Item}
 use Rattle.pio_expr.specs.declared.expr.Item.TheVariants as item
-use Rattle.pio_expr.specs.declared.symbol.Symbol.TheVariants.{Define}
-use Rattle.pio_expr.specs.declared.fault.ValueFault.{ValueFault}
-use Rattle.pio_expr.specs.declared.fault.ValueFault.TheVariants.{Overflow}
+use Rattle.pio_expr.specs.declared.fault.ValueKind.{ValueKind}
 use Rattle.pio_expr.specs.declared.frame.Frame.{Frame}
-use Rattle.pio_expr.specs.Values.{Scope, found, in_program, count_of, is_among, number_of, worked_out, name_value, value_at}
-use Rattle.pio_expr.specs.Frames.{Kept, kept_at, kept_value, is_local, items_at, symbol_at, looked_up, Agrees, IsKept, IsKeptAt}
-use Rattle.pio_expr.specs.Work.{placed, places_of, items_of, IsOwn, IsFrame, AwaitedAt, IsAwaited, AreFrames, IsLowest, seen_of, AreSeen}
+use Rattle.pio_expr.specs.Values.{Scope, in_program, count_of, is_among, worked_out, name_value, value_at}
+use Rattle.pio_expr.specs.Frames.{Kept, kept_at, is_local, items_at, IsKept}
+use Rattle.pio_expr.specs.Work.{placed, places_of, items_of, IsOwn, IsFrame, AwaitedAt, AreFrames, IsLowest, seen_of, AreSeen}
 use Rattle.pio_expr.proofs.Workings.{ends_in}
 use Rattle.pio_expr.proofs.Finding.{items_of_symbol}
 use Rattle.pio_expr.proofs.Keeping.{Apart, at_define}
@@ -88,7 +86,7 @@ seen_below scope kept None places seen = seen
 seen_below scope kept (Some p) places seen = record { distinct = IsDistinct-tail nat_eq p (places ++ keys_of kept) seen.distinct; within = λ q h. seen.within q (or_there (nat_eq q p) (list_any (nat_eq q) (places ++ keys_of kept)) h) }
 
 -- what the definition gives for the expression of the top frame
-abbrev pub frame_value : Scope → List Item → Option ℕ → List ℕ → Result ℤ ValueFault
+abbrev pub frame_value : Scope → List Item → Option ℕ → List ℕ → Result ℤ ValueKind
 frame_value scope items o places = worked_out (name_value (count_of scope - length (placed o places)) scope (placed o places) (is_local scope o)) (items_of scope items o) []
 
 lowest_by : (scope : Scope) (items : List Item) (own : Option ℕ) → IsOwn scope own items → frame_value scope items own [] ≡ value_at scope own items
@@ -107,7 +105,7 @@ as_defined scope kept items frame below is seen it =
     ∙ it.going (name_value n scope places frame.local) (agrees_value scope kept n places frame.local is (omega (arith, fit, keys)) (apart kept places seen.distinct))
 
 -- a fault of the symbol that is awaited is met at its name
-fault_met : (scope : Scope) (kept : Kept) (items : List Item) (local : Bool) (places : List ℕ) (numbers : List ℤ) (fault : ValueFault) (o : Option ℕ) (rest : List Item) → AwaitedAt scope local o rest → AreSeen scope (placed o places ++ keys_of kept) → frame_value scope items o places ≡ Err fault
+fault_met : (scope : Scope) (kept : Kept) (items : List Item) (local : Bool) (places : List ℕ) (numbers : List ℤ) (fault : ValueKind) (o : Option ℕ) (rest : List Item) → AwaitedAt scope local o rest → AreSeen scope (placed o places ++ keys_of kept) → frame_value scope items o places ≡ Err fault
     → worked_out (name_value (count_of scope - length places) scope places local) rest numbers ≡ Err fault
 fault_met scope kept items local places numbers fault (Some p) (item.Name name ∷ rest) awaited seen h =
     let fit = seen_fit scope kept (p ∷ places) seen in
@@ -120,7 +118,7 @@ fault_met scope kept items local places numbers fault (Some p) (i ∷ rest) awai
 fault_met scope kept items local places numbers fault None rest awaited seen h = absurd awaited
 
 -- so a fault of the top frame is that of the whole
-pub fault_of_whole : (scope : Scope) (kept : Kept) (own : Option ℕ) (items : List Item) (fault : ValueFault) → IsOwn scope own items → IsKept scope kept → (frame : Frame) (below : List Frame) → AreFrames scope kept items (frame ∷ below) → IsLowest own (frame ∷ below) → AreSeen scope (seen_of (frame ∷ below) kept)
+pub fault_of_whole : (scope : Scope) (kept : Kept) (own : Option ℕ) (items : List Item) (fault : ValueKind) → IsOwn scope own items → IsKept scope kept → (frame : Frame) (below : List Frame) → AreFrames scope kept items (frame ∷ below) → IsLowest own (frame ∷ below) → AreSeen scope (seen_of (frame ∷ below) kept)
     → frame_value scope items frame.place (places_of below) ≡ Err fault → value_at scope own items ≡ Err fault
 fault_of_whole scope kept own items fault is_own is frame [] frames lowest seen h =
     sym (ap (λ o. frame_value scope items o []) lowest ∙ lowest_by scope items own is_own) ∙ h

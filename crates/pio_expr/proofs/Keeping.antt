@@ -1,15 +1,14 @@
 -- Values that are kept are those of the definition, whatever symbols are under way beside them.
-use Rattle.std.proofs.Common.{◌≡◌, ℕ, zero, suc, ◌+◌, ◌<◌, ◌≤◌, ℤ, pos, Bool, true, false, List, [], ◌∷◌, ◌++◌, length, take, Option, Some, None, Result, Ok, Err, refl, ap, sym, subst, ◌∙◌, ◌⊎◌, inl, inr, cond, ◌||◌, arith, nat_eq, slice_get, lit<, true≢false}
+use Rattle.std.proofs.Common.{◌≡◌, ℕ, zero, suc, ◌≤◌, ℤ, pos, Bool, true, false, List, [], ◌∷◌, length, take, Option, Some, None, Result, Ok, Err, refl, ap, sym, subst, ◌∙◌, ◌⊎◌, inl, inr, arith, nat_eq, slice_get, true≢false}
 use Rattle.std.proofs.lemmas.Bool.{eqb-true}
 use Rattle.std.proofs.Math.Seq.{take-length}
 use Rattle.pio_expr.specs.declared.expr.Item.{Item}
 use Rattle.pio_expr.specs.declared.expr.Item.TheVariants as item
-use Rattle.pio_expr.specs.declared.symbol.Symbol.{Symbol}
 use Rattle.pio_expr.specs.declared.symbol.Symbol.TheVariants.{Define, Label}
-use Rattle.pio_expr.specs.declared.fault.ValueFault.{ValueFault}
-use Rattle.pio_expr.specs.declared.fault.ValueFault.TheVariants.{Unknown, Cycle}
-use Rattle.pio_expr.specs.Values.{Scope, Found, found, in_program, is_among, number_of, left_by, worked_out, by_symbol, name_value}
-use Rattle.pio_expr.specs.Frames.{Kept, kept_at, kept_value, by_kept, items_at, symbol_at, items_by, IsKept, IsKeptAt}
+use Rattle.pio_expr.specs.declared.fault.ValueKind.{ValueKind}
+use Rattle.pio_expr.specs.declared.fault.ValueKind.TheVariants.{Unknown, Cycle}
+use Rattle.pio_expr.specs.Values.{Scope, Found, found, in_program, is_among, number_by, left_by, worked_out, by_symbol, name_value}
+use Rattle.pio_expr.specs.Frames.{Kept, kept_at, kept_value, by_kept, items_at, IsKept}
 use Rattle.pio_expr.proofs.Workings.{goes_on, ends_in}
 use Rattle.pio_expr.proofs.Lookups.{some_same}
 use Rattle.pio_expr.proofs.Finding.{items_of_found}
@@ -56,7 +55,7 @@ none_before kept m place h = by (kept_at (take m kept) place) refl where
 abbrev pub Apart : List ℕ → Kept → Type 0
 Apart under kept = (q : ℕ) → is_among under q ≡ true → kept_at kept q ≡ None
 
-number_more : (f g : List ℕ → Result ℤ ValueFault) (i : Item) (ns : List ℤ) (n : ℤ) → ((w : List ℕ) (x : ℤ) → f w ≡ Ok x → g w ≡ Ok x) → number_of f i ns ≡ Ok n → number_of g i ns ≡ Ok n
+number_more : (f g : List ℕ → Result ℤ ValueKind) (i : Item) (ns : List ℤ) (n : ℤ) → ((w : List ℕ) (x : ℤ) → f w ≡ Ok x → g w ≡ Ok x) → number_by f i ns ≡ Ok n → number_by g i ns ≡ Ok n
 number_more f g (item.Name w) ns n more h = more w n h
 number_more f g (item.Number m) ns n more h = h
 number_more f g item.Add ns n more h = h
@@ -67,11 +66,11 @@ number_more f g item.Negate ns n more h = h
 number_more f g item.Reverse ns n more h = h
 
 -- where more names have values, an expression keeps its value
-pub worked_more : (f g : List ℕ → Result ℤ ValueFault) (items : List Item) (ns : List ℤ) (v : ℤ) → ((w : List ℕ) (x : ℤ) → f w ≡ Ok x → g w ≡ Ok x) → worked_out f items ns ≡ Ok v → worked_out g items ns ≡ Ok v
+pub worked_more : (f g : List ℕ → Result ℤ ValueKind) (items : List Item) (ns : List ℤ) (v : ℤ) → ((w : List ℕ) (x : ℤ) → f w ≡ Ok x → g w ≡ Ok x) → worked_out f items ns ≡ Ok v → worked_out g items ns ≡ Ok v
 unfolding worked_out
 worked_more f g [] ns v more h = h
-worked_more f g (i ∷ items) ns v more h = by (number_of f i ns) refl (λ n. worked_more f g items (n ∷ left_by i ns) v more) where
-  by : (r : Result ℤ ValueFault) → number_of f i ns ≡ r → ((n : ℤ) → worked_out f items (n ∷ left_by i ns) ≡ Ok v → worked_out g items (n ∷ left_by i ns) ≡ Ok v) → worked_out g (i ∷ items) ns ≡ Ok v
+worked_more f g (i ∷ items) ns v more h = by (number_by f i ns) refl (λ n. worked_more f g items (n ∷ left_by i ns) v more) where
+  by : (r : Result ℤ ValueKind) → number_by f i ns ≡ r → ((n : ℤ) → worked_out f items (n ∷ left_by i ns) ≡ Ok v → worked_out g items (n ∷ left_by i ns) ≡ Ok v) → worked_out g (i ∷ items) ns ≡ Ok v
   by (Ok n) e rest = goes_on g i items ns n (number_more f g i ns n more e) ∙ rest n (sym (goes_on f i items ns n e) ∙ h)
   by (Err fault) e rest = let no : Err fault ≡ Ok v = sym (ends_in f i items ns fault e) ∙ h in cc
 
@@ -108,7 +107,7 @@ exact_by scope some n under local name v (Some (place, Label k)) e define h = at
 exact_by scope some n under local name v (Some (place, Define items)) e define h = by (kept_at some place) refl h where
   by : (o : Option ℤ) → kept_at some place ≡ o → by_kept name o ≡ Ok v → name_value n scope under local name ≡ Ok v
   by (Some w) k h' = define place items e (k ∙ ap (λ r. kept_or w r) h') where
-    kept_or : ℤ → Result ℤ ValueFault → Option ℤ
+    kept_or : ℤ → Result ℤ ValueKind → Option ℤ
     kept_or d (Ok x) = Some x
     kept_or d (Err fault) = None
   by None k h' = let no : Err (Cycle name) ≡ Ok v = h' in cc

@@ -18,3 +18,4 @@ pub mod Framing
 pub mod Stepping
 pub mod Ending
 pub mod Naming
+pub mod Trees

@@ -1,9 +1,8 @@
 -- The value of a name is that of its symbol.
-use Rattle.std.proofs.Common.{◌≡◌, ℕ, suc, ◌-◌, ◌<◌, ℤ, pos, List, [], ◌∷◌, Option, Some, None, Ok, Err, refl, ap, sym, ◌∙◌, arith, option_map, true}
+use Rattle.std.proofs.Common.{◌≡◌, ℕ, suc, ◌-◌, pos, List, [], Some, None, Ok, Err, refl, ap, sym, ◌∙◌, arith, option_map, true}
 use Rattle.pio_expr.specs.declared.expr.Item.{Item}
-use Rattle.pio_expr.specs.declared.symbol.Symbol.{Symbol}
 use Rattle.pio_expr.specs.declared.symbol.Symbol.TheVariants.{Define, Label}
-use Rattle.pio_expr.specs.declared.fault.ValueFault.TheVariants.{Unknown}
+use Rattle.pio_expr.specs.declared.fault.ValueKind.TheVariants.{Unknown}
 use Rattle.pio_expr.specs.Values.{Scope, Found, found, symbol_of, name_value, count_of, value_at, value_of, value_of_name}
 use Rattle.pio_expr.proofs.Finding.{found_stands, place_within}
 use Rattle.pio_expr.proofs.Keeping.{at_none, at_label, at_define}

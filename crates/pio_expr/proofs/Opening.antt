@@ -5,20 +5,19 @@ use Rattle.std.proofs.lemmas.Bool.{ltb-true, ltb-false}
 use Rattle.pio_lex.specs.declared.token.Token.{Token}
 use Rattle.pio_expr.specs.declared.expr.Item.TheVariants as item
 use Rattle.pio_expr.specs.declared.fault.ExprKind.TheVariants.{Syntax, TooDeep, Ambiguous}
-use Rattle.pio_expr.specs.declared.fault.ExprFault.{ExprFault}
-use Rattle.pio_expr.specs.declared.fault.ExprFault.TheVariants.{At}
+use Rattle.pio_expr.specs.declared.fault.Refusal.{Refusal}
 use Rattle.pio_expr.specs.declared.mark.Mark.{Mark}
 use Rattle.pio_expr.specs.declared.mark.Mark.TheVariants as mark
 use Rattle.pio_expr.specs.declared.waiting.Waiting.{Waiting}
 use Rattle.pio_expr.specs.declared.waiting.Waiting.TheVariants as waiting
 use Rattle.pio_expr.specs.Marks.{mark_at}
-use Rattle.pio_expr.specs.Grammar.{Place, readers, value_by, unary_by, level_by, then, next, written, value_read, closed, alone, most_open}
+use Rattle.pio_expr.specs.Grammar.{misplaced, Place, readers, value_by, unary_by, level_by, then, next, written, value_read, closed, alone, most_open}
 use Rattle.pio_expr.specs.Waiting.{rest, opens, openings, left, begins_level, IsSound}
 use Rattle.pio_expr.specs.Turns.{innermost, is_level, is_reverse, opened, sign_at, reverse_at, opening}
 use Rattle.pio_expr.proofs.Steps.{then_assoc, deeper_of, value_at, unary_at, level_at, wants_unary, wants_value, wants_plain}
 
 -- what a token opens leaves the same to read
-abbrev pub Opens : List ℕ → List Token → List Waiting → Place → Result (Option Waiting) ExprFault → Type 0
+abbrev pub Opens : List ℕ → List Token → List Waiting → Place → Result (Option Waiting) Refusal → Type 0
 Opens source tokens ws p (Ok None) = (rest source tokens ws).wants p ≡ (rest source tokens ws).unary (value_read source tokens p)
 Opens source tokens ws p (Ok (Some w)) = ((rest source tokens ws).wants p ≡ (rest source tokens (w ∷ ws)).wants (next p)) × (IsSound ws → IsSound (w ∷ ws))
 Opens source tokens ws p (Err fault) = (rest source tokens ws).wants p ≡ Err fault
@@ -35,10 +34,10 @@ no_room ws h = let less = ltb-false (openings ws) most_open h in omega (arith, l
 -- one more opening, by what is read on where there is room for it and where there is none
 opened_is : (source : List ℕ) (tokens : List Token) (ws : List Waiting) (w : Waiting) (p : Place) → opens w ≡ true
     → ((n : ℕ) → left ws ≡ suc n → n ≡ left (w ∷ ws) → (rest source tokens ws).wants p ≡ (rest source tokens (w ∷ ws)).wants (next p))
-    → (left ws ≡ 0 → (rest source tokens ws).wants p ≡ Err (At p.at TooDeep))
+    → (left ws ≡ 0 → (rest source tokens ws).wants p ≡ Err (misplaced p.at TooDeep))
     → (IsSound ws → IsSound (w ∷ ws)) → Opens source tokens ws p (opened p.at ws w)
 opened_is source tokens ws w p e more none sound = by_room (nat_lt (openings ws) most_open) refl where
-  by_room : (b : Bool) → nat_lt (openings ws) most_open ≡ b → Opens source tokens ws p (cond b (Ok (Some w)) (Err (At p.at TooDeep)))
+  by_room : (b : Bool) → nat_lt (openings ws) most_open ≡ b → Opens source tokens ws p (cond b (Ok (Some w)) (Err (misplaced p.at TooDeep)))
   by_room true h = (more (left (w ∷ ws)) (room w ws e h) refl, sound)
   by_room false h = none (no_room ws h)
 
@@ -61,12 +60,12 @@ sign_is source tokens ws p is other = opened_is source tokens ws waiting.Negate 
       signed = wants_unary source tokens ws mark.Minus p is (λ e. cc) other ∙ ap (λ read. then read (rest source tokens ws).unary) (unary_at source tokens (left ws) mark.Minus p is)
 
 -- a sign or a `::` behind a `::` is no value
-behind_reverse : (source : List ℕ) (tokens : List Token) (ws : List Waiting) (m : Mark) (p : Place) → mark_at tokens p.at ≡ m → value_by source tokens m (deeper_of source tokens (left ws)) p ≡ Err (At p.at Syntax) → is_reverse (innermost ws) ≡ true → (rest source tokens ws).wants p ≡ Err (At p.at Syntax)
+behind_reverse : (source : List ℕ) (tokens : List Token) (ws : List Waiting) (m : Mark) (p : Place) → mark_at tokens p.at ≡ m → value_by source tokens m (deeper_of source tokens (left ws)) p ≡ Err (misplaced p.at Syntax) → is_reverse (innermost ws) ≡ true → (rest source tokens ws).wants p ≡ Err (misplaced p.at Syntax)
 behind_reverse source tokens ws m p is none top = wants_value source tokens ws p top ∙ ap (λ read. then read (rest source tokens ws).unary) (value_at source tokens (left ws) m p is ∙ none)
 
 minus_is : (source : List ℕ) (tokens : List Token) (ws : List Waiting) (p : Place) → mark_at tokens p.at ≡ mark.Minus → Opens source tokens ws p (sign_at p.at ws)
 minus_is source tokens ws p is = by_top (is_reverse (innermost ws)) refl where
-  by_top : (b : Bool) → is_reverse (innermost ws) ≡ b → Opens source tokens ws p (cond b (Err (At p.at Syntax)) (opened p.at ws waiting.Negate))
+  by_top : (b : Bool) → is_reverse (innermost ws) ≡ b → Opens source tokens ws p (cond b (Err (misplaced p.at Syntax)) (opened p.at ws waiting.Negate))
   by_top true e = behind_reverse source tokens ws mark.Minus p is refl e
   by_top false e = sign_is source tokens ws p is e
 
@@ -103,22 +102,22 @@ unary_wants source tokens (waiting.Divide ∷ below) p top other = refl
 unary_wants source tokens (waiting.Add ∷ below) p top other = refl
 unary_wants source tokens (waiting.Subtract ∷ below) p top other = refl
 
-later_is : (source : List ℕ) (tokens : List Token) (ws : List Waiting) (p : Place) → mark_at tokens p.at ≡ mark.Reverse → is_level (innermost ws) ≡ false → is_reverse (innermost ws) ≡ false → (b : Bool) → nat_lt (openings ws) most_open ≡ b → Opens source tokens ws p (cond b (Err (At p.at Ambiguous)) (Err (At p.at TooDeep)))
+later_is : (source : List ℕ) (tokens : List Token) (ws : List Waiting) (p : Place) → mark_at tokens p.at ≡ mark.Reverse → is_level (innermost ws) ≡ false → is_reverse (innermost ws) ≡ false → (b : Bool) → nat_lt (openings ws) most_open ≡ b → Opens source tokens ws p (cond b (Err (misplaced p.at Ambiguous)) (Err (misplaced p.at TooDeep)))
 later_is source tokens ws p is top other b e = by_room b e where
   read : (rest source tokens ws).wants p ≡ then (unary_by source tokens mark.Reverse (deeper_of source tokens (left ws)) p) (rest source tokens ws).unary
   read = unary_wants source tokens ws p top other ∙ ap (λ r. then r (rest source tokens ws).unary) (unary_at source tokens (left ws) mark.Reverse p is)
 
-  by_room : (b : Bool) → nat_lt (openings ws) most_open ≡ b → Opens source tokens ws p (cond b (Err (At p.at Ambiguous)) (Err (At p.at TooDeep)))
+  by_room : (b : Bool) → nat_lt (openings ws) most_open ≡ b → Opens source tokens ws p (cond b (Err (misplaced p.at Ambiguous)) (Err (misplaced p.at TooDeep)))
   by_room true h = read ∙ ap (λ k. then (unary_by source tokens mark.Reverse (deeper_of source tokens k) p) (rest source tokens ws).unary) (room waiting.Paren ws refl h)
   by_room false h = read ∙ ap (λ k. then (unary_by source tokens mark.Reverse (deeper_of source tokens k) p) (rest source tokens ws).unary) (no_room ws h)
 
 reverse_is : (source : List ℕ) (tokens : List Token) (ws : List Waiting) (p : Place) → mark_at tokens p.at ≡ mark.Reverse → Opens source tokens ws p (reverse_at p.at ws)
 reverse_is source tokens ws p is = by_top (is_reverse (innermost ws)) refl where
-  by_level : is_reverse (innermost ws) ≡ false → (c : Bool) → is_level (innermost ws) ≡ c → Opens source tokens ws p (cond c (opened p.at ws (waiting.Reverse p.at)) (cond (nat_lt (openings ws) most_open) (Err (At p.at Ambiguous)) (Err (At p.at TooDeep))))
+  by_level : is_reverse (innermost ws) ≡ false → (c : Bool) → is_level (innermost ws) ≡ c → Opens source tokens ws p (cond c (opened p.at ws (waiting.Reverse p.at)) (cond (nat_lt (openings ws) most_open) (Err (misplaced p.at Ambiguous)) (Err (misplaced p.at TooDeep))))
   by_level other true f = first_is source tokens ws p is f
   by_level other false f = later_is source tokens ws p is f other (nat_lt (openings ws) most_open) refl
 
-  by_top : (b : Bool) → is_reverse (innermost ws) ≡ b → Opens source tokens ws p (cond b (Err (At p.at Syntax)) (cond (is_level (innermost ws)) (opened p.at ws (waiting.Reverse p.at)) (cond (nat_lt (openings ws) most_open) (Err (At p.at Ambiguous)) (Err (At p.at TooDeep)))))
+  by_top : (b : Bool) → is_reverse (innermost ws) ≡ b → Opens source tokens ws p (cond b (Err (misplaced p.at Syntax)) (cond (is_level (innermost ws)) (opened p.at ws (waiting.Reverse p.at)) (cond (nat_lt (openings ws) most_open) (Err (misplaced p.at Ambiguous)) (Err (misplaced p.at TooDeep)))))
   by_top true e = behind_reverse source tokens ws mark.Reverse p is refl e
   by_top false e = by_level e (is_level (innermost ws)) refl
 

@@ -7,7 +7,8 @@ use Rattle.pio_lex.specs.Tokens.{IsTokenOf}
 use Rattle.pio_lex.specs.declared.token.Token.{Token}
 use Rattle.pio_expr.specs.declared.fault.ExprKind.TheVariants.{Syntax, TooDeep, Ambiguous}
 use Rattle.pio_expr.specs.declared.fault.ExprFault.{ExprFault}
-use Rattle.pio_expr.specs.declared.fault.ExprFault.TheVariants.{Memory, At}
+use Rattle.pio_expr.specs.declared.fault.ExprFault.TheVariants as expr_fault
+use Rattle.pio_expr.specs.declared.fault.Refusal.{Refusal}
 use Rattle.pio_expr.specs.declared.mark.Mark.{Mark}
 use Rattle.pio_expr.specs.declared.mark.Mark.TheVariants as mark
 use Rattle.pio_expr.specs.declared.expr.Item.{Item}
@@ -16,7 +17,7 @@ use Rattle.pio_expr.specs.declared.turn.Turn.TheVariants.{Operation, Closed, End
 use Rattle.pio_expr.specs.declared.waiting.Waiting.{Waiting}
 use Rattle.pio_expr.specs.declared.waiting.Waiting.TheVariants as waiting
 use Rattle.pio_expr.specs.Marks.{mark_at, mark_of, mark_by}
-use Rattle.pio_expr.specs.Grammar.{Place, next, value_read, items_by, item_by, most_open}
+use Rattle.pio_expr.specs.Grammar.{misplaced, Place, next, value_read, items_by, item_by, most_open}
 use Rattle.pio_expr.specs.Waiting.{rest, openings, IsSound, IsFaultOf}
 use Rattle.pio_expr.specs.Turns.{innermost, is_level, is_reverse, opened, opening, first_before, all_before, kept_before, turn_by, operation_of}
 use Rattle.pio_expr.proofs.Chains.{no_mark}
@@ -24,12 +25,11 @@ use Rattle.pio_expr.proofs.Opening.{Opens, opening_is}
 use Rattle.pio_expr.proofs.Behind.{all_written}
 use Rattle.pio_expr.proofs.Turning.{Turns, turn_is}
 
-pub fault_is : {X : Type 0} (answer : Result X ExprFault) (fault : ExprFault) → answer ≡ Err fault → IsFaultOf answer fault
-fault_is answer Memory e = tt
-fault_is answer (At place kind) e = e
+pub fault_is : {X : Type 0} (answer : Result X Refusal) (refusal : Refusal) (fault : ExprFault) → fault ≡ expr_fault.At refusal.place refusal.kind → answer ≡ Err refusal → IsFaultOf answer fault
+fault_is answer refusal fault told e = rw told e
 
-pub opening_fault : (source : List ℕ) (tokens : List Token) (ws : List Waiting) (m : Mark) (p : Place) (fault : ExprFault) → m ≡ mark_at tokens p.at → opening m p.at ws ≡ Err fault → IsFaultOf ((rest source tokens ws).wants p) fault
-opening_fault source tokens ws m p fault is e = fault_is _ fault (subst (Opens source tokens ws p) e (opening_is source tokens ws m p (sym is)))
+pub opening_fault : (source : List ℕ) (tokens : List Token) (ws : List Waiting) (m : Mark) (p : Place) (refusal : Refusal) (fault : ExprFault) → fault ≡ expr_fault.At refusal.place refusal.kind → m ≡ mark_at tokens p.at → opening m p.at ws ≡ Err refusal → IsFaultOf ((rest source tokens ws).wants p) fault
+opening_fault source tokens ws m p refusal fault told is e = fault_is _ refusal fault told (subst (Opens source tokens ws p) e (opening_is source tokens ws m p (sym is)))
 
 pub opening_more : (source : List ℕ) (tokens : List Token) (ws : List Waiting) (m : Mark) (p : Place) (w : Waiting) → m ≡ mark_at tokens p.at → opening m p.at ws ≡ Ok (Some w) → ((rest source tokens ws).wants p ≡ (rest source tokens (w ∷ ws)).wants (next p)) × (IsSound ws → IsSound (w ∷ ws))
 opening_more source tokens ws m p w is e = subst (Opens source tokens ws p) e (opening_is source tokens ws m p (sym is))
@@ -46,22 +46,22 @@ opening_inside tokens ws m at found is e = by_less (nat_lt at (length tokens)) r
   by_less true h = ltb-true at (length tokens) h
   by_less false h = absurd (outside (is ∙ no_mark tokens at (ltb-false at (length tokens) h)) e) where
     outside : m ≡ mark.Other → opening m at ws ≡ Ok found → ⊥
-    outside other f = let g : Err (At at Syntax) ≡ Ok found = ap (λ k. opening k at ws) (sym other) ∙ f in cc
+    outside other f = let g : Err (misplaced at Syntax) ≡ Ok found = ap (λ k. opening k at ws) (sym other) ∙ f in cc
 
-never : (b : Bool) (w : Waiting) (fault : ExprFault) → cond b (Ok (Some w)) (Err fault) ≡ Ok None → ⊥
+never : (b : Bool) (w : Waiting) (fault : Refusal) → cond b (Ok (Some w)) (Err fault) ≡ Ok None → ⊥
 never true w fault e = cc
 never false w fault e = cc
 
 -- only a value opens nothing
 pub opening_none : (ws : List Waiting) (m : Mark) (at : ℕ) → opening m at ws ≡ Ok None → m ≡ mark.Value
 opening_none ws mark.Value at e = refl
-opening_none ws mark.Open at e = absurd (never (nat_lt (openings ws) most_open) waiting.Paren (At at TooDeep) e)
+opening_none ws mark.Open at e = absurd (never (nat_lt (openings ws) most_open) waiting.Paren (misplaced at TooDeep) e)
 opening_none ws mark.Minus at e = absurd (by_top (is_reverse (innermost ws)) e) where
-  by_top : (b : Bool) → cond b (Err (At at Syntax)) (opened at ws waiting.Negate) ≡ Ok None → ⊥
+  by_top : (b : Bool) → cond b (Err (misplaced at Syntax)) (opened at ws waiting.Negate) ≡ Ok None → ⊥
   by_top true f = cc
-  by_top false f = never (nat_lt (openings ws) most_open) waiting.Negate (At at TooDeep) f
+  by_top false f = never (nat_lt (openings ws) most_open) waiting.Negate (misplaced at TooDeep) f
 opening_none ws mark.Reverse at e = absurd (by_top (is_reverse (innermost ws)) (is_level (innermost ws)) (nat_lt (openings ws) most_open) e) where
-  by_top : (b c d : Bool) → cond b (Err (At at Syntax)) (cond c (cond d (Ok (Some (waiting.Reverse at))) (Err (At at TooDeep))) (cond d (Err (At at Ambiguous)) (Err (At at TooDeep)))) ≡ Ok None → ⊥
+  by_top : (b c d : Bool) → cond b (Err (misplaced at Syntax)) (cond c (cond d (Ok (Some (waiting.Reverse at))) (Err (misplaced at TooDeep))) (cond d (Err (misplaced at Ambiguous)) (Err (misplaced at TooDeep)))) ≡ Ok None → ⊥
   by_top true c d f = cc
   by_top false true true f = cc
   by_top false true false f = cc
@@ -80,7 +80,7 @@ behind_same source tokens ws kept items more m at is sound e f =
     rw (e, f) w.same
 
 -- and a token does this then
-pub behind_turn : (source : List ℕ) (tokens : List Token) (ws kept : List Waiting) (items : List Item) (m : Mark) (at : ℕ) (turn : Result Turn ExprFault) → mark_at tokens at ≡ m → IsSound ws → kept ≡ kept_before ws m → turn ≡ turn_by (operation_of m) (innermost kept) m at → Turns source tokens kept (record { at = at; items = items }) turn
+pub behind_turn : (source : List ℕ) (tokens : List Token) (ws kept : List Waiting) (items : List Item) (m : Mark) (at : ℕ) (turn : Result Turn Refusal) → mark_at tokens at ≡ m → IsSound ws → kept ≡ kept_before ws m → turn ≡ turn_by (operation_of m) (innermost kept) m at → Turns source tokens kept (record { at = at; items = items }) turn
 behind_turn source tokens ws kept items m at turn is sound e f =
     let p : Place = record { at = at; items = items } in
     let w = all_written source tokens ws m p is sound in
@@ -88,7 +88,7 @@ behind_turn source tokens ws kept items m at turn is sound e f =
     let right : IsSound kept = rw e w.sound in
     subst (Turns source tokens kept p) (sym f) (turn_is source tokens kept m p is done right)
 
-goes_on_turn : Result Turn ExprFault → Bool
+goes_on_turn : Result Turn Refusal → Bool
 goes_on_turn (Ok (Operation w)) = true
 goes_on_turn (Ok Closed) = true
 goes_on_turn (Ok End) = false
@@ -100,7 +100,7 @@ no_turn None at = refl
 no_turn (Some w) at = refl
 
 -- an operation, or a `)`, stands among the tokens
-turn_inside : (tokens : List Token) (kept : List Waiting) (m : Mark) (at : ℕ) (turn : Result Turn ExprFault) → mark_at tokens at ≡ m → turn ≡ turn_by (operation_of m) (innermost kept) m at → goes_on_turn turn ≡ true → at < length tokens
+turn_inside : (tokens : List Token) (kept : List Waiting) (m : Mark) (at : ℕ) (turn : Result Turn Refusal) → mark_at tokens at ≡ m → turn ≡ turn_by (operation_of m) (innermost kept) m at → goes_on_turn turn ≡ true → at < length tokens
 turn_inside tokens kept m at turn is f goes = by_less (nat_lt at (length tokens)) refl where
   by_less : (b : Bool) → nat_lt at (length tokens) ≡ b → at < length tokens
   by_less true h = ltb-true at (length tokens) h
@@ -131,6 +131,6 @@ pub token_of_all : (source : List ℕ) (tokens : List Token) (at : ℕ) (t : Tok
 token_of_all source tokens at t h all = subst (IsTokenOf source) (get_or_from_slice_get tokens at t t h) (all at t (slice_get_within tokens at t h))
 
 -- where no token stands there is no operand
-pub opening_outside : (source : List ℕ) (tokens : List Token) (ws : List Waiting) (p : Place) → slice_get tokens p.at ≡ None → (rest source tokens ws).wants p ≡ Err (At p.at Syntax)
+pub opening_outside : (source : List ℕ) (tokens : List Token) (ws : List Waiting) (p : Place) → slice_get tokens p.at ≡ None → (rest source tokens ws).wants p ≡ Err (misplaced p.at Syntax)
 unfolding mark_at
 opening_outside source tokens ws p h = opening_is source tokens ws mark.Other p (ap mark_by h)

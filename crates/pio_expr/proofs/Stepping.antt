@@ -1,45 +1,42 @@
 -- One step of the frames: a fault, a wait, an end.
-use Rattle.std.proofs.Common.{◌≡◌, ℕ, zero, suc, ◌+◌, ◌-◌, ◌*◌, ◌<◌, ◌≤◌, ℤ, Bool, true, false, List, [], ◌∷◌, ◌++◌, length, Option, Some, None, Result, Ok, Err, refl, ap, sym, subst, ◌∙◌, ◌||◌, cond, arith, nat_eq, true≢false, append_assoc}
-use Rattle.std.specs.List.{list_any, IsDistinct}
+use Rattle.std.proofs.Common.{◌≡◌, ℕ, ◌+◌, ◌-◌, ◌<◌, ℤ, Bool, true, false, List, [], ◌∷◌, ◌++◌, length, Option, Some, None, Result, Ok, Err, refl, ap, sym, subst, ◌∙◌, ◌||◌, cond, arith, nat_eq, true≢false}
+use Rattle.std.specs.List.{list_any}
 use Rattle.std.specs.Map.{keys_of}
 use Rattle.std.specs.Cmp.{IsEquivalence}
 use Rattle.std.proofs.lemmas.Bool.{eqb-true, eq-eqb}
-use Rattle.std.proofs.lemmas.List.{length-append, map-append}
 use Rattle.std.proofs.lemmas.List.Folds.{list_any-append}
-use Rattle.std.proofs.lemmas.Map.Keys.{IsDistinct-tail, IsDistinct-cons, IsDistinct-push}
+use Rattle.std.proofs.lemmas.Map.Keys.{IsDistinct-cons}
 use Rattle.std.proofs.lemmas.Map.Steps.{length-le_from_distinct_below}
-use Rattle.indexmap.specs.IndexMap.{insert_entry}
 use Rattle.pio_expr.specs.declared.expr.Item.{Item}
 use Rattle.pio_expr.specs.declared.expr.Item.TheVariants as item
 use Rattle.pio_expr.specs.declared.symbol.Symbol.TheVariants.{Define, Label}
 use Rattle.pio_expr.specs.declared.fault.ValueFault.{ValueFault}
-use Rattle.pio_expr.specs.declared.fault.ValueFault.TheVariants.{Memory, Unknown, Cycle, DivZero, Overflow}
+use Rattle.pio_expr.specs.declared.fault.ValueFault.TheVariants as value_fault
+use Rattle.pio_expr.specs.declared.fault.ValueKind.{ValueKind}
 use Rattle.pio_expr.specs.declared.frame.Frame.{Frame}
 use Rattle.pio_expr.specs.declared.work.Work.{Work}
-use Rattle.pio_expr.specs.Values.{Scope, Found, found, by_symbol, in_program, count_of, is_among, worked_out, name_value, value_at, HasFault}
-use Rattle.pio_expr.specs.Frames.{Kept, kept_at, kept_value, is_local, items_at, symbol_at, Look, number, wanted, look_by, looked_up, Agrees, IsKept, IsKeptAt, RestsAt}
-use Rattle.pio_expr.specs.Work.{placed, places_of, items_of, IsOwn, IsFrame, AwaitedAt, IsAwaited, AreFrames, IsLowest, seen_of, AreSeen, frames_of, Stands, left_to_do, Steps, Waited, Finished, IsNewlyKept}
+use Rattle.pio_expr.specs.Values.{Scope, Found, found, by_symbol, count_of, is_among, worked_out, name_value, value_at, HasFault}
+use Rattle.pio_expr.specs.Frames.{Kept, kept_at, is_local, items_at, symbol_at, Look, number, wanted, look_by, looked_up, Agrees, RestsAt}
+use Rattle.pio_expr.specs.Work.{placed, places_of, items_of, IsFrame, AwaitedAt, IsAwaited, AreFrames, IsLowest, seen_of, AreSeen, frames_of, Stands, left_to_do, Waited}
 use Rattle.pio_expr.proofs.Finding.{items_of_symbol, found_stands, place_within}
-use Rattle.pio_expr.proofs.Keeping.{Apart}
-use Rattle.pio_expr.proofs.Agreeing.{agrees_value, agrees_kept, agrees_fewer, IsMore, pushed_some, pushed_none, kept_pushed}
-use Rattle.pio_expr.proofs.Framing.{all_none, head_new, or_left, or_right, not_key, apart, seen_fit, keys_length, seen_below, frame_value, fault_of_whole, value_of_whole}
-use Rattle.pio_expr.proofs.Lookups.{some_same}
+use Rattle.pio_expr.proofs.Agreeing.{agrees_value, agrees_fewer, IsMore}
+use Rattle.pio_expr.proofs.Framing.{all_none, not_key, apart, seen_fit, keys_length, frame_value, fault_of_whole}
 
 -- what the top frame shows of its expression, whatever agreeing values names have
-abbrev pub Shown : Scope → Kept → List Item → Work → ((List ℕ → Result ℤ ValueFault) → Result ℤ ValueFault) → Type 0
-Shown scope kept items old gives = (named : List ℕ → Result ℤ ValueFault) → Agrees (looked_up scope kept (is_among (places_of (frames_of old))) old.top.local) named → worked_out named (items_of scope items old.top.place) [] ≡ gives named
+abbrev pub Shown : Scope → Kept → List Item → Work → ((List ℕ → Result ℤ ValueKind) → Result ℤ ValueKind) → Type 0
+Shown scope kept items old gives = (named : List ℕ → Result ℤ ValueKind) → Agrees (looked_up scope kept (is_among (places_of (frames_of old))) old.top.local) named → worked_out named (items_of scope items old.top.place) [] ≡ gives named
 
 -- the set of the begun is that of the places, but for the kept ones
 begun_more : (kept : Kept) (begun under : ℕ → Bool) → ((q : ℕ) → kept_at kept q ≡ None → begun q ≡ under q) → IsMore kept begun kept under
 begun_more kept begun under same q = ((λ v e. e), (λ none t. (none, sym (same q none) ∙ t)))
 
-pub shown : (scope : Scope) (kept : Kept) (own : Option ℕ) (items : List Item) (old : Work) → Stands scope kept own items old → (gives : (List ℕ → Result ℤ ValueFault) → Result ℤ ValueFault)
-    → ((named : List ℕ → Result ℤ ValueFault) → Agrees (looked_up scope kept (λ q. list_any (nat_eq q) old.begun.keys) old.top.local) named → worked_out named old.top.rest.now old.top.numbers.items ≡ gives named) → Shown scope kept items old gives
+pub shown : (scope : Scope) (kept : Kept) (own : Option ℕ) (items : List Item) (old : Work) → Stands scope kept own items old → (gives : (List ℕ → Result ℤ ValueKind) → Result ℤ ValueKind)
+    → ((named : List ℕ → Result ℤ ValueKind) → Agrees (looked_up scope kept (λ q. list_any (nat_eq q) old.begun.keys) old.top.local) named → worked_out named old.top.rest.now old.top.numbers.items ≡ gives named) → Shown scope kept items old gives
 shown scope kept own items old st gives run named agrees =
     st.frames.0.going named agrees ∙ run named (agrees_fewer scope kept kept (λ q. list_any (nat_eq q) old.begun.keys) (is_among (places_of (frames_of old))) old.top.local named (begun_more kept (λ q. list_any (nat_eq q) old.begun.keys) (is_among (places_of (frames_of old))) st.begun) agrees)
 
 -- so the definition gives it too
-pub defined : (scope : Scope) (kept : Kept) (own : Option ℕ) (items : List Item) (old : Work) (r : Result ℤ ValueFault) → Stands scope kept own items old → Shown scope kept items old (λ _. r) → frame_value scope items old.top.place (places_of old.below.items) ≡ r
+pub defined : (scope : Scope) (kept : Kept) (own : Option ℕ) (items : List Item) (old : Work) (r : Result ℤ ValueKind) → Stands scope kept own items old → Shown scope kept items old (λ _. r) → frame_value scope items old.top.place (places_of old.below.items) ≡ r
 defined scope kept own items old r st run =
     let places = places_of (frames_of old) in
     let n = count_of scope - length places in
@@ -48,32 +45,29 @@ defined scope kept own items old r st run =
     ap (λ l. worked_out (name_value n scope places l) (items_of scope items old.top.place) []) (sym st.frames.0.local)
     ∙ run (name_value n scope places old.top.local) (agrees_value scope kept n places old.top.local st.is_kept (omega (arith, fit, keys)) (apart kept places st.seen.distinct))
 
-fault_is : (scope : Scope) (kept : Kept) (own : Option ℕ) (items : List Item) (old : Work) (fault : ValueFault) → Stands scope kept own items old
-    → ((named : List ℕ → Result ℤ ValueFault) → Agrees (looked_up scope kept (λ q. list_any (nat_eq q) old.begun.keys) old.top.local) named → worked_out named old.top.rest.now old.top.numbers.items ≡ Err fault) → value_at scope own items ≡ Err fault
+fault_is : (scope : Scope) (kept : Kept) (own : Option ℕ) (items : List Item) (old : Work) (fault : ValueKind) → Stands scope kept own items old
+    → ((named : List ℕ → Result ℤ ValueKind) → Agrees (looked_up scope kept (λ q. list_any (nat_eq q) old.begun.keys) old.top.local) named → worked_out named old.top.rest.now old.top.numbers.items ≡ Err fault) → value_at scope own items ≡ Err fault
 fault_is scope kept own items old fault st run =
     fault_of_whole scope kept own items fault st.is_own st.is_kept old.top old.below.items st.frames st.lowest st.seen (defined scope kept own items old (Err fault) st (shown scope kept own items old st (λ _. Err fault) run))
 
 -- a fault of the top frame
 pub fault_step : (scope : Scope) (kept : Kept) (own : Option ℕ) (items : List Item) (old : Work) (fault : ValueFault) → Stands scope kept own items old
-    → ((named : List ℕ → Result ℤ ValueFault) → Agrees (looked_up scope kept (λ q. list_any (nat_eq q) old.begun.keys) old.top.local) named → HasFault fault (worked_out named old.top.rest.now old.top.numbers.items)) → HasFault fault (value_at scope own items)
-fault_step scope kept own items old Memory st run = tt
-fault_step scope kept own items old (Unknown name) st run = fault_is scope kept own items old (Unknown name) st run
-fault_step scope kept own items old (Cycle name) st run = fault_is scope kept own items old (Cycle name) st run
-fault_step scope kept own items old DivZero st run = fault_is scope kept own items old DivZero st run
-fault_step scope kept own items old Overflow st run = fault_is scope kept own items old Overflow st run
+    → ((named : List ℕ → Result ℤ ValueKind) → Agrees (looked_up scope kept (λ q. list_any (nat_eq q) old.begun.keys) old.top.local) named → HasFault fault (worked_out named old.top.rest.now old.top.numbers.items)) → HasFault fault (value_at scope own items)
+fault_step scope kept own items old value_fault.Memory st run = tt
+fault_step scope kept own items old (value_fault.Found kind) st run = fault_is scope kept own items old kind st run
 
 -- a define that is wanted
-place_or : ℕ → Result Look ValueFault → ℕ
+place_or : ℕ → Result Look ValueKind → ℕ
 place_or d (Ok (wanted p items)) = p
 place_or d (Ok (number n)) = d
 place_or d (Err fault) = d
 
-items_or : List Item → Result Look ValueFault → List Item
+items_or : List Item → Result Look ValueKind → List Item
 items_or d (Ok (wanted p items)) = items
 items_or d (Ok (number n)) = d
 items_or d (Err fault) = d
 
-is_wanted : Result Look ValueFault → Bool
+is_wanted : Result Look ValueKind → Bool
 is_wanted (Ok (wanted p items)) = true
 is_wanted (Ok (number n)) = false
 is_wanted (Err fault) = false

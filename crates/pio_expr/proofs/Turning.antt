@@ -3,7 +3,7 @@ use Rattle.std.proofs.Common.{◌≡◌, ℕ, true, List, [], ◌∷◌, drop, S
 use Rattle.pio_lex.specs.declared.token.Token.{Token}
 use Rattle.pio_expr.specs.declared.expr.Item.{Item}
 use Rattle.pio_expr.specs.declared.expr.Item.TheVariants as item
-use Rattle.pio_expr.specs.declared.fault.ExprFault.{ExprFault}
+use Rattle.pio_expr.specs.declared.fault.Refusal.{Refusal}
 use Rattle.pio_expr.specs.declared.mark.Mark.{Mark}
 use Rattle.pio_expr.specs.declared.mark.Mark.TheVariants as mark
 use Rattle.pio_expr.specs.declared.turn.Turn.{Turn}
@@ -20,7 +20,7 @@ use Rattle.pio_expr.proofs.Steps.{then_assoc}
 use Rattle.pio_expr.proofs.Behind.{product_of_level, product_ends, sum_ends}
 
 -- what is read on behind a turn
-abbrev pub Turns : List ℕ → List Token → List Waiting → Place → Result Turn ExprFault → Type 0
+abbrev pub Turns : List ℕ → List Token → List Waiting → Place → Result Turn Refusal → Type 0
 Turns source tokens ws p (Ok (Operation w)) = ((rest source tokens ws).unary p ≡ (rest source tokens (w ∷ ws)).wants (next p)) × IsSound (w ∷ ws)
 Turns source tokens ws p (Ok Closed) = ((rest source tokens ws).unary p ≡ (rest source tokens (drop 1 ws)).unary (next p)) × IsSound (drop 1 ws)
 Turns source tokens ws p (Ok End) = (rest source tokens ws).unary p ≡ Ok p

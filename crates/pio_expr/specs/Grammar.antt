@@ -4,13 +4,14 @@
 --   unary   := - unary | value
 --   value   := number | NAME | ( level )
 --   level   := :: value | sum
--- Each `{..}` takes what it can. At most 64 of `(`, `-` before a unary, and `::` are open at once. A `::` beside a sign or an
+-- Each `{..}` takes what it can. misplaced most 64 of `(`, `-` before a unary, and `::` are open at once. A `::` beside a sign or an
 -- operation in its parenthesis is ambiguous. What is met first is the answer.
 --   Place, Reader      where reading stands, and one rule of the grammar
 --   chain              what goes on behind an operand, by operators of one rank
 --   Readers            the rules, by how many more openings are allowed
 --   expression_at      the expression that begins at a token
 use Rattle.std.specs.Prelude.{ℕ, zero, suc, ◌+◌, pos, List, [], ◌∷◌, ◌++◌, length, Option, Some, None, Result, Ok, Err, slice_get, slice_range}
+use Rattle.answers.specs.Answers.{◌>>=◌}
 use Rattle.pio_lex.specs.declared.token.TokenKind.{TokenKind}
 use Rattle.pio_lex.specs.declared.token.TokenKind.TheVariants as kind
 use Rattle.pio_lex.specs.declared.token.Token.{Token}
@@ -18,8 +19,7 @@ use Rattle.pio_expr.specs.declared.expr.Item.{Item}
 use Rattle.pio_expr.specs.declared.expr.Item.TheVariants as item
 use Rattle.pio_expr.specs.declared.fault.ExprKind.{ExprKind}
 use Rattle.pio_expr.specs.declared.fault.ExprKind.TheVariants.{Syntax, TooDeep, Ambiguous}
-use Rattle.pio_expr.specs.declared.fault.ExprFault.{ExprFault}
-use Rattle.pio_expr.specs.declared.fault.ExprFault.TheVariants.{At}
+use Rattle.pio_expr.specs.declared.fault.Refusal.{Refusal}
 use Rattle.pio_expr.specs.declared.mark.Mark.{Mark}
 use Rattle.pio_expr.specs.declared.mark.Mark.TheVariants as mark
 use Rattle.pio_expr.specs.Marks.{mark_at}
@@ -31,7 +31,7 @@ pub record Place : Type 0 where
 
 -- what reading gives: the place behind what was read, or the first fault
 abbrev pub Read : Type 0
-Read = Result Place ExprFault
+Read = Result Place Refusal
 
 -- one rule of the grammar, from a place on
 abbrev pub Reader : Type 0
@@ -39,8 +39,7 @@ Reader = Place → Read
 
 -- one rule behind another
 abbrev pub then : Read → Reader → Read
-then (Ok place) reader = reader place
-then (Err fault) reader = Err fault
+then read reader = read >>= reader
 
 -- the next token
 abbrev pub next : Place → Place
@@ -50,9 +49,13 @@ next place = record { at = place.at + 1; items = place.items }
 abbrev pub written : Item → Place → Place
 written item place = record { at = place.at; items = place.items ++ item ∷ [] }
 
+-- this is wrong at a token
+abbrev pub misplaced : ℕ → ExprKind → Refusal
+misplaced at kind = record { place = at; kind = kind }
+
 -- a fault of the token at a place
 abbrev pub refused : ExprKind → Place → Read
-refused fault place = Err (At place.at fault)
+refused kind place = Err (misplaced place.at kind)
 
 -- the item of a token that is a value by itself: a number, or a name as it stands in the source
 abbrev pub item_by : List ℕ → TokenKind → ℕ → ℕ → Item
@@ -118,10 +121,10 @@ closed tokens place = closed_by (mark_at tokens place.at) place
 
 -- a `::`, which stands at a token, is alone in its parenthesis: no operation follows
 abbrev pub alone_by : Mark → ℕ → Reader
-alone_by mark.Star at place = Err (At at Ambiguous)
-alone_by mark.Slash at place = Err (At at Ambiguous)
-alone_by mark.Plus at place = Err (At at Ambiguous)
-alone_by mark.Minus at place = Err (At at Ambiguous)
+alone_by mark.Star at place = Err (misplaced at Ambiguous)
+alone_by mark.Slash at place = Err (misplaced at Ambiguous)
+alone_by mark.Plus at place = Err (misplaced at Ambiguous)
+alone_by mark.Minus at place = Err (misplaced at Ambiguous)
 alone_by _ at place = Ok place
 
 -- the end of a `::` that stands at a token: its item, and no operation behind it
@@ -171,10 +174,10 @@ abbrev pub most_open : ℕ
 most_open = 64
 
 -- the items of an expression, and the place behind it
-abbrev pub read_items : Read → Result (List Item × ℕ) ExprFault
+abbrev pub read_items : Read → Result (List Item × ℕ) Refusal
 read_items (Ok place) = Ok (place.items, place.at)
 read_items (Err fault) = Err fault
 
 -- the expression that begins at a token, with the place of the token behind it, or its first fault
-unfoldable pub expression_at : List ℕ → List Token → ℕ → Result (List Item × ℕ) ExprFault
+unfoldable pub expression_at : List ℕ → List Token → ℕ → Result (List Item × ℕ) Refusal
 expression_at source tokens from = read_items ((readers source tokens most_open).level (record { at = from; items = [] }))

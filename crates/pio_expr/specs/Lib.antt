@@ -1,3 +1,4 @@
+pub mod Faults
 pub mod Marks
 pub mod Grammar
 pub mod Arithmetic
@@ -7,3 +8,4 @@ pub mod Values
 pub mod Views
 pub mod Frames
 pub mod Work
+pub mod Trees

@@ -3,15 +3,14 @@ use Rattle.std.specs.Prelude.{ℕ, nat_lt, List, [], ◌∷◌, Bool, true, fals
 use Rattle.pio_expr.specs.declared.expr.Item.{Item}
 use Rattle.pio_expr.specs.declared.expr.Item.TheVariants as item
 use Rattle.pio_expr.specs.declared.fault.ExprKind.TheVariants.{Syntax, TooDeep, Ambiguous}
-use Rattle.pio_expr.specs.declared.fault.ExprFault.{ExprFault}
-use Rattle.pio_expr.specs.declared.fault.ExprFault.TheVariants.{At}
+use Rattle.pio_expr.specs.declared.fault.Refusal.{Refusal}
 use Rattle.pio_expr.specs.declared.mark.Mark.{Mark}
 use Rattle.pio_expr.specs.declared.mark.Mark.TheVariants as mark
 use Rattle.pio_expr.specs.declared.turn.Turn.{Turn}
 use Rattle.pio_expr.specs.declared.turn.Turn.TheVariants.{Operation, Closed, End}
 use Rattle.pio_expr.specs.declared.waiting.Waiting.{Waiting}
 use Rattle.pio_expr.specs.declared.waiting.Waiting.TheVariants as waiting
-use Rattle.pio_expr.specs.Grammar.{most_open}
+use Rattle.pio_expr.specs.Grammar.{misplaced, most_open}
 use Rattle.pio_expr.specs.Waiting.{openings}
 
 -- the operation that a token is
@@ -88,45 +87,45 @@ is_level (Some waiting.Paren) = true
 is_level _ = false
 
 -- one more opening, where there is room for it
-abbrev pub opened : ℕ → List Waiting → Waiting → Result (Option Waiting) ExprFault
-opened at ws w = if nat_lt (openings ws) most_open then Ok (Some w) else Err (At at TooDeep)
+abbrev pub opened : ℕ → List Waiting → Waiting → Result (Option Waiting) Refusal
+opened at ws w = if nat_lt (openings ws) most_open then Ok (Some w) else Err (misplaced at TooDeep)
 
 -- a sign, which may not stand behind a `::`
-abbrev pub sign_at : ℕ → List Waiting → Result (Option Waiting) ExprFault
-sign_at at ws = if is_reverse (innermost ws) then Err (At at Syntax) else opened at ws waiting.Negate
+abbrev pub sign_at : ℕ → List Waiting → Result (Option Waiting) Refusal
+sign_at at ws = if is_reverse (innermost ws) then Err (misplaced at Syntax) else opened at ws waiting.Negate
 
 -- a `::`, which may not stand behind another, and only at the beginning of its parenthesis
-abbrev pub reverse_at : ℕ → List Waiting → Result (Option Waiting) ExprFault
+abbrev pub reverse_at : ℕ → List Waiting → Result (Option Waiting) Refusal
 reverse_at at ws =
-    if is_reverse (innermost ws) then Err (At at Syntax) else
+    if is_reverse (innermost ws) then Err (misplaced at Syntax) else
     if is_level (innermost ws) then opened at ws (waiting.Reverse at) else
-    if nat_lt (openings ws) most_open then Err (At at Ambiguous) else Err (At at TooDeep)
+    if nat_lt (openings ws) most_open then Err (misplaced at Ambiguous) else Err (misplaced at TooDeep)
 
 -- what a token opens where an operand is wanted: nothing, where it is a value
-abbrev pub opening : Mark → ℕ → List Waiting → Result (Option Waiting) ExprFault
+abbrev pub opening : Mark → ℕ → List Waiting → Result (Option Waiting) Refusal
 opening mark.Value at ws = Ok None
 opening mark.Open at ws = opened at ws waiting.Paren
 opening mark.Minus at ws = sign_at at ws
 opening mark.Reverse at ws = reverse_at at ws
-opening _ at ws = Err (At at Syntax)
+opening _ at ws = Err (misplaced at Syntax)
 
 -- a parenthesis is closed
-abbrev pub close_by : Mark → ℕ → Result Turn ExprFault
+abbrev pub close_by : Mark → ℕ → Result Turn Refusal
 close_by mark.Close at = Ok Closed
-close_by _ at = Err (At at Syntax)
+close_by _ at = Err (misplaced at Syntax)
 
 -- what a token does behind an operand where nothing is left to write before it: what waits innermost is
 -- a parenthesis or nothing, unless it is an operation
-abbrev pub turn_without : Option Waiting → Mark → ℕ → Result Turn ExprFault
+abbrev pub turn_without : Option Waiting → Mark → ℕ → Result Turn Refusal
 turn_without None m at = Ok End
 turn_without (Some w) m at = close_by m at
 
 -- the same where the token is an operation: it may not stand beside a `::`
-abbrev pub turn_with : Option Waiting → Waiting → Result Turn ExprFault
-turn_with (Some (waiting.Reverse at)) operation = Err (At at Ambiguous)
+abbrev pub turn_with : Option Waiting → Waiting → Result Turn Refusal
+turn_with (Some (waiting.Reverse at)) operation = Err (misplaced at Ambiguous)
 turn_with _ operation = Ok (Operation operation)
 
 -- the same of every token, by the operation that it is
-abbrev pub turn_by : Option Waiting → Option Waiting → Mark → ℕ → Result Turn ExprFault
+abbrev pub turn_by : Option Waiting → Option Waiting → Mark → ℕ → Result Turn Refusal
 turn_by (Some operation) inner m at = turn_with inner operation
 turn_by None inner m at = turn_without inner m at

@@ -11,8 +11,12 @@ use Rattle.pio_expr.specs.declared.expr.Item.{Item}
 use Rattle.pio_expr.specs.declared.expr.Item.TheVariants as item
 use Rattle.pio_expr.specs.declared.symbol.Symbol.{Symbol}
 use Rattle.pio_expr.specs.declared.symbol.Symbol.TheVariants.{Define, Label}
+use Rattle.pio_expr.specs.declared.fault.ValueKind.{ValueKind}
+use Rattle.pio_expr.specs.declared.fault.ValueKind.TheVariants.{Unknown, Cycle}
 use Rattle.pio_expr.specs.declared.fault.ValueFault.{ValueFault}
-use Rattle.pio_expr.specs.declared.fault.ValueFault.TheVariants.{Memory, Unknown, Cycle}
+use Rattle.answers.specs.Answers as answers
+use Rattle.answers.specs.Answers.{◌>>=◌}
+use Rattle.pio_expr.specs.Faults.{value_told}
 use Rattle.pio_expr.specs.Arithmetic.{sum_of, difference_of, product_of, quotient_of, negated, reversed}
 
 -- names with what they are, in the order in which they were set
@@ -61,7 +65,8 @@ symbol_of scope name = option_map (λ s. s.1) (found scope true name)
 abbrev pub in_program : Scope → ℕ → Bool
 in_program scope place = nat_le (length scope.globals) place
 
--- the last number in front of an item, and those before it; where there is none, 0 stands for it
+-- the last number in front of an item. There is always one: an expression that is read is a tree's postfix order, and is worth
+-- what the tree is, where no operand can be missing (the law `an_expression_is_a_tree`)
 abbrev pub first_of : List ℤ → ℤ
 first_of [] = pos 0
 first_of (n ∷ numbers) = n
@@ -72,15 +77,15 @@ behind_first [] = []
 behind_first (n ∷ numbers) = numbers
 
 -- the number that an item gives, on the numbers before it, the last in front
-abbrev pub number_of : (List ℕ → Result ℤ ValueFault) → Item → List ℤ → Result ℤ ValueFault
-number_of named (item.Number n) numbers = Ok n
-number_of named (item.Name name) numbers = named name
-number_of named item.Add numbers = sum_of (first_of (behind_first numbers)) (first_of numbers)
-number_of named item.Subtract numbers = difference_of (first_of (behind_first numbers)) (first_of numbers)
-number_of named item.Multiply numbers = product_of (first_of (behind_first numbers)) (first_of numbers)
-number_of named item.Divide numbers = quotient_of (first_of (behind_first numbers)) (first_of numbers)
-number_of named item.Negate numbers = negated (first_of numbers)
-number_of named item.Reverse numbers = Ok (reversed (first_of numbers))
+abbrev pub number_by : (List ℕ → Result ℤ ValueKind) → Item → List ℤ → Result ℤ ValueKind
+number_by named (item.Number n) numbers = Ok n
+number_by named (item.Name name) numbers = named name
+number_by named item.Add numbers = sum_of (first_of (behind_first numbers)) (first_of numbers)
+number_by named item.Subtract numbers = difference_of (first_of (behind_first numbers)) (first_of numbers)
+number_by named item.Multiply numbers = product_of (first_of (behind_first numbers)) (first_of numbers)
+number_by named item.Divide numbers = quotient_of (first_of (behind_first numbers)) (first_of numbers)
+number_by named item.Negate numbers = negated (first_of numbers)
+number_by named item.Reverse numbers = Ok (reversed (first_of numbers))
 
 -- the numbers that an item leaves, without those that it takes
 abbrev pub left_by : Item → List ℤ → List ℤ
@@ -90,18 +95,13 @@ left_by item.Negate numbers = behind_first numbers
 left_by item.Reverse numbers = behind_first numbers
 left_by _ numbers = behind_first (behind_first numbers)
 
--- what a number is taken on to, or the fault
-abbrev pub taken_on : Result ℤ ValueFault → (ℤ → Result ℤ ValueFault) → Result ℤ ValueFault
-taken_on (Ok n) on = on n
-taken_on (Err fault) on = Err fault
-
 -- an expression in postfix order, from left to right up to the first fault, on the numbers before it
-unfoldable pub worked_out : (List ℕ → Result ℤ ValueFault) → List Item → List ℤ → Result ℤ ValueFault
+unfoldable pub worked_out : (List ℕ → Result ℤ ValueKind) → List Item → List ℤ → Result ℤ ValueKind
 worked_out named [] numbers = Ok (first_of numbers)
-worked_out named (i ∷ items) numbers = taken_on (number_of named i numbers) (λ n. worked_out named items (n ∷ left_by i numbers))
+worked_out named (i ∷ items) numbers = number_by named i numbers >>= λ n. worked_out named items (n ∷ left_by i numbers)
 
 -- the value of a name by its symbol: a label's number, and what a define of this place and expression gives
-abbrev pub by_symbol : {T : Type 0} → (ℤ → T) → (ℕ → List Item → Result T ValueFault) → List ℕ → Found → Result T ValueFault
+abbrev pub by_symbol : {T : Type 0} → (ℤ → T) → (ℕ → List Item → Result T ValueKind) → List ℕ → Found → Result T ValueKind
 by_symbol label define name None = Err (Unknown name)
 by_symbol label define name (Some (place, Label n)) = Ok (label (pos n))
 by_symbol label define name (Some (place, Define items)) = define place items
@@ -112,7 +112,7 @@ is_among places place = list_any (nat_eq place) places
 
 -- the value of a name, with the places of the symbols under way, the newest in front. The count says how many more can be
 -- under way: where there is none, each symbol is
-unfoldable pub name_value : ℕ → Scope → List ℕ → Bool → List ℕ → Result ℤ ValueFault
+unfoldable pub name_value : ℕ → Scope → List ℕ → Bool → List ℕ → Result ℤ ValueKind
 name_value zero scope under local name = by_symbol (λ n. n) (λ place items. Err (Cycle name)) name (found scope local name)
 name_value (suc more) scope under local name =
     by_symbol (λ n. n) (λ place items. if is_among under place then Err (Cycle name) else worked_out (name_value more scope (place ∷ under) (in_program scope place)) items []) name (found scope local name)
@@ -122,7 +122,7 @@ abbrev pub count_of : Scope → ℕ
 count_of scope = length scope.globals + length (program_of scope)
 
 -- the value of an expression that stands at this place: of a symbol that is under way then, or of none
-abbrev pub value_at : Scope → Option ℕ → List Item → Result ℤ ValueFault
+abbrev pub value_at : Scope → Option ℕ → List Item → Result ℤ ValueKind
 value_at scope None items = worked_out (name_value (count_of scope) scope [] true) items []
 value_at scope (Some place) items = worked_out (name_value (count_of scope - 1) scope (place ∷ []) (in_program scope place)) items []
 
@@ -141,22 +141,20 @@ IsOwnTo scope None items = Unit {0}
 IsOwnTo scope (Some name) items = symbol_of scope name ≡ Some (Define items)
 
 -- the value of an expression, own to a symbol or to none, or its first fault
-abbrev pub value_of : Scope → Option (List ℕ) → List Item → Result ℤ ValueFault
+abbrev pub value_of : Scope → Option (List ℕ) → List Item → Result ℤ ValueKind
 value_of scope own items = value_at scope (own_place scope own) items
 
 -- the value of a name where an expression is asked
-abbrev pub value_of_name : Scope → List ℕ → Result ℤ ValueFault
+abbrev pub value_of_name : Scope → List ℕ → Result ℤ ValueKind
 value_of_name scope name = name_value (count_of scope) scope [] true name
 
--- this fault is the answer, or memory ran out
-abbrev pub HasFault : {T : Type 0} → ValueFault → Result T ValueFault → Type 0
-HasFault Memory answer = Unit {0}
-HasFault fault answer = answer ≡ Err fault
+-- a returned fault is the answer, or memory ran out
+abbrev pub HasFault : {T : Type 0} → ValueFault → Result T ValueKind → Type 0
+HasFault fault answer = answers.Refuses (value_told fault) answer
 
--- what was returned is the answer, unless memory ran out
-abbrev pub Gives : Result ℤ ValueFault → Result ℤ ValueFault → Type 0
-Gives (Ok value) answer = answer ≡ Ok value
-Gives (Err fault) answer = HasFault fault answer
+-- a returned value is the answer, or a returned fault is; want of memory is allowed
+abbrev pub Gives : Result ℤ ValueFault → Result ℤ ValueKind → Type 0
+Gives result answer = answers.Answers value_told result answer
 
 -- the scope without symbols
 abbrev pub no_symbols : Scope

@@ -2,12 +2,14 @@
 --   Rest          what the grammar reads on, behind an operand or for one
 --   rest          the same, of the openings and operations that wait, the innermost first
 --   IsSound       what can wait for what
-use Rattle.std.specs.Prelude.{◌≡◌, ℕ, ◌+◌, ◌-◌, ◌<◌, length, Bool, true, false, List, [], ◌∷◌, Option, Some, None, Result, Ok, Err, count_by}
+use Rattle.std.specs.Prelude.{◌≡◌, ℕ, ◌+◌, ◌-◌, ◌<◌, length, Bool, true, false, List, [], ◌∷◌, Option, Some, None, Result, Ok, count_by}
 use Rattle.pio_lex.specs.declared.token.Token.{Token}
 use Rattle.pio_expr.specs.declared.expr.Item.{Item}
 use Rattle.pio_expr.specs.declared.expr.Item.TheVariants as item
+use Rattle.answers.specs.Answers as answers
 use Rattle.pio_expr.specs.declared.fault.ExprFault.{ExprFault}
-use Rattle.pio_expr.specs.declared.fault.ExprFault.TheVariants.{Memory, At}
+use Rattle.pio_expr.specs.declared.fault.Refusal.{Refusal}
+use Rattle.pio_expr.specs.Faults.{expr_told}
 use Rattle.pio_expr.specs.declared.reading.Reading.{Reading}
 use Rattle.pio_expr.specs.declared.waiting.Waiting.{Waiting}
 use Rattle.pio_expr.specs.declared.waiting.Waiting.TheVariants as waiting
@@ -107,12 +109,10 @@ GoesOn source tokens old wanted at new None = answer_of source tokens old wanted
 GoesOn source tokens old wanted at new (Some next) =
     (answer_of source tokens old wanted at ≡ answer_of source tokens new next (at + 1)) × IsSound new.waiting.items × (at < length tokens)
 
--- this fault is the answer, or memory was wanting
-abbrev pub IsFaultOf : {X : Type 0} → Result X ExprFault → ExprFault → Type 0
-IsFaultOf answer Memory = Unit {0}
-IsFaultOf answer (At place fault) = answer ≡ Err (At place fault)
+-- a returned fault is the answer, or memory ran out
+abbrev pub IsFaultOf : {X : Type 0} → Result X Refusal → ExprFault → Type 0
+IsFaultOf answer fault = answers.Refuses (expr_told fault) answer
 
--- what was returned is the answer, or memory was wanting
-abbrev pub Answers : {X : Type 0} → Result X ExprFault → Result X ExprFault → Type 0
-Answers (Err Memory) answer = Unit {0}
-Answers found answer = answer ≡ found
+-- a returned value is the answer, or a returned fault is; want of memory is allowed
+abbrev pub Answers : {X : Type 0} → Result X ExprFault → Result X Refusal → Type 0
+Answers result answer = answers.Answers expr_told result answer

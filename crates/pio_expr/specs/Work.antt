@@ -2,7 +2,7 @@
 --   Stands             how the frames stand to one another, to what is kept, and to the value that is asked
 --   Steps              what one step gives
 --   left_to_do         a number that each step makes smaller
-use Rattle.std.specs.Prelude.{◌≡◌, ℕ, ◌+◌, ◌-◌, ◌*◌, ◌<◌, ℤ, Bool, true, false, List, [], ◌∷◌, ◌++◌, length, Option, Some, None, Result, Ok, Err, nat_eq, cond}
+use Rattle.std.specs.Prelude.{◌≡◌, ℕ, ◌+◌, ◌-◌, ◌*◌, ◌<◌, ℤ, Bool, true, List, [], ◌∷◌, ◌++◌, length, Option, Some, None, Result, Ok, Err, nat_eq, cond}
 use Rattle.std.specs.List.{list_any, IsDistinct}
 use Rattle.std.specs.Map.{keys_of}
 use Rattle.indexmap.specs.IndexMap.{insert_entry}
@@ -10,6 +10,7 @@ use Rattle.pio_expr.specs.declared.expr.Item.{Item}
 use Rattle.pio_expr.specs.declared.expr.Item.TheVariants as item
 use Rattle.pio_expr.specs.declared.symbol.Symbol.TheVariants.{Define}
 use Rattle.pio_expr.specs.declared.fault.ValueFault.{ValueFault}
+use Rattle.pio_expr.specs.declared.fault.ValueKind.{ValueKind}
 use Rattle.pio_expr.specs.declared.frame.Frame.{Frame}
 use Rattle.pio_expr.specs.declared.work.Work.{Work}
 use Rattle.pio_expr.specs.Values.{Scope, found, in_program, count_of, is_among, worked_out, value_at, HasFault}
@@ -38,7 +39,7 @@ IsOwn scope None items = Unit {0}
 -- a frame has worked a part of its expression out, for all values of names that agree
 pub record IsFrame (scope : Scope) (kept : Kept) (items : List Item) (under : List ℕ) (frame : Frame) : Type 0 where
   pub local : frame.local ≡ is_local scope frame.place
-  pub going : (named : List ℕ → Result ℤ ValueFault) → Agrees (looked_up scope kept (is_among under) frame.local) named
+  pub going : (named : List ℕ → Result ℤ ValueKind) → Agrees (looked_up scope kept (is_among under) frame.local) named
       → worked_out named (items_of scope items frame.place) [] ≡ worked_out named frame.rest.now frame.numbers.items
 
 -- the frame below rests at the name whose symbol this frame works out

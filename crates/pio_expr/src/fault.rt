@@ -17,6 +17,13 @@ pub enum ExprKind {
     Ambiguous,
 }
 
+/// What is wrong with an expression first, at this token, counted from 0: their number, where they end too early.
+#[derive(Clone, Copy)]
+pub struct Refusal {
+    pub place: usize,
+    pub kind: ExprKind,
+}
+
 /// Why `parse_expr` gave no expression.
 #[derive(Debug, PartialEq, Eq, Drop)]
 pub enum ExprFault {
@@ -42,11 +49,9 @@ impl<T: Drop> From<AllocFailed<T>> for ExprFault {
     }
 }
 
-/// Why an expression has no value.
+/// Why an expression has no value under its symbols.
 #[derive(Debug, PartialEq, Eq, Drop)]
-pub enum ValueFault {
-    /// Memory ran out.
-    Memory,
+pub enum ValueKind {
     /// A name of no symbol.
     Unknown(Name),
     /// A name that is looked up while its own value is being worked out.
@@ -55,6 +60,15 @@ pub enum ValueFault {
     DivZero,
     /// A result that is no signed number of 32 bits.
     Overflow,
+}
+
+/// Why `Scope` gave no value.
+#[derive(Debug, PartialEq, Eq, Drop)]
+pub enum ValueFault {
+    /// Memory ran out.
+    Memory,
+    /// The first fault of the expression.
+    Found(ValueKind),
 }
 
 impl From<AllocError> for ValueFault {

@@ -2,13 +2,13 @@
 ghost use Rattle.std.specs.Prelude.{◌≡◌, List, [], ℕ, ℤ, Result, Ok, OnOk, IfOk, IfErr};
 ghost use Rattle.std.specs.HashSet.{contains};
 ghost use Rattle.std.specs.Prelude.{nat_eq};
-ghost use Rattle.pio_expr.specs.declared.fault.ValueFault.{ValueFault};
-ghost use Rattle.pio_expr.specs.Values.{number_of, left_by, first_of, behind_first, worked_out};
+ghost use Rattle.pio_expr.specs.declared.fault.ValueKind.{ValueKind};
+ghost use Rattle.pio_expr.specs.Values.{number_by, left_by, first_of, behind_first, worked_out};
 ghost use Rattle.pio_expr.specs.Frames.{is_local, looked_up, looked_at, Looks, Agrees, Shows, Rests};
 
 use crate::arithmetic::{add, divide, multiply, negate, reverse, subtract};
 use crate::symbols::Symbols;
-use crate::{Item, Symbol, ValueFault};
+use crate::{Item, Symbol, ValueFault, ValueKind};
 use indexmap::IndexMap;
 use pio_encode::Name;
 use std::alloc::{AllocError, Global};
@@ -69,7 +69,7 @@ impl<'a> Frame<'a> {
         kept: &IndexMap<usize, i32>,
         under: &HashSet<usize>,
     ) -> Result<Pause<'a>, ValueFault>
-        ensures shows { (named : List ℕ → Result ℤ ValueFault)
+        ensures shows { (named : List ℕ → Result ℤ ValueKind)
             → Agrees (looked_up symbols.now kept.now.entries (contains nat_eq under.now) self.old.local) named
             → Shows named self.new result (worked_out named self.old.rest.now self.old.numbers.items) }
         ensures rests { Rests (looked_up symbols.now kept.now.entries (contains nat_eq under.now) self.old.local)
@@ -85,7 +85,7 @@ impl<'a> Frame<'a> {
             };
             match apply(item, named, &mut self.numbers) {
                 Ok(number) => self.numbers.push_front(number)?,
-                Err(fault) => return Err(fault),
+                Err(kind) => return Err(ValueFault::Found(kind)),
             }
             self.rest = rest;
         }
@@ -134,19 +134,21 @@ fn look_up<'a>(
         (looked_up symbols.now kept.now.entries (contains nat_eq under.now) local name.now) }
 {
     match symbols.found(local, name) {
-        None => Err(ValueFault::Unknown(copy(alloc, name)?)),
+        None => Err(ValueFault::Found(ValueKind::Unknown(copy(alloc, name)?))),
         Some((_, Symbol::Label(words))) => Ok(Named::Number(*words as i32)),
         Some((place, Symbol::Define(expr))) => match kept.get(&place) {
             Some(value) => Ok(Named::Number(*value)),
-            None if under.contains(&place) => Err(ValueFault::Cycle(copy(alloc, name)?)),
+            None if under.contains(&place) => {
+                Err(ValueFault::Found(ValueKind::Cycle(copy(alloc, name)?)))
+            }
             None => Ok(Named::Define(place, expr.items())),
         },
     }
 }
 
 /// What an item makes of the numbers before it, which are taken away; a name has this number.
-fn apply(item: &Item, named: i32, numbers: &mut VecDeque<i32>) -> Result<i32, ValueFault>
-    ensures number { result ≡ number_of (λ _. Ok named) item.now numbers.old.items }
+fn apply(item: &Item, named: i32, numbers: &mut VecDeque<i32>) -> Result<i32, ValueKind>
+    ensures number { result ≡ number_by (λ _. Ok named) item.now numbers.old.items }
     ensures left { numbers.new.items ≡ left_by item.now numbers.old.items }
 {
     match item {

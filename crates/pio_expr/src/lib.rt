@@ -18,8 +18,8 @@ mod waiting;
 mod work;
 
 pub use expr::{Expr, Item};
-pub use fault::{ExprFault, ExprKind, ValueFault};
-pub use laws::{a_name_is_a_text, own_value};
+pub use fault::{ExprFault, ExprKind, ValueFault, ValueKind};
+pub use laws::{a_name_is_a_text, an_expression_is_a_tree, own_value};
 pub use parse::parse_expr;
 pub use scope::Scope;
 pub use symbol::Symbol;

@@ -7,6 +7,7 @@ ghost use Rattle.pio_expr.specs.Marks.{mark_at};
 ghost use Rattle.pio_expr.specs.Turns.{innermost, is_reverse, is_level, first_before, all_before, kept_before, opened, sign_at, reverse_at, opening, turn_by, close_by, operation_of};
 ghost use Rattle.pio_expr.specs.Waiting.{openings, IsSound, GoesOn, answer_of, IsFaultOf};
 
+use crate::fault::Refusal;
 use crate::mark::{Mark, mark_at};
 use crate::token_item::token_item;
 use crate::turn::Turn;
@@ -86,7 +87,7 @@ impl Reading {
             (λ fault. IsFaultOf (answer_of source.now tokens.now self.old true at) fault) }
     {
         let Some(token) = token_at(tokens, at) else {
-            return Err(fault(at, ExprKind::Syntax));
+            return Err(told(refusal(at, ExprKind::Syntax)));
         };
         match self.opening(mark, at) {
             Ok(Some(opening)) => {
@@ -97,7 +98,7 @@ impl Reading {
                 self.items.push(token_item(alloc, source, &token)?)?;
                 Ok(false)
             }
-            Err(fault) => Err(fault),
+            Err(refusal) => Err(told(refusal)),
         }
     }
 
@@ -120,12 +121,12 @@ impl Reading {
                 Ok(Some(false))
             }
             Ok(Turn::End) => Ok(None),
-            Err(fault) => Err(fault),
+            Err(refusal) => Err(told(refusal)),
         }
     }
 
     /// What a token opens where an operand is wanted: nothing, where it is a value.
-    fn opening(&self, mark: Mark, at: usize) -> Result<Option<Waiting>, ExprFault>
+    fn opening(&self, mark: Mark, at: usize) -> Result<Option<Waiting>, Refusal>
         ensures { result ≡ opening mark at self.now.waiting.items }
     {
         match mark {
@@ -133,41 +134,41 @@ impl Reading {
             Mark::Open => self.opened(at, Waiting::Paren),
             Mark::Minus => self.sign(at),
             Mark::Reverse => self.reverse(at),
-            _ => Err(fault(at, ExprKind::Syntax)),
+            _ => Err(refusal(at, ExprKind::Syntax)),
         }
     }
 
-    fn sign(&self, at: usize) -> Result<Option<Waiting>, ExprFault>
+    fn sign(&self, at: usize) -> Result<Option<Waiting>, Refusal>
         ensures { result ≡ sign_at at self.now.waiting.items }
     {
         if is_reverse(self.innermost()) {
-            return Err(fault(at, ExprKind::Syntax));
+            return Err(refusal(at, ExprKind::Syntax));
         }
         self.opened(at, Waiting::Negate)
     }
 
-    fn reverse(&self, at: usize) -> Result<Option<Waiting>, ExprFault>
+    fn reverse(&self, at: usize) -> Result<Option<Waiting>, Refusal>
         ensures { result ≡ reverse_at at self.now.waiting.items }
     {
         let innermost = self.innermost();
         if is_reverse(innermost) {
-            Err(fault(at, ExprKind::Syntax))
+            Err(refusal(at, ExprKind::Syntax))
         } else if is_level(innermost) {
             self.opened(at, Waiting::Reverse(at))
         } else if self.openings() < MOST_OPEN {
-            Err(fault(at, ExprKind::Ambiguous))
+            Err(refusal(at, ExprKind::Ambiguous))
         } else {
-            Err(fault(at, ExprKind::TooDeep))
+            Err(refusal(at, ExprKind::TooDeep))
         }
     }
 
-    fn opened(&self, at: usize, opening: Waiting) -> Result<Option<Waiting>, ExprFault>
+    fn opened(&self, at: usize, opening: Waiting) -> Result<Option<Waiting>, Refusal>
         ensures { result ≡ opened at self.now.waiting.items opening }
     {
         if self.openings() < MOST_OPEN {
             Ok(Some(opening))
         } else {
-            Err(fault(at, ExprKind::TooDeep))
+            Err(refusal(at, ExprKind::TooDeep))
         }
     }
 
@@ -201,11 +202,11 @@ impl Reading {
     }
 
     /// What a token does behind an operand, where nothing is left to write before it.
-    fn turn(&self, mark: Mark, at: usize) -> Result<Turn, ExprFault>
+    fn turn(&self, mark: Mark, at: usize) -> Result<Turn, Refusal>
         ensures { result ≡ turn_by (operation_of mark) (innermost self.now.waiting.items) mark at }
     {
         match (Waiting::operation(mark), self.innermost()) {
-            (Some(_), Some(Waiting::Reverse(place))) => Err(fault(place, ExprKind::Ambiguous)),
+            (Some(_), Some(Waiting::Reverse(place))) => Err(refusal(place, ExprKind::Ambiguous)),
             (Some(operation), _) => Ok(Turn::Operation(operation)),
             (None, None) => Ok(Turn::End),
             (None, Some(_)) => close(mark, at),
@@ -219,12 +220,12 @@ fn token_at(tokens: &[Token], at: usize) -> Option<Token>
     tokens.get(at).copied()
 }
 
-fn close(mark: Mark, at: usize) -> Result<Turn, ExprFault>
+fn close(mark: Mark, at: usize) -> Result<Turn, Refusal>
     ensures { result ≡ close_by mark at }
 {
     match mark {
         Mark::Close => Ok(Turn::Closed),
-        _ => Err(fault(at, ExprKind::Syntax)),
+        _ => Err(refusal(at, ExprKind::Syntax)),
     }
 }
 
@@ -246,8 +247,17 @@ fn is_level(innermost: Option<Waiting>) -> bool
     matches!(innermost, None | Some(Waiting::Paren))
 }
 
-fn fault(place: usize, kind: ExprKind) -> ExprFault
-    ensures { result ≡ ExprFault.At place kind }
+fn refusal(place: usize, kind: ExprKind) -> Refusal
+    ensures { result ≡ record { place = place; kind = kind } }
 {
-    ExprFault::At { place, kind }
+    Refusal { place, kind }
+}
+
+fn told(refusal: Refusal) -> ExprFault
+    ensures { result ≡ ExprFault.At refusal.place refusal.kind }
+{
+    ExprFault::At {
+        place: refusal.place,
+        kind: refusal.kind,
+    }
 }

@@ -5,7 +5,7 @@ ghost use Rattle.pio_expr.specs.Values.{no_symbols, begun, IsNew, with_symbol, s
 use crate::frame::copy;
 use crate::symbols::Symbols;
 use crate::work::work_out;
-use crate::{Expr, Symbol, ValueFault};
+use crate::{Expr, Symbol, ValueFault, ValueKind};
 use indexmap::IndexMap;
 use pio_encode::Name;
 use std::alloc::{AllocError, Global};
@@ -96,7 +96,7 @@ impl Scope {
         ensures same { self.new ≡ self.old }
     {
         match self.symbols.found(true, name) {
-            None => Err(ValueFault::Unknown(copy(self.alloc, name)?)),
+            None => Err(ValueFault::Found(ValueKind::Unknown(copy(self.alloc, name)?))),
             Some((_, Symbol::Label(words))) => Ok(*words as i32),
             Some((place, Symbol::Define(expr))) => work_out(
                 self.alloc,

@@ -10,9 +10,10 @@ use Rattle.pio_lex.specs.declared.fault.LexKind.{LexKind}
 use Rattle.pio_lex.specs.declared.fault.LexKind.TheVariants.{BadByte, BadNumber, OpenComment, OpenBlock}
 use Rattle.pio_lex.specs.declared.token.TokenKind.{TokenKind}
 use Rattle.pio_lex.specs.declared.token.TokenKind.TheVariants as kind
-use Rattle.pio_lex.specs.Bytes.{is_newline, is_blank, is_letter, is_name_byte, begins_with}
+use Rattle.byte_lines.specs.Bytes.{is_blank}
+use Rattle.pio_lex.specs.Bytes.{is_newline, is_letter, is_name_byte, begins_with}
 use Rattle.pio_lex.specs.Words.{directive_of}
-use Rattle.pio_lex.specs.Numbers.{number_of}
+use Rattle.pio_lex.specs.Numbers.{word_number}
 use Rattle.pio_lex.specs.Gaps.{is_lang_opt, begins_line, comment_length, opens_block, block_length, ended, gap_at}
 use Rattle.pio_lex.specs.Pieces.{token_piece, piece_by, piece_at}
 use Rattle.pio_lex.specs.Tokens.{last_kind, IsFirstFault}
@@ -289,7 +290,7 @@ token_longest (b ∷ bs) k n lt e =
         | inr h1 ↦ elim (chosen (eqb b 46) _ _ _ h1.1) [
           | inl h ↦ directive_longest b bs k n (eqb-true b 46 h.0) h.1
           | inr h2 ↦ elim (chosen (is_ascii_digit b) _ _ _ h2.1) [
-            | inl h ↦ subst P (counted_is (prefix_len is_name_byte (b ∷ bs)) (number_of (word_of (b ∷ bs))) k n h.1) (longest_word b bs (digit_is_name_byte b h.0))
+            | inl h ↦ subst P (counted_is (prefix_len is_name_byte (b ∷ bs)) (word_number (word_of (b ∷ bs))) k n h.1) (longest_word b bs (digit_is_name_byte b h.0))
             | inr h3 ↦ mark_apart b bs h0.0 (neither (is_letter b) (is_ascii_digit b) h1.0 h3.0) h2.0 k n (mark_is (mark_at (b ∷ bs)) k n h3.1)
           ]
         ]
@@ -320,7 +321,7 @@ token_nothing (b ∷ bs) lt e =
         | inr h1 ↦ elim (chosen (eqb b 46) _ _ _ h1.1) [
           | inl h ↦ directive_nothing b bs (eqb-true b 46 h.0) h.1
           | inr h2 ↦ elim (chosen (is_ascii_digit b) _ _ _ h2.1) [
-            | inl h ↦ absurd (counted_is_not (prefix_len is_name_byte (b ∷ bs)) (number_of (word_of (b ∷ bs))) h.1)
+            | inl h ↦ absurd (counted_is_not (prefix_len is_name_byte (b ∷ bs)) (word_number (word_of (b ∷ bs))) h.1)
             | inr h3 ↦ mark_nothing b bs h0.0 (neither (is_letter b) (is_ascii_digit b) h1.0 h3.0) h2.0 (no_mark (mark_at (b ∷ bs)) h3.1)
           ]
         ]

@@ -12,8 +12,9 @@ use Rattle.pio_lex.specs.declared.token.TokenKind.{TokenKind}
 use Rattle.pio_lex.specs.declared.token.TokenKind.TheVariants as kind
 use Rattle.pio_lex.specs.declared.piece.Piece.{Piece}
 use Rattle.pio_lex.specs.declared.piece.Piece.TheVariants.{Gap, Token}
-use Rattle.pio_lex.specs.Bytes.{is_newline, is_blank, is_letter, is_name_byte, line_length, begins_with}
-use Rattle.pio_lex.specs.Numbers.{number_of}
+use Rattle.byte_lines.specs.Bytes.{is_blank}
+use Rattle.pio_lex.specs.Bytes.{is_newline, is_letter, is_name_byte, line_length, begins_with}
+use Rattle.pio_lex.specs.Numbers.{word_number}
 use Rattle.pio_lex.specs.Words.{directive_of}
 use Rattle.pio_lex.specs.Gaps.{is_lang_opt, begins_line, through_close, comment_length, opens_block, closes_block, block_length, ended, gap_at}
 use Rattle.pio_lex.specs.Spellings.{word_of, begins_name, directive_at, counted, byte_mark, mark_at, token_at}
@@ -197,7 +198,7 @@ token_within text k n lt e =
         | inr h1 ↦ elim (chosen (eqb b 46) _ _ _ h1.1) [
           | inl h ↦ directive_within text k n lt h.1
           | inr h2 ↦ elim (chosen (is_ascii_digit b) _ _ _ h2.1) [
-            | inl h ↦ subst P (counted_is (prefix_len is_name_byte text) (number_of (word_of text)) k n h.1) (run_within is_name_byte text lt (digit_is_name_byte b h.0))
+            | inl h ↦ subst P (counted_is (prefix_len is_name_byte text) (word_number (word_of text)) k n h.1) (run_within is_name_byte text lt (digit_is_name_byte b h.0))
             | inr h3 ↦ mark_within text k n lt (mark_is (mark_at text) k n h3.1)
           ]
         ]

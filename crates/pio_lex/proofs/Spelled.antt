@@ -20,7 +20,7 @@ use Rattle.pio_lex.specs.declared.piece.Piece.{Piece}
 use Rattle.pio_lex.specs.declared.piece.Piece.TheVariants as piece
 use Rattle.pio_lex.specs.Bytes.{is_newline, is_letter, is_name_byte, begins_with}
 use Rattle.pio_lex.specs.Words.{keyword_of, directive_of}
-use Rattle.pio_lex.specs.Numbers.{within, numeral, number_of}
+use Rattle.pio_lex.specs.Numbers.{within, numeral, word_number}
 use Rattle.pio_lex.specs.Gaps.{gap_at}
 use Rattle.pio_lex.specs.Spellings.{begins_name, IsWord, IsSpelling, word_of, name_kind, name_at, directive_at, counted, number_at, byte_mark, mark_at, token_at}
 use Rattle.pio_lex.specs.Pieces.{token_piece, piece_by, piece_at}
@@ -91,8 +91,8 @@ numeral_is radix ds n e = elim (chosen _ (within (digits_value radix ds)) None (
   | inr h ↦ absurd (cc (h.1))
 ]
 
-number_is : (word : List ℕ) (n : ℕ) → number_of word ≡ Some n → n ≤ 2147483647
-unfolding number_of
+number_is : (word : List ℕ) (n : ℕ) → word_number word ≡ Some n → n ≤ 2147483647
+unfolding word_number
 number_is word n e =
     let hex = begins_with (codes "0x") word || begins_with (codes "0X") word in
     let bin = begins_with (codes "0b") word || begins_with (codes "0B") word in
@@ -105,8 +105,8 @@ number_is word n e =
     ]
 
 spelled_number : (text : List ℕ) (token : TokenKind × ℕ) → number_at text ≡ Ok token → Spells text token
-spelled_number text token e = spelled_by (number_of (word_of text)) refl e where
-  spelled_by : (o : Option ℕ) → number_of (word_of text) ≡ o → counted (prefix_len is_name_byte text) o ≡ Ok token → Spells text token
+spelled_number text token e = spelled_by (word_number (word_of text)) refl e where
+  spelled_by : (o : Option ℕ) → word_number (word_of text) ≡ o → counted (prefix_len is_name_byte text) o ≡ Ok token → Spells text token
   spelled_by None h q = absurd cc
   spelled_by (Some n) h q = subst (Spells text) (ok_is (kind.Number n, prefix_len is_name_byte text) token q) (run_passes is_name_byte text, h, number_is (word_of text) n h)
 

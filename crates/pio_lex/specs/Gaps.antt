@@ -7,7 +7,8 @@ use Rattle.pio_lex.specs.declared.fault.LexKind.TheVariants.{OpenComment, OpenBl
 use Rattle.pio_lex.specs.declared.token.TokenKind.{TokenKind}
 use Rattle.pio_lex.specs.declared.token.TokenKind.TheVariants.{Newline, Directive}
 use Rattle.pio_lex.specs.declared.directive.Directive.TheVariants.{LangOpt}
-use Rattle.pio_lex.specs.Bytes.{is_newline, is_blank, is_block_byte, line_length, begins_with}
+use Rattle.byte_lines.specs.Bytes.{is_blank}
+use Rattle.pio_lex.specs.Bytes.{semicolon, is_newline, is_block_byte, line_length, begins_with}
 
 -- no token stands behind the last newline token, or behind the beginning; comments may
 abbrev pub begins_line : Option TokenKind → Bool
@@ -60,6 +61,6 @@ unfoldable pub gap_at : Option TokenKind → List ℕ → Result (Option ℕ) Le
 gap_at last text =
     if is_lang_opt last && not (is_newline (slice_index text 0)) then Ok (Some (line_length text)) else
     if is_blank (slice_index text 0) then Ok (Some (prefix_len is_blank text)) else
-    if slice_index text 0 == 59 || begins_with (codes "//") text then Ok (Some (line_length text)) else
+    if slice_index text 0 == semicolon || begins_with (codes "//") text then Ok (Some (line_length text)) else
     if begins_with (codes "/*") text then ended OpenComment (comment_length text) else
     if begins_line last && opens_block text then ended OpenBlock (block_length text) else Ok None

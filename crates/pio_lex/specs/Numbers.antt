@@ -5,9 +5,13 @@ use Rattle.std.specs.Char.{is_digit}
 use Rattle.std.specs.Str.Parse.{digits_value}
 use Rattle.pio_lex.specs.Bytes.{begins_with}
 
+-- the greatest number
+abbrev pub greatest : ℕ
+greatest = 2147483647
+
 -- a value that isn't too large
 abbrev pub within : ℕ → Option ℕ
-within n = if nat_le n 2147483647 then Some n else None
+within n = if nat_le n greatest then Some n else None
 
 -- one digit of the radix or more, of a value that isn't too large
 abbrev pub numeral : ℕ → List ℕ → Option ℕ
@@ -15,8 +19,8 @@ numeral radix digits =
     if not (length digits == 0) && list_all (λ b. is_digit b radix) digits then within (digits_value radix digits) else None
 
 -- the number of a word: hexadecimal behind `0x`, binary behind `0b`, else decimal; leading zeros are right
-unfoldable pub number_of : List ℕ → Option ℕ
-number_of word =
+unfoldable pub word_number : List ℕ → Option ℕ
+word_number word =
     if begins_with (codes "0x") word || begins_with (codes "0X") word then numeral 16 (drop 2 word) else
     if begins_with (codes "0b") word || begins_with (codes "0B") word then numeral 2 (drop 2 word) else
     numeral 10 word

@@ -1,20 +1,19 @@
 -- The reading of a source as one function: its tokens, or its first fault. `IsTokens` and `IsFirstFault` say the same as relations.
 use Rattle.std.specs.Prelude.{ℕ, zero, suc, nat_lt, if◌then◌else◌, List, drop, length, Result, Ok, Err}
 use Rattle.pio_lex.specs.declared.fault.LexKind.{LexKind}
-use Rattle.pio_lex.specs.declared.fault.LexFault.{LexFault}
-use Rattle.pio_lex.specs.declared.fault.LexFault.TheVariants.{Found}
 use Rattle.pio_lex.specs.declared.piece.Piece.{Piece}
 use Rattle.pio_lex.specs.declared.token.Token.{Token}
+use Rattle.pio_lex.specs.Fault.{Refusal}
 use Rattle.pio_lex.specs.Pieces.{piece_at}
 use Rattle.pio_lex.specs.Tokens.{Place, start, behind, last_kind, line_at}
 
 -- reading goes on behind a piece, and ends where none stands
-abbrev pub read_piece : (Place → Result (List Token) LexFault) → List ℕ → Place → Result Piece LexKind → Result (List Token) LexFault
+abbrev pub read_piece : (Place → Result (List Token) Refusal) → List ℕ → Place → Result Piece LexKind → Result (List Token) Refusal
 read_piece rest source place (Ok piece) = rest (behind source place piece)
-read_piece rest source place (Err kind) = Err (Found (line_at source place.at) kind)
+read_piece rest source place (Err kind) = Err (record { line = line_at source place.at; kind = kind })
 
 -- the reading from a place on, of at most so many pieces
-unfoldable pub read_from : ℕ → List ℕ → Place → Result (List Token) LexFault
+unfoldable pub read_from : ℕ → List ℕ → Place → Result (List Token) Refusal
 read_from zero source place = Ok place.tokens
 read_from (suc more) source place =
     if nat_lt place.at (length source)
@@ -22,5 +21,5 @@ read_from (suc more) source place =
     else Ok place.tokens
 
 -- the reading of a source: a piece has a byte at least, so there are no more pieces than bytes
-abbrev pub reading_of : List ℕ → Result (List Token) LexFault
+abbrev pub reading_of : List ℕ → Result (List Token) Refusal
 reading_of source = read_from (length source) source start

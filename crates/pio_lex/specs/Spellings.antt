@@ -7,9 +7,9 @@ use Rattle.pio_lex.specs.declared.fault.LexKind.TheVariants.{BadByte, BadNumber}
 use Rattle.pio_lex.specs.declared.keyword.Keyword.{Keyword}
 use Rattle.pio_lex.specs.declared.token.TokenKind.{TokenKind}
 use Rattle.pio_lex.specs.declared.token.TokenKind.TheVariants as kind
-use Rattle.pio_lex.specs.Bytes.{is_newline, is_letter, is_name_byte, begins_with}
+use Rattle.pio_lex.specs.Bytes.{newline, full_stop, comma, colon, open_bracket, close_bracket, open_paren, close_paren, plus, hyphen, star, slash, bang, tilde, is_newline, is_letter, is_name_byte, begins_with}
 use Rattle.pio_lex.specs.Words.{keyword_of, directive_of}
-use Rattle.pio_lex.specs.Numbers.{number_of}
+use Rattle.pio_lex.specs.Numbers.{greatest, word_number}
 
 -- a text whose first byte is a letter or `_`
 abbrev pub begins_name : List ℕ → Bool
@@ -22,11 +22,11 @@ IsWord text = IsTrue (begins_name text) × IsTrue (list_all is_name_byte text)
 
 -- a text spells a token of this kind
 abbrev pub IsSpelling : TokenKind → List ℕ → Type 0
-IsSpelling kind.Newline text = text ≡ 10 ∷ []
+IsSpelling kind.Newline text = text ≡ newline ∷ []
 IsSpelling kind.Name text = IsWord text × (keyword_of text ≡ None)
 IsSpelling (kind.Keyword keyword) text = IsWord text × (keyword_of text ≡ Some keyword)
-IsSpelling (kind.Directive directive) text = (text ≡ 46 ∷ drop 1 text) × IsWord (drop 1 text) × (directive_of (drop 1 text) ≡ directive)
-IsSpelling (kind.Number value) text = IsTrue (list_all is_name_byte text) × (number_of text ≡ Some value) × (value ≤ 2147483647)
+IsSpelling (kind.Directive directive) text = (text ≡ full_stop ∷ drop 1 text) × IsWord (drop 1 text) × (directive_of (drop 1 text) ≡ directive)
+IsSpelling (kind.Number value) text = IsTrue (list_all is_name_byte text) × (word_number text ≡ Some value) × (value ≤ greatest)
 IsSpelling kind.Comma text = text ≡ codes ","
 IsSpelling kind.Colon text = text ≡ codes ":"
 IsSpelling kind.DoubleColon text = text ≡ codes "::"
@@ -75,23 +75,23 @@ counted length None = Err BadNumber
 
 -- a digit, with all letters, digits and `_` behind it
 abbrev pub number_at : List ℕ → Result (TokenKind × ℕ) LexKind
-number_at text = counted (prefix_len is_name_byte text) (number_of (word_of text))
+number_at text = counted (prefix_len is_name_byte text) (word_number (word_of text))
 
 -- the marks of one byte
 abbrev pub byte_mark : ℕ → Option TokenKind
 byte_mark b =
-    if b == 44 then Some kind.Comma else
-    if b == 58 then Some kind.Colon else
-    if b == 91 then Some kind.OpenBracket else
-    if b == 93 then Some kind.CloseBracket else
-    if b == 40 then Some kind.OpenParen else
-    if b == 41 then Some kind.CloseParen else
-    if b == 43 then Some kind.Plus else
-    if b == 45 then Some kind.Minus else
-    if b == 42 then Some kind.Star else
-    if b == 47 then Some kind.Slash else
-    if b == 33 then Some kind.Bang else
-    if b == 126 then Some kind.Tilde else None
+    if b == comma then Some kind.Comma else
+    if b == colon then Some kind.Colon else
+    if b == open_bracket then Some kind.OpenBracket else
+    if b == close_bracket then Some kind.CloseBracket else
+    if b == open_paren then Some kind.OpenParen else
+    if b == close_paren then Some kind.CloseParen else
+    if b == plus then Some kind.Plus else
+    if b == hyphen then Some kind.Minus else
+    if b == star then Some kind.Star else
+    if b == slash then Some kind.Slash else
+    if b == bang then Some kind.Bang else
+    if b == tilde then Some kind.Tilde else None
 
 -- the longest mark
 unfoldable pub mark_at : List ℕ → Option (TokenKind × ℕ)
@@ -106,6 +106,6 @@ unfoldable pub token_at : List ℕ → Result (TokenKind × ℕ) LexKind
 token_at text =
     if is_newline (slice_index text 0) then Ok (kind.Newline, 1) else
     if is_letter (slice_index text 0) then Ok (name_at text) else
-    if slice_index text 0 == 46 then directive_at text else
+    if slice_index text 0 == full_stop then directive_at text else
     if is_ascii_digit (slice_index text 0) then number_at text else
     ok_or (mark_at text) BadByte

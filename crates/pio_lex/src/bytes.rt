@@ -3,14 +3,10 @@ ghost use Rattle.std.specs.Prelude.{◌≡◌, ◌≤◌, length, map};
 ghost use Rattle.std.specs.List.{prefix_len, count_by};
 ghost use Rattle.std.specs.Str.{bytes_eq};
 ghost use Rattle.std.specs.Char.{to_ascii_lowercase};
+ghost use Rattle.byte_lines.specs.Bytes as byte;
 ghost use Rattle.pio_lex.specs.Bytes as spec;
 
-/// A space, a tab or a CR, which ends no line.
-pub fn is_blank(byte: u8) -> bool
-    ensures { result ≡ spec.is_blank byte }
-{
-    byte == b' ' || byte == b'\t' || byte == b'\r'
-}
+use byte_lines::is_blank;
 
 /// A letter or `_`.
 pub fn is_letter(byte: u8) -> bool
@@ -35,7 +31,7 @@ fn is_block_byte(byte: u8) -> bool
 
 /// How many blanks the text begins with.
 pub fn blanks(text: &[u8]) -> usize
-    ensures value { result ≡ prefix_len spec.is_blank text.now }
+    ensures value { result ≡ prefix_len byte.is_blank text.now }
     ensures within { result ≤ length text.now }
 {
     text.iter()

@@ -2,8 +2,9 @@
 ghost use Rattle.std.specs.Prelude.{◌≡◌, ◌<◌, length};
 ghost use Rattle.pio_lex.specs.Gaps as spec;
 
-use crate::bytes::{blanks, block_name_length, is_blank, line_length};
+use crate::bytes::{blanks, block_name_length, line_length};
 use crate::{Directive, LexKind, TokenKind};
+use byte_lines::is_blank;
 
 /// How many bytes of a gap the text begins with, behind a token of the kind `last`; `None` where a token begins.
 #[tactic(auto, unfolding(crate::specs::Gaps::gap_at))]

@@ -1,10 +1,10 @@
 //! From the bytes of a source to its tokens.
-ghost use Rattle.std.specs.Prelude.{◌≡◌, ℕ, List, ◌++◌, IfOk, OnOk, IfErr, length};
+ghost use Rattle.std.specs.Prelude.{◌≡◌, ℕ, List, ◌++◌, Ok, Err, IfOk, OnOk, IfErr, length};
 ghost use Rattle.std.specs.List.{All};
 ghost use Rattle.pio_lex.specs.declared.fault.LexKind.{LexKind};
 ghost use Rattle.pio_lex.specs.declared.token.Token.{Token};
 ghost use Rattle.pio_lex.specs.Tokens.{IsTokens, IsTokenOf, IsFirstFault, AreInOrder, tokens_of, last_kind};
-ghost use Rattle.pio_lex.specs.Answers.{Answers, IsFaultOf, Gives, Refuses};
+ghost use Rattle.pio_lex.specs.Answers.{IsFaultOf, Gives};
 ghost use Rattle.pio_lex.specs.Reading.{reading_of};
 
 use crate::bytes::newlines;
@@ -19,14 +19,14 @@ pub fn tokens(alloc: Global, source: &[u8]) -> Result<Vec<Token>, LexFault>
     // What is returned are the source's tokens.
     ensures ok { IfOk result (λ v. IsTokens source.now v.items) }
     // A source that has tokens gets them, unless memory runs out.
-    ensures only { (t : List Token) → IsTokens source.now t → Gives (λ v. v.items) result t }
+    ensures only { (t : List Token) → IsTokens source.now t → Gives (λ v. v.items) result (Ok t) }
     // A fault is the source's first one.
     ensures fault { IfErr result (λ fault. IsFaultOf source.now fault) }
     // A source that has a fault gets it, unless memory runs out.
     ensures fault_only { (line : ℕ) (kind : LexKind) → IsFirstFault source.now line kind
-        → Refuses result line kind }
+        → Gives (λ v. v.items) result (Err (record { line = line; kind = kind })) }
     // The tokens or the fault are those of the source's reading, unless memory runs out.
-    ensures value { Answers (λ v. v.items) result (reading_of source.now) }
+    ensures value { Gives (λ v. v.items) result (reading_of source.now) }
     // Each token stands behind the one before.
     ensures in_order { IfOk result (λ v. AreInOrder 0 v.items (length source.now)) }
     // Each token is what its text spells, within the source and on its line.

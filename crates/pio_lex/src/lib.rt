@@ -19,8 +19,3 @@ pub use keyword::Keyword;
 pub use laws::{every_source_has_one_reading, tokens_are_the_longest_spellings};
 pub use lexer::tokens;
 pub use token::{Token, TokenKind};
-
-#[cfg(test)]
-mod rows;
-#[cfg(test)]
-mod tests;

@@ -6,9 +6,9 @@ ghost use Rattle.pio_lex.specs.Numbers as spec;
 const MOST: u32 = 0x7fff_ffff;
 
 /// The number that letters, digits and `_` write, if they are of one of the forms and it is not too large.
-#[tactic(auto, unfolding(crate::specs::Numbers::number_of))]
+#[tactic(auto, unfolding(crate::specs::Numbers::word_number))]
 pub fn number(word: &[u8]) -> Option<u32>
-    ensures { result ≡ spec.number_of word.now }
+    ensures { result ≡ spec.word_number word.now }
 {
     if word.starts_with(b"0x") || word.starts_with(b"0X") {
         return numeral(&word[2..], 16);

@@ -9,13 +9,13 @@ use Rattle.pio_lex.specs.declared.token.TokenKind.TheVariants as kind
 use Rattle.pio_lex.specs.declared.token.Token.{Token}
 use Rattle.pio_expr.specs.declared.expr.Item.{Item}
 use Rattle.pio_expr.specs.declared.fault.ExprKind.TheVariants as expr_kind
-use Rattle.pio_expr.specs.declared.fault.ExprFault.{ExprFault}
-use Rattle.pio_expr.specs.declared.fault.ExprFault.TheVariants as expr_fault
+use Rattle.pio_expr.specs.declared.fault.ExprKind.{ExprKind}
+use Rattle.pio_expr.specs.declared.fault.Refusal.{Refusal}
 use Rattle.pio_expr.specs.Grammar.{expression_at}
 use Rattle.pio_statement.specs.declared.fault.StatementKind.{StatementKind}
 use Rattle.pio_statement.specs.declared.fault.StatementKind.TheVariants as fault
-use Rattle.pio_statement.specs.Answer.{◌>>=◌}
-use Rattle.pio_statement.specs.Tokens.{kind_at, ends_at, keyword_at, past_open, past_side, past_colon, past_close, past_colon_by, past_close_by, name_of, name_by, name_at, told, expression}
+use Rattle.answers.specs.Answers.{◌>>=◌}
+use Rattle.pio_statement.specs.Tokens.{kind_at, ends_at, keyword_at, past_open, past_side, past_colon, past_close, past_colon_by, past_close_by, name_of, name_by, name_at, kind_of, of_line, expression}
 use Rattle.pio_statement.specs.Operands.{operand_by, placed, wait_source_at, wait_source_of, in_source_at, in_source_of, out_destination_at, out_destination_of, mov_destination_at, mov_destination_of, mov_source_at, mov_source_of, set_destination_at, set_destination_of}
 use Rattle.pio_statement.specs.Conditions.{inverted_of, inverted_at, differs_of, differs_at, behind_x_by, behind_x, behind_y_by, behind_y, behind_word, condition_by, condition_at}
 use Rattle.pio_statement.specs.Forms.{jmp_at, wait_at, in_at, out_at, mov_at, irq_at, set_at, form_by, form_behind, form_at}
@@ -46,16 +46,18 @@ operand_known : {X : Type 0} (table : Keyword → Option X) (word : Option (Keyw
 operand_known table (Some (word, behind)) = placed_known (table word) behind
 operand_known table None = tt
 
-told_known : {X : Type 0} (read : Result X ExprFault) → Known (told read)
-told_known (Ok x) = tt
-told_known (Err expr_fault.Memory) = tt
-told_known (Err (expr_fault.At place expr_kind.Syntax)) = tt
-told_known (Err (expr_fault.At place expr_kind.TooDeep)) = tt
-told_known (Err (expr_fault.At place expr_kind.Ambiguous)) = tt
+kind_known : (X : Type 0) (kind : ExprKind) → Known {X = X} (Err (kind_of kind))
+kind_known X expr_kind.Syntax = tt
+kind_known X expr_kind.TooDeep = tt
+kind_known X expr_kind.Ambiguous = tt
+
+of_line_known : {X : Type 0} (read : Result X Refusal) → Known (of_line read)
+of_line_known (Ok x) = tt
+of_line_known {X} (Err refusal) = kind_known X refusal.kind
 
 expression_known : (source : List ℕ) (tokens : List Token) (at : ℕ) → Known (expression source tokens at)
 unfolding expression
-expression_known source tokens at = told_known (expression_at source tokens at)
+expression_known source tokens at = of_line_known (expression_at source tokens at)
 
 past_colon_by_known : (k : Option TokenKind) (at : ℕ) → Known (past_colon_by k at)
 past_colon_by_known (Some kind.Colon) at = tt

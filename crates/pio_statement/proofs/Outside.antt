@@ -3,10 +3,9 @@ use Rattle.std.proofs.Common.{◌≡◌, ℕ, zero, suc, ◌≤◌, List, [], le
 use Rattle.std.proofs.lemmas.Option.{slice_get_past}
 use Rattle.pio_lex.specs.declared.token.Token.{Token}
 use Rattle.pio_expr.specs.declared.fault.ExprKind.TheVariants.{Syntax}
-use Rattle.pio_expr.specs.declared.fault.ExprFault.TheVariants.{At}
 use Rattle.pio_expr.specs.declared.mark.Mark.TheVariants as mark
 use Rattle.pio_expr.specs.Marks.{mark_at, mark_by}
-use Rattle.pio_expr.specs.Grammar.{Place, Readers, readers_by, readers, refused, read_items, most_open, expression_at}
+use Rattle.pio_expr.specs.Grammar.{misplaced, Place, Readers, readers_by, readers, refused, read_items, most_open, expression_at}
 
 mark_past : (tokens : List Token) (at : ℕ) → length tokens ≤ at → mark_at tokens at ≡ mark.Other
 unfolding mark_at
@@ -21,6 +20,6 @@ unfolding readers
 at_depth source tokens zero place e = by_rules source tokens None place e
 at_depth source tokens (suc n) place e = by_rules source tokens (Some (readers source tokens n)) place e
 
-pub outside : (source : List ℕ) (tokens : List Token) (at : ℕ) → length tokens ≤ at → expression_at source tokens at ≡ Err (At at Syntax)
+pub outside : (source : List ℕ) (tokens : List Token) (at : ℕ) → length tokens ≤ at → expression_at source tokens at ≡ Err (misplaced at Syntax)
 unfolding expression_at
 outside source tokens at h = ap read_items (at_depth source tokens most_open (record { at = at; items = [] }) (mark_past tokens at h))

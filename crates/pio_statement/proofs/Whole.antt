@@ -3,7 +3,8 @@ use Rattle.std.proofs.Common.{◌≡◌, ℕ, List, Bool, true, false, if◌then
 use Rattle.pio_lex.specs.declared.token.Token.{Token}
 use Rattle.pio_statement.specs.declared.fault.StatementKind.TheVariants as fault
 use Rattle.pio_statement.specs.declared.statement.Statement.{Statement}
-use Rattle.pio_statement.specs.Answer.{Read, ◌>>=◌}
+use Rattle.answers.specs.Answers.{◌>>=◌}
+use Rattle.pio_statement.specs.Answer.{Read}
 use Rattle.pio_statement.specs.Tokens.{ends_at}
 use Rattle.pio_statement.specs.Statements.{statement_from}
 use Rattle.pio_statement.specs.Lines.{line_end, has_unknown, whole, known_at, statement_at}

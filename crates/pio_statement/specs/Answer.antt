@@ -1,8 +1,8 @@
 -- What reading gives: a value, or the first fault that is met from left to right.
 --   Read         a value and the place of the token behind it, or the fault
---   ◌>>=◌        what is read behind it, unless there is a fault
---   Answers      what a function returned is what is read, unless memory ran out
-use Rattle.std.specs.Prelude.{◌≡◌, ℕ, Result, Ok, Err}
+--   Answers      a returned value is the one that is read, or a returned fault is
+use Rattle.std.specs.Prelude.{ℕ, Option, Some, None, Result}
+use Rattle.answers.specs.Answers as answers
 use Rattle.pio_statement.specs.declared.fault.StatementKind.{StatementKind}
 use Rattle.pio_statement.specs.declared.fault.StatementFault.{StatementFault}
 use Rattle.pio_statement.specs.declared.fault.StatementFault.TheVariants.{Memory, Found}
@@ -11,18 +11,11 @@ use Rattle.pio_statement.specs.declared.fault.StatementFault.TheVariants.{Memory
 abbrev pub Read : Type 0 → Type 0
 Read X = Result (X × ℕ) StatementKind
 
-infixl 10 ◌>>=◌
--- what is read behind a value, unless there is a fault
-abbrev pub ◌>>=◌ : {X Y : Type 0} → Result X StatementKind → (X → Result Y StatementKind) → Result Y StatementKind
-(Ok x) >>= next = next x
-(Err fault) >>= next = Err fault
+-- what a returned fault tells; nothing where memory ran out
+abbrev pub told : StatementFault → Option StatementKind
+told Memory = None
+told (Found kind) = Some kind
 
--- a fault that was returned is the one that is read
-abbrev pub Refuses : {X : Type 0} → StatementFault → Result X StatementKind → Type 0
-Refuses Memory read = Unit {0}
-Refuses (Found kind) read = read ≡ Err kind
-
--- what was returned is what is read, unless memory ran out
+-- a returned value is the one that is read, or a returned fault is; want of memory is allowed
 abbrev pub Answers : {X : Type 0} → Result X StatementFault → Result X StatementKind → Type 0
-Answers (Ok x) read = read ≡ Ok x
-Answers (Err fault) read = Refuses fault read
+Answers result read = answers.Answers told result read

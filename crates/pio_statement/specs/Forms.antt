@@ -8,7 +8,8 @@ use Rattle.pio_encode.specs.declared.act.WaitSource.TheVariants as wait_source
 use Rattle.pio_statement.specs.declared.fault.StatementKind.TheVariants.{Syntax}
 use Rattle.pio_statement.specs.declared.instruction.Form.{Form}
 use Rattle.pio_statement.specs.declared.instruction.Form.TheVariants as form
-use Rattle.pio_statement.specs.Answer.{Read, ◌>>=◌}
+use Rattle.answers.specs.Answers.{◌>>=◌}
+use Rattle.pio_statement.specs.Answer.{Read}
 use Rattle.pio_statement.specs.Tokens.{past_comma, keyword_at, expression}
 use Rattle.pio_statement.specs.Operands.{wait_source_at, in_source_at, out_destination_at, mov_destination_at, mov_source_at, set_destination_at, operation_at, irq_mode_at, blocking_at, if_full_at, if_empty_at, relative_at}
 use Rattle.pio_statement.specs.Conditions.{condition_at, past_condition}

@@ -12,7 +12,8 @@ use Rattle.pio_statement.specs.declared.instruction.Suffix.TheVariants as suffix
 use Rattle.pio_statement.specs.declared.instruction.Instruction.{Instruction}
 use Rattle.pio_statement.specs.declared.statement.Code.{Code}
 use Rattle.pio_statement.specs.declared.statement.Code.TheVariants as code
-use Rattle.pio_statement.specs.Answer.{Read, ◌>>=◌}
+use Rattle.answers.specs.Answers.{◌>>=◌}
+use Rattle.pio_statement.specs.Answer.{Read}
 use Rattle.pio_statement.specs.Tokens.{kind_at, past_open, past_close, past_side, expression}
 use Rattle.pio_statement.specs.Forms.{form_at}
 

@@ -12,7 +12,8 @@ use Rattle.pio_lex.specs.declared.token.TokenKind.TheVariants as kind
 use Rattle.pio_lex.specs.declared.token.Token.{Token}
 use Rattle.pio_statement.specs.declared.fault.StatementKind.TheVariants.{Directive as UnknownDirective, Syntax}
 use Rattle.pio_statement.specs.declared.statement.Statement.{Statement}
-use Rattle.pio_statement.specs.Answer.{Read, ◌>>=◌}
+use Rattle.answers.specs.Answers.{◌>>=◌}
+use Rattle.pio_statement.specs.Answer.{Read}
 use Rattle.pio_statement.specs.Tokens.{ends_at}
 use Rattle.pio_statement.specs.Statements.{statement_from}
 

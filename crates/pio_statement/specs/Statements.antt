@@ -11,7 +11,8 @@ use Rattle.pio_statement.specs.declared.fault.StatementKind.TheVariants.{Syntax}
 use Rattle.pio_statement.specs.declared.statement.Code.{Code}
 use Rattle.pio_statement.specs.declared.statement.Statement.{Statement}
 use Rattle.pio_statement.specs.declared.statement.Statement.TheVariants as statement
-use Rattle.pio_statement.specs.Answer.{Read, ◌>>=◌}
+use Rattle.answers.specs.Answers.{◌>>=◌}
+use Rattle.pio_statement.specs.Answer.{Read}
 use Rattle.pio_statement.specs.Tokens.{kind_at, ends_at, past_colon, name_at, expression}
 use Rattle.pio_statement.specs.Operands.{opt_at, pindirs_at, public_at}
 use Rattle.pio_statement.specs.Instructions.{code_at, word_at}

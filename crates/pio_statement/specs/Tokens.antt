@@ -14,8 +14,7 @@ use Rattle.pio_lex.specs.declared.token.Token.{Token}
 use Rattle.pio_expr.specs.declared.expr.Item.{Item}
 use Rattle.pio_expr.specs.declared.fault.ExprKind.{ExprKind}
 use Rattle.pio_expr.specs.declared.fault.ExprKind.TheVariants as expr_kind
-use Rattle.pio_expr.specs.declared.fault.ExprFault.{ExprFault}
-use Rattle.pio_expr.specs.declared.fault.ExprFault.TheVariants as expr_fault
+use Rattle.pio_expr.specs.declared.fault.Refusal.{Refusal}
 use Rattle.pio_expr.specs.Grammar.{expression_at}
 use Rattle.pio_statement.specs.declared.fault.StatementKind.{StatementKind}
 use Rattle.pio_statement.specs.declared.fault.StatementKind.TheVariants.{Syntax, TooDeep, Ambiguous}
@@ -113,18 +112,17 @@ name_by source None at = Err Syntax
 unfoldable pub name_at : List ℕ → List Token → ℕ → Read (List ℕ)
 name_at source tokens at = name_by source (slice_get tokens at) at
 
--- what is told of a fault of an expression; `expression_at` never wants memory
-abbrev pub told_by : ExprKind → StatementKind
-told_by expr_kind.Syntax = Syntax
-told_by expr_kind.TooDeep = TooDeep
-told_by expr_kind.Ambiguous = Ambiguous
+-- a fault of an expression is one of its line
+abbrev pub kind_of : ExprKind → StatementKind
+kind_of expr_kind.Syntax = Syntax
+kind_of expr_kind.TooDeep = TooDeep
+kind_of expr_kind.Ambiguous = Ambiguous
 
--- an expression, or what is told of its fault
-abbrev pub told : {X : Type 0} → Result X ExprFault → Result X StatementKind
-told (Ok read) = Ok read
-told (Err (expr_fault.At place fault)) = Err (told_by fault)
-told (Err expr_fault.Memory) = Err Syntax
+-- an expression, or its line's fault
+abbrev pub of_line : {X : Type 0} → Result X Refusal → Result X StatementKind
+of_line (Ok read) = Ok read
+of_line (Err refusal) = Err (kind_of refusal.kind)
 
 -- the expression at a place
 unfoldable pub expression : List ℕ → List Token → ℕ → Read (List Item)
-expression source tokens at = told (expression_at source tokens at)
+expression source tokens at = of_line (expression_at source tokens at)

@@ -75,7 +75,7 @@ pub fn expression(
 
 /// What is told of a fault of an expression.
 fn kind_of(kind: ExprKind) -> StatementKind
-    ensures { result ≡ spec.told_by kind }
+    ensures { result ≡ spec.kind_of kind }
 {
     match kind {
         ExprKind::Syntax => StatementKind::Syntax,

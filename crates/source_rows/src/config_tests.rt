@@ -2,6 +2,7 @@
 use crate::config_rows::{FILES, SETUPS};
 use crate::machine_rows::{HEADS, KEYS, MACHINE, RUNS};
 use crate::span_rows::{BOUNDS, ENDS, SPAN, SPANS};
+use crate::table::{is_row, row};
 use crate::toml_rows::{TEXTS, VALUES};
 use block_config::{ConfigFault, ConfigKind, read_config};
 use pin_matrix::{MachineSetup, Setup, Span, SpanUnit};
@@ -12,7 +13,7 @@ use std::test::Fail;
 /// The most bytes of a configuration.
 const MOST_BYTES: usize = 262_144;
 
-const SOURCES: [(&[u8], Option<u8>); 4] = [
+static SOURCES: [(&[u8], Option<u8>); 4] = [
     (
         b".program square\nset pindirs, 1\nagain:\nset pins, 1 [1]\nset pins, 0\njmp again\n",
         None,
@@ -28,13 +29,22 @@ const SOURCES: [(&[u8], Option<u8>); 4] = [
 #[test]
 fn the_first_fault_of_a_file(rt: HostRuntime) -> Result<(), Fail> {
     let programs = programs(rt.alloc())?;
-    for (text, want) in FILES {
-        let found = fault_of(rt.alloc(), &programs, &[text])?;
-        assert_eq!(rt; found.as_str(), want, "{text:?}");
+    for line in FILES.lines() {
+        if is_row(line) {
+            let (text, want) = row(rt.alloc(), line)?;
+            let found = fault_of(rt.alloc(), &programs, &[&text])?;
+            assert!(rt; found.as_str() == want, "{line}");
+        }
     }
-    for (text, want) in TEXTS {
-        let found = fault_of(rt.alloc(), &programs, &[text])?;
-        assert_eq!(rt; found.as_str(), want, "{text:?}");
+    Ok(())
+}
+
+#[test]
+fn the_first_fault_of_bytes(rt: HostRuntime) -> Result<(), Fail> {
+    let programs = programs(rt.alloc())?;
+    for &(before, text, want) in &TEXTS {
+        let found = fault_of(rt.alloc(), &programs, &[before, text])?;
+        assert!(rt; found.as_str() == want, "{text:?}");
     }
     Ok(())
 }
@@ -42,17 +52,38 @@ fn the_first_fault_of_a_file(rt: HostRuntime) -> Result<(), Fail> {
 #[test]
 fn the_first_fault_of_a_machine(rt: HostRuntime) -> Result<(), Fail> {
     let programs = programs(rt.alloc())?;
-    for (text, want) in HEADS {
-        let found = fault_of(rt.alloc(), &programs, &[MACHINE, text])?;
-        assert_eq!(rt; found.as_str(), want, "{text:?}");
+    for line in HEADS.lines() {
+        if is_row(line) {
+            let (text, want) = row(rt.alloc(), line)?;
+            let found = fault_of(rt.alloc(), &programs, &[MACHINE, &text])?;
+            assert!(rt; found.as_str() == want, "{line}");
+        }
     }
-    for (text, want) in KEYS {
-        let found = fault_of(rt.alloc(), &programs, &[MACHINE, RUNS, text])?;
-        assert_eq!(rt; found.as_str(), want, "{text:?}");
+    Ok(())
+}
+
+#[test]
+fn the_first_fault_of_a_key(rt: HostRuntime) -> Result<(), Fail> {
+    let programs = programs(rt.alloc())?;
+    for line in KEYS.lines() {
+        if is_row(line) {
+            let (text, want) = row(rt.alloc(), line)?;
+            let found = fault_of(rt.alloc(), &programs, &[MACHINE, RUNS, &text])?;
+            assert!(rt; found.as_str() == want, "{line}");
+        }
     }
-    for (text, want) in VALUES {
-        let found = fault_of(rt.alloc(), &programs, &[MACHINE, RUNS, text])?;
-        assert_eq!(rt; found.as_str(), want, "{text:?}");
+    Ok(())
+}
+
+#[test]
+fn the_first_fault_of_a_value(rt: HostRuntime) -> Result<(), Fail> {
+    let programs = programs(rt.alloc())?;
+    for line in VALUES.lines() {
+        if is_row(line) {
+            let (text, want) = row(rt.alloc(), line)?;
+            let found = fault_of(rt.alloc(), &programs, &[MACHINE, RUNS, &text])?;
+            assert!(rt; found.as_str() == want, "{line}");
+        }
     }
     Ok(())
 }
@@ -60,19 +91,31 @@ fn the_first_fault_of_a_machine(rt: HostRuntime) -> Result<(), Fail> {
 #[test]
 fn the_first_fault_of_a_span(rt: HostRuntime) -> Result<(), Fail> {
     let programs = programs(rt.alloc())?;
-    for (text, want) in SPANS {
-        let found = fault_of(rt.alloc(), &programs, &[SPAN, text])?;
-        assert_eq!(rt; found.as_str(), want, "{text:?}");
+    for line in SPANS.lines() {
+        if is_row(line) {
+            let (text, want) = row(rt.alloc(), line)?;
+            let found = fault_of(rt.alloc(), &programs, &[SPAN, &text])?;
+            assert!(rt; found.as_str() == want, "{line}");
+        }
     }
-    for (text, want) in BOUNDS {
-        let found = fault_of(rt.alloc(), &programs, &[SPAN, ENDS, text])?;
-        assert_eq!(rt; found.as_str(), want, "{text:?}");
+    Ok(())
+}
+
+#[test]
+fn the_first_fault_of_a_bound(rt: HostRuntime) -> Result<(), Fail> {
+    let programs = programs(rt.alloc())?;
+    for line in BOUNDS.lines() {
+        if is_row(line) {
+            let (text, want) = row(rt.alloc(), line)?;
+            let found = fault_of(rt.alloc(), &programs, &[SPAN, ENDS, &text])?;
+            assert!(rt; found.as_str() == want, "{line}");
+        }
     }
     Ok(())
 }
 
 /// What a text begins with, what is repeated behind it and how often, what ends it, and the first fault.
-const REPEATED: [(&[u8], &[u8], usize, &[u8], &str); 14] = [
+static REPEATED: [(&[u8], &[u8], usize, &[u8], &str); 14] = [
     (b"", b"[[span]]\n", 64, b"", "span[0].name: C13"),
     (b"", b"[[span]]\n", 65, b"[[load]]\n", "span: C12"),
     (b"pins = []\n", b"[[span]]\n", 65, b"", "pins: C3"),
@@ -116,7 +159,7 @@ const REPEATED: [(&[u8], &[u8], usize, &[u8], &str); 14] = [
 #[test]
 fn many_of_one_kind(rt: HostRuntime) -> Result<(), Fail> {
     let programs = programs(rt.alloc())?;
-    for (before, each, count, behind, want) in REPEATED {
+    for &(before, each, count, behind, want) in &REPEATED {
         let text = repeated(rt.alloc(), before, each, count, behind)?;
         let is_span = before.ends_with(b"stalls = [");
         let found = if is_span {
@@ -134,7 +177,7 @@ fn many_of_one_kind(rt: HostRuntime) -> Result<(), Fail> {
 }
 
 /// What a text begins with, what is repeated behind it and how often, what ends it; the first fault's kind, and its text.
-const FAULTS: [(&[u8], &[u8], usize, &[u8], ConfigKind, &str); 4] = [
+static FAULTS: [(&[u8], &[u8], usize, &[u8], ConfigKind, &str); 4] = [
     (
         b"[[load]]\nprogram = \"square\"\n[[load]]\nprogram = \"ahead\"\nat = 3\n",
         b"",
@@ -172,7 +215,7 @@ const FAULTS: [(&[u8], &[u8], usize, &[u8], ConfigKind, &str); 4] = [
 #[test]
 fn fault_texts(rt: HostRuntime) -> Result<(), Fail> {
     let programs = programs(rt.alloc())?;
-    for (before, each, count, behind, want, text) in FAULTS {
+    for &(before, each, count, behind, want, text) in &FAULTS {
         let file = repeated(rt.alloc(), before, each, count, behind)?;
         match read_config(rt.alloc(), &file, &programs) {
             Err(ConfigFault::At { key, kind }) => {
@@ -201,13 +244,14 @@ fn arrays_in_arrays(rt: HostRuntime) -> Result<(), Fail> {
 #[test]
 fn whole_setups(rt: HostRuntime) -> Result<(), Fail> {
     let programs = programs(rt.alloc())?;
-    for (text, want) in SETUPS {
-        match read_config(rt.alloc(), text, &programs) {
-            Ok(setup) => {
-                let found = shown(rt.alloc(), &setup)?;
-                assert_eq!(rt; found.as_str(), want);
-            }
-            Err(_) => return Err("no setup".into()),
+    for line in SETUPS.lines() {
+        if is_row(line) {
+            let (text, want) = row(rt.alloc(), line)?;
+            let setup = read_config(rt.alloc(), &text, &programs)
+                .ok()
+                .ok_or("a setup")?;
+            let found = shown(rt.alloc(), &setup)?;
+            assert!(rt; found.as_str() == want, "{line}");
         }
     }
     Ok(())
@@ -215,7 +259,7 @@ fn whole_setups(rt: HostRuntime) -> Result<(), Fail> {
 
 fn programs(alloc: Global) -> Result<Vec<Program>, Fail> {
     let mut programs = Vec::new(alloc);
-    for (source, origin) in SOURCES {
+    for &(source, origin) in &SOURCES {
         let mut found = assemble(alloc, source).ok().ok_or("a program")?;
         let mut program = found.pop().ok_or("a program")?;
         program.origin = origin.filter(|address| *address < 32);

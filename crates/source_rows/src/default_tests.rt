@@ -12,7 +12,7 @@ const SQUARE: &[u8] =
 const AHEAD: &[u8] = b".program ahead\njmp end\nset pins, 1\nend:\n";
 
 /// A source, its program's origin, and the memory from there on or the fault.
-const ROWS: [(&[u8], Option<u8>, Result<&[u16], ConfigKind>); 6] = [
+static ROWS: [(&[u8], Option<u8>, Result<&[u16], ConfigKind>); 6] = [
     (SQUARE, None, Ok(&[0xe081, 0xe101, 0xe000, 0x0001, 0x0000])),
     (
         SQUARE,
@@ -37,7 +37,7 @@ fn programs_of(alloc: Global, source: &[u8], origin: Option<u8>) -> Result<Vec<P
 
 #[test]
 fn default_setups(rt: HostRuntime) -> Result<(), Fail> {
-    for (source, origin, expected) in ROWS {
+    for &(source, origin, expected) in &ROWS {
         let origin = origin.filter(|address| *address < 32);
         let programs = programs_of(rt.alloc(), source, origin)?;
         match (default_setup(rt.alloc(), &programs), expected) {

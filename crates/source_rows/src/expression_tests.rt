@@ -1,6 +1,8 @@
 //! Expressions worked by hand, and the deepest ones.
-use crate::expression_rows::{DEPTHS, EXPRESSIONS, FAULTS};
-use pio_expr::{ExprFault, ExprKind, Item, parse_expr};
+use crate::expression_rows::{DEPTHS, EXPRESSIONS};
+use crate::statement_texts::expr_text;
+use crate::table::{is_row, row};
+use pio_expr::{ExprFault, ExprKind, parse_expr};
 use pio_lex::tokens;
 use std::alloc::{AllocError, Global};
 use std::test::Fail;
@@ -10,20 +12,14 @@ const MOST_BYTES: usize = 262_144;
 
 #[test]
 fn expressions_are_those_worked_by_hand(rt: HostRuntime) -> Result<(), Fail> {
-    for &(source, want, behind) in &EXPRESSIONS {
-        assert!(rt; reads(rt.alloc(), source, want, behind)?, "{source:?}");
+    for line in EXPRESSIONS.lines() {
+        if is_row(line) {
+            let (source, want) = row(rt.alloc(), line)?;
+            let told = told(rt.alloc(), &source)?;
+            assert!(rt; told.as_str() == want, "{line}");
+        }
     }
     Ok(())
-}
-
-#[test]
-fn faults_are_those_worked_by_hand(rt: HostRuntime) {
-    for &(source, place, kind) in &FAULTS {
-        assert!(rt;
-            fault_of(rt.alloc(), source) == Some(ExprFault::At { place, kind }),
-            "{source:?}"
-        );
-    }
 }
 
 #[test]
@@ -56,37 +52,19 @@ fn the_largest_sources_end_in_one_answer(rt: HostRuntime) -> Result<(), Fail> {
     Ok(())
 }
 
-/// The source's first expression is this one, with this token behind it.
-fn reads(alloc: Global, source: &[u8], want: &[u8], behind: usize) -> Result<bool, AllocError> {
+/// The source's first expression and the token behind it, or its fault and the token of that.
+fn told(alloc: Global, source: &[u8]) -> Result<String, AllocError> {
     let Ok(tokens) = tokens(alloc, source) else {
-        return Ok(false);
+        return Err(AllocError);
     };
-    let Ok((expr, place)) = parse_expr(alloc, source, &tokens, 0) else {
-        return Ok(false);
-    };
-    let mut shown = Vec::new(alloc);
-    for item in expr.items() {
-        show(alloc, item, &mut shown)?;
-    }
-    Ok(shown.as_slice() == want && place == behind)
-}
-
-fn show(alloc: Global, item: &Item, shown: &mut Vec<u8>) -> Result<(), AllocError> {
-    match item {
-        Item::Number(number) => {
-            let text = format!(in alloc; "{number}")?;
-            shown.extend_from_slice(text.as_bytes())?;
+    match parse_expr(alloc, source, &tokens, 0) {
+        Ok((expr, behind)) => {
+            let text = expr_text(alloc, &expr)?;
+            format!(in alloc; "{text} @{behind}")
         }
-        Item::Name(name) => shown.extend_from_slice(name.as_bytes())?,
-        Item::Add => shown.push(b'+')?,
-        Item::Subtract => shown.push(b'-')?,
-        Item::Multiply => shown.push(b'*')?,
-        Item::Divide => shown.push(b'/')?,
-        Item::Negate => shown.push(b'~')?,
-        Item::Reverse => shown.push(b':')?,
+        Err(ExprFault::At { place, kind }) => format!(in alloc; "{kind:?} @{place}"),
+        Err(ExprFault::Memory) => Err(AllocError),
     }
-    shown.push(b' ')?;
-    Ok(())
 }
 
 /// The fault of the source's first expression.

@@ -1,4 +1,4 @@
-//! The worked rows of expressions, statements, sources and configurations, run over the public calls of their readers.
+//! The worked rows of tokens, expressions, statements, sources and configurations, run over the public calls of their readers.
 #![tactic(auto)]
 
 #[cfg(test)]
@@ -27,6 +27,12 @@ mod statement_rows;
 mod statement_tests;
 #[cfg(test)]
 mod statement_texts;
+#[cfg(test)]
+mod table;
+#[cfg(test)]
+mod token_rows;
+#[cfg(test)]
+mod token_tests;
 #[cfg(test)]
 mod toml_rows;
 #[cfg(test)]

@@ -2,105 +2,93 @@
 //! section 3.3, and the choices of this profile).
 
 /// A source, and its first fault behind its line.
-pub static FAULTS: [(&[u8], &[u8]); 75] = [
-    // The first fault of the tokens comes before all others.
-    (b".program p\njmp $", b"2 L1"),
-    (b"nop\njmp $", b"2 L1"),
-    (b".program p\nset x, 2147483648", b"2 L2"),
-    (b"nop\n/*", b"2 L3"),
-    (b"% c {\n", b"1 L4"),
-    // Statements before values, by the least line.
-    (b".program p\nset x, k\nnop side 0", b"3 S9"),
-    (b".program p\nset x, k\n.foo", b"3 S11"),
-    (b".program p\n.foo $", b"2 L1"),
-    (b".program p\n.foo", b"2 S11"),
-    (b".program p\n$.foo", b"2 L1"),
-    (b".program p\n.program", b"2 S1"),
-    (b".program p\nmov x", b"2 S1"),
-    (b".program x\nnop", b"1 S1"),
-    (b".program p\nset x, 1 + ::2", b"2 V6"),
-    (b".define a 1 + ::1\n.define a 1 + ::1", b"1 V6"),
-    // Outside a program stand globals alone.
-    (b"nop\n.program p\nnop", b"1 S2"),
-    (b"a:", b"1 S2"),
-    (b".wrap", b"1 S2"),
-    (b".wrap_target", b"1 S2"),
-    (b".origin 0", b"1 S2"),
-    (b".side_set 1", b"1 S2"),
-    (
-        b".lang_opt c x = 1\n.pio_version 0\n.define a 1\n.word 1",
-        b"4 S2",
-    ),
-    // Directives that stand twice, or too late.
-    (b".program p\n.origin 0\n.origin 0\nnop", b"3 S3"),
-    (b".program p\nnop\n.wrap\n.wrap", b"4 S3"),
-    (b".program p\n.wrap_target\nnop\n.wrap_target", b"4 S3"),
-    (b".program p\n.side_set 1\nnop side 0\n.side_set 1", b"4 S3"),
-    (b".program p\nnop\n.side_set 1", b"3 S4"),
-    (b".program p\n.word 1\n.side_set 1", b"3 S4"),
-    (b".program p\nnop side 0\n.side_set 1", b"2 S9"),
-    // Names.
-    (b".program p\nnop\na:\na:", b"4 S5 a"),
-    (b".program p\nnop\n.define a 1\na:", b"4 S5 a"),
-    (b".define a 1\n.define a 1", b"2 S5 a"),
-    (b".program p\nnop\n.program p\nnop", b"3 S5 p"),
-    (b".program a\n.program a\nnop", b"1 S10"),
-    (b".program p\na:\na:", b"1 S10"),
-    // Side-set.
-    (b".program p\n.side_set 1\nnop", b"3 S8"),
-    (b".program p\n.side_set 0\nnop", b"3 S8"),
-    (b".program p\nnop side 0", b"2 S9"),
-    // Programs without words, and wraps without.
-    (b".program p", b"1 S10"),
-    (b".program p\n.wrap", b"1 S10"),
-    (
-        b".program p\nnop\n.program q\na:\n.program r\nnop",
-        b"3 S10",
-    ),
-    (b".program p\n.wrap\nnop", b"2 S13"),
-    (b".program p\nnop\n.wrap_target", b"3 S13"),
-    (b".program p\nnop\n.wrap_target\n.wrap\n.wrap", b"3 S13"),
-    (b".program p\nnop\n.wrap_target\n.program q\nnop", b"3 S13"),
-    // A line that is no statement counts as a word.
-    (b".program p\nnop\n.wrap_target\n.program", b"4 S1"),
-    (b".program p\n.foo x", b"2 S11"),
-    // Ranges.
-    (
-        b".program p\n.side_set 1\nset x, 1 side 0 [16]",
-        b"3 S7 delay 16",
-    ),
-    (
-        b".program p\n.side_set 1\nnop [99] side 9",
-        b"3 S7 delay 99",
-    ),
-    (b".program p\n.side_set 1\nnop side 9 [99]", b"3 S7 side 9"),
-    (b".program p\n.side_set 0\nnop side 1", b"3 S7 side 1"),
-    (b".program p\nset x -1", b"2 S7 data -1"),
-    (b".program p\nset x, 32", b"2 S7 data 32"),
-    (b".program p\nwait 2 pin k", b"2 S7 polarity 2"),
-    (b".program p\nwait 1 pin 32", b"2 S7 index 32"),
-    (b".program p\nwait 1 irq 8", b"2 S7 index 8"),
-    (b".program p\nirq 8", b"2 S7 index 8"),
-    (b".program p\njmp x---3", b"2 S7 jmp -3"),
-    (b".program p\nin x, 0", b"2 S7 count 0"),
-    (b".program p\nout x, 33", b"2 S7 count 33"),
-    (b".program p\n.side_set 5 opt\nnop", b"2 S7 side_set 5"),
-    (b".program p\n.side_set 6\nnop side 0", b"2 S7 side_set 6"),
-    (b".program p\n.origin 32\nnop", b"2 S7 origin 32"),
-    (b".program p\n.word 65536", b"2 S7 word 65536"),
-    (b".pio_version 1", b"1 S7 pio_version 1"),
-    // Values, operand by operand.
-    (b".program p\nset x, k", b"2 V1 k"),
-    (b".define a b", b"1 V1 b"),
-    (b".define a b\n.define b a", b"1 V2 a"),
-    (b".define c a\n.define a b\n.define b a", b"1 V2 a"),
-    (b".define a 1\n.program p\nnop\n.define a a + 1", b"4 V2 a"),
-    (b".program p\nset x, 1 / 0", b"2 V3"),
-    (b".program p\nset x, 2147483647 + 1", b"2 V4"),
-    (b".program p\nnop [k] side 9\n.side_set 1", b"2 S9"),
-    (b".program p\n.side_set 1\nnop side k [99]", b"3 V1 k"),
-    (b".define a k\n.program p\nset x, 99", b"1 V1 k"),
-];
+pub static FAULTS: &str = r#"
+### The first fault of the tokens comes before all others.
+.program p|jmp $ => 2 L1
+nop|jmp $ => 2 L1
+.program p|set x, 2147483648 => 2 L2
+nop|/* => 2 L3
+% c {| => 1 L4
+### Statements before values, by the least line.
+.program p|set x, k|nop side 0 => 3 S9
+.program p|set x, k|.foo => 3 S11
+.program p|.foo $ => 2 L1
+.program p|.foo => 2 S11
+.program p|$.foo => 2 L1
+.program p|.program => 2 S1
+.program p|mov x => 2 S1
+.program x|nop => 1 S1
+.program p|set x, 1 + ::2 => 2 V6
+.define a 1 + ::1|.define a 1 + ::1 => 1 V6
+### Outside a program stand globals alone.
+nop|.program p|nop => 1 S2
+a: => 1 S2
+.wrap => 1 S2
+.wrap_target => 1 S2
+.origin 0 => 1 S2
+.side_set 1 => 1 S2
+.lang_opt c x = 1|.pio_version 0|.define a 1|.word 1 => 4 S2
+### Directives that stand twice, or too late.
+.program p|.origin 0|.origin 0|nop => 3 S3
+.program p|nop|.wrap|.wrap => 4 S3
+.program p|.wrap_target|nop|.wrap_target => 4 S3
+.program p|.side_set 1|nop side 0|.side_set 1 => 4 S3
+.program p|nop|.side_set 1 => 3 S4
+.program p|.word 1|.side_set 1 => 3 S4
+.program p|nop side 0|.side_set 1 => 2 S9
+### Names.
+.program p|nop|a:|a: => 4 S5 a
+.program p|nop|.define a 1|a: => 4 S5 a
+.define a 1|.define a 1 => 2 S5 a
+.program p|nop|.program p|nop => 3 S5 p
+.program a|.program a|nop => 1 S10
+.program p|a:|a: => 1 S10
+### Side-set.
+.program p|.side_set 1|nop => 3 S8
+.program p|.side_set 0|nop => 3 S8
+.program p|nop side 0 => 2 S9
+### Programs without words, and wraps without.
+.program p => 1 S10
+.program p|.wrap => 1 S10
+.program p|nop|.program q|a:|.program r|nop => 3 S10
+.program p|.wrap|nop => 2 S13
+.program p|nop|.wrap_target => 3 S13
+.program p|nop|.wrap_target|.wrap|.wrap => 3 S13
+.program p|nop|.wrap_target|.program q|nop => 3 S13
+### A line that is no statement counts as a word.
+.program p|nop|.wrap_target|.program => 4 S1
+.program p|.foo x => 2 S11
+### Ranges.
+.program p|.side_set 1|set x, 1 side 0 [16] => 3 S7 delay 16
+.program p|.side_set 1|nop [99] side 9 => 3 S7 delay 99
+.program p|.side_set 1|nop side 9 [99] => 3 S7 side 9
+.program p|.side_set 0|nop side 1 => 3 S7 side 1
+.program p|set x -1 => 2 S7 data -1
+.program p|set x, 32 => 2 S7 data 32
+.program p|wait 2 pin k => 2 S7 polarity 2
+.program p|wait 1 pin 32 => 2 S7 index 32
+.program p|wait 1 irq 8 => 2 S7 index 8
+.program p|irq 8 => 2 S7 index 8
+.program p|jmp x---3 => 2 S7 jmp -3
+.program p|in x, 0 => 2 S7 count 0
+.program p|out x, 33 => 2 S7 count 33
+.program p|.side_set 5 opt|nop => 2 S7 side_set 5
+.program p|.side_set 6|nop side 0 => 2 S7 side_set 6
+.program p|.origin 32|nop => 2 S7 origin 32
+.program p|.word 65536 => 2 S7 word 65536
+.pio_version 1 => 1 S7 pio_version 1
+### Values, operand by operand.
+.program p|set x, k => 2 V1 k
+.define a b => 1 V1 b
+.define a b|.define b a => 1 V2 a
+.define c a|.define a b|.define b a => 1 V2 a
+.define a 1|.program p|nop|.define a a + 1 => 4 V2 a
+.program p|set x, 1 / 0 => 2 V3
+.program p|set x, 2147483647 + 1 => 2 V4
+.program p|nop [k] side 9|.side_set 1 => 2 S9
+.program p|.side_set 1|nop side k [99] => 3 V1 k
+.define a k|.program p|set x, 99 => 1 V1 k
+"#;
 
 /// Text; two texts, each so many times, with their number from 0 in the place of `#`; text behind; and what is told.
 pub static REPEATED: [(&[u8], &[u8], usize, &[u8], usize, &[u8], &[u8]); 14] = [

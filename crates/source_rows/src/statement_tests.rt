@@ -1,34 +1,29 @@
 //! Lines worked by hand, the deepest ones, and the lines of a source one behind the other.
-use crate::statement_rows::{DEPTHS, FAULTS, LINES, SOURCE, STATEMENTS, VALUES};
+ghost use Rattle.std.specs.Prelude.{◌≤◌, length};
+ghost use Rattle.std.specs.List.{All};
+ghost use Rattle.pio_lex.specs.Tokens.{IsTokenOf};
+
+use crate::statement_rows::{DEPTHS, STATEMENTS};
 use crate::statement_texts::statement_text;
-use pio_lex::tokens;
-use pio_statement::{StatementFault, StatementKind, line_end, read_statement};
+use crate::table::{is_row, row};
+use pio_lex::{Token, tokens};
+use pio_statement::{StatementFault, line_end, read_statement};
 use std::alloc::{AllocError, Global};
 use std::test::Fail;
 
 #[test]
 fn statements_are_those_worked_by_hand(rt: HostRuntime) -> Result<(), Fail> {
-    for &(source, want) in &STATEMENTS {
-        assert!(rt; reads(rt.alloc(), source, want)?, "{source:?} {want}");
+    for line in STATEMENTS.lines() {
+        if is_row(line) {
+            let (source, want) = row(rt.alloc(), line)?;
+            assert!(rt; are_lines(rt.alloc(), &source, want)?, "{line}");
+        }
     }
     Ok(())
 }
 
 #[test]
-fn faults_are_those_worked_by_hand(rt: HostRuntime) -> Result<(), Fail> {
-    for &(source, want) in &FAULTS {
-        assert!(rt;
-            fault_of(rt.alloc(), source) == Some(StatementFault::Found(want)),
-            "{source:?}"
-        );
-    }
-    for &(value, want) in &VALUES {
-        let source = joined(rt.alloc(), b"set x, ", value, 1, b"")?;
-        assert!(rt;
-            fault_of(rt.alloc(), &source) == Some(StatementFault::Found(want)),
-            "{value:?}"
-        );
-    }
+fn at_most_64_are_open(rt: HostRuntime) -> Result<(), Fail> {
     for &(before, repeated, number, behind, want) in &DEPTHS {
         let source = joined(rt.alloc(), before, repeated, number, behind)?;
         assert!(rt;
@@ -39,48 +34,39 @@ fn faults_are_those_worked_by_hand(rt: HostRuntime) -> Result<(), Fail> {
     Ok(())
 }
 
-#[test]
-fn lines_follow_one_another(rt: HostRuntime) -> Result<(), Fail> {
-    assert!(rt; are_lines(rt.alloc(), SOURCE, &LINES)?);
-    Ok(())
-}
-
-/// The source's first line is this statement.
-fn reads(alloc: Global, source: &[u8], want: &str) -> Result<bool, AllocError> {
-    let Ok(tokens) = tokens(alloc, source) else {
-        return Ok(false);
-    };
-    let Ok((statement, _)) = read_statement(alloc, source, &tokens, 0) else {
-        return Ok(false);
-    };
-    Ok(statement_text(alloc, &statement)?.as_str() == want)
-}
-
-/// The source has these lines, one behind the other.
-fn are_lines(
-    alloc: Global,
-    source: &[u8],
-    lines: &[Result<&str, StatementKind>],
-) -> Result<bool, AllocError> {
+/// The source has these lines, with a `|` between, each its statement or what is wrong with it.
+fn are_lines(alloc: Global, source: &[u8], lines: &str) -> Result<bool, AllocError> {
     let Ok(tokens) = tokens(alloc, source) else {
         return Ok(false);
     };
     let mut from = 0;
-    for line in lines {
-        let behind = line_end(&tokens, from);
-        let found = match (read_statement(alloc, source, &tokens, from), line) {
-            (Ok((statement, place)), Ok(text)) => {
-                statement_text(alloc, &statement)?.as_str() == *text && place == behind
-            }
-            (Err(StatementFault::Found(found)), Err(kind)) => found == *kind,
-            _ => false,
-        };
-        if !found {
+    for line in lines.split('|') {
+        if line_text(alloc, source, &tokens, from)?.as_str() != line {
             return Ok(false);
         }
-        from = behind;
+        from = line_end(&tokens, from);
     }
     Ok(from == tokens.len())
+}
+
+/// The line from a token on: its statement, which ends where the line does, or what is wrong with it.
+fn line_text(
+    alloc: Global,
+    source: &[u8],
+    tokens: &[Token],
+    from: usize,
+) -> Result<String, AllocError>
+    requires tokens { All (IsTokenOf source.now) tokens.now }
+    requires from { from ≤ length tokens.now }
+{
+    match read_statement(alloc, source, tokens, from) {
+        Ok((statement, behind)) if behind == line_end(tokens, from) => {
+            statement_text(alloc, &statement)
+        }
+        Ok(_) => format!(in alloc; "another end"),
+        Err(StatementFault::Found(kind)) => format!(in alloc; "{kind:?}"),
+        Err(StatementFault::Memory) => Err(AllocError),
+    }
 }
 
 /// What is wrong with the source's first line.

@@ -139,7 +139,7 @@ fn delay_text(alloc: Global, delay: &Expr) -> Result<String, AllocError> {
 }
 
 /// An expression in postfix order: a blank between two operands, `~` for a sign.
-fn expr_text(alloc: Global, expr: &Expr) -> Result<String, AllocError> {
+pub fn expr_text(alloc: Global, expr: &Expr) -> Result<String, AllocError> {
     let mut text = String::new(alloc);
     for item in expr.items() {
         let piece = item_text(alloc, item, text.is_empty())?;

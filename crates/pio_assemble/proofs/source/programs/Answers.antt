@@ -1,6 +1,7 @@
 use Rattle.std.proofs.Common.{◌∙◌, ◌+◌, ap, sym, subst, map, drop, Ok}
 use Rattle.std.proofs.lemmas.List.{drop_all}
-use Rattle.pio_assemble.specs.Answers.{Refuses, located}
+use Rattle.answers.specs.Answers as answers
+use Rattle.pio_assemble.specs.Answers.{told, located}
 use Rattle.pio_assemble.specs.Program.{assembled_of}
 use Rattle.pio_assemble.specs.Source.{with_programs, programs_from, program_scope, behind_program}
 use Rattle.pio_assemble.proofs.Programs.{begins_left, behind_begins, adds_left, behind_adds, fault_left}
@@ -12,7 +13,7 @@ returns-in-Err c =
     let l = c.line-item.result in
     let first = map assembled_of c.loop-line.programs.items in
     let fault = fault_left c.args.lines.now c.loop-line.line-index l c.loop-line-test.true c.line-item.is first c.loop-line.scope c.loop-line.draft c.in-Err.fault (sym c.in-None.ensures.name) c.in-Err.ensures.value in
-    rw c.at_line.ensures (subst (Refuses (located l.number c.in-Err.fault)) c.loop-line.invariant.programs fault)
+    rw c.at_line.ensures (subst (answers.Refuses (told (located l.number c.in-Err.fault))) c.loop-line.invariant.programs fault)
 
 pub loop-line-preserved : goal.loop-line-preserved
 loop-line-preserved c =

@@ -1,5 +1,4 @@
-use Rattle.std.proofs.Common.{◌≡◌, ◌∙◌, ap, sym, rules, Ok, Some, to_z, of_z, w32}
-use Rattle.pio_expr.specs.Values.{value_at}
+use Rattle.std.proofs.Common.{◌≡◌, rules, Some}
 use Rattle.pio_expr.specs.Work.{kept_of}
 use Rattle.pio_expr.proofs.Ending.{kept_whole}
 use Rattle.pio_expr.proofs.work.work_out.Goals as goal

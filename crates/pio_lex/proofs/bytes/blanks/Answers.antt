@@ -4,7 +4,7 @@ use Rattle.std.specs.List.{position}
 use Rattle.std.proofs.lemmas.Iterator.{YieldsList-from_slice}
 use Rattle.std.proofs.lemmas.Iterator.Search.{position_from_yields_List}
 use Rattle.std.proofs.lemmas.List.Sums.{prefix_len-le-length}
-use Rattle.pio_lex.specs.Bytes.{is_blank}
+use Rattle.byte_lines.specs.Bytes.{is_blank}
 use Rattle.pio_lex.proofs.Runs.{failing, first_or_end}
 use Rattle.pio_lex.proofs.bytes.blanks.Goals as goal
 

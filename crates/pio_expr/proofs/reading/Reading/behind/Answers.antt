@@ -42,6 +42,6 @@ returns-in-Err-clause-fault c source tokens is =
     let at = c.args.at in
     let ws = c.args.self.now.waiting.items in
     let kept = c.write_before.new.self.waiting.items in
-    let e : Err c.in-Err.fault ≡ turn_by (operation_of m) (innermost kept) m at = search rules in
+    let e : Err c.in-Err.refusal ≡ turn_by (operation_of m) (innermost kept) m at = search rules in
     let same = behind_same source tokens ws kept c.args.self.now.items.items c.write_before.new.self.items.items m at is c.requires.sound c.in_ok-write_before.ensures.waiting c.in_ok-write_before.ensures.items in
-    fault_is _ c.in-Err.fault (same ∙ behind_turn source tokens ws kept c.write_before.new.self.items.items m at (Err c.in-Err.fault) is c.requires.sound c.in_ok-write_before.ensures.waiting e)
+    fault_is _ c.in-Err.refusal _ c.told.ensures (same ∙ behind_turn source tokens ws kept c.write_before.new.self.items.items m at (Err c.in-Err.refusal) is c.requires.sound c.in_ok-write_before.ensures.waiting e)

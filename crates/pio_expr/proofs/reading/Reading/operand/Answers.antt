@@ -46,10 +46,10 @@ returns-in_ok-push-in-Ok-None-clause-inside c =
 
 pub returns-in-Err-clause-fault : goal.returns-in-Err-clause-fault
 returns-in-Err-clause-fault c =
-    let e : opening c.args.mark c.args.at c.args.self.now.waiting.items ≡ Err c.in-Err.fault = search rules in
-    opening_fault c.args.source.now c.args.tokens.now c.args.self.now.waiting.items c.args.mark (record { at = c.args.at; items = c.args.self.now.items.items }) c.in-Err.fault c.requires.mark e
+    let e : opening c.args.mark c.args.at c.args.self.now.waiting.items ≡ Err c.in-Err.refusal = search rules in
+    opening_fault c.args.source.now c.args.tokens.now c.args.self.now.waiting.items c.args.mark (record { at = c.args.at; items = c.args.self.now.items.items }) c.in-Err.refusal _ c.told-in-Err.ensures c.requires.mark e
 
 pub returns-in_default-clause-fault : goal.returns-in_default-clause-fault
 returns-in_default-clause-fault c =
     let h : slice_get c.args.tokens.now c.args.at ≡ None = search rules in
-    rw c.fault.ensures (opening_outside c.args.source.now c.args.tokens.now c.args.self.now.waiting.items (record { at = c.args.at; items = c.args.self.now.items.items }) h)
+    rw (c.told.ensures, c.refusal.ensures) (opening_outside c.args.source.now c.args.tokens.now c.args.self.now.waiting.items (record { at = c.args.at; items = c.args.self.now.items.items }) h)

@@ -1,8 +1,6 @@
-use Rattle.std.proofs.Common.{◌≡◌, ◌∙◌, ℕ, ℤ, pos, ap, sym, rules, true, Ok, Some, None, to_z, w32, subst, option_map}
+use Rattle.std.proofs.Common.{◌≡◌, ◌∙◌, ℕ, pos, ap, sym, rules, true, Ok, Some, None, to_z, w32, subst}
 use Rattle.pio_expr.specs.declared.symbol.Symbol.TheVariants.{Define, Label}
-use Rattle.pio_expr.specs.declared.fault.ValueFault.TheVariants.{Unknown}
 use Rattle.pio_expr.specs.Values.{found, Gives}
-use Rattle.pio_expr.specs.Views.{symbol_seen}
 use Rattle.pio_expr.proofs.Finding.{found_stands}
 use Rattle.pio_expr.proofs.Naming.{name_unknown, name_label, name_define}
 use Rattle.pio_expr.proofs.scope.Scope.value_of_name.Goals as goal

@@ -1,6 +1,6 @@
-use Rattle.std.proofs.Common.{◌≡◌, ◌∙◌, ap, sym, rules, List, ℕ, ℤ, Result, Ok, Err, nat_eq, to_z, of_z, w32}
+use Rattle.std.proofs.Common.{◌≡◌, ◌∙◌, ap, rules, List, ℕ, ℤ, Result, Ok, nat_eq, to_z, of_z, w32}
 use Rattle.std.specs.List.{list_any}
-use Rattle.pio_expr.specs.declared.fault.ValueFault.{ValueFault}
+use Rattle.pio_expr.specs.declared.fault.ValueKind.{ValueKind}
 use Rattle.pio_expr.specs.Values.{worked_out}
 use Rattle.pio_expr.specs.Frames.{looked_up, Agrees, RestsAt}
 use Rattle.pio_expr.proofs.Stepping.{shown, fault_step, wait_step}
@@ -16,7 +16,7 @@ returns-in_ok-wait-in-Ok-Waits c own items st =
     let kept = c.args.kept.now.entries in
     let old = c.args.self.now in
     let top = c.run.new.self in
-    let run : (named : List ℕ → Result ℤ ValueFault) → Agrees (looked_up scope kept (λ q. list_any (nat_eq q) old.begun.keys) old.top.local) named → worked_out named old.top.rest.now old.top.numbers.items ≡ worked_out named top.rest.now top.numbers.items = rw c.in-Ok-Waits.field-0-is at c.in-Ok-Waits.ensures.shows in
+    let run : (named : List ℕ → Result ℤ ValueKind) → Agrees (looked_up scope kept (λ q. list_any (nat_eq q) old.begun.keys) old.top.local) named → worked_out named old.top.rest.now old.top.numbers.items ≡ worked_out named top.rest.now top.numbers.items = rw c.in-Ok-Waits.field-0-is at c.in-Ok-Waits.ensures.shows in
     let rests : RestsAt (looked_up scope kept (λ q. list_any (nat_eq q) old.begun.keys) old.top.local) top.rest.now c.in-Ok-Waits.place c.in-Ok-Waits.items.now = rw c.in-Ok-Waits.field-0-is at c.in-Ok-Waits.ensures.rests in
     wait_step scope kept own items old c.wait.new.self top c.in-Ok-Waits.place c.in-Ok-Waits.items.now st c.in-Ok-Waits.ensures.place c.in-Ok-Waits.ensures.local
     (shown scope kept own items old st (λ named. worked_out named top.rest.now top.numbers.items) run) rests c.in_ok-wait-in-Ok-Waits.ensures.ok
@@ -27,7 +27,7 @@ returns-in-Ok-Done c own items st =
     let kept = c.args.kept.now.entries in
     let old = c.args.self.now in
     let top = c.run.new.self in
-    let run : (named : List ℕ → Result ℤ ValueFault) → Agrees (looked_up scope kept (λ q. list_any (nat_eq q) old.begun.keys) old.top.local) named → worked_out named old.top.rest.now old.top.numbers.items ≡ Ok c.in-Ok-Done.value = rw c.in-Ok-Done.field-0-is at c.in-Ok-Done.ensures.shows in
+    let run : (named : List ℕ → Result ℤ ValueKind) → Agrees (looked_up scope kept (λ q. list_any (nat_eq q) old.begun.keys) old.top.local) named → worked_out named old.top.rest.now old.top.numbers.items ≡ Ok c.in-Ok-Done.value = rw c.in-Ok-Done.field-0-is at c.in-Ok-Done.ensures.shows in
     let value : ℤ = to_z w32 (of_z w32 c.in-Ok-Done.value) in
     let same : c.in-Ok-Done.value ≡ value = search rules in
     end_steps scope kept c.finish.new.kept.entries own items old c.finish.new.self top value c.finish.result st
