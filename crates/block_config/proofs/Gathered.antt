@@ -1,7 +1,6 @@
 -- What holds of each element that is read holds of all of them.
-use Rattle.std.proofs.Common.{◌≡◌, ℕ, ◌+◌, ◌++◌, cond, Bool, true, false, Option, Some, None, Result, Ok, Err, List, [], ◌∷◌, subst, inl, inr}
+use Rattle.std.proofs.Common.{◌≡◌, ℕ, ◌+◌, ◌++◌, cond, Bool, true, false, Option, Some, None, Result, Ok, Err, List, [], ◌∷◌, subst}
 use Rattle.std.specs.List.{find, AllByRecursion}
-use Rattle.std.proofs.lemmas.Bool.{cases_Bool}
 use Rattle.toml.specs.Data.{Data, Items, no_items, item, Members}
 use Rattle.block_config.specs.Answer.{Refusal}
 use Rattle.block_config.specs.Arrays.{gather}

@@ -1,5 +1,5 @@
 -- A machine starts in the program that it runs, and in no other.
-use Rattle.std.proofs.Common.{◌≡◌, ℕ, ◌+◌, ◌<◌, ◌≤◌, ℤ, pos, negsuc, cond, nat_le, nat_lt, Bool, true, false, Option, Some, None, Result, Ok, List, [], ◌∷◌, length, refl, ap, sym, subst, ◌∙◌, arith, codes, inl, inr}
+use Rattle.std.proofs.Common.{◌≡◌, ℕ, ◌+◌, ◌<◌, ◌≤◌, ℤ, pos, negsuc, cond, nat_le, nat_lt, Bool, true, false, Option, Some, None, Ok, List, [], ◌∷◌, length, refl, ap, sym, subst, ◌∙◌, arith, codes, inl, inr}
 use Rattle.std.specs.List.{find, list_any}
 use Rattle.std.specs.Str.{bytes_eq}
 use Rattle.std.proofs.lemmas.Bool.{cases_Bool, false≢true, and_parts, ltb-true, lt-ltb, le-leb}

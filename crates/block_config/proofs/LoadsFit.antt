@@ -1,9 +1,9 @@
 -- The loads of a configuration lie in memory with their programs.
-use Rattle.std.proofs.Common.{◌≡◌, ℕ, ◌+◌, ◌<◌, ◌≤◌, ◌&&◌, cond, nat_le, Bool, true, false, Option, Some, None, is_some, Result, Ok, Err, List, [], ◌∷◌, map, length, subst, refl, codes, arith}
+use Rattle.std.proofs.Common.{◌≡◌, ℕ, ◌+◌, ◌<◌, ◌≤◌, ◌&&◌, cond, nat_le, Bool, true, false, Option, Some, None, is_some, Ok, Err, List, [], ◌∷◌, map, length, subst, refl, codes}
 use Rattle.std.specs.List.{list_all, AllByRecursion}
 use Rattle.std.specs.Str.{bytes_eq}
 use Rattle.std.proofs.lemmas.Bool.{and_parts, leb-true}
-use Rattle.toml.specs.Data.{Data, Items, Members, as_table, get_member}
+use Rattle.toml.specs.Data.{Items, Members, as_table, get_member}
 use Rattle.pio_assemble.specs.declared.program.Program.{Program}
 use Rattle.pio_assemble.specs.Program.{Assembled, assembled_of}
 use Rattle.pio_encode.specs.Relocation.{relocated}

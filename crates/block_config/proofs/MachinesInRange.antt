@@ -1,5 +1,5 @@
 -- The machines of a configuration are in the ranges that their type keeps.
-use Rattle.std.proofs.Common.{◌≡◌, ℕ, zero, suc, ◌+◌, ◌<◌, ◌≤◌, ◌==◌, ◌||◌, ◌&&◌, not, cond, Bool, true, false, Option, Some, None, is_some, Result, Ok, Err, List, [], ◌∷◌, length, slice_set, slice_index, slice_index_or, refl, ap, subst, ◌∙◌, codes, arith}
+use Rattle.std.proofs.Common.{◌≡◌, ℕ, zero, suc, ◌+◌, ◌<◌, ◌≤◌, ◌==◌, ◌||◌, ◌&&◌, not, cond, Bool, true, false, Option, Some, None, is_some, Ok, Err, List, [], ◌∷◌, length, slice_set, slice_index_or, refl, ap, subst, ◌∙◌, codes, arith}
 use Rattle.std.specs.List.{AllByRecursion}
 use Rattle.std.specs.Str.{bytes_eq}
 use Rattle.toml.specs.Data.{Items, no_items, item, Members, as_table, get_member}

@@ -1,5 +1,5 @@
 -- The spans of a configuration are in the ranges that their type keeps.
-use Rattle.std.proofs.Common.{◌≡◌, ℕ, suc, ◌+◌, ◌<◌, ◌≤◌, ◌^◌, ◌==◌, ◌||◌, ◌&&◌, not, cond, nat_le, nat_lt, Bool, true, false, Option, Some, None, is_some, Result, Ok, Err, List, [], ◌∷◌, length, slice_index, slice_index_or, refl, subst, codes, arith}
+use Rattle.std.proofs.Common.{◌≡◌, ℕ, ◌<◌, ◌≤◌, ◌^◌, ◌==◌, ◌||◌, cond, nat_le, nat_lt, Bool, true, false, Option, Some, None, is_some, Ok, Err, List, [], length, slice_index, slice_index_or, refl, subst, codes, arith}
 use Rattle.std.specs.List.{AllByRecursion}
 use Rattle.std.proofs.lemmas.Bool.{ltb-false, eqb-true}
 use Rattle.toml.specs.Data.{Data, Items, no_items, item, Members, as_array, as_str, as_table, get_member}
@@ -8,11 +8,10 @@ use Rattle.pin_matrix.specs.Spans.{is_in_ticks, is_span_name}
 use Rattle.block_config.specs.Answer.{Refusal}
 use Rattle.block_config.specs.Arrays.{count_items, all_items, gather}
 use Rattle.block_config.specs.Block.{MachineKeys, SpanKeys}
-use Rattle.block_config.specs.declared.fault.ConfigKind.{ConfigKind}
 use Rattle.block_config.specs.declared.fault.ConfigKind.TheVariants.{Many, WrongType, Range}
 use Rattle.block_config.specs.declared.path.Section.TheVariants.{Span}
 use Rattle.block_config.specs.Programs.{Loaded}
-use Rattle.block_config.specs.SpanTable.{span_names, required, name_of, name_at, configured, machine_at, span_pins, edge_at, Ends, ends_at, unit_at, bound_keys, Bounds, ordered, bounds_at, load_of_machine, stall_of, stall_addresses, stalls_in, stalls_of, stalls_at, SpanValues, values_at, span_keys_of, span_of_table, span_in, all_spans}
+use Rattle.block_config.specs.SpanTable.{span_names, required, name_of, name_at, configured, machine_at, span_pins, edge_at, Ends, ends_at, unit_at, bound_keys, Bounds, ordered, bounds_at, load_of_machine, stall_addresses, stalls_in, stalls_of, stalls_at, SpanValues, values_at, span_keys_of, span_of_table, span_in, all_spans}
 use Rattle.block_config.specs.Tables.{and_then, number_at, each_at}
 use Rattle.block_config.specs.Values.{text_of}
 use Rattle.block_config.proofs.Alike.{Bounds as Facts}

@@ -1,19 +1,17 @@
 -- No number of a configuration is clipped on its way into the setup.
-use Rattle.std.proofs.Common.{◌≡◌, ℕ, ◌+◌, ◌<◌, ◌≤◌, cond, Bool, true, false, Option, Some, None, unwrap_or, option_map, Result, Ok, Err, List, [], ◌∷◌, map, length, slice_index_or, refl, ap, subst, ◌∙◌, arith}
+use Rattle.std.proofs.Common.{◌≡◌, ℕ, ◌+◌, ◌<◌, ◌≤◌, cond, Bool, true, false, Option, Some, None, unwrap_or, option_map, Result, Ok, Err, List, [], ◌∷◌, map, length, refl, ap, subst, ◌∙◌, arith}
 use Rattle.std.specs.List.{AllByRecursion}
-use Rattle.toml.specs.Data.{Members}
 use Rattle.pio_assemble.specs.declared.program.Program.{Program}
 use Rattle.pio_assemble.specs.Program.{Assembled, assembled_of}
 use Rattle.answers.specs.Answers.{made}
 use Rattle.block_config.specs.Answer.{Refusal}
 use Rattle.block_config.specs.Block.{MachineKeys, SpanKeys, BlockKeys, keys_of_machine, keys_of_span, keys_of_block}
 use Rattle.block_config.specs.Config.{document_of, parsed, sections_at, Sections, pins_in, no_machines, block_with, block_over, block_of_sections, block_of_table, config_block, config_setup_of}
-use Rattle.block_config.specs.Default.{machine_keys, quiet_block, block_of, default_block, default_setup_of}
+use Rattle.block_config.specs.Default.{machine_keys, quiet_block, default_block, default_setup_of}
 use Rattle.block_config.specs.Exact.{SaysExactly}
 use Rattle.block_config.specs.Loads.{all_loads, memory_of}
 use Rattle.block_config.specs.Machines.{machines_from}
 use Rattle.block_config.specs.Memory.{no_words, fits_at, loaded}
-use Rattle.block_config.specs.Pins.{PinTable}
 use Rattle.block_config.specs.Programs.{Loaded}
 use Rattle.block_config.specs.SetupOf.{machine_of, span_of, machine_at, setup_of}
 use Rattle.block_config.specs.SpanTable.{all_spans}

@@ -5,7 +5,7 @@
 --   stalls_at   the addresses at which stalls don't count
 --   span_in     the span of the table at a place
 --   all_spans   the spans of all tables
-use Rattle.std.specs.Prelude.{ℕ, nat_le, nat_lt, ◌==◌, ◌&&◌, ◌||◌, is_some, Bool, true, false, if◌then◌else◌, slice_index, slice_index_or, Option, Some, None, List, [], ◌∷◌, Result, Ok, Err, length, codes}
+use Rattle.std.specs.Prelude.{ℕ, nat_le, nat_lt, ◌==◌, ◌||◌, is_some, Bool, true, false, if◌then◌else◌, slice_index, slice_index_or, Option, Some, None, List, [], ◌∷◌, Result, Ok, Err, codes}
 use Rattle.std.specs.List.{find}
 use Rattle.std.specs.Str.{bytes_eq}
 use Rattle.toml.specs.Data.{Data, Items, Members, get_member, as_array, as_str, as_table}

@@ -31,6 +31,10 @@ tab = 9
 abbrev pub carriage_return : ℕ
 carriage_return = 13
 
+-- what parts lines
+abbrev pub newline : ℕ
+newline = 10
+
 -- space, tab or CR, which parts words and ends no line
 abbrev pub is_blank : ℕ → Bool
 is_blank b = b == space || b == tab || b == carriage_return

@@ -1,5 +1,5 @@
 -- The words of lines, one line at a time.
-use Rattle.std.proofs.Common.{◌≡◌, ℕ, ◌+◌, ◌<◌, true, false, Bool, cond, List, [], ◌∷◌, ◌++◌, map, Result, Ok, Err, Option, Some, Bor, refl, sym, ap, ◌∙◌, append_assoc}
+use Rattle.std.proofs.Common.{◌≡◌, ℕ, ◌+◌, true, false, Bool, cond, List, [], ◌∷◌, ◌++◌, map, Result, Ok, Err, Option, Some, Bor, refl, sym, ap, ◌∙◌, append_assoc}
 use Rattle.std.specs.Prelude.{option_copied, nat_lt}
 use Rattle.byte_lines.specs.Lines.{lines_of, lines_left}
 use Rattle.word_file.specs.declared.fault.WordFault.{WordFault}

@@ -1,7 +1,6 @@
 -- What a word file has: its words, or its first fault.
 use Rattle.std.specs.Prelude.{ℕ, ◌+◌, nat_lt, List, [], ◌∷◌, ◌++◌, Result, Ok, Err, if◌then◌else◌, map}
 use Rattle.byte_lines.specs.Lines.{lines_of}
-use Rattle.word_file.specs.declared.fault.WordKind.{WordKind}
 use Rattle.word_file.specs.declared.fault.WordKind.TheVariants.{BadWord, TooMany}
 use Rattle.word_file.specs.declared.fault.WordFault.{WordFault}
 use Rattle.word_file.specs.declared.line.Line.{Line}

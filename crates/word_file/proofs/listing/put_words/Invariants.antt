@@ -1,4 +1,4 @@
-use Rattle.std.proofs.Common.{◌≡◌, ◌≤◌, length, drop}
+use Rattle.std.proofs.Common.{◌≡◌, drop}
 use Rattle.pio_edge.specs.Puts.{Going}
 use Rattle.word_file.specs.Listing.{word_lines, lines_from}
 use Rattle.word_file.proofs.listing.put_words.Given as goal

@@ -1,10 +1,10 @@
-use Rattle.std.proofs.Common.{◌≡◌, ℕ, ◌+◌, ◌≤◌, ◌||◌, ◌==◌, Bool, true, false, List, [], ◌∷◌, length, refl, sym, ap, ◌∙◌, subst, arith}
+use Rattle.std.proofs.Common.{◌≡◌, ℕ, ◌+◌, ◌≤◌, ◌||◌, ◌==◌, Bool, true, false, List, [], ◌∷◌, length, refl, sym, ap, ◌∙◌, arith}
 use Rattle.std.proofs.lemmas.Bool.Decides.{nat_tests}
 use Rattle.dreq_pacing.specs.declared.line.Line.{Line}
 use Rattle.dreq_pacing.specs.declared.due.Requests.{Requests}
 use Rattle.dreq_pacing.specs.Transfers.{Transfers}
-use Rattle.dreq_pacing.specs.Lines.{lines_in, has_lines, has_line}
-use Rattle.dreq_pacing.specs.Ports.{Ports, acts_in, moves_in, transfers_after}
+use Rattle.dreq_pacing.specs.Lines.{lines_in, has_lines}
+use Rattle.dreq_pacing.specs.Ports.{Ports, acts_in, moves_in}
 use Rattle.dreq_pacing.proofs.ports.HostPorts.at.Goals as goal
 
 none_of : (lines : List Line) → true ≡ (length lines == 0) → has_lines lines ≡ false
