@@ -1,0 +1,4 @@
+pub mod Contexts
+pub mod Outcomes
+pub mod Courses
+pub mod Steps

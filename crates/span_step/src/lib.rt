@@ -1,0 +1,21 @@
+//! One step of the timing checker: from what is known of a machine between two instructions, with the ages of a span's open
+//! from-edges, to what can come next.
+#![tactic(auto)]
+
+mod acts;
+mod ages;
+mod cause;
+mod context;
+mod course;
+mod levels;
+mod outcome;
+mod rules;
+mod stepped;
+mod stepping;
+mod visit;
+
+pub use ages::Ages;
+pub use cause::{Cause, Causes};
+pub use context::Context;
+pub use stepped::{Next, Nexts, Stepped};
+pub use stepping::step;
