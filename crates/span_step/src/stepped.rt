@@ -1,5 +1,5 @@
 //! What a step finds.
-ghost use Rattle.std.specs.Prelude.{◌≡◌, ◌<◌, ◌++◌, ◌∷◌, [], length};
+ghost use Rattle.std.specs.Prelude.{◌≡◌, ◌<◌, ◌≤◌, ◌++◌, ◌∷◌, [], length};
 
 use crate::ages::Ages;
 use crate::cause::Causes;
@@ -51,7 +51,8 @@ impl Nexts {
 
     /// In order: by outcome, and in it the prompt course first.
     pub fn as_slice(&self) -> &[Next]
-        ensures { result.now ≡ self.now }
+        ensures value { result.now ≡ self.now }
+        ensures fits { length result.now ≤ 8 }
     {
         self.items.as_slice()
     }

@@ -1,0 +1,4 @@
+pub mod Nexts
+pub mod Placing
+pub mod Rows
+pub mod Reaching

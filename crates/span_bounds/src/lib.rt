@@ -1,0 +1,13 @@
+//! The timing checker's table: the least that is closed under the steps of a span's machine.
+#![tactic(auto)]
+
+mod entry;
+mod grid;
+mod number;
+mod reach;
+mod row;
+mod start;
+mod table;
+
+pub use row::Row;
+pub use table::Table;
