@@ -98,10 +98,10 @@ holds_true Empty (Present b) q = λ o. absurd (bad o) where
   bad e = cc
 holds_true (Between lo hi) (Present b) q = λ o. q
 
-at_other : (g : List Entry) (i j : ℕ) (e : Entry) → j ≢ i → at (set g i e) j ≡ at g j
+pub at_other : (g : List Entry) (i j : ℕ) (e : Entry) → j ≢ i → at (set g i e) j ≡ at g j
 at_other g i j e n = get_or-set_other g i j e Absent n
 
-at_same : (g : List Entry) (i : ℕ) (e : Entry) → i < length g → at (set g i e) i ≡ e
+pub at_same : (g : List Entry) (i : ℕ) (e : Entry) → i < length g → at (set g i e) i ≡ e
 at_same g i e l = get_or-set_same g i e Absent l
 
 -- at each number the entry is the old one or lies above it

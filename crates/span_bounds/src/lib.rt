@@ -1,6 +1,7 @@
 //! The timing checker's table: the least that is closed under the steps of a span's machine.
 #![tactic(auto)]
 
+mod count;
 mod entry;
 mod grid;
 mod number;
@@ -8,6 +9,7 @@ mod reach;
 mod row;
 mod start;
 mod table;
+mod take;
 
 pub use row::Row;
 pub use table::Table;
