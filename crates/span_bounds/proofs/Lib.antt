@@ -6,3 +6,4 @@ pub mod Joins
 pub mod Counts
 pub mod Totals
 pub mod Takes
+pub mod Ends

@@ -5,3 +5,4 @@ pub mod Reach
 pub mod Sums
 pub mod Count
 pub mod Take
+pub mod Answers

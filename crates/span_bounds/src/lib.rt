@@ -2,6 +2,8 @@
 #![tactic(auto)]
 
 mod count;
+mod answer;
+mod derived;
 mod entry;
 mod grid;
 mod number;
@@ -11,5 +13,7 @@ mod start;
 mod table;
 mod take;
 
+pub use answer::derive;
+pub use derived::Derived;
 pub use row::Row;
 pub use table::Table;

@@ -79,7 +79,7 @@ fn is_ready(left: &Grid, missing: &Vec<u32>, number: usize) -> bool
 }
 
 /// Whether ages are open at an entry.
-fn is_open(entry: Entry) -> bool
+pub(crate) fn is_open(entry: Entry) -> bool
     ensures { result ≡ sums.open_at entry }
 {
     match entry {

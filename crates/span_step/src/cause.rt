@@ -1,6 +1,7 @@
 //! Why a row is bad.
 ghost use Rattle.std.specs.Prelude.{◌≡◌};
 ghost use Rattle.span_step.specs.Courses as spec;
+ghost use Rattle.span_step.specs.Laws as laws;
 
 /// A cause for which a row is bad.
 #[derive(Clone, Copy, Debug, PartialEq, Eq)]
@@ -34,6 +35,23 @@ impl Causes {
             u2: false,
             u3: false,
             u4: false,
+        }
+    }
+
+    /// The first in the order U1, U2, U3, U4.
+    pub fn first(self) -> Option<Cause>
+        ensures { result ≡ laws.first_cause self }
+    {
+        if self.u1 {
+            Some(Cause::U1)
+        } else if self.u2 {
+            Some(Cause::U2)
+        } else if self.u3 {
+            Some(Cause::U3)
+        } else if self.u4 {
+            Some(Cause::U4)
+        } else {
+            None
         }
     }
 
