@@ -1,20 +1,20 @@
 -- The second sweep keeps what it says of its table and numbers.
-use Rattle.std.proofs.Common.{◌≡◌, ◌≢◌, ℕ, zero, suc, ◌+◌, ◌*◌, ◌-◌, ◌^◌, ◌<◌, ◌≤◌, ◌==◌, ◌⊎◌, Bool, true, false, ◌&&◌, cond, if◌then◌else◌, MatchBool, List, [], ◌∷◌, ◌++◌, length, get_or, take, replicate, slice_index, refl, sym, ap, ◌∙◌, subst, inl, inr, add-one, arith}
+use Rattle.std.proofs.Common.{◌≡◌, ◌≢◌, ℕ, zero, suc, ◌+◌, ◌*◌, ◌-◌, ◌^◌, ◌<◌, ◌≤◌, ◌==◌, ◌⊎◌, Bool, true, false, ◌&&◌, if◌then◌else◌, MatchBool, List, [], ◌∷◌, ◌++◌, length, get_or, take, replicate, slice_index, refl, sym, ap, ◌∙◌, subst, inl, inr, add-one, arith}
 use Rattle.std.proofs.Math.ListN.{set}
 use Rattle.std.proofs.lemmas.Bool.Decides.{nat_tests}
 use Rattle.std.proofs.lemmas.List.{length-set, get_or-set_same, get_or-set_other, take_more, length-take-le, length-replicate, get_or-replicate}
 use Rattle.pin_matrix.specs.declared.setup.Setup.{Setup}
 use Rattle.pin_matrix.specs.declared.span.Span.{Span}
 use Rattle.span_step.specs.declared.ages.Ages.{Ages}
-use Rattle.span_step.specs.declared.ages.Ages.TheVariants.{Empty, Between}
+use Rattle.span_step.specs.declared.ages.Ages.TheVariants.{Empty}
 use Rattle.span_step.specs.declared.stepped.Next.{Next}
 use Rattle.span_step.specs.Contexts.{is_open}
 use Rattle.span_bounds.specs.declared.entry.Entry.{Entry}
 use Rattle.span_bounds.specs.declared.entry.Entry.TheVariants.{Absent, Present}
 use Rattle.span_bounds.specs.Tables.{LiesAt}
-use Rattle.span_bounds.specs.Edges.{at, nexts_at, spot, EachNext, AllLie, IsClosedAt}
-use Rattle.span_bounds.specs.Reach.{Holds, Below, AllHold, IsReach}
-use Rattle.span_bounds.specs.Sums.{total, passages, waits, waits_by, one_if, join_into}
+use Rattle.span_bounds.specs.Edges.{at, nexts_at, spot, EachNext, IsClosedAt}
+use Rattle.span_bounds.specs.Reach.{Holds, AllHold, IsReach}
+use Rattle.span_bounds.specs.Sums.{total, passages, waits, one_if}
 use Rattle.span_bounds.specs.Count.{LieBut, IsUnder, Count, Counting, Counted}
 use Rattle.span_bounds.proofs.Nexts.{EachNext-at, EachNext-more, EachNext-map, same_or_not}
 use Rattle.span_bounds.proofs.Joins.{joined_at, lies_at_join, lies_still, IsUnder-join, closed_lie_but}
@@ -62,27 +62,37 @@ pub Counting-step : (u : Setup) (sp : Span) (g x x' : List Entry) (m m' : List �
 Counting-step u sp g x x' m m' i a items k n reach l entry e lk q near c r = on (is_open a && n.passes) refl r where
   more : take (k + 1) items ≡ take k items ++ n ∷ []
   more = take_more items k n lk ∙ ap (λ y. take k items ++ y ∷ []) (sym q)
+
   size : length (take k items) ≡ k
   size = length-take-le k items (omega arith)
+
   size_more : length (take (k + 1) items) ≡ k + 1
   size_more = length-take-le (k + 1) items (omega arith)
+
   inside_m : spot n < length m
   inside_m = rw c.numbers near
+
   inside_x : spot n < length x
   inside_x = rw c.under.size near
+
   held : AllHold (at g) (nexts_at u sp i a)
   held = elim (reach.sweep.steps i a l entry) [ inl h ↦ absurd h | inr h ↦ h ]
+
   here : (P : Next → Type 0) → EachNext P (nexts_at u sp i a) → P n
   here P h = let h' : EachNext P items = rw e h in let p : P (get_or items k n) = EachNext-at P items k n h' lk in subst P (sym q) p
+
   lies : (f : ℕ → Entry) → IsClosedAt u sp f → (is_open a && n.passes) ≡ false → LiesAt n.ages (f (spot n))
   lies f s z = here (λ y. (is_open a && y.passes) ≡ false → LiesAt y.ages (f (spot y))) (closed_lie_but u sp f i a l s (needed f s)) z where
     needed : (f : ℕ → Entry) → IsClosedAt u sp f → Holds a (f i)
     needed f s = rw entry at (reach.sweep.least f s i l)
+
   open_count : (v : ℕ) → is_open a ≡ true → n.passes ≡ true → (if is_open a then passages v (take (k + 1) items) else 0) ≡ (if is_open a then passages v (take k items) else 0) + one_if (spot n == v)
   open_count v o p = rw (o, more, passages-push v (take k items) n, one_more v n p) refl
+
   shut_count : (v : ℕ) (o : Bool) → (o && n.passes) ≡ false → (if o then passages v (take (k + 1) items) else 0) ≡ (if o then passages v (take k items) else 0)
   shut_count v true z = rw (more, passages-push v (take k items) n, no_more v n z) (omega arith)
   shut_count v false z = refl
+
   on : (z : Bool) → (is_open a && n.passes) ≡ z → MatchBool z ((x' ≡ x) × (m' ≡ set m (spot n) (slice_index m (spot n) + 1))) ((x' ≡ joined_at x (spot n) n.ages) × (m' ≡ m)) → Counting u sp g x' m' i a (take (k + 1) items)
   on true z w = rw (w.0, w.1) (record {
     under = c.under;
@@ -96,8 +106,10 @@ Counting-step u sp g x x' m m' i a items k n reach l entry e lk q near c r = on 
   }) where
     clash : {b : Bool} → b ≡ true → b ≡ false → ⊥
     clash p q = cc
+
     small : (v : ℕ) → slice_index m v ≤ 8 * i + length (take k items) → one_if (spot n == v) ≤ 1 → slice_index m v + one_if (spot n == v) ≤ 8 * i + (k + 1)
     small v h o = let h' : slice_index m v ≤ 8 * i + k = rw size at h in omega arith
+
     counted : (v : ℕ) → slice_index m v ≡ total i (waits u sp (at g) v) + (if is_open a then passages v (take k items) else 0) → slice_index m v + one_if (spot n == v) ≡ total i (waits u sp (at g) v) + (if is_open a then passages v (take (k + 1) items) else 0)
     counted v h = rw (h, open_count v (and_both (is_open a) n.passes z).0 (and_both (is_open a) n.passes z).1) (omega arith)
   on false z w = rw (w.0, w.1) (record {
@@ -109,8 +121,8 @@ Counting-step u sp g x x' m m' i a items k n reach l entry e lk q near c r = on 
     row = lies_still x (spot n) n.ages Empty i inside_x c.row;
     fresh = λ j b s t. but_still (is_open b) x (spot n) n.ages _ inside_x (c.fresh j b s t);
     done_fresh = EachNext-more (λ y. (is_open a && y.passes) ≡ false → LiesAt y.ages (at (joined_at x (spot n) n.ages) (spot y))) items k n lk
-      (but_still (is_open a) x (spot n) n.ages _ inside_x c.done_fresh)
-      (subst (λ y. (is_open a && y.passes) ≡ false → LiesAt y.ages (at (joined_at x (spot n) n.ages) (spot y))) q (λ f. lies_at_join x (spot n) n.ages inside_x));
+        (but_still (is_open a) x (spot n) n.ages _ inside_x c.done_fresh)
+        (subst (λ y. (is_open a && y.passes) ≡ false → LiesAt y.ages (at (joined_at x (spot n) n.ages) (spot y))) q (λ f. lies_at_join x (spot n) n.ages inside_x));
   }) where
     small : (v : ℕ) → slice_index m v ≤ 8 * i + length (take k items) → slice_index m v ≤ 8 * i + (k + 1)
     small v h = let h' : slice_index m v ≤ 8 * i + k = rw size at h in omega arith
@@ -129,15 +141,19 @@ Counting-begins u sp g x x' m i a reach l entry e c = rw e (record {
 }) where
   inside : i < length x
   inside = rw c.under.size l
+
   holds : (e : Entry) → e ≡ Present a → Holds Empty e
   holds e q = rw q (λ o. absurd (shut o)) where
     shut : false ≡ true → ⊥
     shut o = cc
+
   lies : (b : Ages) (e : Entry) → Holds b e → LiesAt Empty e
   lies b Absent h = h
   lies b (Present c) h = tt
+
   needed : (f : ℕ → Entry) → IsClosedAt u sp f → LiesAt Empty (f i)
   needed f s = lies a (f i) (rw entry at (reach.sweep.least f s i l))
+
   nothing : (v : ℕ) (o : Bool) → total i (waits u sp (at g) v) ≡ total i (waits u sp (at g) v) + (if o then passages v [] else 0)
   nothing v true = rw (passages-nil v) (omega arith)
   nothing v false = omega arith
@@ -162,6 +178,7 @@ Counting-ends u sp g x m i a ns entry e few c = record {
 } where
   here : (v : ℕ) → waits u sp (at g) v i ≡ (if is_open a then passages v ns else 0)
   here v = rw (entry, e) refl
+
   fresh : (j : ℕ) (b : Ages) → at g j ≡ Present b → (j < i) ⊎ (j ≡ i) → LieBut (is_open b) (at x) (nexts_at u sp j b)
   fresh j b q (inl s) = c.fresh j b s q
   fresh j b q (inr s) = let q' : at g i ≡ Present b = rw s at q in let same : a ≡ b = cc in
@@ -179,8 +196,10 @@ Count-skips u sp g x m i none c = record {
 } where
   plus_zero : (n : ℕ) → n + 0 ≡ n
   plus_zero n = omega arith
+
   here : (v : ℕ) → waits u sp (at g) v i ≡ 0
   here v = rw none refl
+
   clash : {e : Entry} {b : Ages} → e ≡ Absent → e ≡ Present b → ⊥
   clash p q = cc
 

@@ -1,5 +1,5 @@
 -- What the three sweeps come to: the least closed table, or a row that is bad in each.
-use Rattle.std.proofs.Common.{◌≡◌, ◌≢◌, ℕ, zero, suc, ◌+◌, ◌-◌, ◌^◌, ◌*◌, ◌/◌, ◌<◌, ◌≤◌, ◌==◌, ◌⊎◌, min, Bool, true, false, ◌&&◌, cond, if◌then◌else◌, nat_lt, IsSome, is_some, Option, Some, None, List, [], ◌∷◌, length, get_or, slice_index_or, refl, sym, ap, ◌∙◌, subst, inl, inr, arith}
+use Rattle.std.proofs.Common.{◌≡◌, ℕ, zero, suc, ◌+◌, ◌-◌, ◌^◌, ◌*◌, ◌<◌, ◌≤◌, ◌==◌, ◌⊎◌, min, Bool, true, false, ◌&&◌, if◌then◌else◌, IsSome, Option, Some, None, List, [], ◌∷◌, length, refl, sym, ap, ◌∙◌, subst, inl, inr, arith}
 use Rattle.std.proofs.lemmas.Bool.Decides.{nat_tests}
 use Rattle.std.proofs.lemmas.Bool.{cases_lt}
 use Rattle.std.proofs.lemmas.List.{get_or_past}
@@ -15,7 +15,7 @@ use Rattle.span_step.specs.declared.cause.Cause.{Cause}
 use Rattle.span_step.specs.declared.cause.Cause.TheVariants.{U1, U2, U3, U4}
 use Rattle.span_step.specs.declared.cause.Causes.{Causes}
 use Rattle.span_step.specs.declared.stepped.Next.{Next}
-use Rattle.span_step.specs.Contexts.{Context, IsInside, is_open, is_placed}
+use Rattle.span_step.specs.Contexts.{Context, IsInside}
 use Rattle.span_step.specs.Laws.{AllImplied, AllReach, ReachesAge, most_of, most_on, first_cause}
 use Rattle.span_step.specs.Steps.{context_steps, bounds_of, bounds_in, period_of}
 use Rattle.span_step.proofs.Wider.{IsWithin-context_steps}
@@ -25,18 +25,14 @@ use Rattle.span_bounds.specs.declared.entry.Entry.{Entry}
 use Rattle.span_bounds.specs.declared.entry.Entry.TheVariants.{Absent, Present}
 use Rattle.span_bounds.specs.declared.row.Row.{Row}
 use Rattle.span_bounds.specs.Numbers.{number_of, context_at}
-use Rattle.span_bounds.specs.Tables.{LiesAt, entry_at, rows_from, start_context, AllLieIn, EachRow, IsTableFrom, IsTable, IsClosed, IsGood, IsLeast, LiesWithin}
-use Rattle.span_bounds.specs.Edges.{at, nexts_at, spot, EachNext, AllLie, IsClosedAt}
-use Rattle.span_bounds.specs.Reach.{Holds, Below, IsReach}
+use Rattle.span_bounds.specs.Tables.{LiesAt, entry_at, rows_from, start_context, AllLieIn, EachRow, IsTableFrom, IsTable, IsClosed}
+use Rattle.span_bounds.specs.Edges.{at, nexts_at, spot, AllLie, IsClosedAt}
+use Rattle.span_bounds.specs.Reach.{Holds, Below}
 use Rattle.span_bounds.specs.Sums.{passages, one_if, open_at}
-use Rattle.span_bounds.specs.Count.{EntryIn, IsUnder}
-use Rattle.span_bounds.specs.Take.{IsFresh, AreLeft, IsTaken}
-use Rattle.span_bounds.specs.Answers.{HasCause, IsGoodLeast, IsBadEverywhere, filled, cause_by, cause_at, AreGoodBelow, IsBadAt}
+use Rattle.span_bounds.specs.Take.{IsTaken}
+use Rattle.span_bounds.specs.Answers.{HasCause, IsGoodLeast, IsBadEverywhere, cause_at, AreGoodBelow}
 use Rattle.span_bounds.proofs.Placing.{number_of-context_at, context_at-number_of}
 use Rattle.span_bounds.proofs.Rows.{entry_at-rows_from, IsTable-rows_from}
-use Rattle.span_bounds.proofs.Reaching.{Holds-below}
-use Rattle.span_bounds.proofs.Totals.{passages-cons}
-use Rattle.span_bounds.proofs.Joins.{closed_lies}
 
 -- ages of at least n at an entry
 abbrev ReachesAt : ℕ → Entry → Type 0
@@ -85,13 +81,16 @@ left_above u sp l x t f c zero b i m o = by (f i) (t.reached.sweep.least f c i m
     bad : false ≡ true → ⊥
     bad e = cc
   opens (Present a) o (Present (Between lo hi)) h = omega arith
+
   by : (g : Entry) → Below (at t.reach i) g → ReachesAt 0 g
   by g h = opens (at t.reach i) (rw (t.left.left i m o) at o) g h
 left_above u sp l x t f c (suc n) b i m o = on (f w.0) refl (left_above u sp l x t f c n (omega arith) w.0 w.1.0 w.1.1.0) where
   w : (w : ℕ) × ((w < 139392) × ((open_at (at l w) ≡ true) × ((b : Ages) → 1 ≤ passages i (nexts_at u sp w b))))
   w = t.blocked i m o
+
   same : min n (most_of u sp) + 1 ≡ suc n
   same = omega arith
+
   on : (e : Entry) → f w.0 ≡ e → ReachesAt n e → ReachesAt (suc n) (f i)
   on Absent q h = absurd h
   on (Present a) q h = subst (λ y. ReachesAt y (f i)) same (passed_on _ i f (nexts_at u sp w.0 a) (w.1.1.1 a) (nexts_reach u sp w.0 a n h) (c.steps w.0 a w.1.0 q))
@@ -121,8 +120,8 @@ row_at P n (r ∷ rows) i a t e q = on (number_of r.context == i) refl (λ y. ro
       let ages : r.ages ≡ a = cc in
       let context : r.context ≡ context_at i = sym (context_at-number_of r.context t.0) ∙ ap context_at same in
       subst P (whole r.context (context_at i) r.ages a context ages) e.0 where
-    whole : (k j : Context) (b c : Ages) → k ≡ j → b ≡ c → ◌≡◌ {A = Row} (record { context = k; ages = b }) (record { context = j; ages = c })
-    whole k j b c x y = rw (x, y) refl
+        whole : (k j : Context) (b c : Ages) → k ≡ j → b ≡ c → ◌≡◌ {A = Row} (record { context = k; ages = b }) (record { context = j; ages = c })
+        whole k j b c x y = rw (x, y) refl
   on false w later = later (rw w at q)
 
 lie_in : (rows : List Row) (ns : List Next) → AllLieIn rows ns → AllLie (entry_at rows) ns
@@ -147,11 +146,13 @@ each_row P n [] h = tt
 each_row P n (Absent ∷ g) h = each_row P (n + 1) g (λ i a l q. subst (λ y. P (record { context = context_at y; ages = a })) (shift n i) (h (suc i) a (omega arith) q)) where
   shift : (n i : ℕ) → n + suc i ≡ n + 1 + i
   shift n i = omega arith
-each_row P n (Present b ∷ g) h =
-    (subst (λ y. P (record { context = context_at y; ages = b })) (still n) (h 0 b (omega arith) refl),
-    each_row P (n + 1) g (λ i a l q. subst (λ y. P (record { context = context_at y; ages = a })) (shift n i) (h (suc i) a (omega arith) q))) where
+each_row P n (Present b ∷ g) h = (
+  subst (λ y. P (record { context = context_at y; ages = b })) (still n) (h 0 b (omega arith) refl),
+  each_row P (n + 1) g (λ i a l q. subst (λ y. P (record { context = context_at y; ages = a })) (shift n i) (h (suc i) a (omega arith) q)),
+) where
   shift : (n i : ℕ) → n + suc i ≡ n + 1 + i
   shift n i = omega arith
+
   still : (n : ℕ) → n + 0 ≡ n
   still n = omega arith
 
@@ -175,6 +176,7 @@ module _ (u : Setup) (sp : Span) (l x : List Entry) (t : IsTaken u sp l x) (read
   starts = on (at t.reach (number_of (start_context u sp))) refl (cases_lt (number_of (start_context u sp)) 139392) t.reached.sweep.begins where
     present : {a : Ages} → Present a ≡ Absent → ⊥
     present e = cc
+
     on : (e : Entry) → at t.reach (number_of (start_context u sp)) ≡ e → (number_of (start_context u sp) < 139392) ⊎ (139392 ≤ number_of (start_context u sp)) → Holds Empty (at t.reach (number_of (start_context u sp))) → LiesAt Empty (at x (number_of (start_context u sp)))
     on Absent q c h = absurd (rw q at h)
     on (Present a) q (inl m) h = t.keeps.rows (number_of (start_context u sp)) a m q
@@ -234,17 +236,22 @@ IsBadEverywhere-ends u sp l x n k t ready m e = record { bad = λ others o c. rw
   less : (a : Ages) (v : ℕ) → ReachesAge (v + 1) a → ReachesAge v a
   less Empty v h = h
   less (Between lo hi) v h = omega arith
+
   at_left : (f : ℕ → Entry) → first_cause (context_steps u sp (context_at n) (Between 0 (2 ^ 32 - 1))).causes ≡ Some k → (g : Entry) → f n ≡ g → ReachesAt (most_of u sp + 1) g → (a : Ages) × ((f n ≡ Present a) × HasCause k (context_steps u sp (context_at n) a).causes)
   at_left f w Absent q h = absurd h
   at_left f w (Present b) q h = (b, (q, first_has _ k (overdue_alike u sp (context_at n) b (Between 0 (2 ^ 32 - 1)) ready (less b (most_of u sp) h) (most_fits u sp) ∙ w)))
+
   at_row : (f : ℕ → Entry) (a : Ages) → first_cause (context_steps u sp (context_at n) a).causes ≡ Some k → (g : Entry) → f n ≡ g → LiesAt a g → (a : Ages) × ((f n ≡ Present a) × HasCause k (context_steps u sp (context_at n) a).causes)
   at_row f a w Absent q h = absurd h
   at_row f a w (Present b) q h = (b, (q, has_more k _ _ (IsWithin-context_steps u sp (context_at n) a b h).causes (first_has _ k w)))
+
   none : None ≡ Some k → ⊥
   none y = cc
+
   in_table : (f : ℕ → Entry) → IsClosedAt u sp f → (g : Entry) → at x n ≡ g → open_at (at l n) ≡ false → (a : Ages) × ((f n ≡ Present a) × HasCause k (context_steps u sp (context_at n) a).causes)
   in_table f c Absent q o = absurd (none (rw (o, q) at e))
   in_table f c (Present a) q o = at_row f a (rw (o, q) at e) (f n) refl (rw q at (t.keeps.under.least f c n m))
+
   by : (f : ℕ → Entry) → IsClosedAt u sp f → (z : Bool) → open_at (at l n) ≡ z → (a : Ages) × ((f n ≡ Present a) × HasCause k (context_steps u sp (context_at n) a).causes)
   by f c true o = at_left f (rw o at e) (f n) refl (left_above u sp l x t f c (most_of u sp + 1) (omega arith) n m o)
   by f c false o = in_table f c (at x n) refl o

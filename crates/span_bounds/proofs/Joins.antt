@@ -1,5 +1,5 @@
 -- Ages that join an entry, and what a table keeps then.
-use Rattle.std.proofs.Common.{◌≡◌, ◌≢◌, ℕ, ◌+◌, ◌<◌, ◌≤◌, ◌⊎◌, min, max, Bool, true, false, ◌&&◌, List, [], ◌∷◌, length, get_or, refl, sym, ap, ◌∙◌, inl, inr, arith}
+use Rattle.std.proofs.Common.{◌≡◌, ◌≢◌, ℕ, ◌<◌, ◌⊎◌, Bool, true, false, ◌&&◌, List, [], ◌∷◌, length, refl, sym, ◌∙◌, inl, inr, arith}
 use Rattle.std.proofs.Math.ListN.{set}
 use Rattle.std.proofs.lemmas.List.{length-set}
 use Rattle.pin_matrix.specs.declared.setup.Setup.{Setup}
@@ -14,7 +14,7 @@ use Rattle.span_step.proofs.Alike.{SameAfterEdge-context_steps}
 use Rattle.span_bounds.specs.declared.entry.Entry.{Entry}
 use Rattle.span_bounds.specs.declared.entry.Entry.TheVariants.{Absent, Present}
 use Rattle.span_bounds.specs.Tables.{LiesAt}
-use Rattle.span_bounds.specs.Edges.{at, nexts_at, spot, EachNext, AllLie, IsClosedAt}
+use Rattle.span_bounds.specs.Edges.{at, nexts_at, spot, AllLie, IsClosedAt}
 use Rattle.span_bounds.specs.Reach.{Holds, Below}
 use Rattle.span_bounds.specs.Sums.{join, join_into}
 use Rattle.span_bounds.specs.Count.{EntryIn, LieBut, IsUnder}
@@ -96,9 +96,11 @@ IsUnder-join u sp g x p a l s needed h = record {
 } where
   inside : p < length x
   inside = rw s.size l
+
   least : (f : ℕ → Entry) → IsClosedAt u sp f → (j : ℕ) → j < 139392 → (j ≡ p) ⊎ (j ≢ p) → EntryIn (at (joined_at x p a) j) (f j)
   least f c j m (inl e) = rw (e, at_same x p (Present (join_into a (at x p))) inside) (join_lies a (at x p) (f p) (needed f c) (s.least f c p l))
   least f c j m (inr n) = rw (at_other x p j (Present (join_into a (at x p))) n) (s.least f c j m)
+
   within : (j : ℕ) → j < 139392 → (j ≡ p) ⊎ (j ≢ p) → Below (at (joined_at x p a) j) (at g j)
   within j m (inl e) = rw (e, at_same x p (Present (join_into a (at x p))) inside) (join_holds a (at x p) (at g p) h (s.within p l))
   within j m (inr n) = rw (at_other x p j (Present (join_into a (at x p))) n) (s.within j m)
@@ -142,6 +144,7 @@ closed_lie_but u sp f i a l c h = on (f i) refl h where
   by : (a b : Ages) → AllLie f (nexts_at u sp i b) → LieBut (is_open a) f (nexts_at u sp i a)
   by Empty b k = lie_but false f _ (along u sp f i Empty b tt k)
   by (Between lo hi) b k = beside u sp f i (Between lo hi) b (lie_but true f _ k)
+
   on : (e : Entry) → f i ≡ e → Holds a e → LieBut (is_open a) f (nexts_at u sp i a)
   on Absent q k = absurd k
   on (Present b) q k = by a b (c.steps i b l q)

@@ -1,5 +1,5 @@
 -- Lists of nexts and of numbers, element by element.
-use Rattle.std.proofs.Common.{◌≡◌, ℕ, zero, suc, ◌+◌, ◌<◌, ◌≢◌, ◌⊎◌, List, [], ◌∷◌, ◌++◌, length, get_or, take, refl, inl, inr, add-one, arith}
+use Rattle.std.proofs.Common.{◌≡◌, ℕ, zero, suc, ◌+◌, ◌<◌, ◌≢◌, ◌⊎◌, List, [], ◌∷◌, ◌++◌, length, get_or, take, inl, inr, add-one, arith}
 use Rattle.std.proofs.lemmas.Bool.{cases_lt}
 use Rattle.span_step.specs.declared.stepped.Next.{Next}
 use Rattle.span_bounds.specs.Edges.{EachNext, Among}
@@ -34,6 +34,6 @@ Among-pop i j (x ∷ w) (inr h) = elim (Among-pop i j w h) [ inl e ↦ inl e | i
 
 pub same_or_not : (i j : ℕ) → (i ≡ j) ⊎ (i ≢ j)
 same_or_not i j = elim (cases_lt i j) [
-    inl below ↦ inr (λ e. omega arith)
-    | inr above ↦ elim (cases_lt j i) [ inl more ↦ inr (λ e. omega arith) | inr least ↦ inl (omega arith) ]
-  ]
+  | inl below ↦ inr (λ e. omega arith)
+  | inr above ↦ elim (cases_lt j i) [ inl more ↦ inr (λ e. omega arith) | inr least ↦ inl (omega arith) ]
+]

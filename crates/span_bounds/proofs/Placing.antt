@@ -1,7 +1,6 @@
 -- A context and its number.
-use Rattle.std.proofs.Common.{◌≡◌, ℕ, ◌+◌, ◌*◌, ◌/◌, ◌%◌, ◌<◌, ◌≤◌, ◌==◌, ◌⊎◌, ◌≢◌, Bool, true, false, cond, nat_lt, ◌&&◌, IsTrue, Option, Some, None, refl, sym, ap, ◌∙◌, inl, inr, arith}
+use Rattle.std.proofs.Common.{◌≡◌, ℕ, ◌+◌, ◌*◌, ◌/◌, ◌%◌, ◌<◌, ◌==◌, Bool, true, false, cond, nat_lt, ◌&&◌, Option, Some, None, refl, arith}
 use Rattle.std.proofs.lemmas.Bool.Decides.{nat_tests}
-use Rattle.std.proofs.lemmas.Bool.{cases_lt}
 use Rattle.span_step.specs.Contexts.{Context, is_placed, is_small}
 use Rattle.span_bounds.specs.Numbers.{known_number, level_number, number_of, known_at, context_at}
 
@@ -86,9 +85,14 @@ context_at-number_of k h =
     let y = known_below k.y s.1 in
     let f = level_below k.from in
     let t = level_below k.to in
-    rw (address_of k.address (known_number k.x) (known_number k.y) (level_number k.from) (level_number k.to) x y f t,
+    rw (
+      address_of k.address (known_number k.x) (known_number k.y) (level_number k.from) (level_number k.to) x y f t,
       x_of k.address (known_number k.x) (known_number k.y) (level_number k.from) (level_number k.to) x y f t,
       y_of k.address (known_number k.x) (known_number k.y) (level_number k.from) (level_number k.to) x y f t,
       from_of k.address (known_number k.x) (known_number k.y) (level_number k.from) (level_number k.to) x y f t,
       to_of k.address (known_number k.x) (known_number k.y) (level_number k.from) (level_number k.to) x y f t,
-      known_at-known_number k.x s.0, known_at-known_number k.y s.1, level_of k.from, level_of k.to) refl
+      known_at-known_number k.x s.0,
+      known_at-known_number k.y s.1,
+      level_of k.from,
+      level_of k.to,
+    ) refl

@@ -1,9 +1,8 @@
 -- The first sweep keeps what it says of its grid.
-use Rattle.std.proofs.Common.{◌≡◌, ◌≢◌, ℕ, ◌+◌, ◌<◌, ◌≤◌, ◌⊎◌, Bool, true, false, not, ◌||◌, cond, MatchBool, List, [], ◌∷◌, ◌++◌, length, get_or, take, replicate, refl, sym, ap, ◌∙◌, subst, inl, inr, arith}
+use Rattle.std.proofs.Common.{◌≡◌, ◌≢◌, ℕ, ◌+◌, ◌<◌, ◌≤◌, ◌⊎◌, Bool, true, false, MatchBool, List, [], ◌∷◌, ◌++◌, length, get_or, take, replicate, refl, sym, ◌∙◌, subst, inl, inr, arith}
 use Rattle.std.proofs.Math.ListN.{set}
-use Rattle.std.proofs.lemmas.List.{length-set, get_or-set_same, get_or-set_other, get_or-replicate, length-replicate, length_push, take_all}
+use Rattle.std.proofs.lemmas.List.{length-set, get_or-set_same, get_or-set_other, get_or-replicate, length-replicate, length_push}
 use Rattle.std.proofs.lemmas.List.Sums.{sum_by-set}
-use Rattle.std.specs.List.{sum_by}
 use Rattle.pin_matrix.specs.declared.setup.Setup.{Setup}
 use Rattle.pin_matrix.specs.declared.span.Span.{Span}
 use Rattle.span_step.specs.declared.ages.Ages.{Ages}
@@ -17,8 +16,8 @@ use Rattle.span_bounds.specs.declared.entry.Entry.{Entry}
 use Rattle.span_bounds.specs.declared.entry.Entry.TheVariants.{Absent, Present}
 use Rattle.span_bounds.specs.Numbers.{number_of}
 use Rattle.span_bounds.specs.Tables.{LiesAt, start_context}
-use Rattle.span_bounds.specs.Edges.{at, nexts_at, spot, EachNext, AllLie, IsClosedAt, Among}
-use Rattle.span_bounds.specs.Reach.{Holds, holds, Below, AllHold, plain, rises_left, room, IsNeeded, Sweep, Visit, IsReach, Raised}
+use Rattle.span_bounds.specs.Edges.{at, nexts_at, spot, AllLie, IsClosedAt, Among}
+use Rattle.span_bounds.specs.Reach.{Holds, holds, Below, AllHold, plain, rises_left, room, IsNeeded, Sweep, Visit, Raised}
 use Rattle.span_bounds.proofs.Nexts.{EachNext-at, EachNext-more, EachNext-map, Among-push, Among-pop, same_or_not}
 
 inside_open : (a b : Ages) → IsInside a b → is_open a ≡ true → is_open b ≡ true
@@ -135,6 +134,7 @@ module _ (u : Setup) (sp : Span) (g : List Entry) (w : List ℕ) (s : Sweep u sp
     steps : (j : ℕ) (b : Ages) → j < 139392 → at (set g i (Present (plain a))) j ≡ Present b → (j ≡ i) ⊎ (j ≢ i) → Among j (i ∷ w) ⊎ AllHold (at (set g i (Present (plain a)))) (nexts_at u sp j b)
     steps j b m q (inl e) = inl (inl e)
     steps j b m q (inr d) = elim (s.steps j b m (sym (at_other g i j _ d) ∙ q)) [ inl k ↦ inl (inr k) | inr k ↦ inr (AllHold-raised _ k) ]
+
     least : (f : ℕ → Entry) → IsClosedAt u sp f → (j : ℕ) → j < 139392 → (j ≡ i) ⊎ (j ≢ i) → Below (at (set g i (Present (plain a))) j) (f j)
     least f c j m (inl e) = rw (e, at_same g i (Present (plain a)) inside) (plain_held a (f i) (n.needed f c))
     least f c j m (inr d) = rw (at_other g i j (Present (plain a)) d) (s.least f c j m)
@@ -157,6 +157,7 @@ pub Visit-raised : (u : Setup) (sp : Span) (g g' : List Entry) (w w' : List ℕ)
 Visit-raised u sp g g' w w' i a k d l m below v r = on (holds n.ages (at g (spot n))) refl r where
   n : Next
   n = get_or (nexts_at u sp i a) k d
+
   on : (z : Bool) → holds n.ages (at g (spot n)) ≡ z → MatchBool z ((g' ≡ g) × (w' ≡ w)) ((g' ≡ set g (spot n) (Present (plain n.ages))) × (w' ≡ w ++ spot n ∷ [])) → Visit u sp g' w' i a (take (k + 1) (nexts_at u sp i a))
   on true q e = rw (e.0, e.1) (record {
     sweep = v.sweep;
@@ -168,24 +169,29 @@ Visit-raised u sp g g' w w' i a k d l m below v r = on (holds n.ages (at g (spot
     sweep = wider u sp _ (spot n ∷ i ∷ w) (i ∷ (w ++ spot n ∷ [])) there near raised;
     row = v.row;
     held = EachNext-more (λ x. Holds x.ages (at (set g (spot n) (Present (plain n.ages))) (spot x))) _ k d m
-      (AllHold-raised u sp g (i ∷ w) v.sweep (spot n) n.ages below q needed _ v.held)
-      (rw (at_same g (spot n) (Present (plain n.ages)) (rw v.sweep.size below)) (holds_plain n.ages));
+        (AllHold-raised u sp g (i ∷ w) v.sweep (spot n) n.ages below q needed _ v.held)
+        (rw (at_same g (spot n) (Present (plain n.ages)) (rw v.sweep.size below)) (holds_plain n.ages));
     same = same (same_or_not i (spot n)) v.same;
   }) where
     needed : IsNeeded u sp (spot n) n.ages
     needed = IsNeeded-next u sp i a k d l v.row m
+
     raised : Sweep u sp (set g (spot n) (Present (plain n.ages))) (spot n ∷ i ∷ w)
     raised = Sweep-raised u sp g (i ∷ w) v.sweep (spot n) n.ages below q needed
+
     there : (j : ℕ) → Among j (spot n ∷ i ∷ w) → Among j (i ∷ (w ++ spot n ∷ []))
     there j (inl h) = inr (Among-push j (spot n) w (inl h))
     there j (inr (inl h)) = inl h
     there j (inr (inr h)) = inr (Among-push j (spot n) w (inr h))
+
     back : (j : ℕ) → Among j (spot n ∷ w) → Among j (spot n ∷ i ∷ w)
     back j (inl h) = inl h
     back j (inr h) = inr (inr h)
+
     near : (j : ℕ) → Among j (i ∷ (w ++ spot n ∷ [])) → j < 139392
     near j (inl h) = raised.near j (inr (inl h))
     near j (inr h) = raised.near j (back j (Among-pop j (spot n) w h))
+
     same : (i ≡ spot n) ⊎ (i ≢ spot n) → (at g i ≡ Present a) ⊎ Among i w → (at (set g (spot n) (Present (plain n.ages))) i ≡ Present a) ⊎ Among i (w ++ spot n ∷ [])
     same (inl h) o = inr (Among-push i (spot n) w (inl h))
     same (inr h) (inl o) = inl (at_other g (spot n) i _ h ∙ o)
@@ -243,9 +249,9 @@ Visit-step u sp g g' w w' i a items k n p l e m q o below v r =
     let r' : Raised (spot n) n.ages g g' w w' = rw o at r in
     let below' : spot n < 139392 = rw o at below in
     rw e (Visit-raised u sp g g' w w' i a k n l (rw e at m)
-      (subst (λ x. spot x < 139392) q' below')
-      (rw e at v)
-      (subst (λ x. Raised (spot x) x.ages g g' w w') q' r'))
+    (subst (λ x. spot x < 139392) q' below')
+    (rw e at v)
+    (subst (λ x. Raised (spot x) x.ages g g' w w') q' r'))
 
 absent : (i : ℕ) → i < 139392 → at (replicate 139392 Absent) i ≡ Absent
 absent i l = get_or-replicate 139392 i Absent Absent l
@@ -270,18 +276,21 @@ Sweep-starts u sp g g' w w' i e o q l r =
       steps = λ j b m p. steps j b m p (same_or_not j i);
       least = λ f c j m. least f c j m (same_or_not j i);
     }) where
-    full_inside : i < length g
-    full_inside = rw (e, length-replicate 139392 Absent) l
-    others : (j : ℕ) → j < 139392 → j ≢ i → at (set g i (Present Empty)) j ≡ Absent
-    others j m n = at_other g i j (Present Empty) n ∙ rw e (absent j m)
-    steps : (j : ℕ) (b : Ages) → j < 139392 → at (set g i (Present Empty)) j ≡ Present b → (j ≡ i) ⊎ (j ≢ i) → Among j (i ∷ []) ⊎ AllHold (at (set g i (Present Empty))) (nexts_at u sp j b)
-    steps j b m p (inl h) = inl (inl h)
-    steps j b m p (inr n) = absurd (different (sym (others j m n) ∙ p)) where
-      different : {b : Ages} → Absent ≡ Present b → ⊥
-      different x = cc
-    least : (f : ℕ → Entry) → IsClosedAt u sp f → (j : ℕ) → j < 139392 → (j ≡ i) ⊎ (j ≢ i) → Below (at (set g i (Present Empty)) j) (f j)
-    least f c j m (inl h) = rw (h, at_same g i (Present Empty) full_inside, q) (lies_holds_empty _ c.starts)
-    least f c j m (inr n) = rw (others j m n) tt
+      full_inside : i < length g
+      full_inside = rw (e, length-replicate 139392 Absent) l
+
+      others : (j : ℕ) → j < 139392 → j ≢ i → at (set g i (Present Empty)) j ≡ Absent
+      others j m n = at_other g i j (Present Empty) n ∙ rw e (absent j m)
+
+      steps : (j : ℕ) (b : Ages) → j < 139392 → at (set g i (Present Empty)) j ≡ Present b → (j ≡ i) ⊎ (j ≢ i) → Among j (i ∷ []) ⊎ AllHold (at (set g i (Present Empty))) (nexts_at u sp j b)
+      steps j b m p (inl h) = inl (inl h)
+      steps j b m p (inr n) = absurd (different (sym (others j m n) ∙ p)) where
+        different : {b : Ages} → Absent ≡ Present b → ⊥
+        different x = cc
+
+      least : (f : ℕ → Entry) → IsClosedAt u sp f → (j : ℕ) → j < 139392 → (j ≡ i) ⊎ (j ≢ i) → Below (at (set g i (Present Empty)) j) (f j)
+      least f c j m (inl h) = rw (h, at_same g i (Present Empty) full_inside, q) (lies_holds_empty _ c.starts)
+      least f c j m (inr n) = rw (others j m n) tt
 
 -- a number is taken from the end
 pub Sweep-pop : (u : Setup) (sp : Span) (g : List Entry) (w w' : List ℕ) (i : ℕ) → w ≡ w' ++ i ∷ [] → Sweep u sp g w → Sweep u sp g (i ∷ w')
@@ -299,6 +308,7 @@ Sweep-skip u sp g w i e s = record {
 } where
   different : {b : Ages} → Absent ≡ Present b → ⊥
   different x = cc
+
   drop_it : (j : ℕ) (b : Ages) → at g j ≡ Present b → (j ≡ i) ⊎ Among j w → Among j w ⊎ AllHold (at g) (nexts_at u sp j b)
   drop_it j b q (inl h) = absurd (different (sym (rw h e) ∙ q))
   drop_it j b q (inr h) = inl h

@@ -1,10 +1,8 @@
 -- The rows of a grid.
-use Rattle.std.proofs.Common.{◌≡◌, ◌≢◌, ℕ, zero, suc, ◌+◌, ◌<◌, ◌≤◌, ◌==◌, Bool, true, false, cond, nat_lt, List, [], ◌∷◌, length, get_or, refl, sym, ap, ◌∙◌, subst, IsTrue, arith}
+use Rattle.std.proofs.Common.{◌≡◌, ◌≢◌, ℕ, zero, suc, ◌+◌, ◌<◌, ◌≤◌, ◌==◌, true, false, nat_lt, List, [], ◌∷◌, length, get_or, refl, ap, ◌∙◌, arith}
 use Rattle.std.proofs.lemmas.Bool.Decides.{nat_tests}
-use Rattle.span_step.specs.declared.ages.Ages.{Ages}
 use Rattle.span_bounds.specs.declared.entry.Entry.{Entry}
 use Rattle.span_bounds.specs.declared.entry.Entry.TheVariants.{Absent, Present}
-use Rattle.span_bounds.specs.declared.row.Row.{Row}
 use Rattle.span_bounds.specs.Numbers.{number_of, context_at}
 use Rattle.span_bounds.specs.Tables.{entry_at, rows_from, IsTableFrom, IsTable}
 use Rattle.span_bounds.proofs.Placing.{number_of-context_at, is_placed-context_at}
@@ -31,9 +29,9 @@ from n (Absent ∷ g) (suc i) = ap (entry_at (rows_from (n + 1) g)) (shift n i) 
 from n (Present a ∷ g) zero = rw (same_number (number_of (context_at n)) (n + 0) (omega (arith, number_of-context_at n))) refl
 from n (Present a ∷ g) (suc i) =
     rw (other_number (number_of (context_at n)) (n + suc i) (λ e. omega (arith, number_of-context_at n)))
-      (ap (entry_at (rows_from (n + 1) g)) (shift n i) ∙ from (n + 1) g i) where
-  shift : (n i : ℕ) → n + suc i ≡ (n + 1) + i
-  shift n i = omega arith
+    (ap (entry_at (rows_from (n + 1) g)) (shift n i) ∙ from (n + 1) g i) where
+      shift : (n i : ℕ) → n + suc i ≡ (n + 1) + i
+      shift n i = omega arith
 
 -- a table says of a number what its grid says
 pub entry_at-rows_from : (g : List Entry) (i : ℕ) → entry_at (rows_from 0 g) i ≡ get_or g i Absent

@@ -1,5 +1,5 @@
 -- Sums over the rows, and how many passages there are.
-use Rattle.std.proofs.Common.{◌≡◌, ◌≢◌, ℕ, zero, suc, ◌+◌, ◌<◌, ◌≤◌, ◌==◌, ◌⊎◌, Bool, true, false, ◌&&◌, if◌then◌else◌, List, [], ◌∷◌, map, refl, sym, ap, ◌∙◌, inl, inr, arith}
+use Rattle.std.proofs.Common.{◌≡◌, ◌≢◌, ℕ, zero, suc, ◌+◌, ◌<◌, ◌≤◌, ◌==◌, Bool, true, false, ◌&&◌, if◌then◌else◌, List, [], ◌∷◌, map, refl, sym, ap, ◌∙◌, inl, inr, arith}
 use Rattle.std.proofs.lemmas.Bool.{cases_lt}
 use Rattle.std.proofs.lemmas.Bool.Decides.{nat_tests}
 use Rattle.pin_matrix.specs.declared.setup.Setup.{Setup}
@@ -33,20 +33,20 @@ pub total-change : (n : ℕ) (f g : ℕ → ℕ) (i : ℕ) → i < n → ((w : �
 unfolding total
 total-change zero f g i l h z = absurd (omega arith)
 total-change (suc n) f g i l h z = elim (cases_lt i n) [
-    inl below ↦ (let r = total-change n f g i below (λ w m d. h w (omega arith) d) z in let s : f n ≡ g n = h n (omega arith) (λ e. omega arith) in omega arith)
-    | inr last ↦ (let e : i ≡ n = omega arith in
+  | inl below ↦ (let r = total-change n f g i below (λ w m d. h w (omega arith) d) z in let s : f n ≡ g n = h n (omega arith) (λ e. omega arith) in omega arith)
+  | inr last ↦ (let e : i ≡ n = omega arith in
       let r : total n f ≡ total n g = total-same n f g (λ w m. h w (omega arith) (λ d. omega arith)) in
       let z' : g n ≡ 0 = rw e at z in rw e (omega arith))
-  ]
+]
 
 -- a sum that isn't 0 has a number that isn't
 pub total-some : (n : ℕ) (f : ℕ → ℕ) → 1 ≤ total n f → (w : ℕ) × ((w < n) × (1 ≤ f w))
 unfolding total
 total-some zero f h = absurd (omega arith)
 total-some (suc n) f h = elim (cases_lt 0 (f n)) [
-    inl some ↦ (n, (omega arith, omega arith))
-    | inr none ↦ (let r : (w : ℕ) × ((w < n) × (1 ≤ f w)) = total-some n f (omega arith) in (r.0, (omega (arith, r.1.0), r.1.1)))
-  ]
+  | inl some ↦ (n, (omega arith, omega arith))
+  | inr none ↦ (let r : (w : ℕ) × ((w < n) × (1 ≤ f w)) = total-some n f (omega arith) in (r.0, (omega (arith, r.1.0), r.1.1)))
+]
 
 -- passages by contexts alone
 aims : ℕ → List (Context × Bool) → ℕ
@@ -94,9 +94,11 @@ no_passages g v (n ∷ ns) shut o h = rw (none (n.passes) refl, no_passages g v 
   opened : (e : Entry) → is_open n.ages ≡ true → Holds n.ages e → open_at e ≡ false → ⊥
   opened Absent p k q = absurd k
   opened (Present b) p k q = let t : is_open b ≡ true = k p in cc
+
   at_spot : (z : Bool) → (spot n == v) ≡ z → n.passes ≡ true → one_if z ≡ 0
   at_spot true e q = absurd (opened (at g (spot n)) (o.0 q) h.0 (let same : spot n ≡ v = grind (arith, nat_tests) in rw same shut))
   at_spot false e q = refl
+
   none : (z : Bool) → n.passes ≡ z → one_if (z && spot n == v) ≡ 0
   none true q = at_spot (spot n == v) refl q
   none false q = refl
@@ -107,6 +109,7 @@ waits_shut u sp g v w steps shut = on (at g w) refl where
   by : (a : Ages) (z : Bool) → at g w ≡ Present a → is_open a ≡ z → (if z then passages v (nexts_at u sp w a) else 0) ≡ 0
   by a true q o = no_passages g v _ shut (open_nexts u sp w a o) (steps a q)
   by a false q o = refl
+
   on : (e : Entry) → at g w ≡ e → waits_by u sp v w e ≡ 0
   on Absent q = refl
   on (Present a) q = by a (is_open a) q refl

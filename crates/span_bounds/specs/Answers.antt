@@ -3,7 +3,7 @@
 --   IsAnswer         what an answer says
 --   filled           the entries by which the rows are judged
 --   cause_at         the first cause of a number's row
-use Rattle.std.specs.Prelude.{◌≡◌, ℕ, ◌<◌, ◌-◌, ◌^◌, true, if◌then◌else◌, MatchOption, Option, Some, None, List}
+use Rattle.std.specs.Prelude.{◌≡◌, ℕ, ◌<◌, ◌-◌, ◌^◌, true, if◌then◌else◌, Option, Some, None, List}
 use Rattle.pin_matrix.specs.declared.setup.Setup.{Setup}
 use Rattle.pin_matrix.specs.declared.span.Span.{Span}
 use Rattle.span_step.specs.declared.ages.Ages.{Ages}

@@ -1,7 +1,7 @@
 -- The contexts in order: by address, then X, then Y, of which any comes after 31, then the levels.
 --   number_of        a context's place in this order
 --   context_at       the context at a place
-use Rattle.std.specs.Prelude.{ℕ, ◌+◌, ◌*◌, ◌/◌, ◌%◌, ◌==◌, nat_lt, Bool, true, false, if◌then◌else◌, Option, Some, None}
+use Rattle.std.specs.Prelude.{ℕ, ◌+◌, ◌*◌, ◌/◌, ◌%◌, ◌==◌, Bool, true, false, if◌then◌else◌, Option, Some, None}
 use Rattle.span_step.specs.Contexts.{Context}
 
 -- the place of what is known of X or Y: any comes after 31

@@ -3,7 +3,7 @@
 --   Sweep            the first sweep on its way, with the numbers that wait
 --   Visit            the same while the nexts of a row are looked at
 --   IsReach          its end
-use Rattle.std.specs.Prelude.{◌≡◌, ℕ, ◌+◌, ◌<◌, ◌≤◌, ◌⊎◌, Bool, true, false, not, ◌||◌, if◌then◌else◌, MatchBool, List, [], ◌∷◌, ◌++◌, length, slice_set, sum_by}
+use Rattle.std.specs.Prelude.{◌≡◌, ℕ, ◌<◌, ◌⊎◌, Bool, true, false, not, ◌||◌, if◌then◌else◌, MatchBool, List, [], ◌∷◌, ◌++◌, length, slice_set, sum_by}
 use Rattle.pin_matrix.specs.declared.setup.Setup.{Setup}
 use Rattle.pin_matrix.specs.declared.span.Span.{Span}
 use Rattle.span_step.specs.declared.ages.Ages.{Ages}

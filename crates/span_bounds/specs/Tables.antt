@@ -9,13 +9,13 @@
 --   IsLeast          the least closed table
 --   IsProvable       some closed table is good
 --   first_bad        the first bad row with its first cause
-use Rattle.std.specs.Prelude.{◌≡◌, ℕ, ◌+◌, ◌/◌, ◌%◌, ◌^◌, ◌<◌, ◌==◌, nat_lt, Bool, true, false, if◌then◌else◌, Option, Some, None, List, [], ◌∷◌, IsTrue, slice_index_or}
+use Rattle.std.specs.Prelude.{◌≡◌, ℕ, ◌+◌, ◌==◌, nat_lt, Bool, if◌then◌else◌, Option, Some, None, List, [], ◌∷◌, IsTrue, slice_index_or}
 use Rattle.std.specs.Int.{bit_at}
 use Rattle.pin_matrix.specs.declared.machine.MachineSetup.{MachineSetup}
 use Rattle.pin_matrix.specs.declared.setup.Setup.{Setup}
 use Rattle.pin_matrix.specs.declared.span.Span.{Span}
 use Rattle.span_step.specs.declared.ages.Ages.{Ages}
-use Rattle.span_step.specs.declared.ages.Ages.TheVariants.{Empty, Between}
+use Rattle.span_step.specs.declared.ages.Ages.TheVariants.{Empty}
 use Rattle.span_step.specs.declared.cause.Cause.{Cause}
 use Rattle.span_step.specs.declared.stepped.Next.{Next}
 use Rattle.span_step.specs.Contexts.{Context, is_placed, IsInside}

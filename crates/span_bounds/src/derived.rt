@@ -8,8 +8,5 @@ pub enum Derived {
     /// The least closed table, which is good.
     Closed(Table),
     /// No closed table is good: in each of them this context has a row that is bad for this cause.
-    Bad {
-        context: Context,
-        cause: Cause,
-    },
+    Bad { context: Context, cause: Cause },
 }

@@ -1,8 +1,8 @@
 //! The timing checker's table: the least that is closed under the steps of a span's machine.
 #![tactic(auto)]
 
-mod count;
 mod answer;
+mod count;
 mod derived;
 mod entry;
 mod grid;
@@ -17,3 +17,6 @@ pub use answer::derive;
 pub use derived::Derived;
 pub use row::Row;
 pub use table::Table;
+
+#[cfg(test)]
+mod tests;

@@ -41,5 +41,9 @@ fn known_at(number: usize) -> Option<u8>
     requires { number < 33 }
     ensures { result ≡ spec.known_at number }
 {
-    if number == 32 { None } else { Some(number as u8) }
+    if number == 32 {
+        None
+    } else {
+        Some(number as u8)
+    }
 }

@@ -1,4 +1,3 @@
-use Rattle.std.proofs.Common.{sym, ◌∙◌}
 use Rattle.span_bounds.proofs.Counts.{Count-starts, IsUnder-starts}
 use Rattle.span_bounds.proofs.Ends.{IsGoodLeast-ends, IsBadEverywhere-ends}
 use Rattle.span_bounds.proofs.answer.derive.Goals as goal

@@ -1,6 +1,4 @@
-use Rattle.std.proofs.Common.{◌<◌}
 use Rattle.span_bounds.specs.Answers.{AreGoodBelow}
-use Rattle.span_bounds.proofs.Ends.{most_fits}
 use Rattle.span_bounds.proofs.answer.first_bad.Given as goal
 
 abbrev pub invariant-loop-number : goal.invariant-loop-number

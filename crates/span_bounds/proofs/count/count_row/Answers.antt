@@ -1,7 +1,6 @@
-use Rattle.std.proofs.Common.{◌≡◌, ◌<◌, ◌≤◌, ◌+◌, length, take, refl, arith}
+use Rattle.std.proofs.Common.{◌≡◌, take, refl, arith}
 use Rattle.std.proofs.lemmas.List.{take_all, length-take}
-use Rattle.span_bounds.specs.Edges.{nexts_at, spot}
-use Rattle.span_bounds.specs.Count.{Counting, Counted}
+use Rattle.span_bounds.specs.Edges.{nexts_at}
 use Rattle.span_bounds.proofs.Counts.{Counting-begins, Counting-step, Counting-ends, number_fits}
 use Rattle.span_bounds.proofs.count.count_row.Goals as goal
 

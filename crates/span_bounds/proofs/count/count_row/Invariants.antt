@@ -1,7 +1,6 @@
 use Rattle.std.proofs.Common.{◌≡◌, ◌≤◌, length, take}
 use Rattle.span_bounds.specs.Edges.{nexts_at}
 use Rattle.span_bounds.specs.Count.{Counting}
-use Rattle.span_bounds.proofs.Counts.{Counting-step}
 use Rattle.span_bounds.proofs.count.count_row.Given as goal
 
 -- the nexts so far are done

@@ -1,4 +1,4 @@
-use Rattle.std.proofs.Common.{◌≡◌, ◌∷◌, ◌++◌, [], ◌<◌, refl, inl}
+use Rattle.std.proofs.Common.{◌∷◌, refl, inl}
 use Rattle.span_bounds.specs.Reach.{Sweep}
 use Rattle.span_bounds.proofs.Reaching.{Sweep-starts, Sweep-pop}
 use Rattle.span_bounds.proofs.reach.reached.Goals as goal

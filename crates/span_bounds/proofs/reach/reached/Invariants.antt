@@ -1,6 +1,5 @@
 use Rattle.std.proofs.Common.{◌+◌, length}
 use Rattle.span_bounds.specs.Reach.{Sweep, room}
-use Rattle.span_bounds.proofs.Reaching.{Sweep-starts}
 use Rattle.span_bounds.proofs.reach.reached.Given as goal
 
 abbrev pub invariant-loop-number : goal.invariant-loop-number

@@ -1,4 +1,4 @@
-use Rattle.std.proofs.Common.{sym, ◌∙◌}
+use Rattle.std.proofs.Common.{sym}
 use Rattle.span_bounds.proofs.Reaching.{Sweep-skip}
 use Rattle.span_bounds.proofs.reach.visit.Goals as goal
 

@@ -1,7 +1,6 @@
-use Rattle.std.proofs.Common.{◌≡◌, ◌<◌, ◌≤◌, ◌+◌, length, take, get_or, refl, arith, sym}
+use Rattle.std.proofs.Common.{◌≡◌, ◌<◌, length, take, refl, arith}
 use Rattle.std.proofs.lemmas.List.{take_all}
-use Rattle.span_bounds.specs.Edges.{at, spot, nexts_at}
-use Rattle.span_bounds.specs.Reach.{room}
+use Rattle.span_bounds.specs.Edges.{nexts_at}
 use Rattle.span_bounds.proofs.Reaching.{Visit-step, Visit-begins, Visit-done, room_raised}
 use Rattle.span_bounds.proofs.reach.visit_row.Goals as goal
 
@@ -18,8 +17,8 @@ loop-next-preserved c = let i = c.loop-next.invariant in record {
   items = i.items;
   visit = Visit-step _ _ _ _ _ _ _ _ _ _ c.next-item.result _ c.requires.number i.items c.loop-next-test.true c.next-item.is c.number_of.ensures.value c.number_of.ensures.below i.visit c.in_ok-raise.ensures.raised;
   room =
-    let size : c.number_of.result < length c.loop-next.grid = rw c.in_ok-raise.ensures.size c.number_of.ensures.below in
-    omega (arith, room_raised _ _ _ _ _ _ size c.in_ok-raise.ensures.raised);
+      let size : c.number_of.result < length c.loop-next.grid = rw c.in_ok-raise.ensures.size c.number_of.ensures.below in
+      omega (arith, room_raised _ _ _ _ _ _ size c.in_ok-raise.ensures.raised);
 }
 
 pub returns-clause-sweep : goal.returns-clause-sweep

@@ -1,7 +1,6 @@
 use Rattle.std.proofs.Common.{◌≡◌, ◌+◌, ◌≤◌, take, length}
 use Rattle.span_bounds.specs.Edges.{nexts_at}
 use Rattle.span_bounds.specs.Reach.{Visit, room}
-use Rattle.span_bounds.proofs.Reaching.{Visit-raised}
 use Rattle.span_bounds.proofs.reach.visit_row.Given as goal
 
 -- the nexts so far are held

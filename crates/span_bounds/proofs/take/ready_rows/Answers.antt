@@ -1,5 +1,4 @@
-use Rattle.std.proofs.Common.{sym, ◌∙◌}
-use Rattle.span_bounds.proofs.Takes.{AreReady-starts, AreReady-push, AreReady-skip}
+use Rattle.span_bounds.proofs.Takes.{AreReady-starts}
 use Rattle.span_bounds.proofs.take.ready_rows.Goals as goal
 
 pub loop-number-init : goal.loop-number-init

@@ -1,5 +1,4 @@
 use Rattle.span_bounds.specs.Take.{AreReady}
-use Rattle.span_bounds.proofs.Takes.{AreReady-push}
 use Rattle.span_bounds.proofs.take.ready_rows.Given as goal
 
 abbrev pub invariant-loop-number : goal.invariant-loop-number

@@ -1,4 +1,4 @@
-use Rattle.std.proofs.Common.{◌∷◌, [], ◌≡◌, length, refl, inl, sym, ◌∙◌, arith}
+use Rattle.std.proofs.Common.{◌∷◌, ◌≡◌, length, refl, inl, arith}
 use Rattle.std.proofs.lemmas.List.{nil_from_length}
 use Rattle.span_bounds.specs.Take.{Takes}
 use Rattle.span_bounds.proofs.Takes.{Take-starts, Takes-pop, IsTaken-ends}

@@ -1,5 +1,4 @@
 use Rattle.span_bounds.specs.Take.{Takes, work_left}
-use Rattle.span_bounds.proofs.Takes.{Take-starts}
 use Rattle.span_bounds.proofs.take.take.Given as goal
 
 abbrev pub invariant-loop-number : goal.invariant-loop-number

@@ -1,7 +1,6 @@
 use Rattle.std.proofs.Common.{◌≡◌, ◌≤◌, take, drop}
 use Rattle.span_bounds.specs.Edges.{nexts_at}
 use Rattle.span_bounds.specs.Take.{TakesRow, work_left}
-use Rattle.span_bounds.proofs.Takes.{TakesRow-step}
 use Rattle.span_bounds.proofs.take.take_row.Given as goal
 
 -- the nexts so far are done
