@@ -1,0 +1,442 @@
+-- The third sweep keeps what it says of its rows and numbers.
+use Rattle.std.proofs.Common.{◌≡◌, ◌≢◌, ℕ, ◌+◌, ◌-◌, ◌<◌, ◌≤◌, ◌==◌, ◌⊎◌, Bool, true, false, ◌&&◌, if◌then◌else◌, MatchBool, List, [], ◌∷◌, ◌++◌, length, get_or, take, drop, slice_index, refl, sym, ap, ◌∙◌, subst, inl, inr, arith}
+use Rattle.std.proofs.Math.ListN.{set}
+use Rattle.std.proofs.lemmas.Bool.Decides.{nat_tests}
+use Rattle.std.proofs.lemmas.Bool.{cases_lt}
+use Rattle.std.proofs.lemmas.List.{length-set, get_or-set_same, get_or-set_other, drop_more, length_push}
+use Rattle.std.proofs.lemmas.List.Sums.{sum_by-set}
+use Rattle.pin_matrix.specs.declared.setup.Setup.{Setup}
+use Rattle.pin_matrix.specs.declared.span.Span.{Span}
+use Rattle.span_step.specs.declared.ages.Ages.{Ages}
+use Rattle.span_step.specs.declared.ages.Ages.TheVariants.{Empty, Between}
+use Rattle.span_step.specs.declared.stepped.Next.{Next}
+use Rattle.span_step.specs.Contexts.{is_open}
+use Rattle.span_bounds.specs.declared.entry.Entry.{Entry}
+use Rattle.span_bounds.specs.declared.entry.Entry.TheVariants.{Absent, Present}
+use Rattle.span_bounds.specs.Tables.{LiesAt}
+use Rattle.span_bounds.specs.Edges.{at, nexts_at, spot, AllLie, Among}
+use Rattle.span_bounds.specs.Reach.{Holds, Below, AllHold, IsReach}
+use Rattle.span_bounds.specs.Sums.{total, passages, waits, waits_by, one_if, open_at, join_into}
+use Rattle.span_bounds.specs.Count.{LieBut, Count}
+use Rattle.span_bounds.specs.Take.{Take, Taking, IsTaken, Takes, TakesRow, AreReady, Passed, work_left, is_ready, ages_or_none}
+use Rattle.span_bounds.proofs.Nexts.{EachNext-more, EachNext-map, same_or_not, Among-push, Among-pop}
+use Rattle.span_bounds.proofs.Reaching.{at_same, at_other}
+use Rattle.span_bounds.proofs.Joins.{joined_at, lies_at_join, lies_still, IsUnder-join, closed_lies, beside}
+use Rattle.span_bounds.proofs.Counts.{but_still, passages-nil, one_more}
+use Rattle.span_bounds.proofs.Totals.{total-zero, total-change, total-some, passages_alike, passages-cons, waits_shut}
+
+clash : {b : Bool} → b ≡ true → b ≡ false → ⊥
+clash p q = cc
+
+different : {e : Entry} {b : Ages} → e ≡ Absent → e ≡ Present b → ⊥
+different p q = cc
+
+all_but_false : (f : ℕ → Entry) (ns : List Next) → LieBut false f ns → AllLie f ns
+all_but_false f ns h = EachNext-map (λ n. (false && n.passes) ≡ false → LiesAt n.ages (f (spot n))) (λ n. LiesAt n.ages (f (spot n))) (λ n k. k refl) ns h
+
+all_still : (x : List Entry) (p : ℕ) (a : Ages) (ns : List Next) → p < length x → AllLie (at x) ns → AllLie (at (joined_at x p a)) ns
+all_still x p a ns l h = EachNext-map (λ n. LiesAt n.ages (at x (spot n))) (λ n. LiesAt n.ages (at (joined_at x p a) (spot n))) (λ n k. lies_still x p a n.ages (spot n) l k) ns h
+
+-- the third sweep begins with the first's grid and the second's table and numbers
+pub Take-starts : (u : Setup) (sp : Span) (g x : List Entry) (m ready : List ℕ) → IsReach u sp g → Count u sp g x m 139392 → AreReady g m ready 139392 → Take u sp g g x m ready
+Take-starts u sp g x m ready r c q = record {
+  keeps = record { under = c.under; rows = c.rows; fresh = c.fresh };
+  left = record { size = r.sweep.size; left = λ i l o. refl };
+  numbers = c.numbers;
+  near = q.near;
+  count = c.count;
+  queued = q.queued;
+  settled = λ i l shut. c.count i l ∙ total-zero 139392 _ (λ w m. waits_shut u sp g i w (λ a e. held w a m e) shut);
+  done = λ i a l shut e. done i a l (at g i) refl shut e (c.under.within i l);
+} where
+  held : (w : ℕ) (a : Ages) → w < 139392 → at g w ≡ Present a → AllHold (at g) (nexts_at u sp w a)
+  held w a m e = elim (r.sweep.steps w a m e) [ inl h ↦ absurd h | inr h ↦ h ]
+
+  shut_empty : (a b : Ages) → is_open b ≡ false → (is_open a ≡ true → is_open b ≡ true) → a ≡ b
+  shut_empty Empty Empty q h = refl
+  shut_empty (Between lo hi) Empty q h = absurd (clash (h refl) refl)
+  shut_empty a (Between lo hi) q h = absurd (clash refl q)
+
+  done : (i : ℕ) (a : Ages) → i < 139392 → (e : Entry) → at g i ≡ e → open_at (at g i) ≡ false → at x i ≡ Present a → Below (at x i) (at g i) → AllLie (at x) (nexts_at u sp i a)
+  done i a l Absent q shut e h = absurd (rw (e, q) at h)
+  done i a l (Present b) q shut e h =
+      let shut' : is_open b ≡ false = rw q at shut in
+      let h' : Holds a (Present b) = rw (e, q) at h in
+      let same : a ≡ b = shut_empty a b shut' h' in
+      let f : LieBut false (at x) (nexts_at u sp i b) = rw shut' at (c.fresh i b l q) in
+      rw same (all_but_false (at x) _ f)
+
+-- a number that isn't ready needn't wait
+pub Takes-skip : (u : Setup) (sp : Span) (l x : List Entry) (m ready : List ℕ) (i : ℕ) → is_ready l m i ≡ false → Takes u sp l x m (i ∷ ready) → Takes u sp l x m ready
+Takes-skip u sp l x m ready i q t = record {
+  reach = t.reach;
+  reached = t.reached;
+  take = record {
+    keeps = s.keeps;
+    left = s.left;
+    numbers = s.numbers;
+    near = λ j h. s.near j (inr h);
+    count = s.count;
+    queued = λ j b o z. elim (s.queued j b o z) [ inl e ↦ absurd (bad j e o z) | inr h ↦ h ];
+    settled = s.settled;
+    done = s.done;
+  };
+} where
+  s : Take u sp t.reach l x m (i ∷ ready)
+  s = t.take
+
+  bad : (j : ℕ) → j ≡ i → open_at (at l j) ≡ true → slice_index m j ≡ 0 → ⊥
+  bad j e o z = clash (ready_is j o z) (rw (← e) at q) where
+    ready_is : (j : ℕ) → open_at (at l j) ≡ true → slice_index m j ≡ 0 → is_ready l m j ≡ true
+    ready_is j o z = rw (o, z) refl
+
+and_parts : (a b : Bool) → (a && b) ≡ true → (a ≡ true) × (b ≡ true)
+and_parts true b e = (refl, e)
+and_parts false b e = cc
+
+zero_from : (n : ℕ) → (n == 0) ≡ true → n ≡ 0
+zero_from n e = grind (arith, nat_tests)
+
+-- a row begins to be taken
+pub TakesRow-begins : (u : Setup) (sp : Span) (l l' x : List Entry) (m ready : List ℕ) (i : ℕ) (a : Ages) → i < 139392 → is_ready l m i ≡ true → l' ≡ set l i Absent → a ≡ ages_or_none (at x i) → Takes u sp l x m (i ∷ ready) → TakesRow u sp l' x m ready i a [] (nexts_at u sp i a)
+TakesRow-begins u sp l l' x m ready i a b q e o t = rw e (record {
+  reach = t.reach;
+  reached = t.reached;
+  taking = record {
+    keeps = s.keeps;
+    left = record { size = length-set l i Absent ∙ s.left.size; left = λ j c p. left j c p (same_or_not j i) };
+    numbers = s.numbers;
+    near = λ j h. s.near j (inr h);
+    count = λ v c. s.count v c ∙ count v;
+    queued = λ j c p z. queued j c p z (same_or_not j i);
+    settled = λ j c p. settled j c p (same_or_not j i);
+    finished = λ j d c p n w. s.done j d c (rw (at_other l i j Absent n) at p) w;
+    taken = rw (at_same l i Absent inside) refl;
+    own = own;
+    held = tt;
+    sure = sure (at l i) refl;
+    least = λ f c. closed_lies u sp f i a b c (rw own at (s.keeps.under.least f c i b));
+  };
+}) where
+  s : Take u sp t.reach l x m (i ∷ ready)
+  s = t.take
+
+  open_i : open_at (at l i) ≡ true
+  open_i = (and_parts (open_at (at l i)) (slice_index m i == 0) q).0
+
+  zero_i : slice_index m i ≡ 0
+  zero_i = zero_from (slice_index m i) (and_parts (open_at (at l i)) (slice_index m i == 0) q).1
+
+  inside : i < length l
+  inside = rw s.left.size b
+
+  same_i : at l i ≡ at t.reach i
+  same_i = s.left.left i b open_i
+
+  row : (e : Entry) → at l i ≡ e → LiesAt Empty (at x i)
+  row Absent w = absurd (clash open_i (rw w refl))
+  row (Present c) w = s.keeps.rows i c b (sym same_i ∙ w)
+
+  there : (e : Entry) → LiesAt Empty e → e ≡ Present (ages_or_none e)
+  there Absent h = absurd h
+  there (Present c) h = refl
+
+  own : at x i ≡ Present a
+  own = there (at x i) (row (at l i) refl) ∙ ap Present (sym o)
+
+  left : (j : ℕ) → j < 139392 → open_at (at (set l i Absent) j) ≡ true → (j ≡ i) ⊎ (j ≢ i) → at (set l i Absent) j ≡ at t.reach j
+  left j c p (inl w) = absurd (clash p (rw (w, at_same l i Absent inside) refl))
+  left j c p (inr n) = at_other l i j Absent n ∙ s.left.left j c (rw (at_other l i j Absent n) at p)
+
+  passes_i : (v : ℕ) (e : Entry) → at l i ≡ e → waits u sp (at l) v i ≡ passages v (nexts_at u sp i a)
+  passes_i v Absent w = absurd (clash open_i (rw w refl))
+  passes_i v (Present c) w = let oc : is_open c ≡ true = rw w at open_i in rw (w, oc) (passages_alike u sp v i c a)
+
+  other_waits : (v w : ℕ) → w ≢ i → waits u sp (at l) v w ≡ waits u sp (at (set l i Absent)) v w
+  other_waits v w n = rw (at_other l i w Absent n) refl
+
+  no_waits : (v : ℕ) → waits u sp (at (set l i Absent)) v i ≡ 0
+  no_waits v = rw (at_same l i Absent inside) refl
+
+  count : (v : ℕ) → total 139392 (waits u sp (at l) v) ≡ total 139392 (waits u sp (at (set l i Absent)) v) + passages v (nexts_at u sp i a)
+  count v = total-change 139392 (waits u sp (at l) v) (waits u sp (at (set l i Absent)) v) i b (λ w c n. other_waits v w n) (no_waits v) ∙ ap (λ t. total 139392 (waits u sp (at (set l i Absent)) v) + t) (passes_i v (at l i) refl)
+
+  queued : (j : ℕ) → j < 139392 → open_at (at (set l i Absent) j) ≡ true → slice_index m j ≡ 0 → (j ≡ i) ⊎ (j ≢ i) → Among j ready
+  queued j c p z (inl w) = absurd (clash p (rw (w, at_same l i Absent inside) refl))
+  queued j c p z (inr n) = elim (s.queued j c (rw (at_other l i j Absent n) at p) z) [ inl w ↦ absurd (n w) | inr h ↦ h ]
+
+  settled : (j : ℕ) → j < 139392 → open_at (at (set l i Absent) j) ≡ false → (j ≡ i) ⊎ (j ≢ i) → slice_index m j ≡ 0
+  settled j c p (inl w) = rw w zero_i
+  settled j c p (inr n) = s.settled j c (rw (at_other l i j Absent n) at p)
+
+  sure : (e : Entry) → at l i ≡ e → LieBut true (at x) (nexts_at u sp i a)
+  sure Absent w = absurd (clash open_i (rw w refl))
+  sure (Present c) w =
+      let oc : is_open c ≡ true = rw w at open_i in
+      let f : LieBut true (at x) (nexts_at u sp i c) = rw oc at (s.keeps.fresh i c b (sym same_i ∙ w)) in
+      beside u sp (at x) i a c f
+
+-- the number at p is one less
+lowered_number : (m : List ℕ) (p v : ℕ) → p < length m → 1 ≤ slice_index m p → slice_index (set m p (slice_index m p - 1)) v + one_if (p == v) ≡ slice_index m v
+lowered_number m p v l h = on (same_or_not v p) where
+  on : (v ≡ p) ⊎ (v ≢ p) → slice_index (set m p (slice_index m p - 1)) v + one_if (p == v) ≡ slice_index m v
+  on (inl e) = let t : (p == v) ≡ true = grind (arith, nat_tests) in rw (t, e, get_or-set_same m p (slice_index m p - 1) 0 l) (omega arith)
+  on (inr n) = let t : (p == v) ≡ false = grind (arith, nat_tests) in rw (t, get_or-set_other m p v (slice_index m p - 1) 0 n) (omega arith)
+
+self_number : (p : ℕ) → (p == p) ≡ true
+self_number p = grind (arith, nat_tests)
+
+-- a next to which a row that is taken passes is waited for
+pub passed_waits : (u : Setup) (sp : Span) (l x : List Entry) (m ready : List ℕ) (i : ℕ) (a : Ages) (done rest : List Next) (n : Next) → TakesRow u sp l x m ready i a done (n ∷ rest) → spot n < 139392 → n.passes ≡ true → 1 ≤ slice_index m (spot n)
+passed_waits u sp l x m ready i a done rest n t b q =
+    let c = t.taking.count (spot n) b in
+    let d = passages-cons (spot n) n rest in
+    let o : one_if (n.passes && spot n == spot n) ≡ 1 = rw (q, self_number (spot n)) refl in
+    omega arith
+
+not_false : (b : Bool) → (b ≡ false → ⊥) → b ≡ true
+not_false true h = refl
+not_false false h = absurd (h refl)
+
+-- one next more, as the code has it
+pub TakesRow-step : (u : Setup) (sp : Span) (l x x' : List Entry) (m m' ready ready' : List ℕ) (i : ℕ) (a : Ages) (items : List Next) (k : ℕ) (n : Next) → k < length items → n ≡ get_or items k n → spot n < 139392 → i < 139392 →
+    TakesRow u sp l x m ready i a (take k items) (drop k items) → Passed n x x' m m' ready ready' → TakesRow u sp l x' m' ready' i a (take (k + 1) items) (drop (k + 1) items)
+TakesRow-step u sp l x x' m m' ready ready' i a items k n lk q b bi t0 r = on n.passes refl r where
+  split : drop k items ≡ n ∷ drop (k + 1) items
+  split = drop_more items k n lk ∙ ap (λ y. y ∷ drop (k + 1) items) (sym q)
+
+  t : TakesRow u sp l x m ready i a (take k items) (n ∷ drop (k + 1) items)
+  t = rw split at t0
+
+  s : Taking u sp t.reach l x m ready i a (take k items) (n ∷ drop (k + 1) items)
+  s = t.taking
+
+  p : ℕ
+  p = spot n
+
+  inside_m : spot n < length m
+  inside_m = rw s.numbers b
+
+  inside_x : spot n < length x
+  inside_x = rw s.keeps.under.size b
+
+  on : (z : Bool) → n.passes ≡ z → MatchBool z ((x' ≡ joined_at x (spot n) n.ages) × ((m' ≡ set m (spot n) (slice_index m (spot n) - 1)) × (ready' ≡ (if slice_index m (spot n) == 1 then ready ++ spot n ∷ [] else ready)))) ((x' ≡ x) × ((m' ≡ m) × (ready' ≡ ready))) → TakesRow u sp l x' m' ready' i a (take (k + 1) items) (drop (k + 1) items)
+  on false z w = rw (w.0, w.1.0, w.1.1) (record {
+    reach = t.reach;
+    reached = t.reached;
+    taking = record {
+      keeps = s.keeps;
+      left = s.left;
+      numbers = s.numbers;
+      near = s.near;
+      count = λ v c. s.count v c ∙ ap (λ y. total 139392 (waits u sp (at l) v) + y) (none v);
+      queued = s.queued;
+      settled = s.settled;
+      finished = s.finished;
+      taken = s.taken;
+      own = s.own;
+      held = EachNext-more (λ y. LiesAt y.ages (at x (spot y))) items k n lk s.held (subst (λ y. LiesAt y.ages (at x (spot y))) q (s.sure.0 z));
+      sure = s.sure.1;
+      least = λ f c. (s.least f c).1;
+    };
+  }) where
+    none : (v : ℕ) → passages v (n ∷ drop (k + 1) items) ≡ passages v (drop (k + 1) items)
+    none v = passages-cons v n (drop (k + 1) items) ∙ rw z (omega arith)
+  on true z w = rw (w.0, w.1.0, w.1.1) (record {
+    reach = t.reach;
+    reached = t.reached;
+    taking = record {
+      keeps = record {
+        under = IsUnder-join u sp t.reach x (spot n) n.ages b s.keeps.under (λ f c. (s.least f c).0) (held_there (at t.reach (spot n)) open_reach);
+        rows = λ j c d e. lies_still x (spot n) n.ages Empty j inside_x (s.keeps.rows j c d e);
+        fresh = λ j c d e. but_still (is_open c) x (spot n) n.ages _ inside_x (s.keeps.fresh j c d e);
+      };
+      left = s.left;
+      numbers = length-set m (spot n) (slice_index m (spot n) - 1) ∙ s.numbers;
+      near = λ j h. near (slice_index m (spot n) == 1) j h;
+      count = λ v c. count v (s.count v c) (lowered_number m (spot n) v inside_m some) (passages-cons v n (drop (k + 1) items));
+      queued = λ j c o e. queued j c o e (same_or_not j (spot n));
+      settled = λ j c o. settled j c o (same_or_not j (spot n));
+      finished = λ j d c o h e. finished j d c o h e (same_or_not j (spot n));
+      taken = s.taken;
+      own = at_other x (spot n) i (Present (join_into n.ages (at x (spot n)))) apart ∙ s.own;
+      held = EachNext-more (λ y. LiesAt y.ages (at (joined_at x (spot n) n.ages) (spot y))) items k n lk (all_still x (spot n) n.ages _ inside_x s.held) (subst (λ y. LiesAt y.ages (at (joined_at x (spot n) n.ages) (spot y))) q (lies_at_join x (spot n) n.ages inside_x));
+      sure = but_still true x (spot n) n.ages _ inside_x s.sure.1;
+      least = λ f c. (s.least f c).1;
+    };
+  }) where
+    some : 1 ≤ slice_index m (spot n)
+    some = passed_waits u sp l x m ready i a (take k items) (drop (k + 1) items) n t b z
+
+    open_p : open_at (at l (spot n)) ≡ true
+    open_p = not_false _ (λ o. absurd (zero_one (s.settled (spot n) b o) some)) where
+      zero_one : {v : ℕ} → v ≡ 0 → 1 ≤ v → ⊥
+      zero_one e h = omega arith
+
+    open_reach : open_at (at t.reach (spot n)) ≡ true
+    open_reach = rw (s.left.left (spot n) b open_p) at open_p
+
+    held_there : (e : Entry) → open_at e ≡ true → Holds n.ages e
+    held_there Absent o = absurd (clash o refl)
+    held_there (Present c) o = λ y. o
+
+    apart : i ≢ spot n
+    apart e = clash (rw (← e) at open_p) s.taken
+
+    near : (y : Bool) (j : ℕ) → Among j (if y then ready ++ spot n ∷ [] else ready) → j < 139392
+    near true j h = elim (Among-pop j (spot n) ready h) [ inl e ↦ rw e b | inr o ↦ s.near j o ]
+    near false j h = s.near j h
+
+    count : (v : ℕ) → slice_index m v ≡ total 139392 (waits u sp (at l) v) + passages v (n ∷ drop (k + 1) items) → slice_index (set m (spot n) (slice_index m (spot n) - 1)) v + one_if (spot n == v) ≡ slice_index m v → passages v (n ∷ drop (k + 1) items) ≡ one_if (n.passes && spot n == v) + passages v (drop (k + 1) items) → slice_index (set m (spot n) (slice_index m (spot n) - 1)) v ≡ total 139392 (waits u sp (at l) v) + passages v (drop (k + 1) items)
+    count v h d e = let e' : passages v (n ∷ drop (k + 1) items) ≡ one_if (spot n == v) + passages v (drop (k + 1) items) = e ∙ ap (λ y. y + passages v (drop (k + 1) items)) (one_more v n z) in omega arith
+
+    pushed : (y : Bool) (j : ℕ) → Among j ready → Among j (if y then ready ++ spot n ∷ [] else ready)
+    pushed true j h = Among-push j (spot n) ready (inr h)
+    pushed false j h = h
+
+    pushed_itself : (y : Bool) → y ≡ true → Among (spot n) (if y then ready ++ spot n ∷ [] else ready)
+    pushed_itself true e = Among-push (spot n) (spot n) ready (inl refl)
+    pushed_itself false e = absurd (clash e refl)
+
+    one_left : (v : ℕ) → 1 ≤ v → v - 1 ≡ 0 → (v == 1) ≡ true
+    one_left v h e = let o : v ≡ 1 = omega arith in grind (arith, nat_tests)
+
+    queued : (j : ℕ) → j < 139392 → open_at (at l j) ≡ true → slice_index (set m (spot n) (slice_index m (spot n) - 1)) j ≡ 0 → (j ≡ spot n) ⊎ (j ≢ spot n) → Among j (if slice_index m (spot n) == 1 then ready ++ spot n ∷ [] else ready)
+    queued j c o e (inl y) =
+        let e' : slice_index m (spot n) - 1 ≡ 0 = rw (y, get_or-set_same m (spot n) (slice_index m (spot n) - 1) 0 inside_m) at e in
+        rw y (pushed_itself (slice_index m (spot n) == 1) (one_left (slice_index m (spot n)) some e'))
+    queued j c o e (inr d) = pushed (slice_index m (spot n) == 1) j (s.queued j c o (rw (get_or-set_other m (spot n) j (slice_index m (spot n) - 1) 0 d) at e))
+
+    settled : (j : ℕ) → j < 139392 → open_at (at l j) ≡ false → (j ≡ spot n) ⊎ (j ≢ spot n) → slice_index (set m (spot n) (slice_index m (spot n) - 1)) j ≡ 0
+    settled j c o (inl y) = absurd (clash open_p (rw y at o))
+    settled j c o (inr d) = rw (get_or-set_other m (spot n) j (slice_index m (spot n) - 1) 0 d) (s.settled j c o)
+
+    finished : (j : ℕ) (d : Ages) → j < 139392 → open_at (at l j) ≡ false → (j ≡ i → ⊥) → at (joined_at x (spot n) n.ages) j ≡ Present d → (j ≡ spot n) ⊎ (j ≢ spot n) → AllLie (at (joined_at x (spot n) n.ages)) (nexts_at u sp j d)
+    finished j d c o h e (inl y) = absurd (clash open_p (rw y at o))
+    finished j d c o h e (inr y) = all_still x (spot n) n.ages _ inside_x (s.finished j d c o h (rw (at_other x (spot n) j (Present (join_into n.ages (at x (spot n)))) y) at e))
+
+-- all nexts are done
+pub TakesRow-ends : (u : Setup) (sp : Span) (l x : List Entry) (m ready : List ℕ) (i : ℕ) (a : Ages) → TakesRow u sp l x m ready i a (nexts_at u sp i a) [] → Takes u sp l x m ready
+TakesRow-ends u sp l x m ready i a t = record {
+  reach = t.reach;
+  reached = t.reached;
+  take = record {
+    keeps = s.keeps;
+    left = s.left;
+    numbers = s.numbers;
+    near = s.near;
+    count = λ v c. s.count v c ∙ nothing v;
+    queued = s.queued;
+    settled = s.settled;
+    done = λ j d c o e. done j d c o e (same_or_not j i);
+  };
+} where
+  s : Taking u sp t.reach l x m ready i a (nexts_at u sp i a) []
+  s = t.taking
+
+  nothing : (v : ℕ) → total 139392 (waits u sp (at l) v) + passages v [] ≡ total 139392 (waits u sp (at l) v)
+  nothing v = rw (passages-nil v) (omega arith)
+
+  done : (j : ℕ) (d : Ages) → j < 139392 → open_at (at l j) ≡ false → at x j ≡ Present d → (j ≡ i) ⊎ (j ≢ i) → AllLie (at x) (nexts_at u sp j d)
+  done j d c o e (inl y) =
+      let e' : at x i ≡ Present d = rw y at e in
+      let own : at x i ≡ Present a = s.own in
+      let same : a ≡ d = cc in rw (y, ← same) s.held
+  done j d c o e (inr y) = s.finished j d c o y e
+
+-- a number is taken from the end
+pub Takes-pop : (u : Setup) (sp : Span) (l x : List Entry) (m w w' : List ℕ) (i : ℕ) → w ≡ w' ++ i ∷ [] → Takes u sp l x m w → Takes u sp l x m (i ∷ w')
+Takes-pop u sp l x m w w' i e t0 = record {
+  reach = t.reach;
+  reached = t.reached;
+  take = record {
+    keeps = s.keeps;
+    left = s.left;
+    numbers = s.numbers;
+    near = λ j h. s.near j (Among-push j i w' h);
+    count = s.count;
+    queued = λ j c o z. Among-pop j i w' (s.queued j c o z);
+    settled = s.settled;
+    done = s.done;
+  };
+} where
+  t : Takes u sp l x m (w' ++ i ∷ [])
+  t = rw e at t0
+
+  s : Take u sp t.reach l x m (w' ++ i ∷ [])
+  s = t.take
+
+-- nothing waits any more
+pub IsTaken-ends : (u : Setup) (sp : Span) (l x : List Entry) (m ready : List ℕ) → ready ≡ [] → Takes u sp l x m ready → IsTaken u sp l x
+IsTaken-ends u sp l x m ready none t = record {
+  reach = t.reach;
+  reached = t.reached;
+  keeps = s.keeps;
+  left = s.left;
+  blocked = λ i c o. blocked i c o;
+  done = s.done;
+} where
+  s : Take u sp t.reach l x m ready
+  s = t.take
+
+  nobody : (i : ℕ) → Among i ready → ⊥
+  nobody i h = let h' : Among i [] = rw none at h in h'
+
+  some : (i : ℕ) → i < 139392 → open_at (at l i) ≡ true → 1 ≤ total 139392 (waits u sp (at l) i)
+  some i c o = elim (cases_lt 0 (slice_index m i)) [ inl h ↦ omega (arith, s.count i c) | inr h ↦ absurd (nobody i (s.queued i c o (omega arith))) ]
+
+  by : (i w : ℕ) (e : Entry) → at l w ≡ e → 1 ≤ waits_by u sp i w e → (open_at (at l w) ≡ true) × ((b : Ages) → 1 ≤ passages i (nexts_at u sp w b))
+  by i w Absent q h = absurd (omega arith)
+  by i w (Present a) q h = inner (is_open a) refl h where
+    inner : (z : Bool) → is_open a ≡ z → 1 ≤ (if z then passages i (nexts_at u sp w a) else 0) → (open_at (at l w) ≡ true) × ((b : Ages) → 1 ≤ passages i (nexts_at u sp w b))
+    inner true o h = (rw q o, λ b. rw (passages_alike u sp i w b a) h)
+    inner false o h = absurd (omega arith)
+
+  blocked : (i : ℕ) → i < 139392 → open_at (at l i) ≡ true → (w : ℕ) × ((w < 139392) × ((open_at (at l w) ≡ true) × ((b : Ages) → 1 ≤ passages i (nexts_at u sp w b))))
+  blocked i c o = let r = total-some 139392 (waits u sp (at l) i) (some i c o) in (r.0, (r.1.0, by i r.0 (at l r.0) refl r.1.1))
+
+-- a pass makes at most as much ready as it takes from what is waited for
+pub work_passed : (n : Next) (x x' : List Entry) (m m' r r' : List ℕ) → spot n < length m → (n.passes ≡ true → 1 ≤ slice_index m (spot n)) → Passed n x x' m m' r r' → work_left m' r' ≤ work_left m r
+work_passed n x x' m m' r r' l some h = on n.passes refl h where
+  grown : (z : Bool) → length (if z then r ++ spot n ∷ [] else r) ≤ length r + 1
+  grown true = rw (length_push r (spot n)) (omega arith)
+  grown false = omega arith
+
+  less : (a b s v : ℕ) → a + v ≡ b + (v - 1) → 1 ≤ v → s ≤ length r + 1 → a + s ≤ b + length r
+  less a b s v e o g = omega arith
+
+  on : (z : Bool) → n.passes ≡ z → MatchBool z ((x' ≡ joined_at x (spot n) n.ages) × ((m' ≡ set m (spot n) (slice_index m (spot n) - 1)) × (r' ≡ (if slice_index m (spot n) == 1 then r ++ spot n ∷ [] else r)))) ((x' ≡ x) × ((m' ≡ m) × (r' ≡ r))) → work_left m' r' ≤ work_left m r
+  on true z w = rw (w.1.0, w.1.1) (less _ _ _ (slice_index m (spot n)) (sum_by-set (λ v. v) m (spot n) (slice_index m (spot n) - 1) 0 l) (some z) (grown (slice_index m (spot n) == 1)))
+  on false z w = rw (w.1.0, w.1.1) (omega arith)
+
+-- as the code has it, before a next is passed to
+pub next_waits : (u : Setup) (sp : Span) (l x : List Entry) (m ready : List ℕ) (i : ℕ) (a : Ages) (items : List Next) (k : ℕ) (n : Next) → k < length items → n ≡ get_or items k n → spot n < 139392 → TakesRow u sp l x m ready i a (take k items) (drop k items) → n.passes ≡ true → 1 ≤ slice_index m (spot n)
+next_waits u sp l x m ready i a items k n lk q b t z =
+    let split : drop k items ≡ n ∷ drop (k + 1) items = drop_more items k n lk ∙ ap (λ y. y ∷ drop (k + 1) items) (sym q) in
+    passed_waits u sp l x m ready i a (take k items) (drop (k + 1) items) n (rw split at t) b z
+
+below_or : (i n : ℕ) → i < n + 1 → (i < n) ⊎ (i ≡ n)
+below_or i n l = elim (same_or_not i n) [ inl e ↦ inr e | inr d ↦ inl (omega arith) ]
+
+-- no number yet
+pub AreReady-starts : (l : List Entry) (m ready : List ℕ) → ready ≡ [] → AreReady l m ready 0
+AreReady-starts l m ready e = rw e (record { near = λ i h. absurd h; queued = λ i b o z. absurd (omega arith) })
+
+-- a number that is ready is put into the list
+pub AreReady-push : (l : List Entry) (m ready ready' : List ℕ) (n : ℕ) → n < 139392 → ready' ≡ ready ++ n ∷ [] → AreReady l m ready n → AreReady l m ready' (n + 1)
+AreReady-push l m ready ready' n b e q = rw e (record {
+  near = λ i h. elim (Among-pop i n ready h) [ inl w ↦ rw w b | inr w ↦ q.near i w ];
+  queued = λ i c o z. elim (below_or i n c) [ inl d ↦ Among-push i n ready (inr (q.queued i d o z)) | inr d ↦ Among-push i n ready (inl d) ];
+})
+
+-- one that isn't is passed by
+pub AreReady-skip : (l : List Entry) (m ready : List ℕ) (n : ℕ) → is_ready l m n ≡ false → AreReady l m ready n → AreReady l m ready (n + 1)
+AreReady-skip l m ready n f q = record {
+  near = q.near;
+  queued = λ i c o z. elim (below_or i n c) [ inl d ↦ q.queued i d o z | inr d ↦ absurd (bad i d o z) ];
+} where
+  ready_is : (j : ℕ) → open_at (at l j) ≡ true → slice_index m j ≡ 0 → is_ready l m j ≡ true
+  ready_is j o z = rw (o, z) refl
+
+  bad : (i : ℕ) → i ≡ n → open_at (at l i) ≡ true → slice_index m i ≡ 0 → ⊥
+  bad i d o z = clash (ready_is i o z) (rw (← d) at f)

@@ -1,0 +1,5 @@
+use Rattle.span_bounds.specs.Answers.{AreGoodBelow}
+use Rattle.span_bounds.proofs.answer.first_bad.Given as goal
+
+abbrev pub invariant-loop-number : goal.invariant-loop-number
+invariant-loop-number l = AreGoodBelow l.setup l.span l.left l.table l.number

@@ -1,0 +1,105 @@
+-- The third sweep: rows that wait for no passage are taken, their ages are final then.
+--   Take             the sweep on its way, with the rows that may be ready
+--   Taking           the same while the nexts of a row are looked at
+--   IsTaken          its end
+use Rattle.std.specs.Prelude.{◌≡◌, ℕ, ◌+◌, ◌-◌, ◌<◌, ◌≤◌, ◌==◌, Bool, true, false, ◌&&◌, if◌then◌else◌, MatchBool, List, [], ◌∷◌, ◌++◌, length, slice_index, slice_set, sum_by}
+use Rattle.pin_matrix.specs.declared.setup.Setup.{Setup}
+use Rattle.pin_matrix.specs.declared.span.Span.{Span}
+use Rattle.span_step.specs.declared.ages.Ages.{Ages}
+use Rattle.span_step.specs.declared.ages.Ages.TheVariants.{Empty}
+use Rattle.span_step.specs.declared.stepped.Next.{Next}
+use Rattle.span_step.specs.Contexts.{is_open}
+use Rattle.span_bounds.specs.declared.entry.Entry.{Entry}
+use Rattle.span_bounds.specs.declared.entry.Entry.TheVariants.{Absent, Present}
+use Rattle.span_bounds.specs.Tables.{LiesAt}
+use Rattle.span_bounds.specs.Edges.{at, nexts_at, spot, AllLie, IsClosedAt, Among}
+use Rattle.span_bounds.specs.Reach.{IsReach}
+use Rattle.span_bounds.specs.Sums.{total, passages, waits, open_at, join_into}
+use Rattle.span_bounds.specs.Count.{IsUnder, LieBut}
+
+-- what stays the same all the time: the table lies under each closed one, has each row, and holds what waits for no other
+pub record IsFresh (u : Setup) (sp : Span) (g x : List Entry) : Type 0 where
+  pub under : IsUnder u sp g x
+  pub rows : (i : ℕ) (a : Ages) → i < 139392 → at g i ≡ Present a → LiesAt Empty (at x i)
+  pub fresh : (i : ℕ) (a : Ages) → i < 139392 → at g i ≡ Present a → LieBut (is_open a) (at x) (nexts_at u sp i a)
+
+-- the rows that are left to take are open in the first sweep's grid
+pub record AreLeft (g l : List Entry) : Type 0 where
+  pub size : length l ≡ 139392
+  pub left : (i : ℕ) → i < 139392 → open_at (at l i) ≡ true → at l i ≡ at g i
+
+-- the third sweep on its way: the numbers are those of the passages from rows that are left, a row that is left and waits for
+-- none is in the list, and what a row leads to that isn't left lies in the table
+pub record Take (u : Setup) (sp : Span) (g l x : List Entry) (m ready : List ℕ) : Type 0 where
+  pub keeps : IsFresh u sp g x
+  pub left : AreLeft g l
+  pub numbers : length m ≡ 139392
+  pub near : (i : ℕ) → Among i ready → i < 139392
+  pub count : (v : ℕ) → v < 139392 → slice_index m v ≡ total 139392 (waits u sp (at l) v)
+  pub queued : (i : ℕ) → i < 139392 → open_at (at l i) ≡ true → slice_index m i ≡ 0 → Among i ready
+  pub settled : (i : ℕ) → i < 139392 → open_at (at l i) ≡ false → slice_index m i ≡ 0
+  pub done : (i : ℕ) (a : Ages) → i < 139392 → open_at (at l i) ≡ false → at x i ≡ Present a → AllLie (at x) (nexts_at u sp i a)
+
+-- the same while row i with these ages is taken, of whose nexts these are done and those are left
+pub record Taking (u : Setup) (sp : Span) (g l x : List Entry) (m ready : List ℕ) (i : ℕ) (a : Ages) (done rest : List Next) : Type 0 where
+  pub keeps : IsFresh u sp g x
+  pub left : AreLeft g l
+  pub numbers : length m ≡ 139392
+  pub near : (j : ℕ) → Among j ready → j < 139392
+  pub count : (v : ℕ) → v < 139392 → slice_index m v ≡ total 139392 (waits u sp (at l) v) + passages v rest
+  pub queued : (j : ℕ) → j < 139392 → open_at (at l j) ≡ true → slice_index m j ≡ 0 → Among j ready
+  pub settled : (j : ℕ) → j < 139392 → open_at (at l j) ≡ false → slice_index m j ≡ 0
+  pub finished : (j : ℕ) (b : Ages) → j < 139392 → open_at (at l j) ≡ false → (j ≡ i → ⊥) → at x j ≡ Present b → AllLie (at x) (nexts_at u sp j b)
+  pub taken : open_at (at l i) ≡ false
+  pub own : at x i ≡ Present a
+  pub held : AllLie (at x) done
+  pub sure : LieBut true (at x) rest
+  pub least : (f : ℕ → Entry) → IsClosedAt u sp f → AllLie f rest
+
+-- its end: a row that is left is passed to by a row that is left, whatever its ages
+pub record IsTaken (u : Setup) (sp : Span) (l x : List Entry) : Type 0 where
+  pub reach : List Entry
+  pub reached : IsReach u sp reach
+  pub keeps : IsFresh u sp reach x
+  pub left : AreLeft reach l
+  pub blocked : (i : ℕ) → i < 139392 → open_at (at l i) ≡ true → (w : ℕ) × ((w < 139392) × ((open_at (at l w) ≡ true) × ((b : Ages) → 1 ≤ passages i (nexts_at u sp w b))))
+  pub done : (i : ℕ) (a : Ages) → i < 139392 → open_at (at l i) ≡ false → at x i ≡ Present a → AllLie (at x) (nexts_at u sp i a)
+
+-- the third sweep on its way after some first sweep
+pub record Takes (u : Setup) (sp : Span) (l x : List Entry) (m ready : List ℕ) : Type 0 where
+  pub reach : List Entry
+  pub reached : IsReach u sp reach
+  pub take : Take u sp reach l x m ready
+
+-- the same while a row is taken
+pub record TakesRow (u : Setup) (sp : Span) (l x : List Entry) (m ready : List ℕ) (i : ℕ) (a : Ages) (done rest : List Next) : Type 0 where
+  pub reach : List Entry
+  pub reached : IsReach u sp reach
+  pub taking : Taking u sp reach l x m ready i a done rest
+
+-- the list holds each row that is left and waits for none
+pub record AreReady (l : List Entry) (m ready : List ℕ) (below : ℕ) : Type 0 where
+  pub near : (i : ℕ) → Among i ready → i < 139392
+  pub queued : (i : ℕ) → i < below → open_at (at l i) ≡ true → slice_index m i ≡ 0 → Among i ready
+
+-- what is left of a next: where it passes, its ages join those of its row, which waits for one less, and is in the list once it
+-- waits for none
+abbrev pub Passed : Next → (x new_x : List Entry) (m new_m r new_r : List ℕ) → Type 0
+Passed n x new_x m new_m r new_r = MatchBool n.passes
+    ((new_x ≡ slice_set x (spot n) (Present (join_into n.ages (at x (spot n)))))
+    × ((new_m ≡ slice_set m (spot n) (slice_index m (spot n) - 1))
+    × (new_r ≡ (if slice_index m (spot n) == 1 then r ++ spot n ∷ [] else r))))
+    ((new_x ≡ x) × ((new_m ≡ m) × (new_r ≡ r)))
+
+-- how much the rows wait for, and how many may be ready
+abbrev pub work_left : List ℕ → List ℕ → ℕ
+work_left m ready = sum_by (λ v. v) m + length ready
+
+-- a row is left and waits for none
+abbrev pub is_ready : List Entry → List ℕ → ℕ → Bool
+is_ready l m i = open_at (at l i) && slice_index m i == 0
+
+-- the ages of a row, none where there is no row
+abbrev pub ages_or_none : Entry → Ages
+ages_or_none Absent = Empty
+ages_or_none (Present a) = a

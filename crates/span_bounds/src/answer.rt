@@ -1,0 +1,74 @@
+//! The least closed table of a span.
+ghost use Rattle.std.specs.Prelude.{◌≡◌, ◌+◌, ◌<◌, IfOk, IsSome, MatchOption, None, slice_index_or};
+ghost use Rattle.span_bounds.specs.Answers as spec;
+ghost use Rattle.span_bounds.specs.Answers.{IsAnswer, IsBadAt, AreGoodBelow, cause_at};
+
+use crate::count::count;
+use crate::derived::Derived;
+use crate::entry::Entry;
+use crate::grid::Grid;
+use crate::number::{CONTEXTS, context_at};
+use crate::reach::reached;
+use crate::table::Table;
+use crate::take::{is_open, take};
+use pin_matrix::{Setup, Span};
+use span_step::{Ages, Cause, step};
+use std::alloc::{AllocError, Global};
+
+/// The least closed table of the span where it is good, else a context that is bad in every closed table: of the rows
+/// by which the table is judged the first in context order, with its first cause. The span's machine is configured. The error
+/// is want of memory.
+pub fn derive(alloc: Global, setup: &Setup, span: &Span) -> Result<Derived, AllocError>
+    requires { IsSome (slice_index_or setup.now.machines span.now.machine None) }
+    ensures { IfOk result (λ derived. IsAnswer setup.now span.now derived) }
+{
+    let mut table = Grid::new(alloc)?;
+    let mut missing = vec![in alloc; 0; CONTEXTS]?;
+    let mut left = reached(alloc, setup, span)?;
+    count(setup, span, &left, &mut table, &mut missing);
+    take(alloc, setup, span, &mut left, &mut table, &mut missing)?;
+    match first_bad(setup, span, &left, &table) {
+        Some((number, cause)) => Ok(Derived::Bad {
+            context: context_at(number),
+            cause,
+        }),
+        None => Ok(Derived::Closed(Table::of(table))),
+    }
+}
+
+/// The first number whose row is bad, and its first cause.
+fn first_bad(setup: &Setup, span: &Span, left: &Grid, table: &Grid) -> Option<(usize, Cause)>
+    requires { IsSome (slice_index_or setup.now.machines span.now.machine None) }
+    ensures { MatchOption result (AreGoodBelow setup.now span.now left.now table.now 139392)
+        (λ found. IsBadAt setup.now span.now left.now table.now found) }
+{
+    for number in 0..139_392 {
+        if let Some(cause) = judged(setup, span, left, table, number) {
+            return Some((number, cause));
+        }
+    }
+    None
+}
+
+/// The first cause for which a number's row is bad. A row that was never taken is bad by any ages.
+fn judged(setup: &Setup, span: &Span, left: &Grid, table: &Grid, number: usize) -> Option<Cause>
+    requires configured { IsSome (slice_index_or setup.now.machines span.now.machine None) }
+    requires number { number < 139392 }
+    ensures { result ≡ cause_at setup.now span.now left.now table.now number }
+{
+    match filled(left.at(number), table.at(number)) {
+        Entry::Absent => None,
+        Entry::Present(ages) => step(setup, span, &context_at(number), &ages).causes.first(),
+    }
+}
+
+/// The entry by which a row is judged.
+fn filled(left: Entry, entry: Entry) -> Entry
+    ensures { result ≡ spec.filled left entry }
+{
+    if is_open(left) {
+        Entry::Present(Ages::Between(0, u32::MAX))
+    } else {
+        entry
+    }
+}

@@ -1,0 +1,22 @@
+//! The timing checker's table: the least that is closed under the steps of a span's machine.
+#![tactic(auto)]
+
+mod answer;
+mod count;
+mod derived;
+mod entry;
+mod grid;
+mod number;
+mod reach;
+mod row;
+mod start;
+mod table;
+mod take;
+
+pub use answer::derive;
+pub use derived::Derived;
+pub use row::Row;
+pub use table::Table;
+
+#[cfg(test)]
+mod tests;

@@ -1,0 +1,39 @@
+//! Where a table starts.
+ghost use Rattle.std.specs.Prelude.{◌≡◌, ◌<◌, IsSome, None, Some, slice_index_or, IsTrue};
+ghost use Rattle.span_bounds.specs.Tables as spec;
+
+use pin_matrix::{MachineSetup, Setup, Span};
+use span_step::Context;
+
+/// The machine's first address, its X and Y where they are below 32, and the initial levels.
+#[tactic(auto, unfolding(crate::specs::Tables::start_context))]
+pub(crate) fn start_context(setup: &Setup, span: &Span) -> Context
+    requires { IsSome (slice_index_or setup.now.machines span.now.machine None) }
+    ensures { result ≡ spec.start_context setup.now span.now }
+{
+    match &setup.machines[usize::from(span.machine)] {
+        Some(machine) => Context {
+            address: machine.start,
+            x: known_of(machine.x),
+            y: known_of(machine.y),
+            from: is_high(setup.level, span.from_pin),
+            to: is_high(setup.level, span.to_pin),
+        },
+        None => unreachable!(),
+    }
+}
+
+/// X or Y, where it is below 32.
+fn known_of(value: u32) -> Option<u8>
+    ensures { result ≡ spec.known_of value }
+{
+    if value < 32 { Some(value as u8) } else { None }
+}
+
+/// Whether a pin (0 to 31) is high.
+fn is_high(level: u32, pin: u8) -> bool
+    requires { pin < 32 }
+    ensures { result ≡ spec.is_high level pin }
+{
+    (level >> pin) % 2 == 1
+}

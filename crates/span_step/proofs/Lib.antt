@@ -1,0 +1,5 @@
+pub mod Kept
+pub mod Wider
+pub mod Alike
+pub mod Aging
+pub mod Overdue

@@ -1,0 +1,128 @@
+-- How an instruction may go, tick by tick, and what becomes of the ages on the way.
+--   Write            what a tick writes to the span's two pins
+--   prompt, delayed  the courses of an instruction, as lists of ticks
+--   Rules            what the span asks of a row
+--   Watch            what is known in the middle of a course
+--   watched          one tick
+use Rattle.std.specs.Prelude.{ℕ, ◌+◌, min, Bool, true, false, not, ◌&&◌, ◌||◌, if◌then◌else◌, Option, Some, None, List, [], ◌∷◌, nat_lt, replicate, fold, unwrap_or}
+use Rattle.span_step.specs.declared.ages.Ages.{Ages}
+use Rattle.span_step.specs.declared.ages.Ages.TheVariants.{Empty, Between}
+use Rattle.span_step.specs.declared.cause.Causes.{Causes}
+use Rattle.span_step.specs.declared.course.Tick.{Tick}
+use Rattle.span_step.specs.declared.course.Watch.{Watch}
+use Rattle.span_step.specs.declared.levels.Write.{Write}
+use Rattle.span_step.specs.Contexts.{Context, is_open}
+use Rattle.span_step.specs.Outcomes.{Outcome}
+
+-- a later write stands over an earlier one; side-set stands over the instruction's own (RP2040 Datasheet, section 3.5.6.1)
+abbrev pub over : Option Bool → Option Bool → Option Bool
+over (Some level) below = Some level
+over None below = below
+
+-- a tick in which nothing is written, and which counts
+abbrev pub delay_tick : Tick
+delay_tick = record { late = false; from = None; to = None }
+
+-- the ticks of a delay
+abbrev pub delay_ticks : ℕ → List Tick
+delay_ticks delay = replicate delay delay_tick
+
+-- The prompt course: all effects in the first tick, then the delay.
+unfoldable pub prompt : Write → Outcome → ℕ → List Tick
+prompt side o delay =
+    record { late = false; from = over side.from o.from; to = over side.to o.to } ∷ delay_ticks delay
+
+-- The delayed course of an instruction that may stall: side-set in the first tick, the other effects in the last late tick,
+-- then the delay. One late tick stands for any number, since those before the last write nothing and don't count.
+unfoldable pub delayed : Write → Outcome → ℕ → List Tick
+delayed side o delay =
+    record { late = false; from = side.from; to = side.to }
+    ∷ record { late = true; from = o.from; to = o.to }
+    ∷ delay_ticks delay
+
+-- an instruction that may stall has both courses, any other one
+unfoldable pub courses : (stalls : Bool) → Write → Outcome → ℕ → List (List Tick)
+courses stalls side o delay = prompt side o delay ∷ (if stalls then delayed side o delay ∷ [] else [])
+
+-- What the span asks of a row: which edges it goes between, its bounds in ticks, and whether stalls at the row's address
+-- are left out.
+pub record Rules : Type 0 where
+  pub from_rise : Bool
+  pub to_rise : Bool
+  pub min : ℕ
+  pub max : ℕ
+  pub named : Bool
+
+-- the level changes in this direction
+abbrev pub is_edge : (rise old new : Bool) → Bool
+is_edge true old new = not old && new
+is_edge false old new = old && not new
+
+-- open ages are one more, up to one above the most that is right
+abbrev pub older : ℕ → Ages → Ages
+older most Empty = Empty
+older most (Between lo hi) = Between (min lo most + 1) (min hi most + 1)
+
+-- some age is above the most that is right
+abbrev pub is_above : ℕ → Ages → Bool
+is_above most Empty = false
+is_above most (Between lo hi) = nat_lt most hi
+
+-- some age is below the least that is right
+abbrev pub is_below : ℕ → Ages → Bool
+is_below least Empty = false
+is_below least (Between lo hi) = nat_lt lo least
+
+-- a from-edge adds the age 0
+abbrev pub with_fresh : Ages → Ages
+with_fresh Empty = Between 0 0
+with_fresh (Between lo hi) = Between 0 hi
+
+-- the ages after the tick's edges: a to-edge empties them, then a from-edge adds the age 0
+abbrev pub after_edges : (closes opens : Bool) → Ages → Ages
+after_edges closes opens ages =
+    let left = if closes then Empty else ages in if opens then with_fresh left else left
+
+-- no cause is there
+abbrev pub no_causes : Causes
+no_causes = record { u1 = false; u2 = false; u3 = false; u4 = false }
+
+-- the causes of either
+abbrev pub joined : Causes → Causes → Causes
+joined a b = record { u1 = a.u1 || b.u1; u2 = a.u2 || b.u2; u3 = a.u3 || b.u3; u4 = a.u4 || b.u4 }
+
+-- The causes that one tick adds. U1: an age is above the bound; U2: a to-edge comes too early; U3: the machine waits at an
+-- address that isn't named while a from-edge is open.
+abbrev pub tick_causes : Rules → (late closes : Bool) → (before aged : Ages) → Causes
+tick_causes r late closes before aged = record {
+  u1 = is_above r.max aged;
+  u2 = closes && is_below r.min aged;
+  u3 = late && (not r.named && is_open before);
+  u4 = false;
+}
+
+-- One tick. A late tick doesn't count; any other makes open ages one more. Then the edges of the levels that it writes
+-- come. `passes` says that no to-edge came so far.
+unfoldable pub watched : Rules → Watch → Tick → Watch
+watched r w t =
+    let from = unwrap_or t.from w.from in
+    let to = unwrap_or t.to w.to in
+    let aged = if t.late then w.ages else older r.max w.ages in
+    let closes = is_edge r.to_rise w.to to in
+    let opens = is_edge r.from_rise w.from from in
+    record {
+      from = from;
+      to = to;
+      ages = after_edges closes opens aged;
+      causes = joined w.causes (tick_causes r t.late closes w.ages aged);
+      from_edge = w.from_edge || opens;
+      passes = w.passes && not closes;
+    }
+
+-- at the start of a course
+abbrev pub start : Context → Ages → Watch
+start k ages = record { from = k.from; to = k.to; ages = ages; causes = no_causes; from_edge = false; passes = true }
+
+-- at the end of a course
+abbrev pub followed : Rules → List Tick → Watch → Watch
+followed r ticks w = fold (watched r) w ticks

@@ -1,0 +1,97 @@
+-- Words of the laws of a step.
+--   AreAlike         two lists are as long, and a relation holds place by place
+--   Follows          two nexts go to one context, by courses that pass alike, with related ages
+--   AllImplied       each cause of the first is one of the second
+--   IsWithin         a step has the nexts of another with ages inside, and no more causes
+--   most_of          the span's greatest age in ticks
+--   ReachesAge       some age is at least this
+--   first_cause      the first cause in the order U1 to U4
+use Rattle.std.specs.Prelude.{◌≡◌, ℕ, ◌≤◌, Bool, true, false, if◌then◌else◌, Option, Some, None, List, [], ◌∷◌, slice_index_or}
+use Rattle.pin_matrix.specs.declared.machine.MachineSetup.{MachineSetup}
+use Rattle.pin_matrix.specs.declared.setup.Setup.{Setup}
+use Rattle.pin_matrix.specs.declared.span.Span.{Span}
+use Rattle.span_step.specs.declared.ages.Ages.{Ages}
+use Rattle.span_step.specs.declared.ages.Ages.TheVariants.{Empty, Between}
+use Rattle.span_step.specs.declared.cause.Cause.{Cause}
+use Rattle.span_step.specs.declared.cause.Cause.TheVariants.{U1, U2, U3, U4}
+use Rattle.span_step.specs.declared.cause.Causes.{Causes}
+use Rattle.span_step.specs.declared.stepped.Next.{Next}
+use Rattle.span_step.specs.declared.stepped.Stepped.{Stepped}
+use Rattle.span_step.specs.Contexts.{Context, IsInside, is_open}
+use Rattle.span_step.specs.Steps.{bounds_of}
+
+-- two lists are as long, and the relation holds place by place
+abbrev pub AreAlike : (Next → Next → Type 0) → List Next → List Next → Type 0
+AreAlike R [] [] = Unit {0}
+AreAlike R [] (y ∷ ys) = ⊥
+AreAlike R (x ∷ xs) [] = ⊥
+AreAlike R (x ∷ xs) (y ∷ ys) = R x y × AreAlike R xs ys
+
+-- two nexts go to one context by courses that both pass or both have a to-edge; their ages are related, which may look at that
+pub record Follows (R : Bool → Ages → Ages → Type 0) (m n : Next) : Type 0 where
+  pub context : m.context ≡ n.context
+  pub passes : m.passes ≡ n.passes
+  pub ages : R m.passes m.ages n.ages
+
+-- where a next goes, and whether its course passes
+abbrev pub aim_of : Next → Context × Bool
+aim_of n = (n.context, n.passes)
+
+-- each cause of the first is one of the second
+pub record AllImplied (a b : Causes) : Type 0 where
+  pub u1 : a.u1 ≡ true → b.u1 ≡ true
+  pub u2 : a.u2 ≡ true → b.u2 ≡ true
+  pub u3 : a.u3 ≡ true → b.u3 ≡ true
+  pub u4 : a.u4 ≡ true → b.u4 ≡ true
+
+-- the ages lie inside, whether the course passes or not
+abbrev pub AreInside : Bool → Ages → Ages → Type 0
+AreInside p a b = IsInside a b
+
+-- both are open, or neither
+abbrev pub OpenAlike : Bool → Ages → Ages → Type 0
+OpenAlike p a b = is_open a ≡ is_open b
+
+-- the ages are the same where a to-edge came
+abbrev pub SameAfterEdge : Bool → Ages → Ages → Type 0
+SameAfterEdge p a b = p ≡ false → a ≡ b
+
+-- a step has the same next contexts with ages inside, no more causes, and the same from-edge
+pub record IsWithin (s t : Stepped) : Type 0 where
+  pub nexts : AreAlike (Follows AreInside) s.nexts t.nexts
+  pub causes : AllImplied s.causes t.causes
+  pub from_edge : s.from_edge ≡ t.from_edge
+
+-- the most that is right in ticks of the span's machine
+abbrev pub most_on : Option MachineSetup → Span → ℕ
+most_on None sp = 0
+most_on (Some s) sp = (bounds_of sp s).1
+
+-- the same in a setup
+unfoldable pub most_of : Setup → Span → ℕ
+most_of u sp = most_on (slice_index_or u.machines sp.machine None) sp
+
+-- some age is at least this
+abbrev pub ReachesAge : ℕ → Ages → Type 0
+ReachesAge n Empty = ⊥
+ReachesAge n (Between lo hi) = n ≤ hi
+
+-- no age is above this
+abbrev pub AreUpTo : ℕ → Ages → Type 0
+AreUpTo n Empty = Unit {0}
+AreUpTo n (Between lo hi) = hi ≤ n
+
+-- the first cause in the order U1, U2, U3, U4
+abbrev pub first_cause : Causes → Option Cause
+first_cause c =
+    if c.u1 then Some U1 else if c.u2 then Some U2 else if c.u3 then Some U3 else if c.u4 then Some U4 else None
+
+-- no age of a next is above this
+abbrev pub AllUpTo : ℕ → List Next → Type 0
+AllUpTo n [] = Unit {0}
+AllUpTo n (m ∷ ms) = AreUpTo n m.ages × AllUpTo n ms
+
+-- the ages of each next to which a course passes reach this
+abbrev pub AllReach : ℕ → List Next → Type 0
+AllReach n [] = Unit {0}
+AllReach n (m ∷ ms) = (m.passes ≡ true → ReachesAge n m.ages) × AllReach n ms

@@ -1,0 +1,144 @@
+-- One step of the checker: from a context with its ages to the next ones.
+--   bounds_of        a span's bounds in ticks of its machine
+--   next_address     the address that follows
+--   side_of          what side-set writes to the two pins
+--   Visit            what all courses of a row share
+--   with_outcome     what is found with one more outcome, by each of its courses
+--   step_by          the step of a machine's row
+--   context_steps    the step of a span's row
+use Rattle.std.specs.Prelude.{ℕ, ◌+◌, ◌-◌, ◌*◌, ◌/◌, ◌%◌, ◌==◌, Bool, true, false, ◌||◌, if◌then◌else◌, Option, Some, None, List, [], ◌∷◌, ◌++◌, fold, slice_index, slice_index_or}
+use Rattle.std.specs.List.{list_any}
+use Rattle.pio_encode.specs.declared.op.Op.{Op}
+use Rattle.pio_encode.specs.Word.{reading_of}
+use Rattle.pin_matrix.specs.Pins.{writes_of}
+use Rattle.pin_matrix.specs.declared.machine.MachineSetup.{MachineSetup}
+use Rattle.pin_matrix.specs.declared.setup.Setup.{Setup}
+use Rattle.pin_matrix.specs.declared.span.Span.{Span}
+use Rattle.pin_matrix.specs.declared.span.SpanUnit.{SpanUnit}
+use Rattle.pin_matrix.specs.declared.span.SpanUnit.TheVariants.{Ticks, Clocks}
+use Rattle.span_step.specs.declared.ages.Ages.{Ages}
+use Rattle.span_step.specs.declared.course.Tick.{Tick}
+use Rattle.span_step.specs.declared.course.Watch.{Watch}
+use Rattle.span_step.specs.declared.levels.Write.{Write}
+use Rattle.span_step.specs.declared.stepped.Next.{Next}
+use Rattle.span_step.specs.declared.stepped.Stepped.{Stepped}
+use Rattle.span_step.specs.Contexts.{Context}
+use Rattle.span_step.specs.Outcomes.{Outcome, level_at, outcomes, is_wild, may_stall}
+use Rattle.span_step.specs.Courses.{Rules, courses, no_causes, joined, start, followed}
+
+-- the clocks of 256 ticks, at least 256; a divider of 0 stands for 65,536 (RP2040 Datasheet, section 3.5.5)
+abbrev pub period_of : MachineSetup → ℕ
+period_of s = 256 * (if s.int == 0 then 65536 else s.int) + s.frac
+
+-- A span's bounds in ticks. For one in clocks they are the least number of ticks that takes at least `min` clocks, and the
+-- greatest that takes at most `max`, for any place of the first tick.
+abbrev pub bounds_in : SpanUnit → Span → ℕ → ℕ × ℕ
+bounds_in Ticks sp period = (sp.min, sp.max)
+bounds_in Clocks sp period = ((256 * sp.min + period - 1) / period, 256 * sp.max / period)
+
+-- the same of a machine
+unfoldable pub bounds_of : Span → MachineSetup → ℕ × ℕ
+bounds_of sp s = bounds_in sp.unit sp (period_of s)
+
+-- stalls at this address are left out
+abbrev pub is_named : Span → ℕ → Bool
+is_named sp address = list_any (λ a. a == address) sp.stalls
+
+-- what the span asks of a row at this address
+unfoldable pub rules_of : MachineSetup → Span → ℕ → Rules
+rules_of s sp address = let bounds = bounds_of sp s in record {
+  from_rise = sp.from_rise;
+  to_rise = sp.to_rise;
+  min = bounds.0;
+  max = bounds.1;
+  named = is_named sp address;
+}
+
+-- the address that follows: the program wraps behind wrap_top, and the memory behind 31 (section 3.5.2)
+abbrev pub next_address : MachineSetup → ℕ → ℕ
+next_address s address = if address == s.wrap_top then s.wrap_bottom else (address + 1) % 32
+
+-- what side-set writes to the two pins: levels unless the rule sends it to directions (section 3.5.1)
+abbrev pub side_of : MachineSetup → Span → Option ℕ → Write
+side_of s sp None = record { from = None; to = None }
+side_of s sp (Some value) =
+    if s.side_rule.pindirs
+    then record { from = None; to = None }
+    else record { from = level_at sp.from_pin (writes_of s.side value); to = level_at sp.to_pin (writes_of s.side value) }
+
+-- what all courses of a row share: what the span asks, side-set, delay, whether there is a stall, the address that follows,
+-- and the row
+pub record Visit : Type 0 where
+  pub rules : Rules
+  pub side : Write
+  pub delay : ℕ
+  pub stalls : Bool
+  pub following : ℕ
+  pub context : Context
+  pub ages : Ages
+
+-- a visit of a row whose instruction this is
+unfoldable pub visit_of : MachineSetup → Span → Op → Context → Ages → Visit
+visit_of s sp op k ages = record {
+  rules = rules_of s sp k.address;
+  side = side_of s sp op.side;
+  delay = op.delay;
+  stalls = may_stall op.act s;
+  following = next_address s k.address;
+  context = k;
+  ages = ages;
+}
+
+-- the address that an instruction goes to
+abbrev pub address_after : Option ℕ → ℕ → ℕ
+address_after (Some address) following = address
+address_after None following = following
+
+-- the next context with its ages, after a course
+abbrev pub next_of : Visit → Outcome → Watch → Next
+next_of v o w = record {
+  context = record { address = address_after o.jump v.following; x = o.x; y = o.y; from = w.from; to = w.to };
+  ages = w.ages;
+  passes = w.passes;
+}
+
+-- what is found with the end of one more course
+unfoldable pub with_end : Visit → Outcome → Stepped → Watch → Stepped
+with_end v o found w = record {
+  nexts = found.nexts ++ next_of v o w ∷ [];
+  causes = joined found.causes w.causes;
+  from_edge = found.from_edge || w.from_edge;
+}
+
+-- the end of a course
+abbrev pub end_of : Visit → List Tick → Watch
+end_of v ticks = followed v.rules ticks (start v.context v.ages)
+
+-- what is found with one more outcome, by each of its courses
+unfoldable pub with_outcome : Visit → Stepped → Outcome → Stepped
+with_outcome v found o = fold (λ t ticks. with_end v o t (end_of v ticks)) found (courses v.stalls v.side o v.delay)
+
+-- nothing is found yet
+abbrev pub nothing_found : Stepped
+nothing_found = record { nexts = []; causes = no_causes; from_edge = false }
+
+-- no address is known after the row
+abbrev pub wild_step : Stepped
+wild_step = record { nexts = []; causes = record no_causes { u4 = true }; from_edge = false }
+
+-- the step of a row whose instruction this is: U4 alone where no address is known after it, else what its outcomes give
+unfoldable pub step_by : MachineSetup → Span → Op → Context → Ages → Stepped
+step_by s sp op k ages =
+    if is_wild op.act
+    then wild_step
+    else fold (with_outcome (visit_of s sp op k ages)) nothing_found (outcomes op.act s sp k)
+
+-- the step of a row of this machine, by the word at its address
+abbrev pub machine_steps : Option MachineSetup → List ℕ → Span → Context → Ages → Stepped
+machine_steps None memory sp k ages = nothing_found
+machine_steps (Some s) memory sp k ages = step_by s sp (reading_of (slice_index memory k.address) s.side_rule) k ages
+
+-- The step of a row of the span's machine: the next contexts with their ages, the causes for which the row is bad, and
+-- whether a from-edge comes. There is none where the machine isn't configured.
+unfoldable pub context_steps : Setup → Span → Context → Ages → Stepped
+context_steps u sp k ages = machine_steps (slice_index_or u.machines sp.machine None) u.memory sp k ages

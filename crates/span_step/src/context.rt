@@ -1,0 +1,42 @@
+//! What the checker knows of a machine between two instructions.
+use std::marker::Model;
+
+/// What is known before an instruction. The type keeps the address, X and Y below 32.
+#[derive(Clone, Copy, Debug, Default, PartialEq, Eq)]
+pub struct Context {
+    /// Where the instruction lies.
+    pub address: u8,
+    /// X, or `None` where it may be anything.
+    pub x: Option<u8>,
+    /// Y, or `None` where it may be anything.
+    pub y: Option<u8>,
+    /// The level of the span's from-pin.
+    pub from: bool,
+    /// The level of the span's to-pin.
+    pub to: bool,
+}
+
+impl Model for Context {
+    ghost use Rattle.std.specs.Prelude.{IsTrue};
+    ghost use Rattle.span_step.specs.Contexts as spec;
+
+    ghost Value = { spec.Context };
+
+    ghost view = { λ k. record {
+      address = k.address;
+      x = k.x;
+      y = k.y;
+      from = k.from;
+      to = k.to;
+    } };
+
+    ghost invariant = { λ k. IsTrue (spec.is_placed k.address k.x k.y) };
+
+    ghost inverse = { λ k. record {
+      address = k.address;
+      x = k.x;
+      y = k.y;
+      from = k.from;
+      to = k.to;
+    } };
+}

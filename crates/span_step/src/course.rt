@@ -1,0 +1,156 @@
+//! One course of an instruction, tick by tick.
+ghost use Rattle.std.specs.Prelude.{◌≡◌};
+ghost use Rattle.span_step.specs.Courses as spec;
+
+use crate::ages::Ages;
+use crate::cause::Causes;
+use crate::context::Context;
+use crate::levels::Write;
+use crate::outcome::Outcome;
+use crate::rules::Rules;
+
+/// A tick of a course.
+#[derive(Clone, Copy, Debug)]
+pub(crate) struct Tick {
+    /// It doesn't count: the machine waits, or ends a stall.
+    pub(crate) late: bool,
+    /// The level that it writes to the from-pin, if any.
+    pub(crate) from: Option<bool>,
+    /// The level that it writes to the to-pin, if any.
+    pub(crate) to: Option<bool>,
+}
+
+/// What is known in the middle of a course.
+#[derive(Clone, Copy, Debug)]
+pub(crate) struct Watch {
+    /// The level of the from-pin.
+    pub(crate) from: bool,
+    /// The level of the to-pin.
+    pub(crate) to: bool,
+    pub(crate) ages: Ages,
+    /// The causes that came so far.
+    pub(crate) causes: Causes,
+    /// A from-edge came.
+    pub(crate) from_edge: bool,
+    /// No to-edge came.
+    pub(crate) passes: bool,
+}
+
+impl Watch {
+    /// At the start of a course.
+    pub(crate) fn start(context: &Context, ages: Ages) -> Watch
+        ensures { result ≡ spec.start context.now ages }
+    {
+        Watch {
+            from: context.from,
+            to: context.to,
+            ages,
+            causes: Causes::none(),
+            from_edge: false,
+            passes: true,
+        }
+    }
+
+    /// At the end of the prompt course: all effects in the first tick.
+    #[tactic(auto, unfolding(crate::specs::Courses::prompt))]
+    pub(crate) fn prompt(self, rules: &Rules, side: Write, outcome: &Outcome, delay: u8) -> Watch
+        ensures { result ≡ spec.followed rules.now (spec.prompt side outcome.now delay) self }
+    {
+        let first = Tick {
+            late: false,
+            from: over(side.from, outcome.from),
+            to: over(side.to, outcome.to),
+        };
+        self.watched(rules, first).delayed(rules, delay)
+    }
+
+    /// At the end of the delayed course: side-set in the first tick, the other effects in the last late one.
+    #[tactic(auto, unfolding(crate::specs::Courses::delayed))]
+    pub(crate) fn late(self, rules: &Rules, side: Write, outcome: &Outcome, delay: u8) -> Watch
+        ensures { result ≡ spec.followed rules.now (spec.delayed side outcome.now delay) self }
+    {
+        let first = Tick {
+            late: false,
+            from: side.from,
+            to: side.to,
+        };
+        let last = Tick {
+            late: true,
+            from: outcome.from,
+            to: outcome.to,
+        };
+        self.watched(rules, first)
+            .watched(rules, last)
+            .delayed(rules, delay)
+    }
+
+    /// After so many ticks of a delay.
+    fn delayed(self, rules: &Rules, delay: u8) -> Watch
+        ensures { result ≡ spec.followed rules.now (spec.delay_ticks delay) self }
+    {
+        let rest = Tick {
+            late: false,
+            from: None,
+            to: None,
+        };
+        let mut watch = self;
+        for _tick in 0..delay {
+            watch = watch.watched(rules, rest);
+        }
+        watch
+    }
+
+    /// After one tick.
+    #[tactic(auto, unfolding(crate::specs::Courses::watched))]
+    fn watched(self, rules: &Rules, tick: Tick) -> Watch
+        ensures { result ≡ spec.watched rules.now self tick }
+    {
+        let from = tick.from.unwrap_or(self.from);
+        let to = tick.to.unwrap_or(self.to);
+        let aged = if tick.late {
+            self.ages
+        } else {
+            self.ages.older(rules.max)
+        };
+        let closes = is_edge(rules.to_rise, self.to, to);
+        let opens = is_edge(rules.from_rise, self.from, from);
+        let causes = tick_causes(rules, tick.late, closes, self.ages, aged);
+        Watch {
+            from,
+            to,
+            ages: aged.after_edges(closes, opens),
+            causes: self.causes.joined(causes),
+            from_edge: self.from_edge || opens,
+            passes: self.passes && !closes,
+        }
+    }
+}
+
+/// The causes that one tick adds, by the ages before it and those that it makes older.
+fn tick_causes(rules: &Rules, late: bool, closes: bool, before: Ages, aged: Ages) -> Causes
+    ensures { result ≡ spec.tick_causes rules.now late closes before aged }
+{
+    Causes {
+        u1: aged.is_above(rules.max),
+        u2: closes && aged.is_below(rules.min),
+        u3: late && !rules.named && before.is_open(),
+        u4: false,
+    }
+}
+
+/// Whether the level changes in this direction.
+fn is_edge(rise: bool, old: bool, new: bool) -> bool
+    ensures { result ≡ spec.is_edge rise old new }
+{
+    if rise { !old && new } else { old && !new }
+}
+
+/// The write that stands.
+fn over(above: Option<bool>, below: Option<bool>) -> Option<bool>
+    ensures { result ≡ spec.over above below }
+{
+    match above {
+        Some(level) => Some(level),
+        None => below,
+    }
+}

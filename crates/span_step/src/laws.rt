@@ -1,0 +1,49 @@
+//! Laws of a step, each on a function that does nothing.
+ghost use Rattle.std.specs.Prelude.{◌≡◌, ℕ, ◌+◌, min, map, Some, IsSome, None, slice_index_or};
+ghost use Rattle.pin_matrix.specs.declared.setup.Setup as setup;
+ghost use Rattle.pin_matrix.specs.declared.span.Span as span;
+ghost use Rattle.span_step.specs.Contexts as contexts;
+ghost use Rattle.span_step.specs.Contexts.{IsInside, is_open};
+ghost use Rattle.span_step.specs.declared.ages.Ages as ages;
+ghost use Rattle.span_step.specs.Steps.{context_steps};
+ghost use Rattle.span_step.specs.Laws.{aim_of, IsWithin, AreAlike, Follows, OpenAlike, SameAfterEdge, AllUpTo, AllReach, ReachesAge, most_of, first_cause};
+
+/// Ages inside others give the same next contexts with ages inside, no more causes and the same from-edge.
+pub fn a_step_is_monotone()
+    ensures { (u : setup.Setup) (sp : span.Span) (k : contexts.Context) (a b : ages.Ages)
+        → IsInside a b → IsWithin (context_steps u sp k a) (context_steps u sp k b) }
+{}
+
+/// The next contexts, which of them are reached without a to-edge, and whether a from-edge comes don't depend on the ages.
+/// Nor do the ages after a to-edge; and whether ages are open afterwards depends on no more than whether they were.
+pub fn next_contexts_do_not_depend_on_ages()
+    ensures contexts { (u : setup.Setup) (sp : span.Span) (k : contexts.Context) (a b : ages.Ages)
+        → map aim_of (context_steps u sp k a).nexts
+        ≡ map aim_of (context_steps u sp k b).nexts }
+    ensures from_edge { (u : setup.Setup) (sp : span.Span) (k : contexts.Context) (a b : ages.Ages)
+        → (context_steps u sp k a).from_edge ≡ (context_steps u sp k b).from_edge }
+    ensures after_edge { (u : setup.Setup) (sp : span.Span) (k : contexts.Context) (a b : ages.Ages)
+        → AreAlike (Follows SameAfterEdge) (context_steps u sp k a).nexts (context_steps u sp k b).nexts }
+    ensures open_alike { (u : setup.Setup) (sp : span.Span) (k : contexts.Context) (a b : ages.Ages)
+        → is_open a ≡ is_open b
+        → AreAlike (Follows OpenAlike) (context_steps u sp k a).nexts (context_steps u sp k b).nexts }
+{}
+
+/// Ages grow by at least one tick along a course without a to-edge, up to one above the span's most, and no further.
+pub fn ages_grow_up_to_the_cap()
+    ensures grow { (u : setup.Setup) (sp : span.Span) (k : contexts.Context) (a : ages.Ages) (n : ℕ)
+        → ReachesAge n a → AllReach (min n (most_of u sp) + 1) (context_steps u sp k a).nexts }
+    ensures cap { (u : setup.Setup) (sp : span.Span) (k : contexts.Context) (a : ages.Ages)
+        → AllUpTo (most_of u sp + 1) (context_steps u sp k a).nexts }
+{}
+
+/// Ages at the span's most or above are bad at each row, for one and the same cause. The span's machine is configured.
+pub fn overdue_ages_are_bad()
+    ensures bad { (u : setup.Setup) (sp : span.Span) (k : contexts.Context) (a : ages.Ages)
+        → IsSome (slice_index_or u.machines sp.machine None) → ReachesAge (most_of u sp) a
+        → IsSome (first_cause (context_steps u sp k a).causes) }
+    ensures alike { (u : setup.Setup) (sp : span.Span) (k : contexts.Context) (a b : ages.Ages)
+        → IsSome (slice_index_or u.machines sp.machine None)
+        → ReachesAge (most_of u sp) a → ReachesAge (most_of u sp) b
+        → first_cause (context_steps u sp k a).causes ≡ first_cause (context_steps u sp k b).causes }
+{}

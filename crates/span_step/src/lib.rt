@@ -1,0 +1,26 @@
+//! One step of the timing checker: from what is known of a machine between two instructions, with the ages of a span's open
+//! from-edges, to what can come next.
+#![tactic(auto)]
+
+mod acts;
+mod ages;
+mod cause;
+mod context;
+mod course;
+mod laws;
+mod levels;
+mod outcome;
+mod rules;
+mod stepped;
+mod stepping;
+mod visit;
+
+pub use ages::Ages;
+pub use cause::{Cause, Causes};
+pub use context::Context;
+pub use laws::{
+    a_step_is_monotone, ages_grow_up_to_the_cap, next_contexts_do_not_depend_on_ages,
+    overdue_ages_are_bad,
+};
+pub use stepped::{Next, Nexts, Stepped};
+pub use stepping::step;

@@ -1,0 +1,62 @@
+//! What an instruction does when it finishes.
+ghost use Rattle.std.specs.Prelude.{◌≡◌};
+ghost use Rattle.span_step.specs.Outcomes as spec;
+
+use crate::context::Context;
+use std::marker::Model;
+
+/// What an instruction does to a context, apart from side-set. The type keeps the address, X and Y below 32.
+#[derive(Clone, Copy, Debug, Default)]
+pub(crate) struct Outcome {
+    /// The address that it goes to, if it isn't the next one.
+    pub(crate) jump: Option<u8>,
+    /// X after it, where it is known.
+    pub(crate) x: Option<u8>,
+    /// Y after it, where it is known.
+    pub(crate) y: Option<u8>,
+    /// The level that it writes to the from-pin, if any.
+    pub(crate) from: Option<bool>,
+    /// The level that it writes to the to-pin, if any.
+    pub(crate) to: Option<bool>,
+}
+
+impl Model for Outcome {
+    ghost use Rattle.std.specs.Prelude.{IsTrue, ◌&&◌};
+    ghost use Rattle.span_step.specs.Contexts.{is_small};
+    ghost use Rattle.span_step.specs.Outcomes as spec;
+
+    ghost Value = { spec.Outcome };
+
+    ghost view = { λ o. record {
+      jump = o.jump;
+      x = o.x;
+      y = o.y;
+      from = o.from;
+      to = o.to;
+    } };
+
+    ghost invariant = { λ o. IsTrue (is_small o.jump && (is_small o.x && is_small o.y)) };
+
+    ghost inverse = { λ o. record {
+      jump = o.jump;
+      x = o.x;
+      y = o.y;
+      from = o.from;
+      to = o.to;
+    } };
+}
+
+impl Outcome {
+    /// It goes on, and changes nothing that the checker knows.
+    pub(crate) fn nothing_done(context: &Context) -> Outcome
+        ensures { result ≡ spec.nothing_done context.now }
+    {
+        Outcome {
+            jump: None,
+            x: context.x,
+            y: context.y,
+            from: None,
+            to: None,
+        }
+    }
+}

@@ -1,0 +1,113 @@
+//! What a span asks of a row.
+ghost use Rattle.std.specs.Prelude.{◌≡◌, ◌+◌, ◌-◌, ◌*◌, ◌/◌, ◌<◌, ◌≤◌, ◌^◌};
+ghost use Rattle.span_step.specs.Steps as spec;
+
+use pin_matrix::{MachineSetup, Span, SpanUnit};
+use std::marker::Model;
+
+/// The edges, the bounds in ticks, and whether stalls at the row's address are left out. The type keeps `max` below 2^24.
+#[derive(Clone, Copy, Debug)]
+pub(crate) struct Rules {
+    pub(crate) from_rise: bool,
+    pub(crate) to_rise: bool,
+    pub(crate) min: u32,
+    pub(crate) max: u32,
+    pub(crate) named: bool,
+}
+
+impl Model for Rules {
+    ghost use Rattle.std.specs.Prelude.{◌<◌, ◌^◌};
+    ghost use Rattle.span_step.specs.Courses as spec;
+
+    ghost Value = { spec.Rules };
+
+    ghost view = { λ r. record {
+      from_rise = r.from_rise;
+      to_rise = r.to_rise;
+      min = r.min;
+      max = r.max;
+      named = r.named;
+    } };
+
+    ghost invariant = { λ r. r.max < 2 ^ 24 };
+
+    ghost inverse = { λ r. record {
+      from_rise = r.from_rise;
+      to_rise = r.to_rise;
+      min = r.min;
+      max = r.max;
+      named = r.named;
+    } };
+}
+
+impl Rules {
+    /// What the span asks of a row at this address.
+    #[tactic(auto, unfolding(crate::specs::Steps::rules_of))]
+    pub(crate) fn of(machine: &MachineSetup, span: &Span, address: u8) -> Rules
+        ensures { result ≡ spec.rules_of machine.now span.now address }
+    {
+        let (min, max) = bounds(span, machine);
+        Rules {
+            from_rise: span.from_rise,
+            to_rise: span.to_rise,
+            min,
+            max,
+            named: is_named(span, address),
+        }
+    }
+}
+
+/// Whether stalls at an address are left out.
+fn is_named(span: &Span, address: u8) -> bool
+    ensures { result ≡ spec.is_named span.now address }
+{
+    span.stalls.as_slice().iter().any(|named| *named == address)
+}
+
+/// The span's bounds in ticks of the machine.
+#[tactic(auto, unfolding(crate::specs::Steps::bounds_of))]
+fn bounds(span: &Span, machine: &MachineSetup) -> (u32, u32)
+    ensures value { result ≡ spec.bounds_of span.now machine.now }
+    ensures most { result.1 < 2 ^ 24 }
+{
+    match span.unit {
+        SpanUnit::Ticks => (span.min, span.max),
+        SpanUnit::Clocks => {
+            let period = period(machine);
+            (least_ticks(span.min, period), most_ticks(span.max, period))
+        }
+    }
+}
+
+/// The clocks of 256 ticks.
+fn period(machine: &MachineSetup) -> u64
+    ensures value { result ≡ spec.period_of machine.now }
+    ensures least { 256 ≤ result }
+    ensures most { result ≤ 2 ^ 24 }
+{
+    let whole = if machine.int == 0 {
+        65_536
+    } else {
+        u64::from(machine.int)
+    };
+    256 * whole + u64::from(machine.frac)
+}
+
+/// The least number of ticks that takes at least so many clocks.
+fn least_ticks(clocks: u32, period: u64) -> u32
+    requires clocks { clocks < 2 ^ 24 }
+    requires least { 256 ≤ period }
+    requires most { period ≤ 2 ^ 24 }
+    ensures { result ≡ (256 * clocks + period - 1) / period }
+{
+    ((256 * u64::from(clocks) + period - 1) / period) as u32
+}
+
+/// The greatest number of ticks that takes at most so many clocks.
+fn most_ticks(clocks: u32, period: u64) -> u32
+    requires { 256 ≤ period }
+    ensures value { result ≡ 256 * clocks / period }
+    ensures most { result ≤ clocks }
+{
+    (256 * u64::from(clocks) / period) as u32
+}

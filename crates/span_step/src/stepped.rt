@@ -1,0 +1,67 @@
+//! What a step finds.
+ghost use Rattle.std.specs.Prelude.{◌≡◌, ◌<◌, ◌≤◌, ◌++◌, ◌∷◌, [], length};
+
+use crate::ages::Ages;
+use crate::cause::Causes;
+use crate::context::Context;
+use arrayvec::ArrayVec;
+use std::marker::Model;
+
+/// A context that can come next.
+#[derive(Clone, Copy, Debug, Default, PartialEq, Eq)]
+pub struct Next {
+    pub context: Context,
+    pub ages: Ages,
+    /// No to-edge came on the way, so that the ages before live on in these.
+    pub passes: bool,
+}
+
+/// The contexts that can come next with their ages, at most eight, one for each course of each outcome.
+#[derive(Drop)]
+pub struct Nexts {
+    items: ArrayVec<Next, 8>,
+}
+
+impl Model for Nexts {
+    ghost use Rattle.std.specs.Prelude.{List};
+    ghost use Rattle.span_step.specs.declared.stepped.Next.{Next};
+
+    ghost Value = { List Next };
+
+    ghost view = { λ n. n.items.items };
+}
+
+impl Nexts {
+    /// None yet.
+    pub(crate) fn new() -> Nexts
+        ensures { result ≡ [] }
+    {
+        Nexts {
+            items: ArrayVec::new(),
+        }
+    }
+
+    /// One more.
+    pub(crate) fn push(&mut self, next: Next)
+        requires { length self.old < 8 }
+        ensures { self.new ≡ self.old ++ next ∷ [] }
+    {
+        self.items.push(next);
+    }
+
+    /// In order: by outcome, and in it the prompt course first.
+    pub fn as_slice(&self) -> &[Next]
+        ensures value { result.now ≡ self.now }
+        ensures fits { length result.now ≤ 8 }
+    {
+        self.items.as_slice()
+    }
+}
+
+/// What a step finds: what can come next, why the row is bad, and whether a from-edge comes.
+#[derive(Drop)]
+pub struct Stepped {
+    pub nexts: Nexts,
+    pub causes: Causes,
+    pub from_edge: bool,
+}
