@@ -30,7 +30,7 @@ with_setup : Files → Option (List ℕ) → Option (List ℕ) → List Assemble
 with_setup f config stimulus programs = and_then (setup_at f config programs) (with_lines f stimulus)
 
 prepared : (f : Files) (source : List ℕ) (config stimulus : Option (List ℕ)) → prepared_at f source config stimulus ≡ and_then (source_at f source) (with_setup f config stimulus)
-unfolding prepared_at, with_setup, with_lines
+unfolding prepared_at with_setup with_lines
 prepared f source config stimulus = refl
 
 -- a faulty source makes a faulty run
@@ -47,7 +47,7 @@ setup_wrong f source config stimulus programs e p h =
 
 -- and a faulty stimulus
 lines_wrong : (f : Files) (source : List ℕ) (config stimulus : Option (List ℕ)) (programs : List Assembled) (setup : Setup) (e : Fault) → source_at f source ≡ right programs → setup_at f config programs ≡ right setup → schedule_at f stimulus ≡ wrong e → prepared_at f source config stimulus ≡ wrong e
-unfolding with_setup, with_lines
+unfolding with_setup with_lines
 lines_wrong f source config stimulus programs setup e p q h =
     prepared f source config stimulus ∙ ap (λ (j : Judged (List Assembled)). and_then j (with_setup f config stimulus)) p
     ∙ ap (λ (j : Judged Setup). and_then j (with_lines f stimulus)) q

@@ -1,5 +1,5 @@
 -- What words want that were read, and that were refused.
-use Rattle.std.proofs.Common.{arith, ◌≡◌, ◌≢◌, ◌∙◌, ℕ, ◌+◌, ◌≤◌, ◌&&◌, ◌==◌, Bool, true, false, inl, inr, Option, Some, None, List, [], ◌∷◌, refl, ap, if◌then◌else◌}
+use Rattle.std.proofs.Common.{arith, ◌≡◌, ◌≢◌, ◌∙◌, ℕ, ◌+◌, ◌≤◌, ◌&&◌, ◌==◌, Bool, true, false, inl, inr, Option, Some, None, option_and_then, List, [], ◌∷◌, refl, ap, if◌then◌else◌}
 use Rattle.std.proofs.lemmas.Bool.{and_left, and_right, ne_eqb}
 use Rattle.clap.specs.Walk.{Text}
 use Rattle.clap.specs.Faults.{fault_of}
@@ -16,16 +16,24 @@ room_within (dis file side true) h =
     let bound : side + 1 ≤ 5 = h in
     and_left (side == side_limit) true (ne_eqb side 5 (λ e. omega (arith, bound, e)))
 
--- what words ask for with room is what they want
-wanted_of : (words : List Text) (a : Asked) → Asks words a → has_no_room a ≡ false → wanted words ≡ Some a
+-- without faults what is asked for is wanted where it has room
+of_no_fault : {F : Type 0} (faults : List F) (asked : Option Asked) → faults ≡ [] → unless_faulty faults asked ≡ option_and_then with_room asked
+of_no_fault [] asked h = refl
+of_no_fault (fault ∷ faults) asked h = cc
+
+-- what has room is wanted, and nothing else
+with_room_by : (a : Asked) (full : Bool) → has_no_room a ≡ full → with_room a ≡ (if full then None else Some a)
+with_room_by a full h = ap (λ (b : Bool). if b then None else Some a) h
+
+-- what words ask for
+of_asked : (words : List Text) (a : Asked) → Asks words a → wanted words ≡ with_room a
 unfolding wanted
-wanted_of words a asks room =
-    ap (λ faults. unless_faulty faults (asked_of words)) asks.taken ∙ ap (λ asked. unless_faulty [] asked) asks.asked
-    ∙ ap (λ (full : Bool). if full then None else Some a) room
+of_asked words a asks =
+    of_no_fault (fault_of tool words) (asked_of words) asks.taken ∙ ap (λ asked. option_and_then with_room asked) asks.asked
 
 -- words that were read want what was read
 pub wanted_as_read : (words : List Text) (a : Asked) → Asks words a → IsWithinRange a → wanted words ≡ Some a
-wanted_as_read words a asks range = wanted_of words a asks (room_within a range)
+wanted_as_read words a asks range = of_asked words a asks ∙ with_room_by a false (room_within a range)
 
 -- where there are faults nothing is wanted
 none_of_faulty : {F : Type 0} (faults : List F) (asked : Option Asked) → faults ≢ [] → unless_faulty faults asked ≡ None
@@ -36,6 +44,4 @@ none_of_faulty (fault ∷ faults) asked h = refl
 pub refused_wants_nothing : (words : List Text) → IsRefused words → wanted words ≡ None
 unfolding wanted
 refused_wants_nothing words (inl faulty) = none_of_faulty (fault_of tool words) (asked_of words) faulty
-refused_wants_nothing words (inr pair) =
-    ap (λ faults. unless_faulty faults (asked_of words)) pair.1.taken ∙ ap (λ asked. unless_faulty [] asked) pair.1.asked
-    ∙ ap (λ (full : Bool). if full then None else Some pair.0) pair.2
+refused_wants_nothing words (inr pair) = of_asked words pair.0 pair.1 ∙ with_room_by pair.0 true pair.2

@@ -6,20 +6,17 @@ use Rattle.piotool.proofs.run.prepare.Goals as goal
 
 pub returns-in_err-programs-clause-stage : goal.returns-in_err-programs-clause-stage
 returns-in_err-programs-clause-stage g c =
-    rw c.from_residual.ensures in
-    source_fails _ _ _ c.args.files.source.now (option_map (λ t. t.now) c.args.files.config) (option_map (λ t. t.now) c.args.files.stimulus) _ c.in_err-programs.ensures.stage
+    rw c.from_residual.ensures (source_fails _ _ _ c.args.files.source.now (option_map (λ t. t.now) c.args.files.config) (option_map (λ t. t.now) c.args.files.stimulus) _ c.in_err-programs.ensures.stage)
 
 pub returns-in_err-setup-clause-stage : goal.returns-in_err-setup-clause-stage
 returns-in_err-setup-clause-stage g c =
-    rw c.from_residual-in_err-setup.ensures in
-    setup_fails _ _ _ _ _ c.args.files.source.now (option_map (λ t. t.now) c.args.files.config) (option_map (λ t. t.now) c.args.files.stimulus)
+    rw c.from_residual-in_err-setup.ensures (setup_fails _ _ _ _ _ c.args.files.source.now (option_map (λ t. t.now) c.args.files.config) (option_map (λ t. t.now) c.args.files.stimulus)
     (map assembled_of c.in_ok-programs.programs.items) _ c.in_ok-programs.ensures.same c.in_ok-programs.ensures.stage.0 c.in_ok-programs.ensures.stage.1
-    c.in_err-setup.ensures.stage
+    c.in_err-setup.ensures.stage)
 
 pub returns-in_err-schedule-clause-stage : goal.returns-in_err-schedule-clause-stage
 returns-in_err-schedule-clause-stage g c =
-    rw c.from_residual-in_err-schedule.ensures in
-    lines_fail _ _ _ _ _ _ _ c.args.files.source.now (option_map (λ t. t.now) c.args.files.config) (option_map (λ t. t.now) c.args.files.stimulus)
+    rw c.from_residual-in_err-schedule.ensures (lines_fail _ _ _ _ _ _ _ c.args.files.source.now (option_map (λ t. t.now) c.args.files.config) (option_map (λ t. t.now) c.args.files.stimulus)
     (map assembled_of c.in_ok-programs.programs.items) c.in_ok-setup.setup _ c.in_ok-programs.ensures.same c.in_ok-programs.ensures.stage.0
     c.in_ok-setup.ensures.same c.in_ok-setup.ensures.stage.0 c.in_ok-programs.ensures.stage.1 c.in_ok-setup.ensures.stage.1
-    c.in_err-schedule.ensures.stage
+    c.in_err-schedule.ensures.stage)
