@@ -1,6 +1,6 @@
 -- The reads of a run in a row: what one of them fails with, the run fails with.
-use Rattle.std.proofs.Common.{◌≡◌, ◌∙◌, ℕ, true, Option, Some, None, IfSome, List, refl, sym, ap, subst}
-use Rattle.pio_edge.specs.Count.{Faults, failed_at}
+use Rattle.std.proofs.Common.{◌≡◌, ◌∙◌, ℕ, true, Option, Some, None, IfSome, List, refl, ap, subst}
+use Rattle.pio_edge.specs.Count.{Faults}
 use Rattle.pio_edge.specs.Edge.{Files}
 use Rattle.pio_assemble.specs.Program.{Assembled}
 use Rattle.pin_matrix.specs.declared.setup.Setup.{Setup}

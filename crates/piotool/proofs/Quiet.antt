@@ -1,5 +1,5 @@
 -- Completeness: what a quiet call comes to, end by end.
-use Rattle.std.proofs.Common.{◌≡◌, ◌≢◌, ℕ, Option, Some, None, List, IfSome, refl, sym, ap, subst, le_refl}
+use Rattle.std.proofs.Common.{◌≡◌, ◌≢◌, ℕ, Option, Some, None, List, IfSome, refl, sym, subst, le_refl}
 use Rattle.pio_edge.specs.Count.{Faults, failed_at, one_more}
 use Rattle.pio_edge.specs.Edge.{Files, Rose, with_bytes}
 use Rattle.piotool.specs.declared.fault.Fault.{Fault}
@@ -10,7 +10,7 @@ use Rattle.piotool.specs.Judged.{Judged, right, wrong, IfRight, judge, file_in}
 use Rattle.piotool.specs.Outside.{HasSuch, Call}
 use Rattle.piotool.specs.Promise.{Ends, EndsAs}
 use Rattle.piotool.specs.Wanted.{wanted}
-use Rattle.piotool.specs.Complete.{Quiet, EndsByFiles, FilesDecide}
+use Rattle.piotool.specs.Complete.{EndsByFiles, FilesDecide}
 
 -- of files that are told, what holds of them holds
 of_told : (P : Files → Type 0) (files : Option Files) (f : Files) → files ≡ Some f → IfSome files P → P f

@@ -1,11 +1,16 @@
 -- What words want that were read, and that were refused.
-use Rattle.std.proofs.Common.{arith, ◌≡◌, ◌≢◌, ◌∙◌, ℕ, ◌+◌, ◌≤◌, ◌&&◌, ◌==◌, Bool, true, false, inl, inr, Option, Some, None, option_and_then, List, [], ◌∷◌, refl, ap, if◌then◌else◌}
+use Rattle.std.proofs.Common.{arith, ◌≡◌, ◌≢◌, ◌∙◌, ◌+◌, ◌≤◌, ◌==◌, Bool, true, false, inl, inr, Option, Some, None, option_and_then, List, [], ◌∷◌, Result, Ok, Err, refl, sym, ap, subst, if◌then◌else◌}
 use Rattle.std.proofs.lemmas.Bool.{and_left, and_right, ne_eqb}
 use Rattle.clap.specs.Walk.{Text}
 use Rattle.clap.specs.Faults.{fault_of}
 use Rattle.command_line.specs.Tool.{tool, side_limit}
 use Rattle.command_line.specs.Words.{Asked, Asks, IsRefused, IsWithinRange, asm, run, dis, asked_of, has_no_room}
+use Rattle.piotool.specs.declared.fault.Fault.{Fault}
+use Rattle.piotool.specs.declared.fault.Fault.TheVariants.{Usage}
+use Rattle.piotool.specs.Outside.{Call, Untouched}
 use Rattle.piotool.specs.Wanted.{wanted, with_room, unless_faulty}
+use Rattle.piotool.specs.Promise.{Ends, EndsAs}
+use Rattle.piotool.specs.Stages.{CommandEnds, WorkEnds}
 
 -- what is in range has room
 room_within : (a : Asked) → IsWithinRange a → has_no_room a ≡ false
@@ -32,7 +37,7 @@ of_asked words a asks =
     of_no_fault (fault_of tool words) (asked_of words) asks.taken ∙ ap (λ asked. option_and_then with_room asked) asks.asked
 
 -- words that were read want what was read
-pub wanted_as_read : (words : List Text) (a : Asked) → Asks words a → IsWithinRange a → wanted words ≡ Some a
+wanted_as_read : (words : List Text) (a : Asked) → Asks words a → IsWithinRange a → wanted words ≡ Some a
 wanted_as_read words a asks range = of_asked words a asks ∙ with_room_by a false (room_within a range)
 
 -- where there are faults nothing is wanted
@@ -41,7 +46,16 @@ none_of_faulty [] asked h = absurd (h refl)
 none_of_faulty (fault ∷ faults) asked h = refl
 
 -- words that are refused want nothing
-pub refused_wants_nothing : (words : List Text) → IsRefused words → wanted words ≡ None
+refused_wants_nothing : (words : List Text) → IsRefused words → wanted words ≡ None
 unfolding wanted
 refused_wants_nothing words (inl faulty) = none_of_faulty (fault_of tool words) (asked_of words) faulty
 refused_wants_nothing words (inr pair) = of_asked words pair.0 pair.1 ∙ with_room_by pair.0 true pair.2
+
+-- a command that was asked for ends the work of the words that asked for it
+pub work_ends : (words : List Text) (a : Asked) (c : Call) (r : Result (Unit {0}) Fault) → Asks words a → IsWithinRange a → CommandEnds a c r → WorkEnds words c r
+work_ends words a c (Ok u) asks range h = subst (λ (asked : Option Asked). Ends asked c None) (sym (wanted_as_read words a asks range)) h
+work_ends words a c (Err e) asks range h = subst (λ (asked : Option Asked). Ends asked c (Some e)) (sym (wanted_as_read words a asks range)) h
+
+-- words that are refused end with usage, and nothing is done
+pub usage_ends : (words : List Text) (c : Call) → IsRefused words → Untouched c → EndsAs words c (Some Usage)
+usage_ends words c refused same = subst (λ (asked : Option Asked). Ends asked c (Some Usage)) (sym (refused_wants_nothing words refused)) same

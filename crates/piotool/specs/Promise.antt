@@ -1,7 +1,7 @@
 -- The end-to-end promise: which end a call has, what it wrote, and why.
-use Rattle.std.specs.Prelude.{◌≡◌, ℕ, Bool, true, Option, Some, None, IfSome, List, []}
-use Rattle.pio_edge.specs.Count.{Faults, failed_at}
-use Rattle.pio_edge.specs.Edge.{Files, Rose, with_bytes, TakesPrefix}
+use Rattle.std.specs.Prelude.{◌≡◌, true, Option, Some, None, IfSome, List, []}
+use Rattle.pio_edge.specs.Count.{failed_at}
+use Rattle.pio_edge.specs.Edge.{Rose, with_bytes, TakesPrefix}
 use Rattle.piotool.specs.declared.fault.File.{File}
 use Rattle.piotool.specs.declared.fault.Fault.{Fault}
 use Rattle.piotool.specs.declared.fault.Fault.TheVariants as fault
