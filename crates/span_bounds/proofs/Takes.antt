@@ -3,7 +3,7 @@ use Rattle.std.proofs.Common.{◌≡◌, ◌≢◌, ℕ, ◌+◌, ◌-◌, ◌<�
 use Rattle.std.proofs.Math.ListN.{set}
 use Rattle.std.proofs.lemmas.Bool.Decides.{nat_tests}
 use Rattle.std.proofs.lemmas.Bool.{cases_lt}
-use Rattle.std.proofs.lemmas.List.{length-set, get_or-set_same, get_or-set_other, drop_more, length_push}
+use Rattle.std.proofs.lemmas.List.{length-set, get_or-set_same, get_or-set_other, drop_more, length_push, get_or_past}
 use Rattle.std.proofs.lemmas.List.Sums.{sum_by-set}
 use Rattle.pin_matrix.specs.declared.setup.Setup.{Setup}
 use Rattle.pin_matrix.specs.declared.span.Span.{Span}
@@ -11,6 +11,8 @@ use Rattle.span_step.specs.declared.ages.Ages.{Ages}
 use Rattle.span_step.specs.declared.ages.Ages.TheVariants.{Empty, Between}
 use Rattle.span_step.specs.declared.stepped.Next.{Next}
 use Rattle.span_step.specs.Contexts.{is_open}
+use Rattle.span_step.specs.Laws.{AreAlike, Follows, SameAfterEdge}
+use Rattle.span_step.proofs.Alike.{SameAfterEdge-context_steps}
 use Rattle.span_bounds.specs.declared.entry.Entry.{Entry}
 use Rattle.span_bounds.specs.declared.entry.Entry.TheVariants.{Absent, Present}
 use Rattle.span_bounds.specs.Tables.{LiesAt}
@@ -18,12 +20,12 @@ use Rattle.span_bounds.specs.Edges.{at, nexts_at, spot, AllLie, Among}
 use Rattle.span_bounds.specs.Reach.{Holds, Below, AllHold, IsReach}
 use Rattle.span_bounds.specs.Sums.{total, passages, waits, waits_by, one_if, open_at, join_into}
 use Rattle.span_bounds.specs.Count.{LieBut, Count}
-use Rattle.span_bounds.specs.Take.{Take, Taking, IsTaken, Takes, TakesRow, AreReady, Passed, work_left, is_ready, ages_or_none}
-use Rattle.span_bounds.proofs.Nexts.{EachNext-more, EachNext-map, same_or_not, Among-push, Among-pop}
+use Rattle.span_bounds.specs.Take.{Take, Taking, IsTaken, Takes, TakesRow, AreReady, Passed, work_left, is_ready, ages_or_none, PassToLeft}
+use Rattle.span_bounds.proofs.Nexts.{EachNext-more, EachNext-map, EachNext-both, same_or_not, Among-push, Among-pop}
 use Rattle.span_bounds.proofs.Reaching.{at_same, at_other}
 use Rattle.span_bounds.proofs.Joins.{joined_at, lies_at_join, lies_still, IsUnder-join, closed_lies, beside}
 use Rattle.span_bounds.proofs.Counts.{but_still, passages-nil, one_more}
-use Rattle.span_bounds.proofs.Totals.{total-zero, total-change, total-some, passages_alike, passages-cons, waits_shut}
+use Rattle.span_bounds.proofs.Totals.{total-zero, total-change, total-one, total-some, counted_each, passages_alike, passages-cons, waits_shut}
 
 clash : {b : Bool} → b ≡ true → b ≡ false → ⊥
 clash p q = cc
@@ -366,6 +368,16 @@ Takes-pop u sp l x m w w' i e t0 = record {
   s : Take u sp t.reach l x m (w' ++ i ∷ [])
   s = t.take
 
+follows_left : (l : List Entry) (ms ns : List Next) → AreAlike (Follows SameAfterEdge) ms ns → PassToLeft l ns → PassToLeft l ms
+follows_left l [] ns h k = tt
+follows_left l (m ∷ ms) [] h k = absurd h
+follows_left l (m ∷ ms) (n ∷ ns) h k = (λ p. rw h.0.context (k.0 (sym h.0.passes ∙ p)), follows_left l ms ns h.1 k.1)
+
+-- to what a row passes doesn't depend on its ages
+left_alike : (u : Setup) (sp : Span) (l : List Entry) (i : ℕ) (a b : Ages) → PassToLeft l (nexts_at u sp i b) → PassToLeft l (nexts_at u sp i a)
+unfolding nexts_at
+left_alike u sp l i a b h = follows_left l _ _ (SameAfterEdge-context_steps u sp _ a b) h
+
 -- nothing waits any more
 pub IsTaken-ends : (u : Setup) (sp : Span) (l x : List Entry) (m ready : List ℕ) → ready ≡ [] → Takes u sp l x m ready → IsTaken u sp l x
 IsTaken-ends u sp l x m ready none t = record {
@@ -373,6 +385,7 @@ IsTaken-ends u sp l x m ready none t = record {
   reached = t.reached;
   keeps = s.keeps;
   left = s.left;
+  stays = λ w b c o. stays w b c o (at l w) refl;
   blocked = λ i c o. blocked i c o;
   done = s.done;
 } where
@@ -384,6 +397,31 @@ IsTaken-ends u sp l x m ready none t = record {
 
   some : (i : ℕ) → i < 139392 → open_at (at l i) ≡ true → 1 ≤ total 139392 (waits u sp (at l) i)
   some i c o = elim (cases_lt 0 (slice_index m i)) [ inl h ↦ omega (arith, s.count i c) | inr h ↦ absurd (nobody i (s.queued i c o (omega arith))) ]
+
+  near : (a : Ages) (i : ℕ) → Holds a (at t.reach i) → (i < 139392) ⊎ (139392 ≤ i) → i < 139392
+  near a i h (inl c) = c
+  near a i h (inr c) = absurd (rw (get_or_past t.reach i Absent (rw t.reached.sweep.size c)) at h)
+
+  held : (w : ℕ) (a : Ages) → w < 139392 → at t.reach w ≡ Present a → AllHold (at t.reach) (nexts_at u sp w a)
+  held w a c q = elim (t.reached.sweep.steps w a c q) [ inl h ↦ absurd h | inr h ↦ h ]
+
+  waited : (v w : ℕ) (a : Ages) → w < 139392 → at l w ≡ Present a → is_open a ≡ true → passages v (nexts_at u sp w a) ≤ total 139392 (waits u sp (at l) v)
+  waited v w a c q o = let e : waits u sp (at l) v w ≡ passages v (nexts_at u sp w a) = rw (q, o) refl in omega (arith, total-one 139392 (waits u sp (at l) v) w c)
+
+  goes_left : (w : ℕ) (a : Ages) → w < 139392 → at l w ≡ Present a → is_open a ≡ true → (n : Next) → (n.passes ≡ true → 1 ≤ passages (spot n) (nexts_at u sp w a)) → Holds n.ages (at t.reach (spot n)) → n.passes ≡ true → open_at (at l (spot n)) ≡ true
+  goes_left w a c q o n k h p = not_false _ (λ shut. never (s.count (spot n) b) (s.settled (spot n) b shut) (k p) (waited (spot n) w a c q o)) where
+    b : spot n < 139392
+    b = near n.ages (spot n) h (cases_lt (spot n) 139392)
+
+    never : {number sum own : ℕ} → number ≡ sum → number ≡ 0 → 1 ≤ own → own ≤ sum → ⊥
+    never e z y g = omega arith
+
+  stays : (w : ℕ) (b : Ages) → w < 139392 → open_at (at l w) ≡ true → (e : Entry) → at l w ≡ e → PassToLeft l (nexts_at u sp w b)
+  stays w b c o Absent q = absurd (clash (rw q at o) refl)
+  stays w b c o (Present a) q =
+      let opens : is_open a ≡ true = rw q at o in
+      let there : at t.reach w ≡ Present a = sym (s.left.left w c o) ∙ q in
+      left_alike u sp l w b a (EachNext-both (λ n. n.passes ≡ true → 1 ≤ passages (spot n) (nexts_at u sp w a)) (λ n. Holds n.ages (at t.reach (spot n))) (λ n. n.passes ≡ true → open_at (at l (spot n)) ≡ true) (goes_left w a c q opens) _ (counted_each _) (held w a c there))
 
   by : (i w : ℕ) (e : Entry) → at l w ≡ e → 1 ≤ waits_by u sp i w e → (open_at (at l w) ≡ true) × ((b : Ages) → 1 ≤ passages i (nexts_at u sp w b))
   by i w Absent q h = absurd (omega arith)

@@ -12,7 +12,7 @@ use Rattle.span_step.specs.Contexts.{is_open}
 use Rattle.span_bounds.specs.declared.entry.Entry.{Entry}
 use Rattle.span_bounds.specs.declared.entry.Entry.TheVariants.{Absent, Present}
 use Rattle.span_bounds.specs.Tables.{LiesAt}
-use Rattle.span_bounds.specs.Edges.{at, nexts_at, spot, AllLie, IsClosedAt, Among}
+use Rattle.span_bounds.specs.Edges.{at, nexts_at, spot, EachNext, AllLie, IsClosedAt, Among}
 use Rattle.span_bounds.specs.Reach.{IsReach}
 use Rattle.span_bounds.specs.Sums.{total, passages, waits, open_at, join_into}
 use Rattle.span_bounds.specs.Count.{IsUnder, LieBut}
@@ -56,12 +56,17 @@ pub record Taking (u : Setup) (sp : Span) (g l x : List Entry) (m ready : List �
   pub sure : LieBut true (at x) rest
   pub least : (f : ℕ → Entry) → IsClosedAt u sp f → AllLie f rest
 
--- its end: a row that is left is passed to by a row that is left, whatever its ages
+-- each of these nexts to which a course passes is left
+abbrev pub PassToLeft : List Entry → List Next → Type 0
+PassToLeft l ns = EachNext (λ n. n.passes ≡ true → open_at (at l (spot n)) ≡ true) ns
+
+-- its end: a row that is left is passed to by a row that is left, whatever its ages, and passes only to rows that are left
 pub record IsTaken (u : Setup) (sp : Span) (l x : List Entry) : Type 0 where
   pub reach : List Entry
   pub reached : IsReach u sp reach
   pub keeps : IsFresh u sp reach x
   pub left : AreLeft reach l
+  pub stays : (w : ℕ) (b : Ages) → w < 139392 → open_at (at l w) ≡ true → PassToLeft l (nexts_at u sp w b)
   pub blocked : (i : ℕ) → i < 139392 → open_at (at l i) ≡ true → (w : ℕ) × ((w < 139392) × ((open_at (at l w) ≡ true) × ((b : Ages) → 1 ≤ passages i (nexts_at u sp w b))))
   pub done : (i : ℕ) (a : Ages) → i < 139392 → open_at (at l i) ≡ false → at x i ≡ Present a → AllLie (at x) (nexts_at u sp i a)
 

@@ -15,9 +15,8 @@ use pin_matrix::{Setup, Span};
 use span_step::{Ages, Cause, step};
 use std::alloc::{AllocError, Global};
 
-/// The least closed table of the span where it is good, else a context that is bad in every closed table: of the rows
-/// by which the table is judged the first in context order, with its first cause. The span's machine is configured. The error
-/// is want of memory.
+/// The least closed table of the span where it is good, else its first bad context in context order, and in it the first
+/// cause. The span's machine is configured. The error is want of memory.
 pub fn derive(alloc: Global, setup: &Setup, span: &Span) -> Result<Derived, AllocError>
     requires { IsSome (slice_index_or setup.now.machines span.now.machine None) }
     ensures { IfOk result (λ derived. IsAnswer setup.now span.now derived) }
