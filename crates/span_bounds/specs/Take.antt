@@ -2,7 +2,7 @@
 --   Take             the sweep on its way, with the rows that may be ready
 --   Taking           the same while the nexts of a row are looked at
 --   IsTaken          its end
-use Rattle.std.specs.Prelude.{◌≡◌, ℕ, ◌+◌, ◌-◌, ◌<◌, ◌≤◌, ◌==◌, Bool, true, false, ◌&&◌, if◌then◌else◌, MatchBool, List, [], ◌∷◌, ◌++◌, length, slice_index, slice_set, sum_by}
+use Rattle.std.specs.Prelude.{◌≡◌, ℕ, zero, suc, ◌+◌, ◌-◌, ◌<◌, ◌≤◌, ◌==◌, Bool, true, false, ◌&&◌, if◌then◌else◌, MatchBool, List, [], ◌∷◌, ◌++◌, length, slice_index, slice_set, sum_by, take}
 use Rattle.pin_matrix.specs.declared.setup.Setup.{Setup}
 use Rattle.pin_matrix.specs.declared.span.Span.{Span}
 use Rattle.span_step.specs.declared.ages.Ages.{Ages}
@@ -82,8 +82,14 @@ pub record TakesRow (u : Setup) (sp : Span) (l x : List Entry) (m ready : List �
   pub reached : IsReach u sp reach
   pub taking : Taking u sp reach l x m ready i a done rest
 
--- the list holds each row that is left and waits for none
+-- 1 where something is waited for
+abbrev pub unmet : ℕ → ℕ
+unmet zero = 0
+unmet (suc n) = 1
+
+-- the list holds each row that is left and waits for none, and no more numbers than those that wait for none
 pub record AreReady (l : List Entry) (m ready : List ℕ) (below : ℕ) : Type 0 where
+  pub few : sum_by unmet (take below m) + length ready ≤ below
   pub near : (i : ℕ) → Among i ready → i < 139392
   pub queued : (i : ℕ) → i < below → open_at (at l i) ≡ true → slice_index m i ≡ 0 → Among i ready
 
@@ -96,9 +102,9 @@ Passed n x new_x m new_m r new_r = MatchBool n.passes
     × (new_r ≡ (if slice_index m (spot n) == 1 then r ++ spot n ∷ [] else r))))
     ((new_x ≡ x) × ((new_m ≡ m) × (new_r ≡ r)))
 
--- how much the rows wait for, and how many may be ready
+-- how many rows wait for something, and how many may be ready
 abbrev pub work_left : List ℕ → List ℕ → ℕ
-work_left m ready = sum_by (λ v. v) m + length ready
+work_left m ready = sum_by unmet m + length ready
 
 -- a row is left and waits for none
 abbrev pub is_ready : List Entry → List ℕ → ℕ → Bool

@@ -8,7 +8,8 @@ use crate::derived::Derived;
 use crate::entry::Entry;
 use crate::grid::Grid;
 use crate::number::{CONTEXTS, context_at};
-use crate::reach::reached;
+use crate::reach::reach;
+use crate::stack::Stack;
 use crate::table::Table;
 use crate::take::{is_open, take};
 use pin_matrix::{Setup, Span};
@@ -16,16 +17,18 @@ use span_step::{Ages, Cause, step};
 use std::alloc::{AllocError, Global};
 
 /// The least closed table of the span where it is good, else its first bad context in context order, and in it the first
-/// cause. The span's machine is configured. The error is want of memory.
+/// cause. The span's machine is configured. The error is want of memory, which is taken before the first row is worked out.
 pub fn derive(alloc: Global, setup: &Setup, span: &Span) -> Result<Derived, AllocError>
     requires { IsSome (slice_index_or setup.now.machines span.now.machine None) }
     ensures { IfOk result (λ derived. IsAnswer setup.now span.now derived) }
 {
     let mut table = Grid::new(alloc)?;
+    let mut left = Grid::new(alloc)?;
     let mut missing = vec![in alloc; 0; CONTEXTS]?;
-    let mut left = reached(alloc, setup, span)?;
+    let mut stack = Stack::new(alloc)?;
+    reach(setup, span, &mut left, &mut stack);
     count(setup, span, &left, &mut table, &mut missing);
-    take(alloc, setup, span, &mut left, &mut table, &mut missing)?;
+    take(setup, span, &mut left, &mut table, &mut missing, &mut stack);
     match first_bad(setup, span, &left, &table) {
         Some((number, cause)) => Ok(Derived::Bad {
             context: context_at(number),

@@ -9,7 +9,7 @@ count-requires-clause-first c =
 
 pub returns-in-Some : goal.returns-in-Some
 returns-in-Some c =
-    rw c.context_at.ensures (IsFirstBad-ends _ _ _ _ _ c.in_ok-take.ensures c.requires c.in-Some.ensures)
+    rw c.context_at.ensures (IsFirstBad-ends _ _ _ _ _ c.take.ensures c.requires c.in-Some.ensures)
 
 pub returns-in-None : goal.returns-in-None
-returns-in-None c = rw c.of.ensures (IsGoodLeast-ends _ _ _ _ c.in_ok-take.ensures c.requires c.in-None.ensures)
+returns-in-None c = rw c.of.ensures (IsGoodLeast-ends _ _ _ _ c.take.ensures c.requires c.in-None.ensures)

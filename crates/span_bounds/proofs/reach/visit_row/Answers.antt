@@ -15,10 +15,10 @@ loop-next-init c = record {
 pub loop-next-preserved : goal.loop-next-preserved
 loop-next-preserved c = let i = c.loop-next.invariant in record {
   items = i.items;
-  visit = Visit-step _ _ _ _ _ _ _ _ _ _ c.next-item.result _ c.requires.number i.items c.loop-next-test.true c.next-item.is c.number_of.ensures.value c.number_of.ensures.below i.visit c.in_ok-raise.ensures.raised;
+  visit = Visit-step _ _ _ _ _ _ _ _ _ _ c.next-item.result _ c.requires.number i.items c.loop-next-test.true c.next-item.is c.number_of.ensures.value c.number_of.ensures.below i.visit c.raise.ensures.raised;
   room =
-      let size : c.number_of.result < length c.loop-next.grid = rw c.in_ok-raise.ensures.size c.number_of.ensures.below in
-      omega (arith, room_raised _ _ _ _ _ _ size c.in_ok-raise.ensures.raised);
+      let size : c.number_of.result < length c.loop-next.grid = rw c.raise.ensures.size c.number_of.ensures.below in
+      omega (arith, room_raised _ _ _ _ _ _ size c.raise.ensures.raised);
 }
 
 pub returns-clause-sweep : goal.returns-clause-sweep

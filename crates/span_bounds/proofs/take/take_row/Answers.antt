@@ -23,11 +23,11 @@ pass-requires-clause-some c =
 pub loop-next-preserved : goal.loop-next-preserved
 loop-next-preserved c = let i = c.loop-next.invariant in record {
   items = i.items;
-  takes = TakesRow-step _ _ _ _ _ _ _ _ _ _ _ _ _ c.next-item.result c.loop-next-test.true c.next-item.is (rw c.number_of.ensures.value at c.number_of.ensures.below) c.requires.number i.takes c.in_ok-pass.ensures;
+  takes = TakesRow-step _ _ _ _ _ _ _ _ _ _ _ _ _ c.next-item.result c.loop-next-test.true c.next-item.is (rw c.number_of.ensures.value at c.number_of.ensures.below) c.requires.number i.takes c.pass.ensures;
   work =
       let below : spot c.next-item.result < 139392 = rw c.number_of.ensures.value at c.number_of.ensures.below in
       let inside : spot c.next-item.result < length c.loop-next.missing.items = rw i.takes.taking.numbers below in
-      omega (arith, i.work, work_passed c.next-item.result _ _ _ _ _ _ inside (next_waits _ _ _ _ _ _ _ _ _ _ c.next-item.result c.loop-next-test.true c.next-item.is below i.takes) c.in_ok-pass.ensures);
+      omega (arith, i.work, work_passed c.next-item.result _ _ _ _ _ _ inside (next_waits _ _ _ _ _ _ _ _ _ _ c.next-item.result c.loop-next-test.true c.next-item.is below i.takes) c.pass.ensures);
 }
 
 pub returns-clause-takes : goal.returns-clause-takes
