@@ -15,7 +15,7 @@ use Rattle.span_bounds.specs.Numbers.{number_of, context_at}
 use Rattle.span_bounds.specs.Tables.{entry_at, rows_from, IsTableFrom, first_bad}
 use Rattle.span_bounds.specs.Edges.{at}
 use Rattle.span_bounds.specs.Take.{IsTaken}
-use Rattle.span_bounds.specs.Answers.{cause_by, filled, IsBadAt, IsFirstBad}
+use Rattle.span_bounds.specs.Answers.{cause_by, cause_at, filled, IsBadAt, AreGoodBelow, IsFirstBad}
 use Rattle.span_bounds.proofs.Placing.{context_at-number_of}
 use Rattle.span_bounds.proofs.Rows.{entry_at-rows_from}
 use Rattle.span_bounds.proofs.Ends.{IsBadEverywhere-ends}
@@ -67,6 +67,12 @@ first_at u sp n k m (r ∷ rows) t good bad = on (cases_lt (number_of r.context)
       let same : n ≡ number_of r.context = omega arith in
       let some : first_cause (context_steps u sp r.context r.ages).causes ≡ Some k = sym own ∙ (rw same at bad) in
       rw (some, same, context_at-number_of r.context t.0) refl
+
+-- one number more without a cause
+pub AreGoodBelow-more : (u : Setup) (sp : Span) (l x : List Entry) (n : ℕ) → AreGoodBelow u sp l x n → cause_at u sp l x n ≡ None → AreGoodBelow u sp l x (n + 1)
+AreGoodBelow-more u sp l x n h e = record {
+  good = λ i m. elim (cases_lt i n) [ inl b ↦ h.good i b | inr a ↦ (let same : i ≡ n = omega arith in rw same e) ];
+}
 
 -- the first bad row of every least closed table, and of a closed one
 pub IsFirstBad-ends : (u : Setup) (sp : Span) (l x : List Entry) (f : ℕ × Cause) → IsTaken u sp l x → IsConfigured u sp → IsBadAt u sp l x f → IsFirstBad u sp (context_at f.0) f.1

@@ -7,50 +7,69 @@ ghost use Rattle.span_bounds.specs.Reach.{Sweep, IsReach, Raised, room};
 
 use crate::entry::Entry;
 use crate::grid::Grid;
-use crate::number::{context_at, number_of};
+use crate::number::number_of;
+use crate::row_step::row_step;
 use crate::stack::Stack;
 use crate::start::start_context;
 use pin_matrix::{Setup, Span};
-use span_step::{Ages, step};
+use span_step::Ages;
+use std::sync::ledger::Ledger;
+use step_count::Steps;
 
 /// Gives a grid without rows those of every closed table, open exactly where they are open in every one.
-pub(crate) fn reach(setup: &Setup, span: &Span, grid: &mut Grid, waiting: &mut Stack)
+pub(crate) fn reach<L: Ledger>(
+    setup: &Setup,
+    span: &Span,
+    grid: &mut Grid,
+    waiting: &mut Stack,
+    steps: &mut Steps<L>,
+)
     requires configured { IsSome (slice_index_or setup.now.machines span.now.machine None) }
     requires grid { grid.old ≡ replicate 139392 Absent }
     requires waiting { waiting.old ≡ [] }
     ensures grid { IsReach setup.now span.now grid.new }
     ensures waiting { waiting.new ≡ [] }
+    ensures steps { steps.new ≤ steps.old + 278784 }
 {
     let start = number_of(&start_context(setup, span));
     raise(grid, waiting, start, Ages::Empty);
     while let Some(number) = waiting.pop() {
-        visit(setup, span, grid, waiting, number);
+        visit(setup, span, grid, waiting, number, steps);
     }
 }
 
 /// Raises what the row of a number leads to, if it has one.
-fn visit(setup: &Setup, span: &Span, grid: &mut Grid, waiting: &mut Stack, number: usize)
+fn visit<L: Ledger>(
+    setup: &Setup,
+    span: &Span,
+    grid: &mut Grid,
+    waiting: &mut Stack,
+    number: usize,
+    steps: &mut Steps<L>,
+)
     requires configured { IsSome (slice_index_or setup.now.machines span.now.machine None) }
     requires number { number < 139392 }
     requires sweep { Sweep setup.now span.now grid.old (number ∷ waiting.old) }
     requires room { room grid.old + length waiting.old ≤ 278784 }
     ensures sweep { Sweep setup.now span.now grid.new waiting.new }
     ensures room { room grid.new + length waiting.new ≤ room grid.old + length waiting.old }
+    ensures steps { steps.new ≤ steps.old + 1 }
 {
     match grid.at(number) {
         Entry::Absent => {}
-        Entry::Present(ages) => visit_row(setup, span, grid, waiting, number, ages),
+        Entry::Present(ages) => visit_row(setup, span, grid, waiting, number, ages, steps),
     }
 }
 
 /// Raises what the row of a number with these ages leads to.
-fn visit_row(
+fn visit_row<L: Ledger>(
     setup: &Setup,
     span: &Span,
     grid: &mut Grid,
     waiting: &mut Stack,
     number: usize,
     ages: Ages,
+    steps: &mut Steps<L>,
 )
     requires configured { IsSome (slice_index_or setup.now.machines span.now.machine None) }
     requires number { number < 139392 }
@@ -59,8 +78,9 @@ fn visit_row(
     requires room { room grid.old + length waiting.old ≤ 278784 }
     ensures sweep { Sweep setup.now span.now grid.new waiting.new }
     ensures room { room grid.new + length waiting.new ≤ room grid.old + length waiting.old }
+    ensures steps { steps.new ≤ steps.old + 1 }
 {
-    let stepped = step(setup, span, &context_at(number), &ages);
+    let stepped = row_step(setup, span, number, ages, steps);
     for next in stepped.nexts.as_slice() {
         raise(grid, waiting, number_of(&next.context), next.ages);
     }

@@ -10,30 +10,35 @@ ghost use Rattle.span_bounds.specs.Take.{Takes, IsTaken, AreReady, Passed, work_
 use crate::count::join;
 use crate::entry::Entry;
 use crate::grid::Grid;
-use crate::number::{context_at, number_of};
+use crate::number::number_of;
+use crate::row_step::row_step;
 use crate::stack::Stack;
 use pin_matrix::{Setup, Span};
-use span_step::{Ages, Next, step};
+use span_step::{Ages, Next};
+use std::sync::ledger::Ledger;
+use step_count::Steps;
 
 /// Takes each row that comes to wait for none. `left` is the grid of the first sweep; an open row of it that is taken is
 /// taken out.
-pub(crate) fn take(
+pub(crate) fn take<L: Ledger>(
     setup: &Setup,
     span: &Span,
     left: &mut Grid,
     table: &mut Grid,
     missing: &mut Vec<u32>,
     ready: &mut Stack,
+    steps: &mut Steps<L>,
 )
     requires configured { IsSome (slice_index_or setup.now.machines span.now.machine None) }
     requires reach { IsReach setup.now span.now left.old }
     requires counted { Count setup.now span.now left.old table.old missing.old.items 139392 }
     requires ready { ready.old ≡ [] }
-    ensures { IsTaken setup.now span.now left.new table.new }
+    ensures taken { IsTaken setup.now span.now left.new table.new }
+    ensures steps { steps.new ≤ steps.old + 139392 }
 {
     add_ready(left, missing, ready);
     while let Some(number) = ready.pop() {
-        take_number(setup, span, left, table, missing, ready, number);
+        take_number(setup, span, left, table, missing, ready, number, steps);
     }
 }
 
@@ -80,7 +85,7 @@ pub(crate) fn is_open(entry: Entry) -> bool
 }
 
 /// Takes the row of a number, if it is left and waits for none.
-fn take_number(
+fn take_number<L: Ledger>(
     setup: &Setup,
     span: &Span,
     left: &mut Grid,
@@ -88,6 +93,7 @@ fn take_number(
     missing: &mut Vec<u32>,
     ready: &mut Stack,
     number: usize,
+    steps: &mut Steps<L>,
 )
     requires configured { IsSome (slice_index_or setup.now.machines span.now.machine None) }
     requires number { number < 139392 }
@@ -95,15 +101,18 @@ fn take_number(
     requires room { work_left missing.old.items ready.old ≤ 139392 }
     ensures takes { Takes setup.now span.now left.new table.new missing.new.items ready.new }
     ensures work { work_left missing.new.items ready.new ≤ work_left missing.old.items ready.old }
+    ensures steps { steps.new ≤ steps.old + 1 }
 {
     if is_ready(left, missing, number) {
         let ages = ages_at(table, number);
-        take_row(setup, span, left, table, missing, ready, number, ages);
+        take_row(
+            setup, span, left, table, missing, ready, number, ages, steps,
+        );
     }
 }
 
 /// Takes a row with these ages: they pass on.
-fn take_row(
+fn take_row<L: Ledger>(
     setup: &Setup,
     span: &Span,
     left: &mut Grid,
@@ -112,6 +121,7 @@ fn take_row(
     ready: &mut Stack,
     number: usize,
     ages: Ages,
+    steps: &mut Steps<L>,
 )
     requires configured { IsSome (slice_index_or setup.now.machines span.now.machine None) }
     requires number { number < 139392 }
@@ -121,9 +131,10 @@ fn take_row(
     requires room { work_left missing.old.items ready.old ≤ 139392 }
     ensures takes { Takes setup.now span.now left.new table.new missing.new.items ready.new }
     ensures work { work_left missing.new.items ready.new ≤ work_left missing.old.items ready.old }
+    ensures steps { steps.new ≤ steps.old + 1 }
 {
     left.put(number, Entry::Absent);
-    let stepped = step(setup, span, &context_at(number), &ages);
+    let stepped = row_step(setup, span, number, ages, steps);
     for next in stepped.nexts.as_slice() {
         pass(table, missing, ready, number_of(&next.context), next);
     }
