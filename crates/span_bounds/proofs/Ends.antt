@@ -35,7 +35,7 @@ use Rattle.span_bounds.proofs.Placing.{number_of-context_at, context_at-number_o
 use Rattle.span_bounds.proofs.Rows.{entry_at-rows_from, IsTable-rows_from}
 
 -- ages of at least n at an entry
-abbrev ReachesAt : ℕ → Entry → Type 0
+abbrev pub ReachesAt : ℕ → Entry → Type 0
 ReachesAt n Absent = ⊥
 ReachesAt n (Present a) = ReachesAge n a
 
@@ -70,7 +70,7 @@ nexts_reach u sp i a n h = AllReach-context_steps u sp _ a n h
 
 -- each row that is left reaches an age above the bound in every closed table: were the least of their ages below it, the row
 -- that passes to that row would be younger still
-left_above : (u : Setup) (sp : Span) (l x : List Entry) → IsTaken u sp l x → (f : ℕ → Entry) → IsClosedAt u sp f → (n : ℕ) → n ≤ most_of u sp + 1 → (i : ℕ) → i < 139392 → open_at (at l i) ≡ true → ReachesAt n (f i)
+pub left_above : (u : Setup) (sp : Span) (l x : List Entry) → IsTaken u sp l x → (f : ℕ → Entry) → IsClosedAt u sp f → (n : ℕ) → n ≤ most_of u sp + 1 → (i : ℕ) → i < 139392 → open_at (at l i) ≡ true → ReachesAt n (f i)
 left_above u sp l x t f c zero b i m o = by (f i) (t.reached.sweep.least f c i m) where
   opens : (e : Entry) → open_at e ≡ true → (g : Entry) → Below e g → ReachesAt 0 g
   opens Absent o g h = absurd (bad o) where
@@ -95,20 +95,23 @@ left_above u sp l x t f c (suc n) b i m o = on (f w.0) refl (left_above u sp l x
   on Absent q h = absurd h
   on (Present a) q h = subst (λ y. ReachesAt y (f i)) same (passed_on _ i f (nexts_at u sp w.0 a) (w.1.1.1 a) (nexts_reach u sp w.0 a n h) (c.steps w.0 a w.1.0 q))
 
-bounds_fit : (v : SpanUnit) (sp : Span) (period : ℕ) → sp.max < 2 ^ 24 → (bounds_in v sp period).1 ≤ 2 ^ 32 - 1
+bounds_fit : (v : SpanUnit) (sp : Span) (period : ℕ) → sp.max < 2 ^ 24 → (bounds_in v sp period).1 + 1 ≤ 2 ^ 32 - 1
 bounds_fit Ticks sp period h = omega arith
 bounds_fit Clocks sp period h = omega (arith, div-le_self (256 * sp.max) period)
 
--- the span's most in ticks is a number of 32 bits
-pub most_fits : (u : Setup) (sp : Span) → most_of u sp ≤ 2 ^ 32 - 1
+-- one above the span's most in ticks is a number of 32 bits
+pub cap_fits : (u : Setup) (sp : Span) → most_of u sp + 1 ≤ 2 ^ 32 - 1
 unfolding most_of bounds_of
-most_fits u sp = on _ where
-  on : (m : Option MachineSetup) → most_on m sp ≤ 2 ^ 32 - 1
+cap_fits u sp = on _ where
+  on : (m : Option MachineSetup) → most_on m sp + 1 ≤ 2 ^ 32 - 1
   on None = omega arith
   on (Some s) = bounds_fit sp.unit sp (period_of s) sp.bounded
 
+pub most_fits : (u : Setup) (sp : Span) → most_of u sp ≤ 2 ^ 32 - 1
+most_fits u sp = omega (arith, cap_fits u sp)
+
 -- the row at a number of a table of rows in range
-row_at : (P : Row → Type 0) (n : ℕ) (rows : List Row) (i : ℕ) (a : Ages) → IsTableFrom n rows → EachRow P rows → entry_at rows i ≡ Present a → P (record { context = context_at i; ages = a })
+pub row_at : (P : Row → Type 0) (n : ℕ) (rows : List Row) (i : ℕ) (a : Ages) → IsTableFrom n rows → EachRow P rows → entry_at rows i ≡ Present a → P (record { context = context_at i; ages = a })
 row_at P n [] i a t e q = absurd (none q) where
   none : Absent ≡ Present a → ⊥
   none e = cc
@@ -128,12 +131,12 @@ lie_in : (rows : List Row) (ns : List Next) → AllLieIn rows ns → AllLie (ent
 lie_in rows [] h = tt
 lie_in rows (n ∷ ns) h = (h.0, lie_in rows ns h.1)
 
-in_lie : (rows : List Row) (f : ℕ → Entry) → ((i : ℕ) → entry_at rows i ≡ f i) → (ns : List Next) → AllLie f ns → AllLieIn rows ns
+pub in_lie : (rows : List Row) (f : ℕ → Entry) → ((i : ℕ) → entry_at rows i ≡ f i) → (ns : List Next) → AllLie f ns → AllLieIn rows ns
 in_lie rows f e [] h = tt
 in_lie rows f e (n ∷ ns) h = (rw (e (spot n)) h.0, in_lie rows f e ns h.1)
 
 -- a closed table, as a function of the number
-closed_at : (u : Setup) (sp : Span) (rows : List Row) → IsTable rows → IsClosed u sp rows → IsClosedAt u sp (entry_at rows)
+pub closed_at : (u : Setup) (sp : Span) (rows : List Row) → IsTable rows → IsClosed u sp rows → IsClosedAt u sp (entry_at rows)
 unfolding nexts_at
 closed_at u sp rows t c = record {
   starts = c.starts;
@@ -157,7 +160,7 @@ each_row P n (Present b ∷ g) h = (
   still n = omega arith
 
 -- the same for all numbers
-each_row_at : (P : Row → Type 0) (g : List Entry) → length g ≡ 139392 → ((i : ℕ) (a : Ages) → i < 139392 → at g i ≡ Present a → P (record { context = context_at i; ages = a })) → EachRow P (rows_from 0 g)
+pub each_row_at : (P : Row → Type 0) (g : List Entry) → length g ≡ 139392 → ((i : ℕ) (a : Ages) → i < 139392 → at g i ≡ Present a → P (record { context = context_at i; ages = a })) → EachRow P (rows_from 0 g)
 each_row_at P g e h = each_row P 0 g (λ i a l q. subst (λ y. P (record { context = context_at y; ages = a })) (sym (zero_plus i)) (h i a (rw e at l) q)) where
   zero_plus : (i : ℕ) → 0 + i ≡ i
   zero_plus i = omega arith
@@ -172,7 +175,7 @@ module _ (u : Setup) (sp : Span) (l x : List Entry) (t : IsTaken u sp l x) (read
   left_bad : (i : ℕ) → i < 139392 → open_at (at l i) ≡ true → IsSome (cause_at u sp l x i)
   left_bad i m o = rw o (overdue_bad u sp (context_at i) (Between 0 (2 ^ 32 - 1)) ready (most_fits u sp))
 
-  starts : LiesAt Empty (at x (number_of (start_context u sp)))
+  pub starts : LiesAt Empty (at x (number_of (start_context u sp)))
   starts = on (at t.reach (number_of (start_context u sp))) refl (cases_lt (number_of (start_context u sp)) 139392) t.reached.sweep.begins where
     present : {a : Ages} → Present a ≡ Absent → ⊥
     present e = cc

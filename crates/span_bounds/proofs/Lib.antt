@@ -7,3 +7,5 @@ pub mod Counts
 pub mod Totals
 pub mod Takes
 pub mod Ends
+pub mod Filled
+pub mod Firsts

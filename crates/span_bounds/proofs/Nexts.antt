@@ -21,6 +21,10 @@ pub EachNext-map : (P Q : Next → Type 0) → ((n : Next) → P n → Q n) → 
 EachNext-map P Q f [] h = tt
 EachNext-map P Q f (n ∷ ns) h = (f n h.0, EachNext-map P Q f ns h.1)
 
+pub EachNext-both : (P Q R : Next → Type 0) → ((n : Next) → P n → Q n → R n) → (ns : List Next) → EachNext P ns → EachNext Q ns → EachNext R ns
+EachNext-both P Q R f [] h k = tt
+EachNext-both P Q R f (n ∷ ns) h k = (f n h.0 k.0, EachNext-both P Q R f ns h.1 k.1)
+
 pub Among-push : (i j : ℕ) (w : List ℕ) → Among i (j ∷ w) → Among i (w ++ j ∷ [])
 Among-push i j [] h = h
 Among-push i j (x ∷ w) (inl e) = inr (Among-push i j w (inl e))

@@ -2,6 +2,7 @@
 use Rattle.std.proofs.Common.{◌≡◌, ◌≢◌, ℕ, ◌+◌, ◌<◌, ◌≤◌, ◌⊎◌, Bool, true, false, MatchBool, List, [], ◌∷◌, ◌++◌, length, get_or, take, replicate, refl, sym, ◌∙◌, subst, inl, inr, arith}
 use Rattle.std.proofs.Math.ListN.{set}
 use Rattle.std.proofs.lemmas.List.{length-set, get_or-set_same, get_or-set_other, get_or-replicate, length-replicate, length_push}
+use Rattle.std.proofs.lemmas.List.Folds.{sum_by-replicate}
 use Rattle.std.proofs.lemmas.List.Sums.{sum_by-set}
 use Rattle.pin_matrix.specs.declared.setup.Setup.{Setup}
 use Rattle.pin_matrix.specs.declared.span.Span.{Span}
@@ -208,6 +209,10 @@ left_less (Between lo hi) (Present (Between low high)) q = absurd (bad q) where
   bad : true ≡ false → ⊥
   bad e = cc
 
+-- a grid without rows has the whole room
+pub room_blank : (g : List Entry) (w : List ℕ) → g ≡ replicate 139392 Absent → w ≡ [] → room g + length w ≤ 278784
+room_blank g w e q = rw (e, q, sum_by-replicate rises_left 139392 Absent) (omega arith)
+
 -- a raise makes at most as much wait as it takes from the room
 pub room_raised : (i : ℕ) (a : Ages) (g g' : List Entry) (w w' : List ℕ) → i < length g → Raised i a g g' w w' → room g' + length w' ≤ room g + length w
 room_raised i a g g' w w' l r = on (holds a (at g i)) refl r where
@@ -216,6 +221,12 @@ room_raised i a g g' w w' l r = on (holds a (at g i)) refl r where
   on false q e = rw (e.0, e.1, length_push w i) (plain_room _ _ _ _ _ (sum_by-set rises_left g i (Present (plain a)) Absent l) (left_less a (at g i) q)) where
     plain_room : (x y o n v : ℕ) → x + o ≡ y + n → n + 1 ≤ o → x + (v + 1) ≤ y + v
     plain_room x y o n v h k = omega arith
+
+-- after the start is raised there is still room
+pub room_starts : (g g' : List Entry) (w w' : List ℕ) (i : ℕ) → g ≡ replicate 139392 Absent → w ≡ [] → i < 139392 → Raised i Empty g g' w w' → room g' + length w' ≤ 278784
+room_starts g g' w w' i e q l r =
+    let inside : i < length g = rw (e, length-replicate 139392 Absent) l in
+    omega (arith, room_blank g w e q, room_raised i Empty g g' w w' inside r)
 
 -- where all nexts are done, the row waits no more
 pub Visit-done : (u : Setup) (sp : Span) (g : List Entry) (w : List ℕ) (i : ℕ) (a : Ages) → Visit u sp g w i a (nexts_at u sp i a) → Sweep u sp g w

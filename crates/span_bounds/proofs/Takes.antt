@@ -1,16 +1,18 @@
 -- The third sweep keeps what it says of its rows and numbers.
-use Rattle.std.proofs.Common.{◌≡◌, ◌≢◌, ℕ, ◌+◌, ◌-◌, ◌<◌, ◌≤◌, ◌==◌, ◌⊎◌, Bool, true, false, ◌&&◌, if◌then◌else◌, MatchBool, List, [], ◌∷◌, ◌++◌, length, get_or, take, drop, slice_index, refl, sym, ap, ◌∙◌, subst, inl, inr, arith}
+use Rattle.std.proofs.Common.{◌≡◌, ◌≢◌, ℕ, zero, suc, ◌+◌, ◌-◌, ◌<◌, ◌≤◌, ◌==◌, ◌⊎◌, Bool, true, false, ◌&&◌, if◌then◌else◌, MatchBool, List, [], ◌∷◌, ◌++◌, length, get_or, take, drop, slice_index, sum_by, refl, sym, ap, ◌∙◌, subst, inl, inr, arith}
 use Rattle.std.proofs.Math.ListN.{set}
 use Rattle.std.proofs.lemmas.Bool.Decides.{nat_tests}
 use Rattle.std.proofs.lemmas.Bool.{cases_lt}
-use Rattle.std.proofs.lemmas.List.{length-set, get_or-set_same, get_or-set_other, drop_more, length_push}
-use Rattle.std.proofs.lemmas.List.Sums.{sum_by-set}
+use Rattle.std.proofs.lemmas.List.{length-set, get_or-set_same, get_or-set_other, drop_more, length_push, get_or_past, take_more, take_all}
+use Rattle.std.proofs.lemmas.List.Sums.{sum_by-set, sum_by_push}
 use Rattle.pin_matrix.specs.declared.setup.Setup.{Setup}
 use Rattle.pin_matrix.specs.declared.span.Span.{Span}
 use Rattle.span_step.specs.declared.ages.Ages.{Ages}
 use Rattle.span_step.specs.declared.ages.Ages.TheVariants.{Empty, Between}
 use Rattle.span_step.specs.declared.stepped.Next.{Next}
 use Rattle.span_step.specs.Contexts.{is_open}
+use Rattle.span_step.specs.Laws.{AreAlike, Follows, SameAfterEdge}
+use Rattle.span_step.proofs.Alike.{SameAfterEdge-context_steps}
 use Rattle.span_bounds.specs.declared.entry.Entry.{Entry}
 use Rattle.span_bounds.specs.declared.entry.Entry.TheVariants.{Absent, Present}
 use Rattle.span_bounds.specs.Tables.{LiesAt}
@@ -18,12 +20,12 @@ use Rattle.span_bounds.specs.Edges.{at, nexts_at, spot, AllLie, Among}
 use Rattle.span_bounds.specs.Reach.{Holds, Below, AllHold, IsReach}
 use Rattle.span_bounds.specs.Sums.{total, passages, waits, waits_by, one_if, open_at, join_into}
 use Rattle.span_bounds.specs.Count.{LieBut, Count}
-use Rattle.span_bounds.specs.Take.{Take, Taking, IsTaken, Takes, TakesRow, AreReady, Passed, work_left, is_ready, ages_or_none}
-use Rattle.span_bounds.proofs.Nexts.{EachNext-more, EachNext-map, same_or_not, Among-push, Among-pop}
+use Rattle.span_bounds.specs.Take.{Take, Taking, IsTaken, Takes, TakesRow, AreReady, Passed, work_left, is_ready, ages_or_none, PassToLeft, unmet}
+use Rattle.span_bounds.proofs.Nexts.{EachNext-more, EachNext-map, EachNext-both, same_or_not, Among-push, Among-pop}
 use Rattle.span_bounds.proofs.Reaching.{at_same, at_other}
 use Rattle.span_bounds.proofs.Joins.{joined_at, lies_at_join, lies_still, IsUnder-join, closed_lies, beside}
 use Rattle.span_bounds.proofs.Counts.{but_still, passages-nil, one_more}
-use Rattle.span_bounds.proofs.Totals.{total-zero, total-change, total-some, passages_alike, passages-cons, waits_shut}
+use Rattle.span_bounds.proofs.Totals.{total-zero, total-change, total-one, total-some, counted_each, passages_alike, passages-cons, waits_shut}
 
 clash : {b : Bool} → b ≡ true → b ≡ false → ⊥
 clash p q = cc
@@ -366,6 +368,16 @@ Takes-pop u sp l x m w w' i e t0 = record {
   s : Take u sp t.reach l x m (w' ++ i ∷ [])
   s = t.take
 
+follows_left : (l : List Entry) (ms ns : List Next) → AreAlike (Follows SameAfterEdge) ms ns → PassToLeft l ns → PassToLeft l ms
+follows_left l [] ns h k = tt
+follows_left l (m ∷ ms) [] h k = absurd h
+follows_left l (m ∷ ms) (n ∷ ns) h k = (λ p. rw h.0.context (k.0 (sym h.0.passes ∙ p)), follows_left l ms ns h.1 k.1)
+
+-- to what a row passes doesn't depend on its ages
+left_alike : (u : Setup) (sp : Span) (l : List Entry) (i : ℕ) (a b : Ages) → PassToLeft l (nexts_at u sp i b) → PassToLeft l (nexts_at u sp i a)
+unfolding nexts_at
+left_alike u sp l i a b h = follows_left l _ _ (SameAfterEdge-context_steps u sp _ a b) h
+
 -- nothing waits any more
 pub IsTaken-ends : (u : Setup) (sp : Span) (l x : List Entry) (m ready : List ℕ) → ready ≡ [] → Takes u sp l x m ready → IsTaken u sp l x
 IsTaken-ends u sp l x m ready none t = record {
@@ -373,6 +385,7 @@ IsTaken-ends u sp l x m ready none t = record {
   reached = t.reached;
   keeps = s.keeps;
   left = s.left;
+  stays = λ w b c o. stays w b c o (at l w) refl;
   blocked = λ i c o. blocked i c o;
   done = s.done;
 } where
@@ -385,6 +398,31 @@ IsTaken-ends u sp l x m ready none t = record {
   some : (i : ℕ) → i < 139392 → open_at (at l i) ≡ true → 1 ≤ total 139392 (waits u sp (at l) i)
   some i c o = elim (cases_lt 0 (slice_index m i)) [ inl h ↦ omega (arith, s.count i c) | inr h ↦ absurd (nobody i (s.queued i c o (omega arith))) ]
 
+  near : (a : Ages) (i : ℕ) → Holds a (at t.reach i) → (i < 139392) ⊎ (139392 ≤ i) → i < 139392
+  near a i h (inl c) = c
+  near a i h (inr c) = absurd (rw (get_or_past t.reach i Absent (rw t.reached.sweep.size c)) at h)
+
+  held : (w : ℕ) (a : Ages) → w < 139392 → at t.reach w ≡ Present a → AllHold (at t.reach) (nexts_at u sp w a)
+  held w a c q = elim (t.reached.sweep.steps w a c q) [ inl h ↦ absurd h | inr h ↦ h ]
+
+  waited : (v w : ℕ) (a : Ages) → w < 139392 → at l w ≡ Present a → is_open a ≡ true → passages v (nexts_at u sp w a) ≤ total 139392 (waits u sp (at l) v)
+  waited v w a c q o = let e : waits u sp (at l) v w ≡ passages v (nexts_at u sp w a) = rw (q, o) refl in omega (arith, total-one 139392 (waits u sp (at l) v) w c)
+
+  goes_left : (w : ℕ) (a : Ages) → w < 139392 → at l w ≡ Present a → is_open a ≡ true → (n : Next) → (n.passes ≡ true → 1 ≤ passages (spot n) (nexts_at u sp w a)) → Holds n.ages (at t.reach (spot n)) → n.passes ≡ true → open_at (at l (spot n)) ≡ true
+  goes_left w a c q o n k h p = not_false _ (λ shut. never (s.count (spot n) b) (s.settled (spot n) b shut) (k p) (waited (spot n) w a c q o)) where
+    b : spot n < 139392
+    b = near n.ages (spot n) h (cases_lt (spot n) 139392)
+
+    never : {number sum own : ℕ} → number ≡ sum → number ≡ 0 → 1 ≤ own → own ≤ sum → ⊥
+    never e z y g = omega arith
+
+  stays : (w : ℕ) (b : Ages) → w < 139392 → open_at (at l w) ≡ true → (e : Entry) → at l w ≡ e → PassToLeft l (nexts_at u sp w b)
+  stays w b c o Absent q = absurd (clash (rw q at o) refl)
+  stays w b c o (Present a) q =
+      let opens : is_open a ≡ true = rw q at o in
+      let there : at t.reach w ≡ Present a = sym (s.left.left w c o) ∙ q in
+      left_alike u sp l w b a (EachNext-both (λ n. n.passes ≡ true → 1 ≤ passages (spot n) (nexts_at u sp w a)) (λ n. Holds n.ages (at t.reach (spot n))) (λ n. n.passes ≡ true → open_at (at l (spot n)) ≡ true) (goes_left w a c q opens) _ (counted_each _) (held w a c there))
+
   by : (i w : ℕ) (e : Entry) → at l w ≡ e → 1 ≤ waits_by u sp i w e → (open_at (at l w) ≡ true) × ((b : Ages) → 1 ≤ passages i (nexts_at u sp w b))
   by i w Absent q h = absurd (omega arith)
   by i w (Present a) q h = inner (is_open a) refl h where
@@ -395,18 +433,25 @@ IsTaken-ends u sp l x m ready none t = record {
   blocked : (i : ℕ) → i < 139392 → open_at (at l i) ≡ true → (w : ℕ) × ((w < 139392) × ((open_at (at l w) ≡ true) × ((b : Ages) → 1 ≤ passages i (nexts_at u sp w b))))
   blocked i c o = let r = total-some 139392 (waits u sp (at l) i) (some i c o) in (r.0, (r.1.0, by i r.0 (at l r.0) refl r.1.1))
 
--- a pass makes at most as much ready as it takes from what is waited for
+unmet_at_most : (n : ℕ) → unmet n ≤ 1
+unmet_at_most zero = omega arith
+unmet_at_most (suc n) = omega arith
+
+-- a row that waits for one passage less, and may be ready then
+passed_work : (v a b : ℕ) (r : List ℕ) (p : ℕ) → 1 ≤ v → a + unmet v ≡ b + unmet (v - 1) → a + length (if v == 1 then r ++ p ∷ [] else r) ≤ b + length r
+passed_work zero a b r p l e = absurd (omega arith)
+passed_work (suc zero) a b r p l e = rw (length_push r p) (omega arith)
+passed_work (suc (suc v)) a b r p l e =
+    let down : suc (suc v) - 1 ≡ suc v = omega arith in
+    let many : (suc (suc v) == 1) ≡ false = grind (arith, nat_tests) in
+    let e' : a + 1 ≡ b + 1 = rw down at e in
+    rw many (omega arith)
+
+-- a pass makes at most as much ready as it takes from what waits
 pub work_passed : (n : Next) (x x' : List Entry) (m m' r r' : List ℕ) → spot n < length m → (n.passes ≡ true → 1 ≤ slice_index m (spot n)) → Passed n x x' m m' r r' → work_left m' r' ≤ work_left m r
 work_passed n x x' m m' r r' l some h = on n.passes refl h where
-  grown : (z : Bool) → length (if z then r ++ spot n ∷ [] else r) ≤ length r + 1
-  grown true = rw (length_push r (spot n)) (omega arith)
-  grown false = omega arith
-
-  less : (a b s v : ℕ) → a + v ≡ b + (v - 1) → 1 ≤ v → s ≤ length r + 1 → a + s ≤ b + length r
-  less a b s v e o g = omega arith
-
   on : (z : Bool) → n.passes ≡ z → MatchBool z ((x' ≡ joined_at x (spot n) n.ages) × ((m' ≡ set m (spot n) (slice_index m (spot n) - 1)) × (r' ≡ (if slice_index m (spot n) == 1 then r ++ spot n ∷ [] else r)))) ((x' ≡ x) × ((m' ≡ m) × (r' ≡ r))) → work_left m' r' ≤ work_left m r
-  on true z w = rw (w.1.0, w.1.1) (less _ _ _ (slice_index m (spot n)) (sum_by-set (λ v. v) m (spot n) (slice_index m (spot n) - 1) 0 l) (some z) (grown (slice_index m (spot n) == 1)))
+  on true z w = rw (w.1.0, w.1.1) (passed_work (slice_index m (spot n)) _ _ r (spot n) (some z) (sum_by-set unmet m (spot n) (slice_index m (spot n) - 1) 0 l))
   on false z w = rw (w.1.0, w.1.1) (omega arith)
 
 -- as the code has it, before a next is passed to
@@ -418,20 +463,33 @@ next_waits u sp l x m ready i a items k n lk q b t z =
 below_or : (i n : ℕ) → i < n + 1 → (i < n) ⊎ (i ≡ n)
 below_or i n l = elim (same_or_not i n) [ inl e ↦ inr e | inr d ↦ inl (omega arith) ]
 
+unmet_more : (m : List ℕ) (n : ℕ) → n < length m → sum_by unmet (take (n + 1) m) ≡ sum_by unmet (take n m) + unmet (slice_index m n)
+unmet_more m n l = rw (take_more m n 0 l) (sum_by_push unmet (take n m) (slice_index m n))
+
+-- where each number was looked at, no more are ready than wait for none
+pub AreReady-few : (l : List Entry) (m ready : List ℕ) → length m ≡ 139392 → AreReady l m ready 139392 → work_left m ready ≤ 139392
+AreReady-few l m ready e q = let h : sum_by unmet (take 139392 m) + length ready ≤ 139392 = q.few in rw (take_all 139392 m (omega arith)) at h
+
 -- no number yet
 pub AreReady-starts : (l : List Entry) (m ready : List ℕ) → ready ≡ [] → AreReady l m ready 0
-AreReady-starts l m ready e = rw e (record { near = λ i h. absurd h; queued = λ i b o z. absurd (omega arith) })
+AreReady-starts l m ready e = rw e (record { few = omega arith; near = λ i h. absurd h; queued = λ i b o z. absurd (omega arith) })
 
 -- a number that is ready is put into the list
-pub AreReady-push : (l : List Entry) (m ready ready' : List ℕ) (n : ℕ) → n < 139392 → ready' ≡ ready ++ n ∷ [] → AreReady l m ready n → AreReady l m ready' (n + 1)
-AreReady-push l m ready ready' n b e q = rw e (record {
+pub AreReady-push : (l : List Entry) (m ready ready' : List ℕ) (n : ℕ) → n < 139392 → length m ≡ 139392 → is_ready l m n ≡ true → ready' ≡ ready ++ n ∷ [] → AreReady l m ready n → AreReady l m ready' (n + 1)
+AreReady-push l m ready ready' n b size t e q = rw e (record {
+  few =
+      let z : slice_index m n ≡ 0 = zero_from (slice_index m n) (and_parts (open_at (at l n)) (slice_index m n == 0) t).1 in
+      let s : sum_by unmet (take (n + 1) m) ≡ sum_by unmet (take n m) + unmet (slice_index m n) = unmet_more m n (rw size b) in
+      let u : unmet (slice_index m n) ≡ 0 = rw z refl in
+      rw (length_push ready n) (omega (arith, q.few));
   near = λ i h. elim (Among-pop i n ready h) [ inl w ↦ rw w b | inr w ↦ q.near i w ];
   queued = λ i c o z. elim (below_or i n c) [ inl d ↦ Among-push i n ready (inr (q.queued i d o z)) | inr d ↦ Among-push i n ready (inl d) ];
 })
 
 -- one that isn't is passed by
-pub AreReady-skip : (l : List Entry) (m ready : List ℕ) (n : ℕ) → is_ready l m n ≡ false → AreReady l m ready n → AreReady l m ready (n + 1)
-AreReady-skip l m ready n f q = record {
+pub AreReady-skip : (l : List Entry) (m ready : List ℕ) (n : ℕ) → n < 139392 → length m ≡ 139392 → is_ready l m n ≡ false → AreReady l m ready n → AreReady l m ready (n + 1)
+AreReady-skip l m ready n b size f q = record {
+  few = omega (arith, q.few, unmet_more m n (rw size b), unmet_at_most (slice_index m n));
   near = q.near;
   queued = λ i c o z. elim (below_or i n c) [ inl d ↦ q.queued i d o z | inr d ↦ absurd (bad i d o z) ];
 } where

@@ -17,6 +17,7 @@ use Rattle.span_bounds.specs.Numbers.{number_of}
 use Rattle.span_bounds.specs.Edges.{at, nexts_at, spot, EachNext}
 use Rattle.span_bounds.specs.Reach.{Holds, AllHold}
 use Rattle.span_bounds.specs.Sums.{total, passages, waits, waits_by, one_if, open_at}
+use Rattle.span_bounds.proofs.Nexts.{EachNext-map}
 
 pub total-zero : (n : ℕ) (f : ℕ → ℕ) → ((w : ℕ) → w < n → f w ≡ 0) → total n f ≡ 0
 unfolding total
@@ -37,6 +38,15 @@ total-change (suc n) f g i l h z = elim (cases_lt i n) [
   | inr last ↦ (let e : i ≡ n = omega arith in
       let r : total n f ≡ total n g = total-same n f g (λ w m. h w (omega arith) (λ d. omega arith)) in
       let z' : g n ≡ 0 = rw e at z in rw e (omega arith))
+]
+
+-- a sum is no less than what one number adds
+pub total-one : (n : ℕ) (f : ℕ → ℕ) (w : ℕ) → w < n → f w ≤ total n f
+unfolding total
+total-one zero f w l = absurd (omega arith)
+total-one (suc n) f w l = elim (cases_lt w n) [
+  | inl below ↦ (let r = total-one n f w below in omega arith)
+  | inr last ↦ (let e : w ≡ n = omega arith in rw e (omega arith))
 ]
 
 -- a sum that isn't 0 has a number that isn't
@@ -66,6 +76,20 @@ passages_alike u sp v i a b = passages-aims v _ ∙ (ap (aims v) (contexts_alike
 pub passages-cons : (v : ℕ) (n : Next) (ns : List Next) → passages v (n ∷ ns) ≡ one_if (n.passes && spot n == v) + passages v ns
 unfolding passages
 passages-cons v n ns = refl
+
+self_number : (p : ℕ) → (p == p) ≡ true
+self_number p = grind (arith, nat_tests)
+
+-- each next to which a course passes is counted at its number
+pub counted_each : (ns : List Next) → EachNext (λ n. n.passes ≡ true → 1 ≤ passages (spot n) ns) ns
+unfolding passages
+counted_each [] = tt
+counted_each (m ∷ ns) = (own, EachNext-map (λ n. n.passes ≡ true → 1 ≤ passages (spot n) ns) (λ n. n.passes ≡ true → 1 ≤ passages (spot n) (m ∷ ns)) (λ n k q. more n (k q)) ns (counted_each ns)) where
+  own : m.passes ≡ true → 1 ≤ passages (spot m) (m ∷ ns)
+  own q = let e : one_if (m.passes && spot m == spot m) ≡ 1 = rw (q, self_number (spot m)) refl in let c = passages-cons (spot m) m ns in omega arith
+
+  more : (n : Next) → 1 ≤ passages (spot n) ns → 1 ≤ passages (spot n) (m ∷ ns)
+  more n h = let c = passages-cons (spot n) m ns in omega arith
 
 reached_open : (n : ℕ) (a : Ages) → ReachesAge n a → is_open a ≡ true
 reached_open n Empty h = absurd h

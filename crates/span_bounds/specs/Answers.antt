@@ -1,5 +1,6 @@
 -- What `derive` answers.
 --   HasCause         a row is bad for a cause
+--   IsFirstBad       a context is the first bad one, for this cause
 --   IsAnswer         what an answer says
 --   filled           the entries by which the rows are judged
 --   cause_at         the first cause of a number's row
@@ -20,7 +21,7 @@ use Rattle.span_bounds.specs.declared.entry.Entry.{Entry}
 use Rattle.span_bounds.specs.declared.entry.Entry.TheVariants.{Absent, Present}
 use Rattle.span_bounds.specs.declared.row.Row.{Row}
 use Rattle.span_bounds.specs.Numbers.{number_of, context_at}
-use Rattle.span_bounds.specs.Tables.{entry_at, IsTable, IsClosed, IsGood, IsLeast}
+use Rattle.span_bounds.specs.Tables.{entry_at, IsTable, IsClosed, IsGood, IsLeast, first_bad}
 use Rattle.span_bounds.specs.Edges.{at}
 use Rattle.span_bounds.specs.Sums.{open_at}
 
@@ -40,10 +41,17 @@ pub record IsGoodLeast (u : Setup) (sp : Span) (rows : List Row) : Type 0 where
 pub record IsBadEverywhere (u : Setup) (sp : Span) (k : Context) (cause : Cause) : Type 0 where
   pub bad : (rows : List Row) → IsTable rows → IsClosed u sp rows → (a : Ages) × ((entry_at rows (number_of k) ≡ Present a) × HasCause cause (context_steps u sp k a).causes)
 
+-- the first bad row in context order of every least closed table is this one, with this first cause; so it is in some closed
+-- table too, and in every closed one it is bad for this cause
+pub record IsFirstBad (u : Setup) (sp : Span) (k : Context) (cause : Cause) : Type 0 where
+  pub first : (rows : List Row) → IsLeast u sp rows → first_bad u sp rows ≡ Some (k, cause)
+  pub shown : (rows : List Row) × (IsTable rows × (IsClosed u sp rows × (first_bad u sp rows ≡ Some (k, cause))))
+  pub everywhere : IsBadEverywhere u sp k cause
+
 -- what an answer says
 abbrev pub IsAnswer : Setup → Span → Derived → Type 0
 IsAnswer u sp (Closed rows) = IsGoodLeast u sp rows
-IsAnswer u sp (Bad k cause) = IsBadEverywhere u sp k cause
+IsAnswer u sp (Bad k cause) = IsFirstBad u sp k cause
 
 -- a row that was never taken is judged by ages above any bound
 abbrev pub filled : (left entry : Entry) → Entry

@@ -2,7 +2,7 @@
 --   Take             the sweep on its way, with the rows that may be ready
 --   Taking           the same while the nexts of a row are looked at
 --   IsTaken          its end
-use Rattle.std.specs.Prelude.{◌≡◌, ℕ, ◌+◌, ◌-◌, ◌<◌, ◌≤◌, ◌==◌, Bool, true, false, ◌&&◌, if◌then◌else◌, MatchBool, List, [], ◌∷◌, ◌++◌, length, slice_index, slice_set, sum_by}
+use Rattle.std.specs.Prelude.{◌≡◌, ℕ, zero, suc, ◌+◌, ◌-◌, ◌<◌, ◌≤◌, ◌==◌, Bool, true, false, ◌&&◌, if◌then◌else◌, MatchBool, List, [], ◌∷◌, ◌++◌, length, slice_index, slice_set, sum_by, take}
 use Rattle.pin_matrix.specs.declared.setup.Setup.{Setup}
 use Rattle.pin_matrix.specs.declared.span.Span.{Span}
 use Rattle.span_step.specs.declared.ages.Ages.{Ages}
@@ -12,7 +12,7 @@ use Rattle.span_step.specs.Contexts.{is_open}
 use Rattle.span_bounds.specs.declared.entry.Entry.{Entry}
 use Rattle.span_bounds.specs.declared.entry.Entry.TheVariants.{Absent, Present}
 use Rattle.span_bounds.specs.Tables.{LiesAt}
-use Rattle.span_bounds.specs.Edges.{at, nexts_at, spot, AllLie, IsClosedAt, Among}
+use Rattle.span_bounds.specs.Edges.{at, nexts_at, spot, EachNext, AllLie, IsClosedAt, Among}
 use Rattle.span_bounds.specs.Reach.{IsReach}
 use Rattle.span_bounds.specs.Sums.{total, passages, waits, open_at, join_into}
 use Rattle.span_bounds.specs.Count.{IsUnder, LieBut}
@@ -56,12 +56,17 @@ pub record Taking (u : Setup) (sp : Span) (g l x : List Entry) (m ready : List �
   pub sure : LieBut true (at x) rest
   pub least : (f : ℕ → Entry) → IsClosedAt u sp f → AllLie f rest
 
--- its end: a row that is left is passed to by a row that is left, whatever its ages
+-- each of these nexts to which a course passes is left
+abbrev pub PassToLeft : List Entry → List Next → Type 0
+PassToLeft l ns = EachNext (λ n. n.passes ≡ true → open_at (at l (spot n)) ≡ true) ns
+
+-- its end: a row that is left is passed to by a row that is left, whatever its ages, and passes only to rows that are left
 pub record IsTaken (u : Setup) (sp : Span) (l x : List Entry) : Type 0 where
   pub reach : List Entry
   pub reached : IsReach u sp reach
   pub keeps : IsFresh u sp reach x
   pub left : AreLeft reach l
+  pub stays : (w : ℕ) (b : Ages) → w < 139392 → open_at (at l w) ≡ true → PassToLeft l (nexts_at u sp w b)
   pub blocked : (i : ℕ) → i < 139392 → open_at (at l i) ≡ true → (w : ℕ) × ((w < 139392) × ((open_at (at l w) ≡ true) × ((b : Ages) → 1 ≤ passages i (nexts_at u sp w b))))
   pub done : (i : ℕ) (a : Ages) → i < 139392 → open_at (at l i) ≡ false → at x i ≡ Present a → AllLie (at x) (nexts_at u sp i a)
 
@@ -77,8 +82,14 @@ pub record TakesRow (u : Setup) (sp : Span) (l x : List Entry) (m ready : List �
   pub reached : IsReach u sp reach
   pub taking : Taking u sp reach l x m ready i a done rest
 
--- the list holds each row that is left and waits for none
+-- 1 where something is waited for
+abbrev pub unmet : ℕ → ℕ
+unmet zero = 0
+unmet (suc n) = 1
+
+-- the list holds each row that is left and waits for none, and no more numbers than those that wait for none
 pub record AreReady (l : List Entry) (m ready : List ℕ) (below : ℕ) : Type 0 where
+  pub few : sum_by unmet (take below m) + length ready ≤ below
   pub near : (i : ℕ) → Among i ready → i < 139392
   pub queued : (i : ℕ) → i < below → open_at (at l i) ≡ true → slice_index m i ≡ 0 → Among i ready
 
@@ -91,9 +102,9 @@ Passed n x new_x m new_m r new_r = MatchBool n.passes
     × (new_r ≡ (if slice_index m (spot n) == 1 then r ++ spot n ∷ [] else r))))
     ((new_x ≡ x) × ((new_m ≡ m) × (new_r ≡ r)))
 
--- how much the rows wait for, and how many may be ready
+-- how many rows wait for something, and how many may be ready
 abbrev pub work_left : List ℕ → List ℕ → ℕ
-work_left m ready = sum_by (λ v. v) m + length ready
+work_left m ready = sum_by unmet m + length ready
 
 -- a row is left and waits for none
 abbrev pub is_ready : List Entry → List ℕ → ℕ → Bool

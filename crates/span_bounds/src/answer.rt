@@ -1,5 +1,5 @@
 //! The least closed table of a span.
-ghost use Rattle.std.specs.Prelude.{◌≡◌, ◌+◌, ◌<◌, IfOk, IsSome, MatchOption, None, slice_index_or};
+ghost use Rattle.std.specs.Prelude.{◌≡◌, ◌+◌, ◌*◌, ◌<◌, ◌≤◌, IfOk, IsSome, MatchOption, None, slice_index_or};
 ghost use Rattle.span_bounds.specs.Answers as spec;
 ghost use Rattle.span_bounds.specs.Answers.{IsAnswer, IsBadAt, AreGoodBelow, cause_at};
 
@@ -8,26 +8,71 @@ use crate::derived::Derived;
 use crate::entry::Entry;
 use crate::grid::Grid;
 use crate::number::{CONTEXTS, context_at};
-use crate::reach::reached;
+use crate::reach::reach;
+use crate::row_step::row_step;
+use crate::stack::Stack;
 use crate::table::Table;
 use crate::take::{is_open, take};
 use pin_matrix::{Setup, Span};
-use span_step::{Ages, Cause, step};
+use span_step::{Ages, Cause};
 use std::alloc::{AllocError, Global};
+use std::marker::Brand;
+use std::sync::ledger::{Blank, Ledger};
+use step_count::Steps;
 
-/// The least closed table of the span where it is good, else a context that is bad in every closed table: of the rows
-/// by which the table is judged the first in context order, with its first cause. The span's machine is configured. The error
-/// is want of memory.
+/// The least closed table of the span where it is good, else its first bad context in context order, and in it the first
+/// cause. The span's machine is configured. The error is want of memory, which is taken before the first row is worked out.
 pub fn derive(alloc: Global, setup: &Setup, span: &Span) -> Result<Derived, AllocError>
     requires { IsSome (slice_index_or setup.now.machines span.now.machine None) }
     ensures { IfOk result (λ derived. IsAnswer setup.now span.now derived) }
 {
+    counted::<Brand>(alloc, setup, span, Blank::new(1))
+}
+
+/// The same, with a count of the row steps.
+fn counted<L: Ledger>(
+    alloc: Global,
+    setup: &Setup,
+    span: &Span,
+    blank: Blank,
+) -> Result<Derived, AllocError>
+    requires configured { IsSome (slice_index_or setup.now.machines span.now.machine None) }
+    requires name { blank.name ≡ L.name }
+    requires parts { blank.parts ≡ L.parts }
+    requires whole { blank.parts ≡ 1 }
+    ensures { IfOk result (λ derived. IsAnswer setup.now span.now derived) }
+{
+    let mut steps = Steps::<L>::new(blank);
+    derive_counted(alloc, setup, span, &mut steps)
+}
+
+/// The answer by the three sweeps, in at most five row steps for each of the 139,392 contexts, whatever the bounds.
+fn derive_counted<L: Ledger>(
+    alloc: Global,
+    setup: &Setup,
+    span: &Span,
+    steps: &mut Steps<L>,
+) -> Result<Derived, AllocError>
+    requires { IsSome (slice_index_or setup.now.machines span.now.machine None) }
+    ensures answer { IfOk result (λ derived. IsAnswer setup.now span.now derived) }
+    ensures steps { steps.new ≤ steps.old + 5 * 139392 }
+{
     let mut table = Grid::new(alloc)?;
+    let mut left = Grid::new(alloc)?;
     let mut missing = vec![in alloc; 0; CONTEXTS]?;
-    let mut left = reached(alloc, setup, span)?;
-    count(setup, span, &left, &mut table, &mut missing);
-    take(alloc, setup, span, &mut left, &mut table, &mut missing)?;
-    match first_bad(setup, span, &left, &table) {
+    let mut stack = Stack::new(alloc)?;
+    reach(setup, span, &mut left, &mut stack, steps);
+    count(setup, span, &left, &mut table, &mut missing, steps);
+    take(
+        setup,
+        span,
+        &mut left,
+        &mut table,
+        &mut missing,
+        &mut stack,
+        steps,
+    );
+    match first_bad(setup, span, &left, &table, steps) {
         Some((number, cause)) => Ok(Derived::Bad {
             context: context_at(number),
             cause,
@@ -37,13 +82,20 @@ pub fn derive(alloc: Global, setup: &Setup, span: &Span) -> Result<Derived, Allo
 }
 
 /// The first number whose row is bad, and its first cause.
-fn first_bad(setup: &Setup, span: &Span, left: &Grid, table: &Grid) -> Option<(usize, Cause)>
+fn first_bad<L: Ledger>(
+    setup: &Setup,
+    span: &Span,
+    left: &Grid,
+    table: &Grid,
+    steps: &mut Steps<L>,
+) -> Option<(usize, Cause)>
     requires { IsSome (slice_index_or setup.now.machines span.now.machine None) }
-    ensures { MatchOption result (AreGoodBelow setup.now span.now left.now table.now 139392)
+    ensures value { MatchOption result (AreGoodBelow setup.now span.now left.now table.now 139392)
         (λ found. IsBadAt setup.now span.now left.now table.now found) }
+    ensures steps { steps.new ≤ steps.old + 139392 }
 {
     for number in 0..139_392 {
-        if let Some(cause) = judged(setup, span, left, table, number) {
+        if let Some(cause) = judged(setup, span, left, table, number, steps) {
             return Some((number, cause));
         }
     }
@@ -51,14 +103,22 @@ fn first_bad(setup: &Setup, span: &Span, left: &Grid, table: &Grid) -> Option<(u
 }
 
 /// The first cause for which a number's row is bad. A row that was never taken is bad by any ages.
-fn judged(setup: &Setup, span: &Span, left: &Grid, table: &Grid, number: usize) -> Option<Cause>
+fn judged<L: Ledger>(
+    setup: &Setup,
+    span: &Span,
+    left: &Grid,
+    table: &Grid,
+    number: usize,
+    steps: &mut Steps<L>,
+) -> Option<Cause>
     requires configured { IsSome (slice_index_or setup.now.machines span.now.machine None) }
     requires number { number < 139392 }
-    ensures { result ≡ cause_at setup.now span.now left.now table.now number }
+    ensures value { result ≡ cause_at setup.now span.now left.now table.now number }
+    ensures steps { steps.new ≤ steps.old + 1 }
 {
     match filled(left.at(number), table.at(number)) {
         Entry::Absent => None,
-        Entry::Present(ages) => step(setup, span, &context_at(number), &ages).causes.first(),
+        Entry::Present(ages) => row_step(setup, span, number, ages, steps).causes.first(),
     }
 }
 

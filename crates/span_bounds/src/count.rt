@@ -10,51 +10,58 @@ ghost use Rattle.span_bounds.specs.Count.{Count, Counted};
 
 use crate::entry::Entry;
 use crate::grid::Grid;
-use crate::number::{context_at, number_of};
+use crate::number::number_of;
+use crate::row_step::row_step;
 use pin_matrix::{Setup, Span};
-use span_step::{Ages, Next, step};
+use span_step::{Ages, Next};
+use std::sync::ledger::Ledger;
+use step_count::Steps;
 
 /// Counts the passages of the rows in order.
-pub(crate) fn count(
+pub(crate) fn count<L: Ledger>(
     setup: &Setup,
     span: &Span,
     reach: &Grid,
     table: &mut Grid,
     missing: &mut Vec<u32>,
+    steps: &mut Steps<L>,
 )
     requires configured { IsSome (slice_index_or setup.now.machines span.now.machine None) }
     requires reach { IsReach setup.now span.now reach.now }
     requires first { Count setup.now span.now reach.now table.old missing.old.items 0 }
-    ensures { Count setup.now span.now reach.now table.new missing.new.items 139392 }
+    ensures value { Count setup.now span.now reach.now table.new missing.new.items 139392 }
+    ensures steps { steps.new ≤ steps.old + 139392 }
 {
     for number in 0..139_392 {
-        count_number(setup, span, reach, table, missing, number);
+        count_number(setup, span, reach, table, missing, number, steps);
     }
 }
 
 /// Counts the passages of the row of a number, if it has one.
-fn count_number(
+fn count_number<L: Ledger>(
     setup: &Setup,
     span: &Span,
     reach: &Grid,
     table: &mut Grid,
     missing: &mut Vec<u32>,
     number: usize,
+    steps: &mut Steps<L>,
 )
     requires configured { IsSome (slice_index_or setup.now.machines span.now.machine None) }
     requires number { number < 139392 }
     requires reach { IsReach setup.now span.now reach.now }
     requires before { Count setup.now span.now reach.now table.old missing.old.items number }
-    ensures { Count setup.now span.now reach.now table.new missing.new.items (number + 1) }
+    ensures value { Count setup.now span.now reach.now table.new missing.new.items (number + 1) }
+    ensures steps { steps.new ≤ steps.old + 1 }
 {
     match reach.at(number) {
         Entry::Absent => {}
-        Entry::Present(ages) => count_row(setup, span, reach, table, missing, number, ages),
+        Entry::Present(ages) => count_row(setup, span, reach, table, missing, number, ages, steps),
     }
 }
 
 /// Counts the passages of a row with these ages.
-fn count_row(
+fn count_row<L: Ledger>(
     setup: &Setup,
     span: &Span,
     reach: &Grid,
@@ -62,16 +69,18 @@ fn count_row(
     missing: &mut Vec<u32>,
     number: usize,
     ages: Ages,
+    steps: &mut Steps<L>,
 )
     requires configured { IsSome (slice_index_or setup.now.machines span.now.machine None) }
     requires number { number < 139392 }
     requires entry { at reach.now number ≡ Present ages }
     requires reach { IsReach setup.now span.now reach.now }
     requires before { Count setup.now span.now reach.now table.old missing.old.items number }
-    ensures { Count setup.now span.now reach.now table.new missing.new.items (number + 1) }
+    ensures value { Count setup.now span.now reach.now table.new missing.new.items (number + 1) }
+    ensures steps { steps.new ≤ steps.old + 1 }
 {
     join(table, number, Ages::Empty);
-    let stepped = step(setup, span, &context_at(number), &ages);
+    let stepped = row_step(setup, span, number, ages, steps);
     for next in stepped.nexts.as_slice() {
         count_next(table, missing, ages.is_open(), next);
     }

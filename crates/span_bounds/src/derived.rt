@@ -7,6 +7,7 @@ use span_step::{Cause, Context};
 pub enum Derived {
     /// The least closed table, which is good.
     Closed(Table),
-    /// No closed table is good: in each of them this context has a row that is bad for this cause.
+    /// No closed table is good. This is the first bad context of the least one in context order, and in it the first cause; in
+    /// every closed table it has a row that is bad for this cause.
     Bad { context: Context, cause: Cause },
 }

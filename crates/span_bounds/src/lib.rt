@@ -9,6 +9,8 @@ mod grid;
 mod number;
 mod reach;
 mod row;
+mod row_step;
+mod stack;
 mod start;
 mod table;
 mod take;

@@ -3,3 +3,4 @@ pub mod Wider
 pub mod Alike
 pub mod Aging
 pub mod Overdue
+pub mod Placed

@@ -6,6 +6,7 @@
 --   most_of          the span's greatest age in ticks
 --   ReachesAge       some age is at least this
 --   first_cause      the first cause in the order U1 to U4
+--   AllPlaced        each next context is in range
 use Rattle.std.specs.Prelude.{◌≡◌, ℕ, ◌≤◌, Bool, true, false, if◌then◌else◌, Option, Some, None, List, [], ◌∷◌, slice_index_or}
 use Rattle.pin_matrix.specs.declared.machine.MachineSetup.{MachineSetup}
 use Rattle.pin_matrix.specs.declared.setup.Setup.{Setup}
@@ -17,7 +18,7 @@ use Rattle.span_step.specs.declared.cause.Cause.TheVariants.{U1, U2, U3, U4}
 use Rattle.span_step.specs.declared.cause.Causes.{Causes}
 use Rattle.span_step.specs.declared.stepped.Next.{Next}
 use Rattle.span_step.specs.declared.stepped.Stepped.{Stepped}
-use Rattle.span_step.specs.Contexts.{Context, IsInside, is_open}
+use Rattle.span_step.specs.Contexts.{Context, is_placed, IsInside, is_open}
 use Rattle.span_step.specs.Steps.{bounds_of}
 
 -- two lists are as long, and the relation holds place by place
@@ -95,3 +96,8 @@ AllUpTo n (m ∷ ms) = AreUpTo n m.ages × AllUpTo n ms
 abbrev pub AllReach : ℕ → List Next → Type 0
 AllReach n [] = Unit {0}
 AllReach n (m ∷ ms) = (m.passes ≡ true → ReachesAge n m.ages) × AllReach n ms
+
+-- each next context is in range
+abbrev pub AllPlaced : List Next → Type 0
+AllPlaced [] = Unit {0}
+AllPlaced (m ∷ ms) = (is_placed m.context.address m.context.x m.context.y ≡ true) × AllPlaced ms

@@ -1,12 +1,12 @@
 //! Laws of a step, each on a function that does nothing.
-ghost use Rattle.std.specs.Prelude.{◌≡◌, ℕ, ◌+◌, min, map, Some, IsSome, None, slice_index_or};
+ghost use Rattle.std.specs.Prelude.{◌≡◌, ℕ, ◌+◌, min, map, true, Some, IsSome, None, slice_index_or};
 ghost use Rattle.pin_matrix.specs.declared.setup.Setup as setup;
 ghost use Rattle.pin_matrix.specs.declared.span.Span as span;
 ghost use Rattle.span_step.specs.Contexts as contexts;
-ghost use Rattle.span_step.specs.Contexts.{IsInside, is_open};
+ghost use Rattle.span_step.specs.Contexts.{IsInside, is_open, is_placed};
 ghost use Rattle.span_step.specs.declared.ages.Ages as ages;
 ghost use Rattle.span_step.specs.Steps.{context_steps};
-ghost use Rattle.span_step.specs.Laws.{aim_of, IsWithin, AreAlike, Follows, OpenAlike, SameAfterEdge, AllUpTo, AllReach, ReachesAge, most_of, first_cause};
+ghost use Rattle.span_step.specs.Laws.{aim_of, IsWithin, AreAlike, Follows, OpenAlike, SameAfterEdge, AllUpTo, AllReach, ReachesAge, most_of, first_cause, AllPlaced};
 
 /// Ages inside others give the same next contexts with ages inside, no more causes and the same from-edge.
 pub fn a_step_is_monotone()
@@ -46,4 +46,10 @@ pub fn overdue_ages_are_bad()
         → IsSome (slice_index_or u.machines sp.machine None)
         → ReachesAge (most_of u sp) a → ReachesAge (most_of u sp) b
         → first_cause (context_steps u sp k a).causes ≡ first_cause (context_steps u sp k b).causes }
+{}
+
+/// After a context whose numbers are in range, each next context's are.
+pub fn next_contexts_are_in_range()
+    ensures { (u : setup.Setup) (sp : span.Span) (k : contexts.Context) (a : ages.Ages)
+        → is_placed k.address k.x k.y ≡ true → AllPlaced (context_steps u sp k a).nexts }
 {}

@@ -5,8 +5,8 @@ use Rattle.span_bounds.proofs.reach.visit_row.Given as goal
 
 -- the nexts so far are held
 abbrev pub invariant-loop-next : goal.invariant-loop-next
-invariant-loop-next l = record {
+invariant-loop-next g l = record {
   items : l.next-items ≡ nexts_at l.setup l.span l.number l.fn.ages;
-  visit : Visit l.setup l.span l.grid l.waiting.items l.number l.fn.ages (take l.next-index l.next-items);
-  room : room l.grid + length l.waiting.items ≤ room l.fn.grid + length l.fn.waiting.items;
+  visit : Visit l.setup l.span l.grid l.waiting l.number l.fn.ages (take l.next-index l.next-items);
+  room : room l.grid + length l.waiting ≤ room l.fn.grid + length l.fn.waiting;
 }

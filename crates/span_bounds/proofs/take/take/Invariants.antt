@@ -1,9 +1,14 @@
+use Rattle.std.proofs.Common.{◌+◌, ◌≤◌}
 use Rattle.span_bounds.specs.Take.{Takes, work_left}
 use Rattle.span_bounds.proofs.take.take.Given as goal
 
 abbrev pub invariant-loop-number : goal.invariant-loop-number
-invariant-loop-number l = Takes l.setup l.span l.left l.table l.missing.items l.ready.items
+invariant-loop-number g l = record {
+  takes : Takes l.setup l.span l.left l.table l.missing.items l.ready;
+  work : work_left l.missing.items l.ready ≤ 139392;
+  steps : l.steps + work_left l.missing.items l.ready ≤ l.fn.steps + 139392;
+}
 
--- each passage is passed once, and a row waits once for it
+-- each row waits until its last passage, and then once more
 abbrev pub decreases-loop-number : goal.decreases-loop-number
-decreases-loop-number l = work_left l.missing.items l.ready.items
+decreases-loop-number g l = work_left l.missing.items l.ready

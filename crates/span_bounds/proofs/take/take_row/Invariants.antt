@@ -5,8 +5,8 @@ use Rattle.span_bounds.proofs.take.take_row.Given as goal
 
 -- the nexts so far are done
 abbrev pub invariant-loop-next : goal.invariant-loop-next
-invariant-loop-next l = record {
+invariant-loop-next g l = record {
   items : l.next-items ≡ nexts_at l.setup l.span l.number l.fn.ages;
-  takes : TakesRow l.setup l.span l.left l.table l.missing.items l.ready.items l.number l.fn.ages (take l.next-index l.next-items) (drop l.next-index l.next-items);
-  work : work_left l.missing.items l.ready.items ≤ work_left l.fn.missing.items l.fn.ready.items;
+  takes : TakesRow l.setup l.span l.left l.table l.missing.items l.ready l.number l.fn.ages (take l.next-index l.next-items) (drop l.next-index l.next-items);
+  work : work_left l.missing.items l.ready ≤ work_left l.fn.missing.items l.fn.ready;
 }

@@ -1,0 +1,98 @@
+-- The first bad row of a table by the causes at the numbers.
+use Rattle.std.proofs.Common.{◌≡◌, ◌≢◌, ℕ, ◌+◌, ◌<◌, ◌≤◌, ◌==◌, ◌⊎◌, nat_lt, true, false, Some, None, List, [], ◌∷◌, refl, sym, ◌∙◌, inl, inr, arith}
+use Rattle.std.proofs.lemmas.Bool.Decides.{nat_tests}
+use Rattle.std.proofs.lemmas.Bool.{cases_lt}
+use Rattle.pin_matrix.specs.declared.setup.Setup.{Setup}
+use Rattle.pin_matrix.specs.declared.span.Span.{Span}
+use Rattle.span_step.specs.declared.cause.Cause.{Cause}
+use Rattle.span_step.specs.Laws.{first_cause}
+use Rattle.span_step.specs.Steps.{context_steps}
+use Rattle.span_step.proofs.Overdue.{IsConfigured}
+use Rattle.span_bounds.specs.declared.entry.Entry.{Entry}
+use Rattle.span_bounds.specs.declared.entry.Entry.TheVariants.{Absent}
+use Rattle.span_bounds.specs.declared.row.Row.{Row}
+use Rattle.span_bounds.specs.Numbers.{number_of, context_at}
+use Rattle.span_bounds.specs.Tables.{entry_at, rows_from, IsTableFrom, first_bad}
+use Rattle.span_bounds.specs.Edges.{at}
+use Rattle.span_bounds.specs.Take.{IsTaken}
+use Rattle.span_bounds.specs.Answers.{cause_by, cause_at, filled, IsBadAt, AreGoodBelow, IsFirstBad}
+use Rattle.span_bounds.proofs.Placing.{context_at-number_of}
+use Rattle.span_bounds.proofs.Rows.{entry_at-rows_from}
+use Rattle.span_bounds.proofs.Ends.{IsBadEverywhere-ends}
+use Rattle.span_bounds.proofs.Filled.{filled_all, at_filled, table, closed_table, same_first}
+
+same_number : (n m : ℕ) → n ≡ m → (n == m) ≡ true
+same_number n m e = grind (arith, nat_tests)
+
+other_number : (n m : ℕ) → n ≢ m → (n == m) ≡ false
+other_number n m e = grind (arith, nat_tests)
+
+from_below : (n m : ℕ) → nat_lt n (m + 1) ≡ true → n ≤ m
+from_below n m e = grind (arith, nat_tests)
+
+-- no row comes before the first
+absent_before : (m i : ℕ) (rows : List Row) → IsTableFrom m rows → i < m → entry_at rows i ≡ Absent
+absent_before m i [] t l = refl
+absent_before m i (r ∷ rows) t l =
+    let b : m ≤ number_of r.context = from_below m (number_of r.context) t.1.0 in
+    rw (other_number (number_of r.context) i (λ e. omega arith)) (absent_before (number_of r.context + 1) i rows t.1.1 (omega arith))
+
+-- the first bad row of a table is at the first number with a cause
+first_at : (u : Setup) (sp : Span) (n : ℕ) (k : Cause) (m : ℕ) (rows : List Row) → IsTableFrom m rows → ((i : ℕ) → m ≤ i → i < n → cause_by u sp i (entry_at rows i) ≡ None) → cause_by u sp n (entry_at rows n) ≡ Some k → first_bad u sp rows ≡ Some (context_at n, k)
+first_at u sp n k m [] t good bad = absurd (never bad) where
+  never : None ≡ Some k → ⊥
+  never e = cc
+first_at u sp n k m (r ∷ rows) t good bad = on (cases_lt (number_of r.context) n) (cases_lt n (number_of r.context)) (λ g b. first_at u sp n k (number_of r.context + 1) rows t.1.1 g b) where
+  below : m ≤ number_of r.context
+  below = from_below m (number_of r.context) t.1.0
+
+  own : cause_by u sp (number_of r.context) (entry_at (r ∷ rows) (number_of r.context)) ≡ first_cause (context_steps u sp r.context r.ages).causes
+  own = rw (same_number (number_of r.context) (number_of r.context) refl, context_at-number_of r.context t.0) refl
+
+  skip : (i : ℕ) → number_of r.context ≢ i → entry_at (r ∷ rows) i ≡ entry_at rows i
+  skip i d = rw (other_number (number_of r.context) i d) refl
+
+  never : None ≡ Some k → ⊥
+  never e = cc
+
+  on : (number_of r.context < n) ⊎ (n ≤ number_of r.context) → (n < number_of r.context) ⊎ (number_of r.context ≤ n) → (((i : ℕ) → number_of r.context + 1 ≤ i → i < n → cause_by u sp i (entry_at rows i) ≡ None) → cause_by u sp n (entry_at rows n) ≡ Some k → first_bad u sp rows ≡ Some (context_at n, k)) → first_bad u sp (r ∷ rows) ≡ Some (context_at n, k)
+  on (inl before) o later =
+      let none : first_cause (context_steps u sp r.context r.ages).causes ≡ None = sym own ∙ good (number_of r.context) below before in
+      rw none (later (λ i a b. rw (skip i (λ e. omega arith)) at (good i (omega (arith, below)) b)) (rw (skip n (λ e. omega arith)) at bad))
+  on (inr from) (inl above) later =
+      let gone : entry_at rows n ≡ Absent = absent_before (number_of r.context + 1) n rows t.1.1 (omega arith) in
+      let bad' : cause_by u sp n (entry_at rows n) ≡ Some k = rw (skip n (λ e. omega arith)) at bad in
+      absurd (never (rw gone at bad'))
+  on (inr from) (inr to) later =
+      let same : n ≡ number_of r.context = omega arith in
+      let some : first_cause (context_steps u sp r.context r.ages).causes ≡ Some k = sym own ∙ (rw same at bad) in
+      rw (some, same, context_at-number_of r.context t.0) refl
+
+-- one number more without a cause
+pub AreGoodBelow-more : (u : Setup) (sp : Span) (l x : List Entry) (n : ℕ) → AreGoodBelow u sp l x n → cause_at u sp l x n ≡ None → AreGoodBelow u sp l x (n + 1)
+AreGoodBelow-more u sp l x n h e = record {
+  good = λ i m. elim (cases_lt i n) [ inl b ↦ h.good i b | inr a ↦ (let same : i ≡ n = omega arith in rw same e) ];
+}
+
+-- the first bad row of every least closed table, and of a closed one
+pub IsFirstBad-ends : (u : Setup) (sp : Span) (l x : List Entry) (f : ℕ × Cause) → IsTaken u sp l x → IsConfigured u sp → IsBadAt u sp l x f → IsFirstBad u sp (context_at f.0) f.1
+IsFirstBad-ends u sp l x f t ready b = record {
+  first = λ rows least. first_at u sp f.0 f.1 0 rows least.table
+      (λ i o m. same_first u sp l x t ready rows least i (omega (arith, b.below)) ∙ b.first.good i m)
+      (same_first u sp l x t ready rows least f.0 b.below ∙ b.cause);
+  shown = (
+    rows_from 0 (filled_all l x),
+    (
+      table u sp l x t ready,
+      (
+        closed_table u sp l x t ready,
+        first_at u sp f.0 f.1 0 _ (table u sp l x t ready)
+            (λ i o m. rw (entry i) (b.first.good i m))
+            (rw (entry f.0) b.cause),
+      ),
+    ),
+  );
+  everywhere = IsBadEverywhere-ends u sp l x f.0 f.1 t ready b.below b.cause;
+} where
+  entry : (i : ℕ) → entry_at (rows_from 0 (filled_all l x)) i ≡ filled (at l i) (at x i)
+  entry i = entry_at-rows_from (filled_all l x) i ∙ at_filled u sp l x t ready i
