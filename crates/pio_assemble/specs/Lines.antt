@@ -20,7 +20,7 @@ said (Err kind) = Err kind
 abbrev pub line_at : List ℕ → List Token → ℕ → Token → Line
 line_at source tokens from first = record { number = first.line; reading = said (statement_at source tokens from) }
 
--- a line that begins at this token, and the lines behind its end; where there is no token, there is no line
+-- the line that begins at this token, and the lines after its end; where there is no token, there is no line
 abbrev pub lines_at : (ℕ → List Line) → List ℕ → List Token → ℕ → Option Token → List Line
 lines_at rest source tokens from (Some first) = line_at source tokens from first ∷ rest (line_end tokens from)
 lines_at rest source tokens from None = []

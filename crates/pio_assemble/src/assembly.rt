@@ -23,7 +23,7 @@ use std::mem::replace;
 pub struct Assembly {
     /// In which names are looked up.
     scope: Scope,
-    /// The lines behind the next `.program`, whose symbols are not in the scope yet.
+    /// The lines after the next `.program`, whose symbols are not in the scope yet.
     symbols: VecDeque<Line>,
     /// The program whose lines are read.
     draft: Draft,
@@ -55,7 +55,7 @@ impl Assembly {
         }
     }
 
-    /// Goes behind these lines.
+    /// Reads these lines.
     pub fn read(&mut self, alloc: Global, lines: &[Line]) -> Result<(), SourceFault>
         requires { self.old.symbols.items ≡ spec.behind_program lines.now }
         ensures { Gives (λ _. map assembled_of self.new.programs.items ++ finished self.new.draft) result
@@ -109,7 +109,7 @@ impl Assembly {
         }
     }
 
-    /// The programs, behind the last line.
+    /// The programs, after the last line.
     pub fn finish(self) -> Result<Vec<Program>, AllocError>
         ensures { IfOk result (λ v. map assembled_of v.items
             ≡ map assembled_of self.programs.items ++ finished self.draft) }
@@ -127,7 +127,7 @@ impl Assembly {
     }
 }
 
-/// Adds a program behind its last line, if it is one.
+/// Adds a program after its last line, if it is one.
 fn add(programs: &mut Vec<Program>, draft: Draft) -> Result<(), AllocError>
     ensures { OnOk result (map assembled_of programs.new.items
         ≡ map assembled_of programs.old.items ++ finished draft) }

@@ -35,7 +35,7 @@ pub fn first_fault(alloc: Global, lines: &[Line]) -> Result<(), SourceFault>
     checked
 }
 
-/// Tells the first line whose statement has a fault, behind what stands before the lines.
+/// The same after what stands before the lines, which goes on to what stands after them.
 fn check_lines(alloc: Global, before: &mut Before, lines: &[Line]) -> Result<(), SourceFault>
     requires symbols { before.old.symbols ≡ 0 }
     requires words { before.old.words ≡ 0 }

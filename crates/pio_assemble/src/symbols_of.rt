@@ -37,7 +37,7 @@ pub fn program_on(reading: &Result<Statement, StatementKind>) -> Option<&Name>
     }
 }
 
-/// Adds the symbol of a line with so many words before it, and tells how many are behind it.
+/// Adds the symbol of a line with so many words before it, and tells how many there are after it.
 fn add_symbol(
     scope: &mut Scope,
     words: u8,
@@ -53,7 +53,7 @@ fn add_symbol(
     Ok(behind)
 }
 
-/// How many words are behind a line with so many before it.
+/// How many words there are after a line with so many before it.
 fn words_behind(words: u8, reading: &Result<Statement, StatementKind>) -> u8
     ensures { result ≡ spec.words_on words reading.now }
 {

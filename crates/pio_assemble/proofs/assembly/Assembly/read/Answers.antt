@@ -1,4 +1,4 @@
-use Rattle.std.proofs.Common.{◌∙◌, ◌+◌, ap, sym, subst, map, drop, Ok}
+use Rattle.std.proofs.Common.{◌∙◌, ap, sym, subst, map}
 use Rattle.std.proofs.lemmas.List.{drop_all}
 use Rattle.answers.specs.Answers as answers
 use Rattle.pio_assemble.specs.Answers.{told, located}
