@@ -1,7 +1,7 @@
 -- The lines of a source, each with what it says (Pico SDK manual, section 3.3).
 --   lines_of       the lines of the tokens, in order
 --   has_word       a word stands on lines, before the next program begins
-use Rattle.std.specs.Prelude.{ℕ, zero, suc, nat_lt, Bool, true, false, if◌then◌else◌, List, [], ◌∷◌, length, Option, Some, None, Result, Ok, Err, slice_get}
+use Rattle.std.specs.Prelude.{ℕ, zero, suc, Bool, true, false, List, [], ◌∷◌, length, Option, Some, None, Result, Ok, Err, slice_get}
 use Rattle.pio_lex.specs.declared.token.Token.{Token}
 use Rattle.pio_statement.specs.declared.fault.StatementKind.{StatementKind}
 use Rattle.pio_statement.specs.declared.statement.Code.{Code}
@@ -11,25 +11,24 @@ use Rattle.pio_statement.specs.Answer.{Read}
 use Rattle.pio_statement.specs.Lines.{line_end, statement_at}
 use Rattle.pio_assemble.specs.declared.line.Line.{Line}
 
--- the line of a token; of no token there is none
-abbrev pub line_of : Option Token → ℕ
-line_of (Some token) = token.line
-line_of None = 0
-
 -- a statement without the place behind it
 abbrev pub said : Read Statement → Result Statement StatementKind
 said (Ok read) = Ok read.0
 said (Err kind) = Err kind
 
--- the line that begins at a token: its number is that of its first token
-abbrev pub line_at : List ℕ → List Token → ℕ → Line
-line_at source tokens from = record { number = line_of (slice_get tokens from); reading = said (statement_at source tokens from) }
+-- the line that begins at a token, whose line's number it has
+abbrev pub line_at : List ℕ → List Token → ℕ → Token → Line
+line_at source tokens from first = record { number = first.line; reading = said (statement_at source tokens from) }
+
+-- the line that begins at this token, and the lines after its end; where there is no token, there is no line
+abbrev pub lines_at : (ℕ → List Line) → List ℕ → List Token → ℕ → Option Token → List Line
+lines_at rest source tokens from (Some first) = line_at source tokens from first ∷ rest (line_end tokens from)
+lines_at rest source tokens from None = []
 
 -- the lines from a token on, at most so many
 unfoldable pub lines_from : ℕ → List ℕ → List Token → ℕ → List Line
 lines_from zero source tokens from = []
-lines_from (suc more) source tokens from =
-    if nat_lt from (length tokens) then line_at source tokens from ∷ lines_from more source tokens (line_end tokens from) else []
+lines_from (suc more) source tokens from = lines_at (lines_from more source tokens) source tokens from (slice_get tokens from)
 
 -- all lines: a line has a token at least, so there are no more lines than tokens
 abbrev pub lines_of : List ℕ → List Token → List Line

@@ -49,16 +49,29 @@ with_new_by None scope name is = with_symbol scope name is
 abbrev pub with_new : Scope → List ℕ → Symbol → Scope
 with_new scope name is = with_new_by (found_in 0 (present scope scope.program) name) scope name is
 
+-- the symbol of a statement, with so many words of its program before it
+abbrev pub symbol_by : ℕ → Statement → Option (List ℕ × Symbol)
+symbol_by words (statement.Define public name items) = Some (name, symbol.Define items)
+symbol_by words (statement.Label public name code) = Some (name, symbol.Label words)
+symbol_by words _ = None
+
+-- the same of a line; one that is no statement has none
+abbrev pub symbol_on : ℕ → Result Statement StatementKind → Option (List ℕ × Symbol)
+symbol_on words (Ok s) = symbol_by words s
+symbol_on words (Err kind) = None
+
+-- a symbol more, where there is one
+abbrev pub with_some : Scope → Option (List ℕ × Symbol) → Scope
+with_some scope (Some s) = with_new scope s.0 s.1
+with_some scope None = scope
+
 -- the symbols behind a statement, with so many words of its program before it
 abbrev pub scope_by : Scope → ℕ → Statement → Scope
-scope_by scope words (statement.Define public name items) = with_new scope name (symbol.Define items)
-scope_by scope words (statement.Label public name code) = with_new scope name (symbol.Label words)
-scope_by scope words _ = scope
+scope_by scope words s = with_some scope (symbol_by words s)
 
--- the same of a line; one that is no statement gives none
+-- the same of a line
 abbrev pub scope_on : Scope → ℕ → Result Statement StatementKind → Scope
-scope_on scope words (Ok s) = scope_by scope words s
-scope_on scope words (Err kind) = scope
+scope_on scope words reading = with_some scope (symbol_on words reading)
 
 -- more words of a program, which has at most 32
 abbrev pub more_words : ℕ → ℕ → ℕ

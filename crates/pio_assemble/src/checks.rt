@@ -30,8 +30,19 @@ pub fn first_fault(alloc: Global, lines: &[Line]) -> Result<(), SourceFault>
     ensures { Checks result (spec.first_fault spec.nothing_before lines.now) }
 {
     let mut before = Before::nothing(alloc);
+    let checked = check_lines(alloc, &mut before, lines);
+    drop(before);
+    checked
+}
+
+/// The same after what stands before the lines, which goes on to what stands after them.
+fn check_lines(alloc: Global, before: &mut Before, lines: &[Line]) -> Result<(), SourceFault>
+    requires symbols { before.old.symbols ≡ 0 }
+    requires words { before.old.words ≡ 0 }
+    ensures { Checks result (spec.first_fault before.old lines.now) }
+{
     for (index, line) in lines.iter().enumerate() {
-        match line_fault(alloc, &before, &lines[index + 1..], &line.reading) {
+        match line_fault(alloc, before, &lines[index + 1..], &line.reading) {
             Ok(statement) => before.pass(alloc, statement)?,
             Err(fault) => return Err(at_line(line.number, fault)),
         }

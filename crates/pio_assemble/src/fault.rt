@@ -114,7 +114,7 @@ impl fmt::Display for SourceKind {
 }
 
 /// What keeps a line from its meaning.
-#[derive(Debug, PartialEq, Eq, Drop)]
+#[derive(Drop)]
 pub enum LineFault {
     /// Memory ran out.
     Memory,

@@ -2,6 +2,7 @@
 #![tactic(auto)]
 
 mod act;
+mod assembly;
 mod before;
 mod checks;
 mod draft;

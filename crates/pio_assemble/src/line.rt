@@ -3,7 +3,7 @@
 use pio_statement::{Statement, StatementKind};
 
 /// A line of a source.
-#[derive(Debug, Drop)]
+#[derive(Drop)]
 pub struct Line {
     /// The line of its first token, counted from 1.
     pub number: usize,

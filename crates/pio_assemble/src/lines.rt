@@ -18,25 +18,33 @@ pub fn read_lines(alloc: Global, source: &[u8], tokens: &[Token]) -> Result<Vec<
 {
     let mut lines = Vec::new(alloc);
     let mut at = 0;
-    while at < tokens.len() {
-        lines.push(line(alloc, source, tokens, at)?)?;
+    while let Some(first) = tokens.get(at) {
+        lines.push(line(alloc, source, tokens, at, first)?)?;
         at = line_end(tokens, at);
     }
     Ok(lines)
 }
 
-/// The line that begins at a token.
-fn line(alloc: Global, source: &[u8], tokens: &[Token], from: usize) -> Result<Line, SourceFault>
+/// The line that begins at a token, `first`.
+fn line(
+    alloc: Global,
+    source: &[u8],
+    tokens: &[Token],
+    from: usize,
+    first: &Token,
+) -> Result<Line, SourceFault>
     requires tokens { All (IsTokenOf source.now) tokens.now }
     requires from { from < length tokens.now }
-    ensures line { IfOk result (λ line. line ≡ line_at source.now tokens.now from) }
+    ensures line { IfOk result (λ line. line ≡ line_at source.now tokens.now from first.now) }
     ensures memory { IfErr result (λ fault. fault ≡ SourceFault.Memory) }
 {
-    let number = tokens[from].line;
     let reading = match read_statement(alloc, source, tokens, from) {
         Ok((statement, _)) => Ok(statement),
         Err(StatementFault::Found(kind)) => Err(kind),
         Err(StatementFault::Memory) => return Err(SourceFault::Memory),
     };
-    Ok(Line { number, reading })
+    Ok(Line {
+        number: first.line,
+        reading,
+    })
 }

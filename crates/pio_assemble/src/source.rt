@@ -1,26 +1,20 @@
 //! From the bytes of a source to its programs, or its first fault.
-ghost use Rattle.std.specs.Prelude.{◌≡◌, Some, map, IfOk, OnOk, ◌++◌};
+ghost use Rattle.std.specs.Prelude.{◌≡◌, map, IfOk};
 ghost use Rattle.std.specs.List.{All};
 ghost use Rattle.pio_lex.specs.Tokens.{IsTokenOf};
-ghost use Rattle.pio_assemble.specs.Answers.{Answers, Gives};
-ghost use Rattle.pio_assemble.specs.Drafts.{begun, finished};
+ghost use Rattle.pio_assemble.specs.Answers.{Gives};
 ghost use Rattle.pio_assemble.specs.Lines.{lines_of};
 ghost use Rattle.pio_assemble.specs.Program.{assembled_of};
 ghost use Rattle.pio_assemble.specs.Source as spec;
 
+use crate::assembly::Assembly;
 use crate::checks::first_fault;
-use crate::draft::Draft;
-use crate::fault::{at_line, of_tokens};
+use crate::fault::of_tokens;
 use crate::line::Line;
 use crate::lines::read_lines;
-use crate::name::copy;
-use crate::symbols_of::{add_symbols, program_on};
-use crate::{LineFault, Program, SourceFault};
-use pio_encode::Name;
-use pio_expr::Scope;
+use crate::{Program, SourceFault};
 use pio_lex::{Token, tokens};
-use pio_statement::{Statement, StatementKind};
-use std::alloc::{AllocError, Global};
+use std::alloc::Global;
 use std::collections::VecDeque;
 
 /// The programs of a source, which may be any bytes, or its first fault.
@@ -56,72 +50,17 @@ fn read(alloc: Global, source: &[u8], tokens: &[Token]) -> Result<Vec<Program>, 
 fn programs(
     alloc: Global,
     lines: &[Line],
-    mut symbols: VecDeque<Line>,
+    symbols: VecDeque<Line>,
 ) -> Result<Vec<Program>, SourceFault>
     requires { symbols.items ≡ lines.now }
     ensures { Gives (λ v. map assembled_of v.items) result (spec.programs_of lines.now) }
 {
-    let mut scope = Scope::new(alloc);
-    add_symbols(&mut scope, &mut symbols)?;
-    let mut draft = Draft::begun(alloc, None);
-    let mut programs = Vec::new(alloc);
-    for line in lines {
-        match program_on(&line.reading) {
-            Some(name) => {
-                add(&mut programs, draft)?;
-                draft = begin_program(alloc, &mut scope, &mut symbols, name)?;
-            }
-            None => {
-                if let Err(fault) = draft_line(alloc, &mut scope, &mut draft, &line.reading) {
-                    return Err(at_line(line.number, fault));
-                }
-            }
+    let mut assembly = Assembly::begun(alloc, symbols)?;
+    match assembly.read(alloc, lines) {
+        Ok(()) => Ok(assembly.finish()?),
+        Err(fault) => {
+            drop(assembly);
+            Err(fault)
         }
     }
-    add(&mut programs, draft)?;
-    Ok(programs)
-}
-
-/// A program begins before these lines, in which names are looked up from now on.
-fn begin_program(
-    alloc: Global,
-    scope: &mut Scope,
-    lines: &mut VecDeque<Line>,
-    name: &Name,
-) -> Result<Draft, AllocError>
-    ensures draft { IfOk result (λ draft. draft ≡ begun (Some name.now)) }
-    ensures scope { OnOk result (scope.new ≡ spec.program_scope scope.old lines.old.items) }
-    ensures rest { OnOk result (lines.new.items ≡ spec.behind_program lines.old.items) }
-{
-    scope.next_program();
-    add_symbols(scope, lines)?;
-    Ok(Draft::begun(alloc, Some(copy(alloc, name)?)))
-}
-
-/// What a line adds to a program; one that is no statement adds nothing.
-fn draft_line(
-    alloc: Global,
-    scope: &mut Scope,
-    draft: &mut Draft,
-    reading: &Result<Statement, StatementKind>,
-) -> Result<(), LineFault>
-    ensures value { Answers (λ _. draft.new) result
-        (spec.drafted_on scope.old draft.old reading.now) }
-    ensures same { scope.new ≡ scope.old }
-{
-    match reading {
-        Ok(statement) => draft.read(alloc, scope, statement),
-        Err(_) => Ok(()),
-    }
-}
-
-/// Adds a program behind its last line, if it is one.
-fn add(programs: &mut Vec<Program>, draft: Draft) -> Result<(), AllocError>
-    ensures { OnOk result (map assembled_of programs.new.items
-        ≡ map assembled_of programs.old.items ++ finished draft) }
-{
-    if let Some(program) = draft.finish() {
-        programs.push(program)?;
-    }
-    Ok(())
 }

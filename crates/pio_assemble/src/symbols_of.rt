@@ -18,6 +18,7 @@ pub fn add_symbols(scope: &mut Scope, lines: &mut VecDeque<Line>) -> Result<(), 
     let mut words = 0;
     while let Some(line) = lines.pop_front() {
         if program_on(&line.reading).is_some() {
+            drop(line);
             return Ok(());
         }
         words = add_symbol(scope, words, line.reading)?;
@@ -36,7 +37,7 @@ pub fn program_on(reading: &Result<Statement, StatementKind>) -> Option<&Name>
     }
 }
 
-/// Adds the symbol of a line with so many words before it, and tells how many are behind it.
+/// Adds the symbol of a line with so many words before it, and tells how many there are after it.
 fn add_symbol(
     scope: &mut Scope,
     words: u8,
@@ -45,17 +46,38 @@ fn add_symbol(
     ensures symbols { OnOk result (scope.new ≡ spec.scope_on scope.old words reading) }
     ensures words { IfOk result (λ behind. behind ≡ spec.words_on words reading) }
 {
+    let behind = words_behind(words, &reading);
+    if let Some((name, is)) = symbol_of(words, reading) {
+        set_new(scope, name, is)?;
+    }
+    Ok(behind)
+}
+
+/// How many words there are after a line with so many before it.
+fn words_behind(words: u8, reading: &Result<Statement, StatementKind>) -> u8
+    ensures { result ≡ spec.words_on words reading.now }
+{
     match reading {
-        Ok(Statement::Define { name, value, .. }) => {
-            set_new(scope, name, Symbol::Define(value))?;
-            Ok(words)
-        }
+        Ok(Statement::Label { code, .. }) => more_words(words, word_count(code)),
+        Ok(Statement::Code(_)) => more_words(words, 1),
+        _ => words,
+    }
+}
+
+/// The symbol of a line with so many words before it, if it has one.
+fn symbol_of(words: u8, reading: Result<Statement, StatementKind>) -> Option<(Name, Symbol)>
+    ensures { result ≡ spec.symbol_on words reading }
+{
+    match reading {
+        Ok(Statement::Define { name, value, .. }) => Some((name, Symbol::Define(value))),
         Ok(Statement::Label { name, code, .. }) => {
-            set_new(scope, name, Symbol::Label(words))?;
-            Ok(more_words(words, word_count(&code)))
+            drop(code);
+            Some((name, Symbol::Label(words)))
         }
-        Ok(Statement::Code(_)) => Ok(more_words(words, 1)),
-        _ => Ok(words),
+        other => {
+            drop(other);
+            None
+        }
     }
 }
 

@@ -18,7 +18,7 @@ pub enum IrqMode {
 }
 
 /// An instruction without its side-set and its delay (Pico SDK manual, section 3.3.6).
-#[derive(Debug, Drop)]
+#[derive(Drop)]
 pub enum Form {
     /// `nop`, which is `mov y, y`.
     Nop,
@@ -66,7 +66,7 @@ pub enum Form {
 }
 
 /// The side-set and the delay of an instruction, in the order of the text.
-#[derive(Debug, Drop)]
+#[derive(Drop)]
 pub enum Suffix {
     None,
     /// `side E`
@@ -80,7 +80,7 @@ pub enum Suffix {
 }
 
 /// An instruction.
-#[derive(Debug, Drop)]
+#[derive(Drop)]
 pub struct Instruction {
     pub form: Form,
     pub suffix: Suffix,

@@ -98,6 +98,7 @@ fn known(
     if ends_at(tokens, behind) {
         Ok((statement, line_end(tokens, from)))
     } else {
+        drop(statement);
         Err(StatementFault::SYNTAX)
     }
 }

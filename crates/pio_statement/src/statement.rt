@@ -5,7 +5,7 @@ use pio_encode::Name;
 use pio_expr::Expr;
 
 /// What gives a word of a program's code.
-#[derive(Debug, Drop)]
+#[derive(Drop)]
 pub enum Code {
     /// `.word E`
     Word(Expr),
@@ -13,7 +13,7 @@ pub enum Code {
 }
 
 /// A statement. No expression has a value yet, and no range is looked at.
-#[derive(Debug, Drop)]
+#[derive(Drop)]
 pub enum Statement {
     /// An empty line.
     Nothing,

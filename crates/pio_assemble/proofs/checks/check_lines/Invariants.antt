@@ -1,10 +1,10 @@
 use Rattle.std.proofs.Common.{◌≡◌, ◌≤◌, drop}
-use Rattle.pio_assemble.specs.Checks.{first_fault, nothing_before}
-use Rattle.pio_assemble.proofs.checks.first_fault.Given as goal
+use Rattle.pio_assemble.specs.Checks.{first_fault}
+use Rattle.pio_assemble.proofs.checks.check_lines.Given as goal
 
 abbrev pub invariant-loop-index : goal.invariant-loop-index
 invariant-loop-index l = record {
-  faults : first_fault l.before (drop l.index l.lines) ≡ first_fault nothing_before l.lines;
+  faults : first_fault l.before (drop l.index l.lines) ≡ first_fault l.fn.before l.lines;
   symbols : l.before.symbols ≤ l.index;
   words : l.before.words ≤ l.index;
 }

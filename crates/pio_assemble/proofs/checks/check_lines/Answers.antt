@@ -6,7 +6,7 @@ use Rattle.pio_assemble.specs.Checks.{first_fault, line_fault}
 use Rattle.pio_assemble.specs.Lines.{has_word}
 use Rattle.pio_assemble.proofs.Checking.{fault_left, passes_left}
 use Rattle.pio_assemble.proofs.Lining.{rest_of}
-use Rattle.pio_assemble.proofs.checks.first_fault.Goals as goal
+use Rattle.pio_assemble.proofs.checks.check_lines.Goals as goal
 
 pub returns-in-Err : goal.returns-in-Err
 returns-in-Err c =
