@@ -1,0 +1,2 @@
+pub mod WorkedSetups
+pub mod WorkedRows

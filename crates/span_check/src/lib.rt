@@ -1,0 +1,2 @@
+//! A provable span holds in every run.
+#![tactic(auto)]
