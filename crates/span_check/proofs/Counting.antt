@@ -14,7 +14,7 @@ lt_yes a b h = grind (arith, nat_tests)
 lt_no : (a b : ℕ) → b ≤ a → nat_lt a b ≡ false
 lt_no a b h = grind (arith, nat_tests)
 
-before_suc : (a c : ℕ) → a < suc c → (a < c) ⊎ (a ≡ c)
+pub before_suc : (a c : ℕ) → a < suc c → (a < c) ⊎ (a ≡ c)
 before_suc a c h = grind arith
 
 -- nothing is counted up to the from-edge

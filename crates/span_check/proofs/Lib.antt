@@ -5,3 +5,6 @@ pub mod Levels
 pub mod Steps
 pub mod Walk
 pub mod Periods
+pub mod InTicks
+pub mod Pacing
+pub mod InClocks
