@@ -1,3 +1,4 @@
 pub mod Clean
 pub mod Aging
 pub mod Ends
+pub mod Explained
