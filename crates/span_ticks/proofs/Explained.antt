@@ -195,3 +195,125 @@ module _ (P : Outcome → Type 0) (c : Condition) (address : ℕ) (s : MachineSe
   picked_jmp : AllByRecursion P (ways (taken c k) address (after_count c k)) → Picked P sp (jmp_effect c address s v r)
   unfolding jmp_effect
   picked_jmp h = picked_ways (taken c k) (jumps c s v r) (taken_agrees c k s v r x y) h
+
+all_map : {A B : Type 0} (P : B → Type 0) (f : A → B) (xs : List A) → AllByRecursion P (map f xs) → AllByRecursion (λ x. P (f x)) xs
+all_map P f [] h = tt
+all_map P f (x ∷ xs) h = (h.0, all_map P f xs h.1)
+
+all_front : {A : Type 0} (P : A → Type 0) (xs ys : List A) → AllByRecursion P (xs ++ ys) → AllByRecursion P xs × AllByRecursion P ys
+all_front P [] ys h = (tt, h)
+all_front P (x ∷ xs) ys h = let p = all_front P xs ys h.1 in ((h.0, p.0), p.1)
+
+all_flat : {A B : Type 0} (P : B → Type 0) (f : A → List B) (xs : List A) → AllByRecursion P (flat_map f xs) → AllByRecursion (λ x. AllByRecursion P (f x)) xs
+all_flat P f [] h = tt
+all_flat P f (x ∷ xs) h = let p = all_front P (f x) (flat_map f xs) h in (p.0, all_flat P f xs p.1)
+
+-- the level that a value gives a pin of a mapping is either
+all_either : (Q : Option Bool → Type 0) (held level : Bool) → AllByRecursion Q (cond held (Some false ∷ Some true ∷ []) (None ∷ [])) → Q (cond held (Some level) None)
+all_either Q true true h = h.1.0
+all_either Q true false h = h.0
+all_either Q false level h = h.0
+
+all_levels : (Q : Option Bool × Option Bool → Type 0) (m : Mapping) (sp : Span) (value : ℕ) → AllByRecursion Q (unknown_levels m sp)
+    → Q (level_at sp.from_pin (writes_of m value), level_at sp.to_pin (writes_of m value))
+all_levels Q m sp value = by (sp.from_pin == sp.to_pin) refl where
+  one : AllByRecursion Q (map (λ l. (l, l)) (either_level m sp.from_pin)) → Q (level_at sp.from_pin (writes_of m value), level_at sp.from_pin (writes_of m value))
+  one h = all_either (λ l. Q (l, l)) (holds m sp.from_pin) (bit_at (writes_of m value).1 sp.from_pin == 1) (all_map Q (λ l. (l, l)) (either_level m sp.from_pin) h)
+  two : AllByRecursion Q (flat_map (λ f. map (λ t. (f, t)) (either_level m sp.to_pin)) (either_level m sp.from_pin)) → Q (level_at sp.from_pin (writes_of m value), level_at sp.to_pin (writes_of m value))
+  two h = let rows = all_flat Q (λ f. map (λ t. (f, t)) (either_level m sp.to_pin)) (either_level m sp.from_pin) h in
+      let row = all_either (λ f. AllByRecursion Q (map (λ t. (f, t)) (either_level m sp.to_pin))) (holds m sp.from_pin) (bit_at (writes_of m value).1 sp.from_pin == 1) rows in
+      all_either (λ t. Q (level_at sp.from_pin (writes_of m value), t)) (holds m sp.to_pin) (bit_at (writes_of m value).1 sp.to_pin == 1) (all_map Q (λ t. (level_at sp.from_pin (writes_of m value), t)) (either_level m sp.to_pin) row)
+  by : (z : Bool) → (sp.from_pin == sp.to_pin) ≡ z
+      → AllByRecursion Q (cond z (map (λ l. (l, l)) (either_level m sp.from_pin)) (flat_map (λ f. map (λ t. (f, t)) (either_level m sp.to_pin)) (either_level m sp.from_pin)))
+      → Q (level_at sp.from_pin (writes_of m value), level_at sp.to_pin (writes_of m value))
+  by true e h = let same : sp.to_pin ≡ sp.from_pin = grind (arith, nat_tests) in rw same (one h)
+  by false e h = two h
+
+-- OUT PINS and MOV PINS
+picked_pins : (P : Outcome → Type 0) (value : ℕ) (s : MachineSetup) (sp : Span) (k : Context) (e : Effect) → AllByRecursion P (unknown_pins s sp k)
+    → e.jump ≡ None → e.pending ≡ None → Covers k.x e.registers.x → Covers k.y e.registers.y → e.level ≡ writes_of s.out value → Picked P sp e
+picked_pins P value s sp k e all j p x y l = record {
+  outcome = record (nothing_done k) { from = level_at sp.from_pin (writes_of s.out value); to = level_at sp.to_pin (writes_of s.out value) };
+  holds = all_levels (λ l. P (record (nothing_done k) { from = l.0; to = l.1 })) s.out sp value (all_map P (λ l. record (nothing_done k) { from = l.0; to = l.1 }) (unknown_levels s.out sp) all);
+  explains = record { jump = j; pending = p; x = x; y = y; from = ap (level_at sp.from_pin) l; to = ap (level_at sp.to_pin) l };
+}
+
+-- one that writes no levels and has one outcome
+picked_one : (P : Outcome → Type 0) (sp : Span) (o : Outcome) (e : Effect) → AllByRecursion P (o ∷ []) → e.jump ≡ o.jump → e.pending ≡ None → Covers o.x e.registers.x
+    → Covers o.y e.registers.y → e.level ≡ (0, 0) → o.from ≡ None → o.to ≡ None → Picked P sp e
+picked_one P sp o e all j p x y l f t = record {
+  outcome = o;
+  holds = all.0;
+  explains = record {
+    jump = j;
+    pending = p;
+    x = x;
+    y = y;
+    from = ap (level_at sp.from_pin) l ∙ (level_none sp.from_pin ∙ sym f);
+    to = ap (level_at sp.to_pin) l ∙ (level_none sp.to_pin ∙ sym t);
+  };
+}
+
+picked_out : (P : Outcome → Type 0) (d : OutDestination) (value n : ℕ) (s : MachineSetup) (sp : Span) (k : Context) (r : Registers) → is_wild (Out d n) ≡ false → Covers k.x r.x → Covers k.y r.y
+    → AllByRecursion P (out_outcomes d s sp k) → Picked P sp (out_to d value n s r)
+unfolding is_wild
+picked_out P out_destination.Pins value n s sp k r w x y h = picked_pins P value s sp k _ h refl refl x y refl
+picked_out P out_destination.X value n s sp k r w x y h = picked_one P sp _ _ h refl refl tt y refl refl refl
+picked_out P out_destination.Y value n s sp k r w x y h = picked_one P sp _ _ h refl refl x tt refl refl refl
+picked_out P out_destination.Null value n s sp k r w x y h = picked_one P sp _ _ h refl refl x y refl refl refl
+picked_out P out_destination.Pindirs value n s sp k r w x y h = picked_one P sp _ _ h refl refl x y refl refl refl
+picked_out P out_destination.Pc value n s sp k r w x y h = cc
+picked_out P out_destination.Isr value n s sp k r w x y h = picked_one P sp _ _ h refl refl x y refl refl refl
+picked_out P out_destination.Exec value n s sp k r w x y h = cc
+
+copy_covers : (o : MovOperation) (source : MovSource) (s : MachineSetup) (v : View) (q : Queues) (k : Context) (r : Registers) → Covers k.x r.x → Covers k.y r.y
+    → Covers (copied o source k) (operated o (mov_word source s v q r))
+copy_covers mov_operation.Plain mov_source.Pins s v q k r x y = tt
+copy_covers mov_operation.Plain mov_source.X s v q k r x y = x
+copy_covers mov_operation.Plain mov_source.Y s v q k r x y = y
+copy_covers mov_operation.Plain mov_source.Null s v q k r x y = refl
+copy_covers mov_operation.Plain mov_source.Status s v q k r x y = tt
+copy_covers mov_operation.Plain mov_source.Isr s v q k r x y = tt
+copy_covers mov_operation.Plain mov_source.Osr s v q k r x y = tt
+copy_covers mov_operation.Invert source s v q k r x y = tt
+copy_covers mov_operation.Reverse source s v q k r x y = tt
+
+picked_mov : (P : Outcome → Type 0) (d : MovDestination) (o : MovOperation) (source : MovSource) (word : Option ℕ) (value : ℕ) (s : MachineSetup) (sp : Span) (k : Context) (r : Registers) → is_wild (Mov d o source) ≡ false
+    → Covers word value → Covers k.x r.x → Covers k.y r.y → AllByRecursion P (mov_outcomes d word s sp k) → Picked P sp (mov_to d value s r)
+unfolding is_wild
+picked_mov P mov_destination.Pins o source word value s sp k r w c x y h = picked_pins P value s sp k _ h refl refl x y refl
+picked_mov P mov_destination.X o source word value s sp k r w c x y h = picked_one P sp _ _ h refl refl c y refl refl refl
+picked_mov P mov_destination.Y o source word value s sp k r w c x y h = picked_one P sp _ _ h refl refl x c refl refl refl
+picked_mov P mov_destination.Exec o source word value s sp k r w c x y h = cc
+picked_mov P mov_destination.Pc o source word value s sp k r w c x y h = cc
+picked_mov P mov_destination.Isr o source word value s sp k r w c x y h = picked_one P sp _ _ h refl refl x y refl refl refl
+picked_mov P mov_destination.Osr o source word value s sp k r w c x y h = picked_one P sp _ _ h refl refl x y refl refl refl
+
+picked_set : (P : Outcome → Type 0) (d : SetDestination) (value : ℕ) (s : MachineSetup) (sp : Span) (k : Context) (r : Registers) → Covers k.x r.x → Covers k.y r.y
+    → AllByRecursion P (set_outcomes d value s sp k) → Picked P sp (set_effect d value s r)
+unfolding set_effect
+picked_set P set_destination.Pins value s sp k r x y h = record { outcome = outcome.set_pins value s sp k; holds = h.0; explains = record { jump = refl; pending = refl; x = x; y = y; from = refl; to = refl } }
+picked_set P set_destination.X value s sp k r x y h = picked_one P sp _ _ h refl refl refl y refl refl refl
+picked_set P set_destination.Y value s sp k r x y h = picked_one P sp _ _ h refl refl x refl refl refl refl
+picked_set P set_destination.Pindirs value s sp k r x y h = picked_one P sp _ _ h refl refl x y refl refl refl
+
+-- an OUT that doesn't stall
+out_done : (P : Effect → Type 0) (b : Bool) (x y : Effect) → x.stalled ≡ true → (cond b x y).stalled ≡ false → P y → P (cond b x y)
+out_done P true x y h k p = absurd (let e : true ≡ false = sym h ∙ k in cc)
+out_done P false x y h k p = p
+
+-- any instruction that finishes
+pub explained : (P : Outcome → Type 0) (a : Act) (s : MachineSetup) (sp : Span) (k : Context) (v : View) (q : Queues) (r : Registers)
+    → is_wild a ≡ false → is_small k.x ≡ true → is_small k.y ≡ true → Covers k.x r.x → Covers k.y r.y
+    → (effect_of a s v q r).stalled ≡ false → AllByRecursion P (outcomes a s sp k) → Picked P sp (effect_of a s v q r)
+unfolding effect_of outcomes wait_effect in_effect out_effect push_effect pull_effect mov_effect irq_effect
+explained P (Jmp c address) s sp k v q r w low lower x y ends h = picked_jmp P c address s sp k v r low lower x y h
+explained P (Wait polarity source index) s sp k v q r w low lower x y ends h = picked_silent P sp k r _ h x y (search (rules, silent_if, silent_by))
+explained P (In source n) s sp k v q r w low lower x y ends h = picked_silent P sp k r _ h x y (silent_in s q r.begun r _ refl)
+explained P (Out d n) s sp k v q r w low lower x y ends h = out_done (Picked P sp) _ _ _ refl ends (picked_out P d _ n s sp k _ w x y h)
+explained P (Push if_full block) s sp k v q r w low lower x y ends h = picked_silent P sp k r _ h x y (search (rules, silent_if, silent_by) depth 20)
+explained P (Pull if_empty block) s sp k v q r w low lower x y ends h = picked_silent P sp k r _ h x y (search (rules, silent_if, silent_by, silent_pulled))
+explained P (Mov d o source) s sp k v q r w low lower x y ends h = picked_mov P d o source _ _ s sp k r w (copy_covers o source s v q k r x y) x y h
+explained P (Irq clear waits index) s sp k v q r w low lower x y ends h = picked_silent P sp k r _ h x y (search (rules, silent_if, silent_by) depth 20)
+explained P (Set d value) s sp k v q r w low lower x y ends h = picked_set P d value s sp k r x y h
+explained P Nothing s sp k v q r w low lower x y ends h = picked_silent P sp k r _ h x y (silent_by r _ refl refl refl refl)
