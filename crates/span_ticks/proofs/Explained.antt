@@ -196,7 +196,7 @@ module _ (P : Outcome → Type 0) (c : Condition) (address : ℕ) (s : MachineSe
   unfolding jmp_effect
   picked_jmp h = picked_ways (taken c k) (jumps c s v r) (taken_agrees c k s v r x y) h
 
-all_map : {A B : Type 0} (P : B → Type 0) (f : A → B) (xs : List A) → AllByRecursion P (map f xs) → AllByRecursion (λ x. P (f x)) xs
+pub all_map : {A B : Type 0} (P : B → Type 0) (f : A → B) (xs : List A) → AllByRecursion P (map f xs) → AllByRecursion (λ x. P (f x)) xs
 all_map P f [] h = tt
 all_map P f (x ∷ xs) h = (h.0, all_map P f xs h.1)
 
@@ -214,7 +214,7 @@ all_either Q true true h = h.1.0
 all_either Q true false h = h.0
 all_either Q false level h = h.0
 
-all_levels : (Q : Option Bool × Option Bool → Type 0) (m : Mapping) (sp : Span) (value : ℕ) → AllByRecursion Q (unknown_levels m sp)
+pub all_levels : (Q : Option Bool × Option Bool → Type 0) (m : Mapping) (sp : Span) (value : ℕ) → AllByRecursion Q (unknown_levels m sp)
     → Q (level_at sp.from_pin (writes_of m value), level_at sp.to_pin (writes_of m value))
 all_levels Q m sp value = by (sp.from_pin == sp.to_pin) refl where
   one : AllByRecursion Q (map (λ l. (l, l)) (either_level m sp.from_pin)) → Q (level_at sp.from_pin (writes_of m value), level_at sp.from_pin (writes_of m value))

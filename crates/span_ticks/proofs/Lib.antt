@@ -2,3 +2,4 @@ pub mod Clean
 pub mod Aging
 pub mod Ends
 pub mod Explained
+pub mod Stalls
