@@ -3,3 +3,4 @@ pub mod Aging
 pub mod Ends
 pub mod Explained
 pub mod Stalls
+pub mod Opened
