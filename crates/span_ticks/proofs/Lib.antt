@@ -4,3 +4,4 @@ pub mod Ends
 pub mod Explained
 pub mod Stalls
 pub mod Opened
+pub mod Resting
