@@ -5,3 +5,4 @@ pub mod Explained
 pub mod Stalls
 pub mod Opened
 pub mod Resting
+pub mod Joined

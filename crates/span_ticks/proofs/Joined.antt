@@ -1,0 +1,104 @@
+-- A tick of an instruction is matched by a tick of one of its courses.
+use Rattle.std.proofs.Common.{◌≡◌, ℕ, ◌+◌, ◌≤◌, ◌<◌, Bool, true, false, ◌&&◌, cond, if◌then◌else◌, Option, Some, None, unwrap_or, List, [], ◌∷◌, slice_index_or, refl, sym, ap, ◌∙◌, inl, inr, subst, arith}
+use Rattle.std.proofs.lemmas.Bool.{cases_lt}
+use Rattle.pio_encode.specs.declared.op.Op.{Op}
+use Rattle.pin_matrix.specs.declared.machine.MachineSetup.{MachineSetup}
+use Rattle.pin_matrix.specs.declared.setup.Setup.{Setup}
+use Rattle.pin_matrix.specs.declared.span.Span.{Span}
+use Rattle.sm_registers.specs.declared.intent.Kind.TheVariants.{First, Late}
+use Rattle.sm_registers.specs.declared.registers.Registers.{Registers}
+use Rattle.sm_registers.specs.declared.view.View.{View}
+use Rattle.sm_registers.specs.Queues.{Queues}
+use Rattle.sm_registers.specs.Effects.{Effect, effect_of}
+use Rattle.sm_registers.specs.Tick.{tick_by, tick_of}
+use Rattle.span_step.specs.declared.ages.Ages.{Ages}
+use Rattle.span_step.specs.Contexts.{Context, is_placed, is_small, IsInside}
+use Rattle.span_step.specs.Outcomes.{Outcome, level_at, outcomes, is_wild, may_stall}
+use Rattle.span_step.specs.Courses.{watched, followed, start, prompt, delayed, delay_ticks, over}
+use Rattle.span_step.specs.Laws.{AllPlaced, first_cause}
+use Rattle.span_step.specs.Steps.{Visit, visit_of, rules_of, side_of, end_of, next_of, context_steps}
+use Rattle.span_ticks.specs.Rows.{IsInRow, IsSoundTable}
+use Rattle.span_ticks.specs.UnderWay.{Watch, Flow, flow_of, IsAt, IsResting, IsBegun, IsUnderWay, op_at, rested, stalled_from}
+use Rattle.span_ticks.specs.Following.{InAges, IsFollowed, IsAged, is_late, opens}
+use Rattle.span_ticks.proofs.Clean.{IsClean, Tick, clean_followed, clean_watched}
+use Rattle.span_ticks.proofs.Aging.{inside_ages, tick_ages, tick_fresh, waiting_ages, no_fresh, widened_ages}
+use Rattle.span_ticks.proofs.Ends.{EndsWell, AllEnds, IsKnownRow, known_row}
+use Rattle.span_ticks.proofs.Explained.{Picked, Explains, explained, level_none}
+use Rattle.span_ticks.proofs.Stalls.{IsStall, stalls, Found, found}
+use Rattle.span_ticks.proofs.Opened.{delay_here, tick_here, flow_done, flow_stalled, two_levels, over_levels, side_level, side_from, side_to, side_late}
+use Rattle.span_ticks.proofs.Resting.{rested_none, delay_followed, rests_after}
+
+late_is : (begun : Bool) → is_late (if begun then Late else First) ≡ begun
+late_is true = refl
+late_is false = refl
+
+widened_opens : (sp : Span) (w v x : Watch) → w.from ≡ v.from → opens sp v x ≡ true → opens sp w x ≡ true
+widened_opens sp w v x e h = rw e h
+
+-- what all ticks of a row's instruction share
+record IsHere (u : Setup) (sp : Span) (rows : Context → Option Ages) (s : MachineSetup) (r : Registers) (k : Context) (a : Ages) : Type 0 where
+  pending : r.pending ≡ None
+  left : r.delay ≡ 0
+  agrees : IsAt k (flow_of r)
+  row : rows k ≡ Some a
+  known : IsKnownRow u sp rows s k a
+
+-- the machine is at the row's start, whose ages may be more
+record IsWidened (k : Context) (a : Ages) (w : Watch) : Type 0 where
+  from : k.from ≡ w.from
+  to : k.to ≡ w.to
+  inside : IsInside w.ages a
+
+-- one of its courses' first ticks
+abbrev prompt_from : Setup → Span → MachineSetup → Context → Ages → Outcome → Watch
+prompt_from u sp s k a o =
+    let side = side_of s sp (op_at u s k.address).side in
+    watched (rules_of s sp k.address) (start k a) (record { late = false; from = over side.from o.from; to = over side.to o.to })
+
+-- the late tick in which the rest of an outcome comes
+abbrev late_from : Setup → Span → MachineSetup → Context → Ages → Outcome → Watch
+late_from u sp s k a o = watched (rules_of s sp k.address) (stalled_from u sp s k a) (record { late = true; from = o.from; to = o.to })
+
+-- no cause comes with the ticks of a course that ends well
+late_clean : (u : Setup) (sp : Span) (rows : Context → Option Ages) (s : MachineSetup) (k : Context) (a : Ages) (o : Outcome) → may_stall (op_at u s k.address).act s ≡ true
+    → AllEnds rows (visit_of s sp (op_at u s k.address) k a) o → IsClean (late_from u sp s k a o).causes
+unfolding visit_of delayed
+late_clean u sp rows s k a o may ends = clean_followed (rules_of s sp k.address) (delay_ticks (op_at u s k.address).delay) (late_from u sp s k a o) (ends.later may).clean
+
+prompt_clean : (u : Setup) (sp : Span) (rows : Context → Option Ages) (s : MachineSetup) (k : Context) (a : Ages) (o : Outcome)
+    → AllEnds rows (visit_of s sp (op_at u s k.address) k a) o → IsClean (prompt_from u sp s k a o).causes
+unfolding visit_of prompt
+prompt_clean u sp rows s k a o ends = clean_followed (rules_of s sp k.address) (delay_ticks (op_at u s k.address).delay) (prompt_from u sp s k a o) ends.at_once.clean
+
+-- it stalls in its first tick
+first_stall : (u : Setup) (sp : Span) (rows : Context → Option Ages) (s : MachineSetup) (q : Queues) (r : Registers) (k : Context) (a : Ages) (w : Watch) (e : Effect)
+    → IsHere u sp rows s r k a → r.begun ≡ false → IsWidened k a w → IsStall (may_stall (op_at u s k.address).act s) r e → e.stalled ≡ true
+    → IsFollowed u sp rows s k.address w (tick_by (op_at u s k.address) s q r e)
+unfolding tick_by watched
+first_stall u sp rows s q r k a w e here begun wide st stalled =
+    let op : Op = op_at u s k.address in
+    let side = side_of s sp op.side in
+    let one : Found (AllEnds rows (visit_of s sp op k a)) = found _ op.act s sp k here.known.tame here.known.ends in
+    let clean : IsClean (stalled_from u sp s k a).causes =
+        clean_watched (rules_of s sp k.address) (stalled_from u sp s k a) (record { late = true; from = one.outcome.from; to = one.outcome.to }) (late_clean u sp rows s k a one.outcome (st.stalls stalled) one.holds) in
+    record {
+      after = stalled_from u sp s k a;
+      under_way = inr (subst (λ f. IsBegun u sp rows s f (stalled_from u sp s k a)) (sym (flow_stalled op s q r e stalled (st.flow stalled))) (record {
+        pending = here.pending;
+        begun = refl;
+        delay = here.left;
+        context = k;
+        ages = a;
+        agrees = record { placed = here.agrees.placed; address = here.agrees.address; x = here.agrees.x; y = here.agrees.y };
+        row = here.row;
+        stalls = st.stalls stalled;
+        watch = refl;
+      }));
+      from = ap (unwrap_or side.from) wide.from
+          ∙ two_levels sp.from_pin e.level (side_level s op.side r.begun) side.from None w.from (side_from s sp op.side r.begun begun) (ap (level_at sp.from_pin) (st.level stalled) ∙ level_none sp.from_pin);
+      to = ap (unwrap_or side.to) wide.to
+          ∙ two_levels sp.to_pin e.level (side_level s op.side r.begun) side.to None w.to (side_to s sp op.side r.begun begun) (ap (level_at sp.to_pin) (st.level stalled) ∙ level_none sp.to_pin);
+      ages = λ n i. widened_ages s sp k.address _ (start k a) w (stalled_from u sp s k a) n (sym wide.to)
+          (tick_ages s sp k.address _ (start k a) (record { late = false; from = side.from; to = side.to }) (late_is r.begun ∙ begun) clean n (inside_ages n w.ages a wide.inside i));
+      fresh = λ o. tick_fresh s sp k.address (start k a) (record { late = false; from = side.from; to = side.to }) (widened_opens sp (start k a) w (stalled_from u sp s k a) wide.from o);
+    }
