@@ -102,3 +102,80 @@ first_stall u sp rows s q r k a w e here begun wide st stalled =
           (tick_ages s sp k.address _ (start k a) (record { late = false; from = side.from; to = side.to }) (late_is r.begun ∙ begun) clean n (inside_ages n w.ages a wide.inside i));
       fresh = λ o. tick_fresh s sp k.address (start k a) (record { late = false; from = side.from; to = side.to }) (widened_opens sp (start k a) w (stalled_from u sp s k a) wide.from o);
     }
+
+-- where its rest goes
+end_rests : (sp : Span) (rows : Context → Option Ages) (u : Setup) (s : MachineSetup) (q : Queues) (r : Registers) (k : Context) (a : Ages) (e : Effect) (o : Outcome) (w : Watch)
+    → IsHere u sp rows s r k a → e.stalled ≡ false → Explains sp e o
+    → EndsWell rows (visit_of s sp (op_at u s k.address) k a) o (followed (rules_of s sp k.address) (delay_ticks (op_at u s k.address).delay) w)
+    → IsResting sp rows s (flow_of (tick_by (op_at u s k.address) s q r e).0) w
+unfolding visit_of
+end_rests sp rows u s q r k a e o w here ends x well =
+    subst (λ f. IsResting sp rows s f w) (sym (flow_done (op_at u s k.address) s sp q r e o k.address here.pending here.agrees.address ends x))
+        (rests_after sp rows s k.address _ (op_at u s k.address).delay e.registers.x e.registers.y o.x o.y w well.placed x.x x.y well.clean well.row)
+
+-- it finishes in its first tick
+first_finish : (u : Setup) (sp : Span) (rows : Context → Option Ages) (s : MachineSetup) (q : Queues) (r : Registers) (k : Context) (a : Ages) (w : Watch) (e : Effect)
+    → IsHere u sp rows s r k a → r.begun ≡ false → IsWidened k a w → e.stalled ≡ false → Picked (AllEnds rows (visit_of s sp (op_at u s k.address) k a)) sp e
+    → IsFollowed u sp rows s k.address w (tick_by (op_at u s k.address) s q r e)
+unfolding tick_by watched visit_of prompt
+first_finish u sp rows s q r k a w e here begun wide ends p =
+    let op : Op = op_at u s k.address in
+    let side = side_of s sp op.side in
+    let o : Outcome = p.outcome in
+    record {
+      after = prompt_from u sp s k a o;
+      under_way = inl (end_rests sp rows u s q r k a e o (prompt_from u sp s k a o) here ends p.explains p.holds.at_once);
+      from = over_levels side.from o.from k.from ∙ ap (λ l. unwrap_or side.from (unwrap_or o.from l)) wide.from
+          ∙ two_levels sp.from_pin e.level (side_level s op.side r.begun) side.from o.from w.from (side_from s sp op.side r.begun begun) p.explains.from;
+      to = over_levels side.to o.to k.to ∙ ap (λ l. unwrap_or side.to (unwrap_or o.to l)) wide.to
+          ∙ two_levels sp.to_pin e.level (side_level s op.side r.begun) side.to o.to w.to (side_to s sp op.side r.begun begun) p.explains.to;
+      ages = λ n i. widened_ages s sp k.address _ (start k a) w (prompt_from u sp s k a o) n (sym wide.to)
+          (tick_ages s sp k.address _ (start k a) (record { late = false; from = over side.from o.from; to = over side.to o.to }) (late_is r.begun ∙ begun) (prompt_clean u sp rows s k a o p.holds) n (inside_ages n w.ages a wide.inside i));
+      fresh = λ h. tick_fresh s sp k.address (start k a) (record { late = false; from = over side.from o.from; to = over side.to o.to }) (widened_opens sp (start k a) w (prompt_from u sp s k a o) wide.from h);
+    }
+
+-- it has stalled, and does so again
+late_stall : (u : Setup) (sp : Span) (rows : Context → Option Ages) (s : MachineSetup) (q : Queues) (r : Registers) (k : Context) (a : Ages) (e : Effect)
+    → IsHere u sp rows s r k a → r.begun ≡ true → may_stall (op_at u s k.address).act s ≡ true → IsStall (may_stall (op_at u s k.address).act s) r e → e.stalled ≡ true
+    → IsFollowed u sp rows s k.address (stalled_from u sp s k a) (tick_by (op_at u s k.address) s q r e)
+unfolding tick_by
+late_stall u sp rows s q r k a e here begun may st stalled =
+    let op : Op = op_at u s k.address in
+    let w : Watch = stalled_from u sp s k a in
+    let one : Found (AllEnds rows (visit_of s sp op k a)) = found _ op.act s sp k here.known.tame here.known.ends in
+    record {
+      after = w;
+      under_way = inr (subst (λ f. IsBegun u sp rows s f w) (sym (flow_stalled op s q r e stalled (st.flow stalled))) (record {
+        pending = here.pending;
+        begun = refl;
+        delay = here.left;
+        context = k;
+        ages = a;
+        agrees = record { placed = here.agrees.placed; address = here.agrees.address; x = here.agrees.x; y = here.agrees.y };
+        row = here.row;
+        stalls = may;
+        watch = refl;
+      }));
+      from = two_levels sp.from_pin e.level (side_level s op.side r.begun) None None w.from (side_late sp.from_pin s op.side r.begun begun) (ap (level_at sp.from_pin) (st.level stalled) ∙ level_none sp.from_pin);
+      to = two_levels sp.to_pin e.level (side_level s op.side r.begun) None None w.to (side_late sp.to_pin s op.side r.begun begun) (ap (level_at sp.to_pin) (st.level stalled) ∙ level_none sp.to_pin);
+      ages = λ n i. waiting_ages s sp k.address _ w (record { late = true; from = one.outcome.from; to = one.outcome.to }) (late_is r.begun ∙ begun) refl (late_clean u sp rows s k a one.outcome may one.holds) n i;
+      fresh = λ h. no_fresh sp w h;
+    }
+
+-- it has stalled, and finishes
+late_finish : (u : Setup) (sp : Span) (rows : Context → Option Ages) (s : MachineSetup) (q : Queues) (r : Registers) (k : Context) (a : Ages) (e : Effect)
+    → IsHere u sp rows s r k a → r.begun ≡ true → may_stall (op_at u s k.address).act s ≡ true → e.stalled ≡ false → Picked (AllEnds rows (visit_of s sp (op_at u s k.address) k a)) sp e
+    → IsFollowed u sp rows s k.address (stalled_from u sp s k a) (tick_by (op_at u s k.address) s q r e)
+unfolding tick_by watched visit_of delayed
+late_finish u sp rows s q r k a e here begun may ends p =
+    let op : Op = op_at u s k.address in
+    let w : Watch = stalled_from u sp s k a in
+    let o : Outcome = p.outcome in
+    record {
+      after = late_from u sp s k a o;
+      under_way = inl (end_rests sp rows u s q r k a e o (late_from u sp s k a o) here ends p.explains (p.holds.later may));
+      from = two_levels sp.from_pin e.level (side_level s op.side r.begun) None o.from w.from (side_late sp.from_pin s op.side r.begun begun) p.explains.from;
+      to = two_levels sp.to_pin e.level (side_level s op.side r.begun) None o.to w.to (side_late sp.to_pin s op.side r.begun begun) p.explains.to;
+      ages = λ n i. tick_ages s sp k.address _ w (record { late = true; from = o.from; to = o.to }) (late_is r.begun ∙ begun) (late_clean u sp rows s k a o may p.holds) n i;
+      fresh = λ h. tick_fresh s sp k.address w (record { late = true; from = o.from; to = o.to }) h;
+    }
