@@ -1,5 +1,5 @@
 -- A tick of an instruction is matched by a tick of one of its courses.
-use Rattle.std.proofs.Common.{◌≡◌, ℕ, ◌+◌, ◌≤◌, ◌<◌, Bool, true, false, ◌&&◌, cond, if◌then◌else◌, Option, Some, None, unwrap_or, List, [], ◌∷◌, slice_index_or, refl, sym, ap, ◌∙◌, inl, inr, subst, arith}
+use Rattle.std.proofs.Common.{◌≡◌, ℕ, nat_lt, ◌+◌, ◌≤◌, ◌<◌, Bool, true, false, ◌&&◌, cond, if◌then◌else◌, Option, Some, None, unwrap_or, List, [], ◌∷◌, slice_index_or, refl, sym, ap, ◌∙◌, inl, inr, subst, arith}
 use Rattle.std.proofs.lemmas.Bool.{cases_lt}
 use Rattle.pio_encode.specs.declared.op.Op.{Op}
 use Rattle.pin_matrix.specs.declared.machine.MachineSetup.{MachineSetup}
@@ -179,3 +179,87 @@ late_finish u sp rows s q r k a e here begun may ends p =
       ages = λ n i. tick_ages s sp k.address _ w (record { late = true; from = o.from; to = o.to }) (late_is r.begun ∙ begun) (late_clean u sp rows s k a o may p.holds) n i;
       fresh = λ h. tick_fresh s sp k.address w (record { late = true; from = o.from; to = o.to }) h;
     }
+
+and_left : (a b : Bool) → (a && b) ≡ true → a ≡ true
+and_left true b h = refl
+and_left false b h = h
+
+and_right : (a b : Bool) → (a && b) ≡ true → b ≡ true
+and_right true b h = h
+and_right false b h = absurd (let x : false ≡ true = h in cc)
+
+-- the row in which ages lie
+record IsRowOf (a : Ages) (o : Option Ages) : Type 0 where
+  ages : Ages
+  row : o ≡ Some ages
+  inside : IsInside a ages
+
+row_of : (a : Ages) (o : Option Ages) → IsInRow a o → IsRowOf a o
+row_of a None h = absurd h
+row_of a (Some b) h = record { ages = b; row = refl; inside = h }
+
+-- one outcome explains what an instruction does that finishes
+picked_here : (u : Setup) (sp : Span) (rows : Context → Option Ages) (s : MachineSetup) (v : View) (q : Queues) (r : Registers) (k : Context) (a : Ages) → IsHere u sp rows s r k a
+    → (effect_of (op_at u s k.address).act s v q r).stalled ≡ false → Picked (AllEnds rows (visit_of s sp (op_at u s k.address) k a)) sp (effect_of (op_at u s k.address).act s v q r)
+picked_here u sp rows s v q r k a here ends =
+    let small : (is_small k.x && is_small k.y) ≡ true = and_right (nat_lt k.address 32) (is_small k.x && is_small k.y) here.agrees.placed in
+    explained (AllEnds rows (visit_of s sp (op_at u s k.address) k a)) (op_at u s k.address).act s sp k v q r here.known.tame
+        (and_left (is_small k.x) (is_small k.y) small) (and_right (is_small k.x) (is_small k.y) small) here.agrees.x here.agrees.y ends here.known.ends
+
+-- all first ticks of an instruction, and all late ones
+first_tick : (u : Setup) (sp : Span) (rows : Context → Option Ages) (s : MachineSetup) (v : View) (q : Queues) (r : Registers) (k : Context) (a : Ages) (w : Watch)
+    → IsHere u sp rows s r k a → r.begun ≡ false → IsWidened k a w
+    → IsFollowed u sp rows s k.address w (tick_by (op_at u s k.address) s q r (effect_of (op_at u s k.address).act s v q r))
+first_tick u sp rows s v q r k a w here begun wide = by (effect_of (op_at u s k.address).act s v q r).stalled refl where
+  by : (z : Bool) → (effect_of (op_at u s k.address).act s v q r).stalled ≡ z → IsFollowed u sp rows s k.address w (tick_by (op_at u s k.address) s q r (effect_of (op_at u s k.address).act s v q r))
+  by true e = first_stall u sp rows s q r k a w _ here begun wide (stalls (op_at u s k.address).act s v q r) e
+  by false e = first_finish u sp rows s q r k a w _ here begun wide e (picked_here u sp rows s v q r k a here e)
+
+late_tick : (u : Setup) (sp : Span) (rows : Context → Option Ages) (s : MachineSetup) (v : View) (q : Queues) (r : Registers) (k : Context) (a : Ages)
+    → IsHere u sp rows s r k a → r.begun ≡ true → may_stall (op_at u s k.address).act s ≡ true
+    → IsFollowed u sp rows s k.address (stalled_from u sp s k a) (tick_by (op_at u s k.address) s q r (effect_of (op_at u s k.address).act s v q r))
+late_tick u sp rows s v q r k a here begun may = by (effect_of (op_at u s k.address).act s v q r).stalled refl where
+  by : (z : Bool) → (effect_of (op_at u s k.address).act s v q r).stalled ≡ z → IsFollowed u sp rows s k.address (stalled_from u sp s k a) (tick_by (op_at u s k.address) s q r (effect_of (op_at u s k.address).act s v q r))
+  by true e = late_stall u sp rows s q r k a _ here begun may (stalls (op_at u s k.address).act s v q r) e
+  by false e = late_finish u sp rows s q r k a _ here begun may e (picked_here u sp rows s v q r k a here e)
+
+-- what is known of each row in range
+abbrev pub AreKnown : Setup → Span → (Context → Option Ages) → MachineSetup → Type 0
+AreKnown u sp rows s = (k : Context) (a : Ages) → is_placed k.address k.x k.y ≡ true → rows k ≡ Some a → IsKnownRow u sp rows s k a
+
+pub are_known : (u : Setup) (sp : Span) (rows : Context → Option Ages) (s : MachineSetup) → slice_index_or u.machines sp.machine None ≡ Some s → IsSoundTable u sp rows
+    → ((k : Context) (a : Ages) → is_placed k.address k.x k.y ≡ true → AllPlaced (context_steps u sp k a).nexts) → AreKnown u sp rows s
+are_known u sp rows s configured table within k a placed row = known_row u sp rows s k a configured (table.row k a placed row) (within k a placed)
+
+-- a machine at its instruction is in a row
+resting_here : (u : Setup) (sp : Span) (rows : Context → Option Ages) (s : MachineSetup) (r : Registers) (w : Watch) → AreKnown u sp rows s → r.delay ≡ 0 → (h : IsResting sp rows s (flow_of r) w)
+    → (a : Ages) × (IsHere u sp rows s r h.context a × IsWidened h.context a w)
+resting_here u sp rows s r w known left h =
+    let same : rested s sp (flow_of r) w ≡ w = rested_none s sp (flow_of r) w left in
+    let row : IsRowOf w.ages (rows h.context) = row_of w.ages (rows h.context) (subst (λ (x : Watch). IsInRow x.ages (rows h.context)) same h.row) in
+    (row.ages, (
+      record { pending = h.pending; left = left; agrees = h.agrees; row = row.row; known = known h.context row.ages h.agrees.placed row.row },
+      record { from = h.from ∙ ap (λ (x : Watch). x.from) same; to = h.to ∙ ap (λ (x : Watch). x.to) same; inside = row.inside },
+    ))
+
+begun_here : (u : Setup) (sp : Span) (rows : Context → Option Ages) (s : MachineSetup) (r : Registers) (w : Watch) → AreKnown u sp rows s → (h : IsBegun u sp rows s (flow_of r) w) → IsHere u sp rows s r h.context h.ages
+begun_here u sp rows s r w known h =
+    record { pending = h.pending; left = h.delay; agrees = h.agrees; row = h.row; known = known h.context h.ages h.agrees.placed h.row }
+
+-- any tick
+pub tick_followed : (u : Setup) (sp : Span) (rows : Context → Option Ages) (s : MachineSetup) (v : View) (q : Queues) (r : Registers) (w : Watch) → AreKnown u sp rows s → v.memory ≡ u.memory
+    → IsUnderWay u sp rows s (flow_of r) w → IsFollowed u sp rows s r.pc w (tick_of s v q r)
+tick_followed u sp rows s v q r w known memory (inl h) = elim (cases_lt 0 r.delay) [
+  | inl more ↦ subst (λ t. IsFollowed u sp rows s r.pc w t) (sym (delay_here s v q r more)) (delay_followed u sp rows s q r w more h)
+  | inr none ↦
+      let left : r.delay ≡ 0 = omega arith in
+      let at = resting_here u sp rows s r w known left h in
+      subst (λ t. IsFollowed u sp rows s r.pc w t) (sym (tick_here u s v q r h.context.address memory h.pending left h.agrees.address))
+          (subst (λ p. IsFollowed u sp rows s p w (tick_by (op_at u s h.context.address) s q r (effect_of (op_at u s h.context.address).act s v q r))) h.agrees.address
+              (first_tick u sp rows s v q r h.context at.0 w at.1.0 h.begun at.1.1))
+]
+tick_followed u sp rows s v q r w known memory (inr h) =
+    subst (λ t. IsFollowed u sp rows s r.pc w t) (sym (tick_here u s v q r h.context.address memory h.pending h.delay h.agrees.address))
+        (subst (λ p. IsFollowed u sp rows s p w (tick_by (op_at u s h.context.address) s q r (effect_of (op_at u s h.context.address).act s v q r))) h.agrees.address
+            (subst (λ (x : Watch). IsFollowed u sp rows s h.context.address x (tick_by (op_at u s h.context.address) s q r (effect_of (op_at u s h.context.address).act s v q r))) (sym h.watch)
+                (late_tick u sp rows s v q r h.context h.ages (begun_here u sp rows s r w known h) h.begun h.stalls)))
