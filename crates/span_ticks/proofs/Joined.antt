@@ -5,7 +5,7 @@ use Rattle.pio_encode.specs.declared.op.Op.{Op}
 use Rattle.pin_matrix.specs.declared.machine.MachineSetup.{MachineSetup}
 use Rattle.pin_matrix.specs.declared.setup.Setup.{Setup}
 use Rattle.pin_matrix.specs.declared.span.Span.{Span}
-use Rattle.sm_registers.specs.declared.intent.Kind.TheVariants.{First, Late}
+use Rattle.sm_registers.specs.declared.intent.Kind.TheVariants.{First, Late, Delay}
 use Rattle.sm_registers.specs.declared.registers.Registers.{Registers}
 use Rattle.sm_registers.specs.declared.view.View.{View}
 use Rattle.sm_registers.specs.Queues.{Queues}
@@ -14,9 +14,9 @@ use Rattle.sm_registers.specs.Tick.{tick_by, tick_of}
 use Rattle.span_step.specs.declared.ages.Ages.{Ages}
 use Rattle.span_step.specs.Contexts.{Context, is_placed, is_small, IsInside}
 use Rattle.span_step.specs.Outcomes.{Outcome, level_at, outcomes, is_wild, may_stall}
-use Rattle.span_step.specs.Courses.{watched, followed, start, prompt, delayed, delay_ticks, over}
+use Rattle.span_step.specs.Courses.{watched, followed, start, prompt, delayed, delay_tick, delay_ticks, over}
 use Rattle.span_step.specs.Laws.{AllPlaced, first_cause}
-use Rattle.span_step.specs.Steps.{Visit, visit_of, rules_of, side_of, end_of, next_of, context_steps}
+use Rattle.span_step.specs.Steps.{visit_of, rules_of, side_of, bounds_of, is_named, context_steps}
 use Rattle.span_ticks.specs.Rows.{IsInRow, IsSoundTable}
 use Rattle.span_ticks.specs.UnderWay.{Watch, Flow, flow_of, IsAt, IsResting, IsBegun, IsUnderWay, op_at, rested, stalled_from}
 use Rattle.span_ticks.specs.Following.{InAges, IsFollowed, IsAged, is_late, opens}
@@ -26,7 +26,7 @@ use Rattle.span_ticks.proofs.Ends.{EndsWell, AllEnds, IsKnownRow, known_row}
 use Rattle.span_ticks.proofs.Explained.{Picked, Explains, explained, level_none}
 use Rattle.span_ticks.proofs.Stalls.{IsStall, stalls, Found, found}
 use Rattle.span_ticks.proofs.Opened.{delay_here, tick_here, flow_done, flow_stalled, two_levels, over_levels, side_level, side_from, side_to, side_late}
-use Rattle.span_ticks.proofs.Resting.{rested_none, delay_followed, rests_after}
+use Rattle.span_ticks.proofs.Resting.{rested_none, delay_clean, delay_followed, rests_after}
 
 late_is : (begun : Bool) → is_late (if begun then Late else First) ≡ begun
 late_is true = refl
@@ -263,3 +263,28 @@ tick_followed u sp rows s v q r w known memory (inr h) =
         (subst (λ p. IsFollowed u sp rows s p w (tick_by (op_at u s h.context.address) s q r (effect_of (op_at u s h.context.address).act s v q r))) h.agrees.address
             (subst (λ (x : Watch). IsFollowed u sp rows s h.context.address x (tick_by (op_at u s h.context.address) s q r (effect_of (op_at u s h.context.address).act s v q r))) (sym h.watch)
                 (late_tick u sp rows s v q r h.context h.ages (begun_here u sp rows s r w known h) h.begun h.stalls)))
+
+-- where no address is named, an open age may be one tick more
+pub ages_have_room : (u : Setup) (sp : Span) (rows : Context → Option Ages) (s : MachineSetup) (r : Registers) (w : Watch) → AreKnown u sp rows s → ((address : ℕ) → is_named sp address ≡ false)
+    → IsUnderWay u sp rows s (flow_of r) w → (n : ℕ) → InAges n w.ages → n + 1 ≤ (bounds_of sp s).1
+ages_have_room u sp rows s r w known unnamed (inl h) n i = elim (cases_lt 0 r.delay) [
+  | inl more ↦ (tick_ages s sp r.pc Delay w delay_tick refl (delay_clean sp rows s r w more h) n i).most
+  | inr none ↦
+      let left : r.delay ≡ 0 = omega arith in
+      let at = resting_here u sp rows s r w known left h in
+      let k : Context = h.context in
+      let op : Op = op_at u s k.address in
+      let side = side_of s sp op.side in
+      let one : Found (AllEnds rows (visit_of s sp op k at.0)) = found _ op.act s sp k at.1.0.known.tame at.1.0.known.ends in
+      (tick_ages s sp k.address First (start k at.0) (record { late = false; from = over side.from one.outcome.from; to = over side.to one.outcome.to }) refl
+          (prompt_clean u sp rows s k at.0 one.outcome one.holds) n (inside_ages n w.ages at.0 at.1.1.inside i)).most
+]
+ages_have_room u sp rows s r w known unnamed (inr h) n i =
+    let here = begun_here u sp rows s r w known h in
+    let k : Context = h.context in
+    let op : Op = op_at u s k.address in
+    let one : Found (AllEnds rows (visit_of s sp op k h.ages)) = found _ op.act s sp k here.known.tame here.known.ends in
+    let late : IsAged s sp k.address Late (stalled_from u sp s k h.ages) _ n =
+        tick_ages s sp k.address Late (stalled_from u sp s k h.ages) (record { late = true; from = one.outcome.from; to = one.outcome.to }) refl
+            (late_clean u sp rows s k h.ages one.outcome h.stalls one.holds) n (subst (λ (x : Watch). InAges n x.ages) h.watch i) in
+    absurd (let x : false ≡ true = sym (unnamed k.address) ∙ late.named refl in cc)

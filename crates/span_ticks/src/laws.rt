@@ -39,7 +39,9 @@ pub fn open_ages_have_room()
         → slice_index_or u.machines sp.machine None ≡ Some s → IsSoundTable u sp rows
         → ((address : ℕ) → is_named sp address ≡ false) → IsUnderWay u sp rows s (flow_of r) w
         → (n : ℕ) → InAges n w.ages → n + 1 ≤ (bounds_of sp s).1 }
-{}
+{
+    next_contexts_are_in_range();
+}
 
 /// At its start a machine is under way in any context that agrees with it and has a row. No age is open.
 pub fn a_start_is_under_way()
