@@ -6,3 +6,4 @@ pub mod Stalls
 pub mod Opened
 pub mod Resting
 pub mod Joined
+pub mod Levels
