@@ -1,16 +1,16 @@
 -- What one tick of a course makes of an open age.
-use Rattle.std.proofs.Common.{◌≡◌, ℕ, ◌+◌, ◌≤◌, min, nat_lt, Bool, true, false, not, ◌&&◌, cond, if◌then◌else◌, Option, List, refl, sym, ap, ◌∙◌, arith}
+use Rattle.std.proofs.Common.{◌≡◌, ℕ, ◌+◌, ◌≤◌, min, Bool, true, false, not, ◌&&◌, if◌then◌else◌, refl, sym, ◌∙◌, arith}
 use Rattle.std.proofs.lemmas.Bool.Decides.{nat_tests}
 use Rattle.pin_matrix.specs.declared.machine.MachineSetup.{MachineSetup}
 use Rattle.pin_matrix.specs.declared.span.Span.{Span}
 use Rattle.sm_registers.specs.declared.intent.Kind.{Kind}
 use Rattle.span_step.specs.declared.ages.Ages.{Ages}
 use Rattle.span_step.specs.declared.ages.Ages.TheVariants.{Empty, Between}
-use Rattle.span_step.specs.Contexts.{Context, IsInside, is_open}
-use Rattle.span_step.specs.Courses.{Rules, watched, older, is_above, is_below, with_fresh, after_edges, is_edge}
+use Rattle.span_step.specs.Contexts.{IsInside, is_open}
+use Rattle.span_step.specs.Courses.{watched, older, is_above, is_below, with_fresh, after_edges, is_edge}
 use Rattle.span_step.specs.Steps.{bounds_of, is_named, rules_of}
 use Rattle.span_ticks.specs.UnderWay.{Watch}
-use Rattle.span_ticks.specs.Following.{InAges, IsAged, closes, opens, is_late, older_by}
+use Rattle.span_ticks.specs.Following.{InAges, IsAged, closes, opens, is_late}
 use Rattle.span_ticks.proofs.Clean.{Tick, IsClean, clean_right}
 
 -- an age of ages that lie inside others is one of those

@@ -1,5 +1,5 @@
 -- Where no cause is there at the end of a course, there was none on the way.
-use Rattle.std.proofs.Common.{◌≡◌, ℕ, Bool, true, false, ◌||◌, Option, Some, None, List, [], ◌∷◌, refl}
+use Rattle.std.proofs.Common.{◌≡◌, Bool, true, false, ◌||◌, None, List, [], ◌∷◌, refl}
 use Rattle.span_step.specs.declared.cause.Causes.{Causes}
 use Rattle.span_step.specs.Courses.{Rules, watched, followed, delay_tick, joined}
 use Rattle.span_step.specs.Contexts.{Context}

@@ -1,13 +1,11 @@
 -- A sound row's courses end in rows: taken from the step's fold to each outcome.
-use Rattle.std.proofs.Common.{◌≡◌, ℕ, Bool, true, false, Option, Some, None, List, [], ◌∷◌, ◌++◌, fold, slice_index_or, cond, refl, sym, ap, ◌∙◌}
+use Rattle.std.proofs.Common.{◌≡◌, Bool, true, false, Option, Some, None, List, [], ◌∷◌, ◌++◌, fold, slice_index_or, cond, refl, sym, ap, ◌∙◌}
 use Rattle.std.specs.List.{AllByRecursion}
 use Rattle.pin_matrix.specs.declared.machine.MachineSetup.{MachineSetup}
 use Rattle.pin_matrix.specs.declared.setup.Setup.{Setup}
 use Rattle.pin_matrix.specs.declared.span.Span.{Span}
 use Rattle.pio_encode.specs.declared.op.Op.{Op}
 use Rattle.span_step.specs.declared.ages.Ages.{Ages}
-use Rattle.span_step.specs.declared.cause.Cause.{Cause}
-use Rattle.span_step.specs.declared.cause.Cause.TheVariants.{U4}
 use Rattle.span_step.specs.declared.stepped.Next.{Next}
 use Rattle.span_step.specs.declared.stepped.Stepped.{Stepped}
 use Rattle.span_step.specs.Contexts.{Context, is_placed}
@@ -17,7 +15,7 @@ use Rattle.span_step.specs.Laws.{AllPlaced, first_cause}
 use Rattle.span_step.specs.Steps.{Visit, visit_of, next_of, with_end, end_of, with_outcome, nothing_found, wild_step, step_by, machine_steps, context_steps}
 use Rattle.span_ticks.specs.Rows.{IsInRow, HasRow, IsSoundRow}
 use Rattle.span_ticks.specs.UnderWay.{Watch, op_at}
-use Rattle.span_ticks.proofs.Clean.{Tick, IsClean, clean_of, clean_left, clean_right}
+use Rattle.span_ticks.proofs.Clean.{IsClean, clean_of, clean_left, clean_right}
 
 -- a course ends in a row, at a context in range, without cause
 pub record EndsWell (rows : Context → Option Ages) (v : Visit) (o : Outcome) (w : Watch) : Type 0 where
@@ -48,8 +46,7 @@ fine_end : (rows : Context → Option Ages) (v : Visit) (o : Outcome) (t : Stepp
 unfolding with_end
 fine_end rows v o t w h =
     let p = all_last (HasRow rows) t.nexts (next_of v o w) h.nexts in
-    let q = placed_last t.nexts (next_of v o w) h.placed in
-    (
+    let q = placed_last t.nexts (next_of v o w) h.placed in (
       record { nexts = p.0; placed = q.0; clean = clean_left t.causes w.causes h.clean },
       record { row = p.1; placed = q.1; clean = clean_right t.causes w.causes h.clean },
     )
@@ -89,6 +86,6 @@ known_row u sp rows s k a configured sound placed =
     let good : first_cause (step_by s sp op k a).causes ≡ None = rw (← same) sound.good in
     let within : AllPlaced (step_by s sp op k a).nexts = rw (← same) placed in
     by (is_wild op.act) refl (record { nexts = closed; placed = within; clean = clean_of _ good }) where
-  by : (z : Bool) → is_wild (op_at u s k.address).act ≡ z → IsFine rows (cond z wild_step (fold (with_outcome (visit_of s sp (op_at u s k.address) k a)) nothing_found (outcomes (op_at u s k.address).act s sp k))) → IsKnownRow u sp rows s k a
-  by true e h = absurd (let x : true ≡ false = h.clean.u4 in cc)
-  by false e h = record { tame = e; ends = (fine_outcomes rows (visit_of s sp (op_at u s k.address) k a) nothing_found _ h).1 }
+      by : (z : Bool) → is_wild (op_at u s k.address).act ≡ z → IsFine rows (cond z wild_step (fold (with_outcome (visit_of s sp (op_at u s k.address) k a)) nothing_found (outcomes (op_at u s k.address).act s sp k))) → IsKnownRow u sp rows s k a
+      by true e h = absurd (let x : true ≡ false = h.clean.u4 in cc)
+      by false e h = record { tame = e; ends = (fine_outcomes rows (visit_of s sp (op_at u s k.address) k a) nothing_found _ h).1 }

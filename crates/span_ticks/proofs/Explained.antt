@@ -1,5 +1,5 @@
 -- What an instruction does when it finishes is one of the outcomes that the checker knows of.
-use Rattle.std.proofs.Common.{◌≡◌, ℕ, ◌+◌, ◌-◌, ◌%◌, ◌^◌, ◌<◌, ◌==◌, nat_lt, Bool, true, false, not, ◌&&◌, cond, if◌then◌else◌, Option, Some, None, List, [], ◌∷◌, ◌++◌, map, flat_map, refl, sym, ap, ◌∙◌, rules, arith}
+use Rattle.std.proofs.Common.{◌≡◌, ℕ, ◌-◌, ◌==◌, nat_lt, Bool, true, false, not, cond, if◌then◌else◌, Option, Some, None, List, [], ◌∷◌, ◌++◌, map, flat_map, refl, sym, ap, ◌∙◌, rules, arith}
 use Rattle.std.proofs.lemmas.Bool.Decides.{nat_tests}
 use Rattle.std.proofs.lemmas.Nat.Bits.{bit_at-zero}
 use Rattle.std.specs.Int.{bit_at}
@@ -25,11 +25,11 @@ use Rattle.pin_matrix.specs.declared.span.Span.{Span}
 use Rattle.sm_registers.specs.declared.registers.Registers.{Registers}
 use Rattle.sm_registers.specs.declared.view.View.{View}
 use Rattle.sm_registers.specs.Queues.{Queues}
-use Rattle.sm_registers.specs.Effects.{Effect, fallen, counted_down, jumps, jmp_effect, wait_effect, in_effect, autopushed, with_bits_out, out_to, out_effect, push_effect, pulled, pull_effect, mov_word, operated, mov_to, mov_effect, irq_effect, set_effect, effect_of}
+use Rattle.sm_registers.specs.Effects.{Effect, fallen, counted_down, jumps, jmp_effect, wait_effect, in_effect, autopushed, out_to, out_effect, push_effect, pulled, pull_effect, mov_word, operated, mov_to, mov_effect, irq_effect, set_effect, effect_of}
 use Rattle.span_step.specs.Contexts.{Context, is_small}
 use Rattle.span_step.specs.Outcomes.{Outcome, nothing_done, level_at, holds, either_level, unknown_levels, unknown_pins, is_zero, is_nonzero, differ, taken, after_count, ways, out_outcomes, copied, mov_outcomes, set_outcomes, outcomes, is_wild, may_stall}
 use Rattle.span_step.specs.Outcomes as outcome
-use Rattle.span_ticks.specs.UnderWay.{Covers, Flow, flow_of}
+use Rattle.span_ticks.specs.UnderWay.{Covers, flow_of}
 
 -- an effect that finishes is as this outcome says
 pub record Explains (sp : Span) (e : Effect) (o : Outcome) : Type 0 where
@@ -219,10 +219,12 @@ pub all_levels : (Q : Option Bool × Option Bool → Type 0) (m : Mapping) (sp :
 all_levels Q m sp value = by (sp.from_pin == sp.to_pin) refl where
   one : AllByRecursion Q (map (λ l. (l, l)) (either_level m sp.from_pin)) → Q (level_at sp.from_pin (writes_of m value), level_at sp.from_pin (writes_of m value))
   one h = all_either (λ l. Q (l, l)) (holds m sp.from_pin) (bit_at (writes_of m value).1 sp.from_pin == 1) (all_map Q (λ l. (l, l)) (either_level m sp.from_pin) h)
+
   two : AllByRecursion Q (flat_map (λ f. map (λ t. (f, t)) (either_level m sp.to_pin)) (either_level m sp.from_pin)) → Q (level_at sp.from_pin (writes_of m value), level_at sp.to_pin (writes_of m value))
   two h = let rows = all_flat Q (λ f. map (λ t. (f, t)) (either_level m sp.to_pin)) (either_level m sp.from_pin) h in
       let row = all_either (λ f. AllByRecursion Q (map (λ t. (f, t)) (either_level m sp.to_pin))) (holds m sp.from_pin) (bit_at (writes_of m value).1 sp.from_pin == 1) rows in
       all_either (λ t. Q (level_at sp.from_pin (writes_of m value), t)) (holds m sp.to_pin) (bit_at (writes_of m value).1 sp.to_pin == 1) (all_map Q (λ t. (level_at sp.from_pin (writes_of m value), t)) (either_level m sp.to_pin) row)
+
   by : (z : Bool) → (sp.from_pin == sp.to_pin) ≡ z
       → AllByRecursion Q (cond z (map (λ l. (l, l)) (either_level m sp.from_pin)) (flat_map (λ f. map (λ t. (f, t)) (either_level m sp.to_pin)) (either_level m sp.from_pin)))
       → Q (level_at sp.from_pin (writes_of m value), level_at sp.to_pin (writes_of m value))

@@ -1,5 +1,5 @@
 -- A tick of an instruction is matched by a tick of one of its courses.
-use Rattle.std.proofs.Common.{◌≡◌, ℕ, nat_lt, ◌+◌, ◌≤◌, ◌<◌, Bool, true, false, ◌&&◌, cond, if◌then◌else◌, Option, Some, None, unwrap_or, List, [], ◌∷◌, slice_index_or, refl, sym, ap, ◌∙◌, inl, inr, subst, arith}
+use Rattle.std.proofs.Common.{◌≡◌, ℕ, nat_lt, ◌+◌, ◌≤◌, Bool, true, false, ◌&&◌, if◌then◌else◌, Option, Some, None, unwrap_or, slice_index_or, refl, sym, ap, ◌∙◌, inl, inr, subst, arith}
 use Rattle.std.proofs.lemmas.Bool.{cases_lt}
 use Rattle.pio_encode.specs.declared.op.Op.{Op}
 use Rattle.pin_matrix.specs.declared.machine.MachineSetup.{MachineSetup}
@@ -13,14 +13,14 @@ use Rattle.sm_registers.specs.Effects.{Effect, effect_of}
 use Rattle.sm_registers.specs.Tick.{tick_by, tick_of}
 use Rattle.span_step.specs.declared.ages.Ages.{Ages}
 use Rattle.span_step.specs.Contexts.{Context, is_placed, is_small, IsInside}
-use Rattle.span_step.specs.Outcomes.{Outcome, level_at, outcomes, is_wild, may_stall}
+use Rattle.span_step.specs.Outcomes.{Outcome, level_at, may_stall}
 use Rattle.span_step.specs.Courses.{watched, followed, start, prompt, delayed, delay_tick, delay_ticks, over}
-use Rattle.span_step.specs.Laws.{AllPlaced, first_cause}
+use Rattle.span_step.specs.Laws.{AllPlaced}
 use Rattle.span_step.specs.Steps.{visit_of, rules_of, side_of, bounds_of, is_named, context_steps}
 use Rattle.span_ticks.specs.Rows.{IsInRow, IsSoundTable}
-use Rattle.span_ticks.specs.UnderWay.{Watch, Flow, flow_of, IsAt, IsResting, IsBegun, IsUnderWay, op_at, rested, stalled_from}
+use Rattle.span_ticks.specs.UnderWay.{Watch, flow_of, IsAt, IsResting, IsBegun, IsUnderWay, op_at, rested, stalled_from}
 use Rattle.span_ticks.specs.Following.{InAges, IsFollowed, IsAged, is_late, opens}
-use Rattle.span_ticks.proofs.Clean.{IsClean, Tick, clean_followed, clean_watched}
+use Rattle.span_ticks.proofs.Clean.{IsClean, clean_followed, clean_watched}
 use Rattle.span_ticks.proofs.Aging.{inside_ages, tick_ages, tick_fresh, waiting_ages, no_fresh, widened_ages}
 use Rattle.span_ticks.proofs.Ends.{EndsWell, AllEnds, IsKnownRow, known_row}
 use Rattle.span_ticks.proofs.Explained.{Picked, Explains, explained, level_none}
@@ -80,7 +80,7 @@ first_stall u sp rows s q r k a w e here begun wide st stalled =
     let side = side_of s sp op.side in
     let one : Found (AllEnds rows (visit_of s sp op k a)) = found _ op.act s sp k here.known.tame here.known.ends in
     let clean : IsClean (stalled_from u sp s k a).causes =
-        clean_watched (rules_of s sp k.address) (stalled_from u sp s k a) (record { late = true; from = one.outcome.from; to = one.outcome.to }) (late_clean u sp rows s k a one.outcome (st.stalls stalled) one.holds) in
+    clean_watched (rules_of s sp k.address) (stalled_from u sp s k a) (record { late = true; from = one.outcome.from; to = one.outcome.to }) (late_clean u sp rows s k a one.outcome (st.stalls stalled) one.holds) in
     record {
       after = stalled_from u sp s k a;
       under_way = inr (subst (λ f. IsBegun u sp rows s f (stalled_from u sp s k a)) (sym (flow_stalled op s q r e stalled (st.flow stalled))) (record {
@@ -111,7 +111,7 @@ end_rests : (sp : Span) (rows : Context → Option Ages) (u : Setup) (s : Machin
 unfolding visit_of
 end_rests sp rows u s q r k a e o w here ends x well =
     subst (λ f. IsResting sp rows s f w) (sym (flow_done (op_at u s k.address) s sp q r e o k.address here.pending here.agrees.address ends x))
-        (rests_after sp rows s k.address _ (op_at u s k.address).delay e.registers.x e.registers.y o.x o.y w well.placed x.x x.y well.clean well.row)
+    (rests_after sp rows s k.address _ (op_at u s k.address).delay e.registers.x e.registers.y o.x o.y w well.placed x.x x.y well.clean well.row)
 
 -- it finishes in its first tick
 first_finish : (u : Setup) (sp : Span) (rows : Context → Option Ages) (s : MachineSetup) (q : Queues) (r : Registers) (k : Context) (a : Ages) (w : Watch) (e : Effect)
@@ -204,7 +204,7 @@ picked_here : (u : Setup) (sp : Span) (rows : Context → Option Ages) (s : Mach
 picked_here u sp rows s v q r k a here ends =
     let small : (is_small k.x && is_small k.y) ≡ true = and_right (nat_lt k.address 32) (is_small k.x && is_small k.y) here.agrees.placed in
     explained (AllEnds rows (visit_of s sp (op_at u s k.address) k a)) (op_at u s k.address).act s sp k v q r here.known.tame
-        (and_left (is_small k.x) (is_small k.y) small) (and_right (is_small k.x) (is_small k.y) small) here.agrees.x here.agrees.y ends here.known.ends
+    (and_left (is_small k.x) (is_small k.y) small) (and_right (is_small k.x) (is_small k.y) small) here.agrees.x here.agrees.y ends here.known.ends
 
 -- all first ticks of an instruction, and all late ones
 first_tick : (u : Setup) (sp : Span) (rows : Context → Option Ages) (s : MachineSetup) (v : View) (q : Queues) (r : Registers) (k : Context) (a : Ages) (w : Watch)
@@ -236,11 +236,13 @@ resting_here : (u : Setup) (sp : Span) (rows : Context → Option Ages) (s : Mac
     → (a : Ages) × (IsHere u sp rows s r h.context a × IsWidened h.context a w)
 resting_here u sp rows s r w known left h =
     let same : rested s sp (flow_of r) w ≡ w = rested_none s sp (flow_of r) w left in
-    let row : IsRowOf w.ages (rows h.context) = row_of w.ages (rows h.context) (subst (λ (x : Watch). IsInRow x.ages (rows h.context)) same h.row) in
-    (row.ages, (
-      record { pending = h.pending; left = left; agrees = h.agrees; row = row.row; known = known h.context row.ages h.agrees.placed row.row },
-      record { from = h.from ∙ ap (λ (x : Watch). x.from) same; to = h.to ∙ ap (λ (x : Watch). x.to) same; inside = row.inside },
-    ))
+    let row : IsRowOf w.ages (rows h.context) = row_of w.ages (rows h.context) (subst (λ (x : Watch). IsInRow x.ages (rows h.context)) same h.row) in (
+      row.ages,
+      (
+        record { pending = h.pending; left = left; agrees = h.agrees; row = row.row; known = known h.context row.ages h.agrees.placed row.row },
+        record { from = h.from ∙ ap (λ (x : Watch). x.from) same; to = h.to ∙ ap (λ (x : Watch). x.to) same; inside = row.inside },
+      ),
+    )
 
 begun_here : (u : Setup) (sp : Span) (rows : Context → Option Ages) (s : MachineSetup) (r : Registers) (w : Watch) → AreKnown u sp rows s → (h : IsBegun u sp rows s (flow_of r) w) → IsHere u sp rows s r h.context h.ages
 begun_here u sp rows s r w known h =
@@ -255,14 +257,14 @@ tick_followed u sp rows s v q r w known memory (inl h) = elim (cases_lt 0 r.dela
       let left : r.delay ≡ 0 = omega arith in
       let at = resting_here u sp rows s r w known left h in
       subst (λ t. IsFollowed u sp rows s r.pc w t) (sym (tick_here u s v q r h.context.address memory h.pending left h.agrees.address))
-          (subst (λ p. IsFollowed u sp rows s p w (tick_by (op_at u s h.context.address) s q r (effect_of (op_at u s h.context.address).act s v q r))) h.agrees.address
-              (first_tick u sp rows s v q r h.context at.0 w at.1.0 h.begun at.1.1))
+      (subst (λ p. IsFollowed u sp rows s p w (tick_by (op_at u s h.context.address) s q r (effect_of (op_at u s h.context.address).act s v q r))) h.agrees.address
+      (first_tick u sp rows s v q r h.context at.0 w at.1.0 h.begun at.1.1))
 ]
 tick_followed u sp rows s v q r w known memory (inr h) =
     subst (λ t. IsFollowed u sp rows s r.pc w t) (sym (tick_here u s v q r h.context.address memory h.pending h.delay h.agrees.address))
-        (subst (λ p. IsFollowed u sp rows s p w (tick_by (op_at u s h.context.address) s q r (effect_of (op_at u s h.context.address).act s v q r))) h.agrees.address
-            (subst (λ (x : Watch). IsFollowed u sp rows s h.context.address x (tick_by (op_at u s h.context.address) s q r (effect_of (op_at u s h.context.address).act s v q r))) (sym h.watch)
-                (late_tick u sp rows s v q r h.context h.ages (begun_here u sp rows s r w known h) h.begun h.stalls)))
+    (subst (λ p. IsFollowed u sp rows s p w (tick_by (op_at u s h.context.address) s q r (effect_of (op_at u s h.context.address).act s v q r))) h.agrees.address
+    (subst (λ (x : Watch). IsFollowed u sp rows s h.context.address x (tick_by (op_at u s h.context.address) s q r (effect_of (op_at u s h.context.address).act s v q r))) (sym h.watch)
+    (late_tick u sp rows s v q r h.context h.ages (begun_here u sp rows s r w known h) h.begun h.stalls)))
 
 -- where no address is named, an open age may be one tick more
 pub ages_have_room : (u : Setup) (sp : Span) (rows : Context → Option Ages) (s : MachineSetup) (r : Registers) (w : Watch) → AreKnown u sp rows s → ((address : ℕ) → is_named sp address ≡ false)
@@ -277,7 +279,7 @@ ages_have_room u sp rows s r w known unnamed (inl h) n i = elim (cases_lt 0 r.de
       let side = side_of s sp op.side in
       let one : Found (AllEnds rows (visit_of s sp op k at.0)) = found _ op.act s sp k at.1.0.known.tame at.1.0.known.ends in
       (tick_ages s sp k.address First (start k at.0) (record { late = false; from = over side.from one.outcome.from; to = over side.to one.outcome.to }) refl
-          (prompt_clean u sp rows s k at.0 one.outcome one.holds) n (inside_ages n w.ages at.0 at.1.1.inside i)).most
+      (prompt_clean u sp rows s k at.0 one.outcome one.holds) n (inside_ages n w.ages at.0 at.1.1.inside i)).most
 ]
 ages_have_room u sp rows s r w known unnamed (inr h) n i =
     let here = begun_here u sp rows s r w known h in
@@ -285,6 +287,6 @@ ages_have_room u sp rows s r w known unnamed (inr h) n i =
     let op : Op = op_at u s k.address in
     let one : Found (AllEnds rows (visit_of s sp op k h.ages)) = found _ op.act s sp k here.known.tame here.known.ends in
     let late : IsAged s sp k.address Late (stalled_from u sp s k h.ages) _ n =
-        tick_ages s sp k.address Late (stalled_from u sp s k h.ages) (record { late = true; from = one.outcome.from; to = one.outcome.to }) refl
-            (late_clean u sp rows s k h.ages one.outcome h.stalls one.holds) n (subst (λ (x : Watch). InAges n x.ages) h.watch i) in
+    tick_ages s sp k.address Late (stalled_from u sp s k h.ages) (record { late = true; from = one.outcome.from; to = one.outcome.to }) refl
+    (late_clean u sp rows s k h.ages one.outcome h.stalls one.holds) n (subst (λ (x : Watch). InAges n x.ages) h.watch i) in
     absurd (let x : false ≡ true = sym (unnamed k.address) ∙ late.named refl in cc)

@@ -1,5 +1,5 @@
 -- A pin's level after writes is the bit of the last one that holds it.
-use Rattle.std.proofs.Common.{◌≡◌, ℕ, ◌==◌, Bool, true, false, cond, Option, Some, None, unwrap_or, List, [], ◌∷◌, refl}
+use Rattle.std.proofs.Common.{◌≡◌, ℕ, ◌==◌, Bool, true, false, cond, Some, None, unwrap_or, List, [], ◌∷◌, refl}
 use Rattle.std.specs.Int.{bit_at}
 use Rattle.pin_matrix.specs.Pins.{last_of}
 use Rattle.span_ticks.specs.Following.{level_after}

@@ -1,5 +1,5 @@
 -- A tick, opened: what the checker follows of the registers after it, and which levels it writes.
-use Rattle.std.proofs.Common.{◌≡◌, ℕ, zero, suc, ◌-◌, ◌<◌, ◌==◌, ◌%◌, ◌+◌, nat_lt, nat_le, Bool, true, false, ◌&&◌, cond, if◌then◌else◌, Option, Some, None, is_some, unwrap_or, List, [], ◌∷◌, slice_index, refl, sym, ap, ◌∙◌, arith}
+use Rattle.std.proofs.Common.{◌≡◌, ℕ, ◌-◌, ◌<◌, nat_lt, nat_le, Bool, true, false, ◌&&◌, cond, if◌then◌else◌, Option, Some, None, is_some, unwrap_or, [], ◌∷◌, slice_index, refl, sym, ap, ◌∙◌, arith}
 use Rattle.std.proofs.lemmas.Bool.Decides.{nat_tests}
 use Rattle.pio_encode.specs.declared.op.Op.{Op}
 use Rattle.pio_encode.specs.Word.{reading_of}
@@ -11,12 +11,12 @@ use Rattle.sm_registers.specs.declared.registers.Registers.{Registers}
 use Rattle.sm_registers.specs.declared.view.View.{View}
 use Rattle.sm_registers.specs.Queues.{Queues}
 use Rattle.sm_registers.specs.Effects.{Effect, effect_of}
-use Rattle.sm_registers.specs.Tick.{current_word, word_at, next_pc, pc_after, delay_after, after_effect, refilled, osr_filled_from, side_writes, tick_delay, tick_by, tick_word, tick_of}
+use Rattle.sm_registers.specs.Tick.{current_word, word_at, pc_after, delay_after, after_effect, refilled, osr_filled_from, side_writes, tick_delay, tick_by, tick_word, tick_of}
 use Rattle.span_step.specs.Outcomes.{Outcome, level_at}
-use Rattle.span_step.specs.Courses.{watched, followed, delay_tick, delay_ticks, over}
-use Rattle.span_step.specs.Steps.{Visit, rules_of, next_address, side_of, address_after}
+use Rattle.span_step.specs.Courses.{over}
+use Rattle.span_step.specs.Steps.{Visit, next_address, side_of, address_after}
 use Rattle.span_ticks.specs.Following.{level_after}
-use Rattle.span_ticks.specs.UnderWay.{ValueOf, Watch, Flow, flow_of, op_at}
+use Rattle.span_ticks.specs.UnderWay.{ValueOf, Flow, flow_of, op_at}
 use Rattle.span_ticks.proofs.Explained.{Explains, level_none}
 
 -- a refill changes nothing that the checker follows
@@ -47,7 +47,7 @@ unfolding tick_of tick_word
 tick_here u s v q r address memory pending left here =
     let none : nat_lt 0 r.delay ≡ false = grind (arith, nat_tests) in
     let word : current_word v r ≡ slice_index u.memory address =
-        ap (λ p. word_at p v r.pc) pending ∙ ap (λ m. slice_index m r.pc) memory ∙ ap (λ a. slice_index u.memory a) (sym here) in
+    ap (λ p. word_at p v r.pc) pending ∙ ap (λ m. slice_index m r.pc) memory ∙ ap (λ a. slice_index u.memory a) (sym here) in
     ap (λ b. cond b (tick_delay s q r) (tick_word (reading_of (current_word v r) s.side_rule) s v q r)) none
     ∙ ap (λ w. tick_word (reading_of w s.side_rule) s v q r) word
 
@@ -59,13 +59,13 @@ flow_done op s sp q r e o address pending here ends x =
     let y : flow_of (refilled s q (after_effect op.delay s r e)) ≡ flow_of (after_effect op.delay s r e) = flow_refilled s q (after_effect op.delay s r e) in
     let done : Registers = record e.registers { pc = pc_after e.jump (is_some r.pending) s r; pending = e.pending; delay = delay_after e.pending op.delay; begun = false } in
     let goes : pc_after e.jump (is_some r.pending) s r ≡ address_after o.jump (next_address s address) =
-        ap (λ j. pc_after j (is_some r.pending) s r) x.jump ∙ ap (λ p. pc_after o.jump (is_some p) s r) pending ∙ to_next o.jump in
+    ap (λ j. pc_after j (is_some r.pending) s r) x.jump ∙ ap (λ p. pc_after o.jump (is_some p) s r) pending ∙ to_next o.jump in
     y ∙ ap (λ b. flow_of (cond b (record e.registers { begun = true }) done)) ends
     ∙ ap (λ p. record { pc = p; x = e.registers.x; y = e.registers.y; delay = delay_after e.pending op.delay; pending = e.pending; begun = false }) goes
     ∙ ap (λ p. record { pc = address_after o.jump (next_address s address); x = e.registers.x; y = e.registers.y; delay = delay_after p op.delay; pending = p; begun = false }) x.pending where
-  to_next : (j : Option ℕ) → pc_after j false s r ≡ address_after j (next_address s address)
-  to_next (Some a) = refl
-  to_next None = ap (λ a. next_address s a) (sym here)
+      to_next : (j : Option ℕ) → pc_after j false s r ≡ address_after j (next_address s address)
+      to_next (Some a) = refl
+      to_next None = ap (λ a. next_address s a) (sym here)
 
 -- where it stalls
 pub flow_stalled : (op : Op) (s : MachineSetup) (q : Queues) (r : Registers) (e : Effect) → e.stalled ≡ true → flow_of e.registers ≡ flow_of r

@@ -1,5 +1,5 @@
 -- A delay, tick by tick, and where an instruction that has finished rests.
-use Rattle.std.proofs.Common.{◌≡◌, ℕ, zero, suc, ◌-◌, ◌<◌, Bool, true, false, ◌&&◌, Option, Some, None, List, [], ◌∷◌, unwrap_or, refl, sym, ap, ◌∙◌, inl, inr, subst, arith}
+use Rattle.std.proofs.Common.{◌≡◌, ℕ, zero, suc, ◌-◌, ◌<◌, true, false, Option, None, refl, sym, ap, ◌∙◌, inl, subst, arith}
 use Rattle.pin_matrix.specs.declared.machine.MachineSetup.{MachineSetup}
 use Rattle.pin_matrix.specs.declared.setup.Setup.{Setup}
 use Rattle.pin_matrix.specs.declared.span.Span.{Span}
@@ -7,16 +7,14 @@ use Rattle.sm_registers.specs.declared.registers.Registers.{Registers}
 use Rattle.sm_registers.specs.declared.intent.Kind.TheVariants.{Delay}
 use Rattle.sm_registers.specs.Queues.{Queues}
 use Rattle.sm_registers.specs.Tick.{tick_delay}
-use Rattle.sm_registers.specs.Effects.{Effect}
 use Rattle.span_step.specs.declared.ages.Ages.{Ages}
 use Rattle.span_step.specs.Contexts.{Context, is_placed}
-use Rattle.span_step.specs.Outcomes.{Outcome}
 use Rattle.span_step.specs.Courses.{Rules, watched, followed, delay_tick, delay_ticks}
 use Rattle.span_step.specs.Laws.{first_cause}
-use Rattle.span_step.specs.Steps.{rules_of, next_address, address_after}
+use Rattle.span_step.specs.Steps.{rules_of}
 use Rattle.span_ticks.specs.Rows.{IsInRow}
-use Rattle.span_ticks.specs.UnderWay.{Watch, Flow, flow_of, IsAt, rested, IsResting, Covers}
-use Rattle.span_ticks.specs.Following.{InAges, IsFollowed}
+use Rattle.span_ticks.specs.UnderWay.{Watch, Flow, flow_of, rested, IsResting, Covers}
+use Rattle.span_ticks.specs.Following.{IsFollowed}
 use Rattle.span_ticks.proofs.Clean.{IsClean, clean_of, none_of, clean_followed}
 use Rattle.span_ticks.proofs.Aging.{tick_ages, tick_fresh}
 use Rattle.span_ticks.proofs.Explained.{level_none}
@@ -41,7 +39,7 @@ pub delay_clean : (sp : Span) (rows : Context → Option Ages) (s : MachineSetup
 delay_clean sp rows s r w more h =
     let step = delay_step (rules_of s sp r.pc) w r.delay more in
     let good : first_cause (followed (rules_of s sp r.pc) (delay_ticks (r.delay - 1)) (watched (rules_of s sp r.pc) w delay_tick)).causes ≡ None =
-        ap (λ (x : Watch). first_cause x.causes) (sym step) ∙ h.good in
+    ap (λ (x : Watch). first_cause x.causes) (sym step) ∙ h.good in
     clean_followed (rules_of s sp r.pc) (delay_ticks (r.delay - 1)) (watched (rules_of s sp r.pc) w delay_tick) (clean_of _ good)
 
 delay_rests : (sp : Span) (rows : Context → Option Ages) (s : MachineSetup) (r : Registers) (w : Watch) → 0 < r.delay → IsResting sp rows s (flow_of r) w
@@ -75,7 +73,7 @@ delay_followed u sp rows s q r w more h = record {
 pub rests_after : (sp : Span) (rows : Context → Option Ages) (s : MachineSetup) (address next d x y : ℕ) (known other : Option ℕ) (w : Watch) → is_placed next known other ≡ true → Covers known x → Covers other y
     → IsClean (followed (rules_of s sp address) (delay_ticks d) w).causes
     → IsInRow (followed (rules_of s sp address) (delay_ticks d) w).ages
-        (rows (record { address = next; x = known; y = other; from = (followed (rules_of s sp address) (delay_ticks d) w).from; to = (followed (rules_of s sp address) (delay_ticks d) w).to }))
+    (rows (record { address = next; x = known; y = other; from = (followed (rules_of s sp address) (delay_ticks d) w).from; to = (followed (rules_of s sp address) (delay_ticks d) w).to }))
     → IsResting sp rows s (record { pc = next; x = x; y = y; delay = d; pending = None; begun = false }) w
 rests_after sp rows s address next d x y known other w placed cx cy clean row =
     let end : Watch = followed (rules_of s sp address) (delay_ticks d) w in

@@ -1,5 +1,5 @@
 -- What an instruction that stalls does, and that each instruction has an outcome.
-use Rattle.std.proofs.Common.{◌≡◌, ℕ, ◌==◌, nat_le, nat_lt, Bool, true, false, not, ◌&&◌, cond, if◌then◌else◌, Option, Some, None, List, [], ◌∷◌, ◌++◌, map, flat_map, refl, sym, ap, ◌∙◌, rules}
+use Rattle.std.proofs.Common.{◌≡◌, ℕ, Bool, true, false, not, ◌&&◌, cond, Option, Some, None, [], ◌∷◌, refl, sym, ◌∙◌, rules}
 use Rattle.std.specs.List.{AllByRecursion}
 use Rattle.pio_encode.specs.declared.act.Act.{Act}
 use Rattle.pio_encode.specs.declared.act.Act.TheVariants.{Jmp, Wait, In, Out, Push, Pull, Mov, Irq, Set, Nothing}
@@ -10,7 +10,6 @@ use Rattle.pio_encode.specs.declared.act.MovDestination.TheVariants as mov_desti
 use Rattle.pio_encode.specs.declared.act.SetDestination.{SetDestination}
 use Rattle.pio_encode.specs.declared.act.SetDestination.TheVariants as set_destination
 use Rattle.pin_matrix.specs.declared.machine.MachineSetup.{MachineSetup}
-use Rattle.pin_matrix.specs.declared.mapping.Mapping.{Mapping}
 use Rattle.pin_matrix.specs.declared.span.Span.{Span}
 use Rattle.sm_registers.specs.declared.registers.Registers.{Registers}
 use Rattle.sm_registers.specs.declared.view.View.{View}
@@ -48,8 +47,8 @@ and_left false b h = h
 stall_autopushed : (s : MachineSetup) (q : Queues) (r x : Registers) → flow_of x ≡ flow_of r → IsStall s.autopush r (autopushed s q x)
 stall_autopushed s q r x h =
     stall_if s.autopush r _ _ _
-        (λ e. stall_if s.autopush r q.rx_full _ _ (λ f. stall_by s.autopush r _ (and_left _ _ e) refl h) (λ f. stall_done s.autopush r _ refl))
-        (λ e. stall_done s.autopush r _ refl)
+    (λ e. stall_if s.autopush r q.rx_full _ _ (λ f. stall_by s.autopush r _ (and_left _ _ e) refl h) (λ f. stall_done s.autopush r _ refl))
+    (λ e. stall_done s.autopush r _ refl)
 
 stall_in : (s : MachineSetup) (q : Queues) (b : Bool) (r x : Registers) → flow_of x ≡ flow_of r → IsStall s.autopush r (autopushed s q (cond b r x))
 stall_in s q true r x h = stall_autopushed s q r r refl
