@@ -60,7 +60,8 @@ pub record IsAged (s : MachineSetup) (sp : Span) (address : ℕ) (kind : Kind) (
 -- What comes of a tick at an address, which leaves these registers and this intent: some watch after it, with which the
 -- machine is under way again. The pins' levels are those that the tick writes; each open age is as `IsAged` says, and a
 -- from-edge adds the age 0.
-pub record IsFollowed (u : Setup) (sp : Span) (rows : Context → Option Ages) (s : MachineSetup) (address : ℕ) (before : Watch) (tick : Registers × Intent) : Type 0 where
+pub record IsFollowed (u : Setup) (sp : Span) (rows : Context → Option Ages) (s : MachineSetup) (address : ℕ)
+    (before : Watch) (tick : Registers × Intent) : Type 0 where
   pub after : Watch
   pub under_way : IsUnderWay u sp rows s (flow_of tick.0) after
   pub from : after.from ≡ level_after sp.from_pin tick.1.level before.from

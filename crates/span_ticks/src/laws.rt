@@ -1,5 +1,6 @@
 //! Laws of a machine's ticks beside a table of the timing checker, each on a function that does nothing.
-ghost use Rattle.std.specs.Prelude.{◌≡◌, ℕ, ◌+◌, ◌≤◌, false, Option, Some, None, slice_index_or};
+ghost use Rattle.std.specs.Prelude.{◌≡◌, ℕ, ◌+◌, ◌≤◌, ◌==◌, false, List, Option, Some, None, slice_index_or};
+ghost use Rattle.pin_matrix.specs.Pins.{last_of};
 ghost use Rattle.pin_matrix.specs.declared.machine.MachineSetup as setup;
 ghost use Rattle.pin_matrix.specs.declared.setup.Setup as block;
 ghost use Rattle.pin_matrix.specs.declared.span.Span as span;
@@ -13,7 +14,7 @@ ghost use Rattle.span_step.specs.Courses.{start};
 ghost use Rattle.span_step.specs.Steps.{bounds_of, is_named};
 ghost use Rattle.span_step.specs.declared.ages.Ages.{Ages};
 ghost use Rattle.span_step.specs.declared.ages.Ages.TheVariants as variants;
-ghost use Rattle.span_ticks.specs.Following.{InAges, IsFollowed};
+ghost use Rattle.span_ticks.specs.Following.{InAges, IsFollowed, level_after};
 ghost use Rattle.span_ticks.specs.Rows.{IsInRow, IsSoundTable};
 ghost use Rattle.span_ticks.specs.UnderWay.{IsAt, IsUnderWay, Watch, flow_of};
 
@@ -39,11 +40,19 @@ pub fn open_ages_have_room()
         → slice_index_or u.machines sp.machine None ≡ Some s → IsSoundTable u sp rows
         → ((address : ℕ) → is_named sp address ≡ false) → IsUnderWay u sp rows s (flow_of r) w
         → (n : ℕ) → InAges n w.ages → n + 1 ≤ (bounds_of sp s).1 }
-{}
+{
+    next_contexts_are_in_range();
+}
 
 /// At its start a machine is under way in any context that agrees with it and has a row. No age is open.
 pub fn a_start_is_under_way()
     ensures { (u : block.Setup) (sp : span.Span) (rows : Context → Option Ages) (s : setup.MachineSetup) (k : Context)
         → IsAt k (flow_of (first_registers s)) → IsInRow variants.Empty (rows k)
         → IsUnderWay u sp rows s (flow_of (first_registers s)) (start k variants.Empty) }
+{}
+
+/// A pin's level after writes is the bit of the last one that holds it, as `pin_matrix` says of a block's pins.
+pub fn levels_are_last_writes()
+    ensures { (p : ℕ) (writes : List (ℕ × ℕ)) (old : ℕ)
+        → level_after p writes (old == 1) ≡ (last_of p old writes == 1) }
 {}

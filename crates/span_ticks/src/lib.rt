@@ -3,4 +3,6 @@
 
 mod laws;
 
-pub use laws::{a_start_is_under_way, a_tick_follows_the_table, open_ages_have_room};
+pub use laws::{
+    a_start_is_under_way, a_tick_follows_the_table, levels_are_last_writes, open_ages_have_room,
+};
