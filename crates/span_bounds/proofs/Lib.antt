@@ -1,6 +1,6 @@
 pub mod Nexts
 pub mod Placing
-pub mod Rows
+pub mod Grids
 pub mod Reaching
 pub mod Joins
 pub mod Counts

@@ -10,6 +10,7 @@ mod number;
 mod reach;
 mod row;
 mod row_step;
+mod rows;
 mod stack;
 mod start;
 mod table;
@@ -18,7 +19,6 @@ mod take;
 pub use answer::derive;
 pub use derived::Derived;
 pub use row::Row;
+pub use rows::Rows;
+pub use start::start_context;
 pub use table::Table;
-
-#[cfg(test)]
-mod tests;
