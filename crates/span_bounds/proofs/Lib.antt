@@ -9,3 +9,4 @@ pub mod Takes
 pub mod Ends
 pub mod Filled
 pub mod Firsts
+pub mod Members

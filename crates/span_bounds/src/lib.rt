@@ -6,6 +6,7 @@ mod count;
 mod derived;
 mod entry;
 mod grid;
+mod laws;
 mod number;
 mod reach;
 mod row;
@@ -18,6 +19,7 @@ mod take;
 
 pub use answer::derive;
 pub use derived::Derived;
+pub use laws::{each_context_has_its_number, each_entry_is_that_of_a_row};
 pub use row::Row;
 pub use rows::Rows;
 pub use start::start_context;

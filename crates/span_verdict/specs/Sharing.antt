@@ -1,10 +1,10 @@
 -- Which machines may write the pins of a span.
 --   holds            a mapping holds a pin
 --   writes_pin       a level mapping of a machine holds a pin
---   shares           another machine may write a pin of the span
+--   shares           a machine of this number may write a pin of the span, which isn't its own
 --   IsUnshared       no other machine does
 --   IsLeastSharer    the least other machine that does
-use Rattle.std.specs.Prelude.{◌≡◌, ℕ, ◌<◌, ◌==◌, nat_lt, Bool, true, false, not, ◌&&◌, ◌||◌, Option, Some, None, slice_index_or}
+use Rattle.std.specs.Prelude.{◌≡◌, ℕ, ◌<◌, ◌==◌, nat_lt, Bool, true, false, not, ◌&&◌, ◌||◌, Option, Some, None, List, slice_index_or}
 use Rattle.pin_matrix.specs.Pins.{place_of}
 use Rattle.pin_matrix.specs.declared.mapping.Mapping.{Mapping}
 use Rattle.pin_matrix.specs.declared.machine.MachineSetup.{MachineSetup}
@@ -28,15 +28,24 @@ abbrev pub may_write : Option MachineSetup → Span → Bool
 may_write None sp = false
 may_write (Some s) sp = writes_span s sp
 
--- A machine other than the span's own is configured, and one of its level mappings holds a pin of the span.
-unfoldable pub shares : Setup → Span → ℕ → Bool
-shares u sp m = not (m == sp.machine) && may_write (slice_index_or u.machines m None) sp
+-- Of these machines, the one of this number isn't the span's own, it is configured, and one of its level mappings holds a pin
+-- of the span.
+unfoldable pub shares : List (Option MachineSetup) → Span → ℕ → Bool
+shares machines sp m = not (m == sp.machine) && may_write (slice_index_or machines m None) sp
 
--- no other machine may write a pin of the span
+-- none of these machines shares a pin of the span
+abbrev pub NoneShares : List (Option MachineSetup) → Span → Type 0
+NoneShares machines sp = (m : ℕ) → shares machines sp m ≡ false
+
+-- this one of the machines does, and none before it
+pub record IsFirstSharer (machines : List (Option MachineSetup)) (sp : Span) (m : ℕ) : Type 0 where
+  pub sharing : shares machines sp m ≡ true
+  pub first : (n : ℕ) → n < m → shares machines sp n ≡ false
+
+-- no other machine of the setup may write a pin of the span
 abbrev pub IsUnshared : Setup → Span → Type 0
-IsUnshared u sp = (m : ℕ) → shares u sp m ≡ false
+IsUnshared u sp = NoneShares u.machines sp
 
 -- another machine may, and none before it
-pub record IsLeastSharer (u : Setup) (sp : Span) (m : ℕ) : Type 0 where
-  pub shares : shares u sp m ≡ true
-  pub first : (n : ℕ) → n < m → shares u sp n ≡ false
+abbrev pub IsLeastSharer : Setup → Span → ℕ → Type 0
+IsLeastSharer u sp m = IsFirstSharer u.machines sp m

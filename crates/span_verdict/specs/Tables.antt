@@ -2,7 +2,7 @@
 --   opens            a step of a row has a from-edge
 --   lies_in          a context has a row in which some ages lie
 --   is_right         a row isn't bad, and each of its nexts lies within a row
-use Rattle.std.specs.Prelude.{ℕ, nat_le, Bool, true, false, ◌&&◌, Option, Some, None, List}
+use Rattle.std.specs.Prelude.{nat_le, Bool, true, false, ◌&&◌, Option, Some, None, List}
 use Rattle.std.specs.List.{list_all, list_any}
 use Rattle.pin_matrix.specs.declared.setup.Setup.{Setup}
 use Rattle.pin_matrix.specs.declared.span.Span.{Span}

@@ -17,11 +17,11 @@ use Rattle.span_verdict.specs.Tables.{opens}
 
 -- No other machine may write a pin of the span, and some closed table is good. The table is the least closed one, and good;
 -- the span opens where a step of one of its rows has a from-edge.
-pub record IsProved (u : Setup) (sp : Span) (rows : List Row) (opening : Bool) : Type 0 where
+pub record IsProved (u : Setup) (sp : Span) (rows : List Row) (is_opening : Bool) : Type 0 where
   pub alone : IsUnshared u sp
   pub provable : IsProvable u sp
   pub table : IsGoodLeast u sp rows
-  pub opens : opening ≡ opens u sp rows
+  pub opening : is_opening ≡ opens u sp rows
 
 -- No other machine may write a pin of the span, and no closed table is good. The context is the first bad one of the least
 -- closed table, with its first cause, and it is bad for this cause in each closed table.

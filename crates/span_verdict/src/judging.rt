@@ -8,7 +8,7 @@ use crate::opening::opens;
 use crate::sharing::shared_by;
 use crate::verdict::Verdict;
 use pin_matrix::{Setup, Span};
-use span_bounds::{Derived, derive};
+use span_bounds::{Derived, derive, each_entry_is_that_of_a_row};
 use std::alloc::{AllocError, Global};
 
 /// The verdict on a span: shared where another machine's mapping holds a pin of it, else proved exactly where some closed table
@@ -30,6 +30,7 @@ fn judged(setup: &Setup, span: &Span, derived: Derived) -> Verdict
     requires answer { IsAnswer setup.now span.now derived }
     ensures { IsVerdict setup.now span.now result }
 {
+    each_entry_is_that_of_a_row();
     match derived {
         Derived::Closed(table) => {
             let opens = opens(&table, setup, span);

@@ -1,5 +1,6 @@
 //! A table, looked through row by row.
 ghost use Rattle.std.specs.Prelude.{◌≡◌, ◌↔◌, IsTrue, IsSome, None, slice_index_or};
+ghost use Rattle.span_step.specs.declared.ages.Ages.TheVariants.{Empty};
 ghost use Rattle.span_bounds.specs.Tables.{IsTable, IsClosed, IsGood};
 ghost use Rattle.span_bounds.specs.Tables as tables;
 ghost use Rattle.span_verdict.specs.Tables as spec;
@@ -14,11 +15,20 @@ pub fn recheck(table: &Table, setup: &Setup, span: &Span) -> bool
     ensures sound { IsTrue result ↔ (IsClosed setup.now span.now table.now × IsGood setup.now span.now table.now) }
     ensures table { IsTable table.now }
 {
+    let mut rows = table.rows();
+    has_start(table, setup, span) && rows.all(|row| is_right(table, setup, span, &row))
+}
+
+/// Whether there is a row where tables start.
+fn has_start(table: &Table, setup: &Setup, span: &Span) -> bool
+    requires { IsSome (slice_index_or setup.now.machines span.now.machine None) }
+    ensures { result ≡ spec.lies_in table.now (tables.start_context setup.now span.now) Empty }
+{
     lies_in(table, &start_context(setup, span), Ages::Empty)
-        && table.rows().all(|row| is_right(table, setup, span, &row))
 }
 
 /// Whether a row isn't bad, and each of its nexts lies within a row.
+#[tactic(auto, unfolding(crate::specs::Tables::is_right))]
 fn is_right(table: &Table, setup: &Setup, span: &Span, row: &Row) -> bool
     requires { IsSome (slice_index_or setup.now.machines span.now.machine None) }
     ensures { result ≡ spec.is_right setup.now span.now table.now row.now }

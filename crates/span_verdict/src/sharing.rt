@@ -1,7 +1,7 @@
 //! Which machines may write a span's pins.
 ghost use Rattle.std.specs.Prelude.{◌≡◌, ◌<◌, MatchOption};
 ghost use Rattle.span_verdict.specs.Sharing as spec;
-ghost use Rattle.span_verdict.specs.Sharing.{IsUnshared, IsLeastSharer};
+ghost use Rattle.span_verdict.specs.Sharing.{NoneShares, IsFirstSharer, IsUnshared, IsLeastSharer};
 
 use pin_matrix::{MachineSetup, Mapping, Setup, Span};
 
@@ -11,15 +11,23 @@ use pin_matrix::{MachineSetup, Mapping, Setup, Span};
 pub fn shared_by(setup: &Setup, span: &Span) -> Option<u8>
     ensures { MatchOption result (IsUnshared setup.now span.now) (λ machine. IsLeastSharer setup.now span.now machine) }
 {
-    (0..4).find(|machine| shares(setup, span, *machine))
+    first_sharer(&setup.machines, span)
 }
 
-/// Whether a machine other than the span's own is configured and may write a pin of the span.
-fn shares(setup: &Setup, span: &Span, machine: u8) -> bool
-    requires { machine < 4 }
-    ensures { result ≡ spec.shares setup.now span.now machine }
+/// The least of these machines that shares a pin of the span.
+fn first_sharer(machines: &[Option<MachineSetup>; 4], span: &Span) -> Option<u8>
+    ensures { MatchOption result (NoneShares machines.now span.now) (λ machine. IsFirstSharer machines.now span.now machine) }
 {
-    match &setup.machines[usize::from(machine)] {
+    (0..4).find(|machine| shares(machines, span, *machine))
+}
+
+/// Whether a machine (0 to 3) is configured, isn't the span's own, and may write a pin of the span.
+#[tactic(auto, unfolding(crate::specs::Sharing::shares))]
+fn shares(machines: &[Option<MachineSetup>; 4], span: &Span, machine: u8) -> bool
+    requires { machine < 4 }
+    ensures { result ≡ spec.shares machines.now span.now machine }
+{
+    match &machines[usize::from(machine)] {
         Some(other) => machine != span.machine && writes_span(other, span),
         None => false,
     }
