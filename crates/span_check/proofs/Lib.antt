@@ -8,3 +8,5 @@ pub mod Periods
 pub mod InTicks
 pub mod Pacing
 pub mod InClocks
+pub mod Sound
+pub mod Held
