@@ -1,5 +1,5 @@
 -- The law of this crate, by what the laws of the crates below say.
-use Rattle.std.proofs.Common.{◌≡◌, ℕ, zero, suc, List, Option, Some, None, slice_index_or, refl, ap, sym, subst, ◌∙◌}
+use Rattle.std.proofs.Common.{◌≡◌, ℕ, zero, suc, List, Option, Some, None, IsSome, slice_index_or, refl, ap, sym, subst, ◌∙◌}
 use Rattle.pin_matrix.specs.declared.machine.MachineSetup.{MachineSetup}
 use Rattle.pin_matrix.specs.declared.setup.Setup.{Setup}
 use Rattle.pin_matrix.specs.declared.span.Span.{Span}
@@ -43,3 +43,8 @@ beside_follows run memory u lines c =
     let r = (hosted_at (first_run u) lines c).run in
     let same : r.memory ≡ u.memory = ap (λ (x : Run). x.memory) (run (first_run u) lines c) ∙ memory (first_run u) (host_of (first_run u) lines) c in
     ap (λ m. stepped m (seen_beside u lines c) (host_of (first_run u) lines c) r.state) same
+
+-- a machine is there
+pub configured-as : (m : Option MachineSetup) → IsSome m → (s : MachineSetup) × (m ≡ Some s)
+configured-as None h = cc
+configured-as (Some s) h = (s, refl)

@@ -1,6 +1,8 @@
-//! A provable span holds in every run.
+//! The timing checker's promise: a provable span holds in every run.
 #![tactic(auto)]
 
+mod checking;
 mod laws;
 
-pub use laws::{a_sound_table_shows_a_span, a_sound_table_shows_a_span_over_any_pads};
+pub use checking::{check, recheck};
+pub use laws::a_provable_span_holds_in_every_run;
