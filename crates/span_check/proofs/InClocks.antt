@@ -1,37 +1,25 @@
 -- A span in clocks.
-use Rattle.std.proofs.Common.{◌≡◌, ◌==◌, ℕ, zero, suc, ◌+◌, ◌-◌, ◌*◌, ◌/◌, ◌<◌, ◌≤◌, Bool, true, false, ◌||◌, IsTrue, cond, Option, Some, None, List, [], ◌∷◌, length, slice_index_or, refl, ap, sym, subst, ◌∙◌, arith}
+use Rattle.std.proofs.Common.{◌≡◌, ◌==◌, ℕ, zero, suc, ◌+◌, ◌-◌, ◌*◌, ◌/◌, ◌<◌, ◌≤◌, true, false, ◌||◌, cond, Option, List, [], ◌∷◌, length, refl, ap, sym, subst, ◌∙◌, arith}
 use Rattle.std.proofs.lemmas.Bool.Decides.{nat_tests}
 use Rattle.std.specs.List.{list_any}
 use Rattle.pin_matrix.specs.declared.machine.MachineSetup.{MachineSetup}
 use Rattle.pin_matrix.specs.declared.setup.Setup.{Setup}
 use Rattle.pin_matrix.specs.declared.span.Span.{Span}
-use Rattle.pin_matrix.specs.declared.span.SpanUnit.{SpanUnit}
-use Rattle.pin_matrix.specs.declared.span.SpanUnit.TheVariants.{Ticks, Clocks}
+use Rattle.pin_matrix.specs.declared.span.SpanUnit.TheVariants.{Clocks}
 use Rattle.pin_matrix.specs.Spans.{is_in_ticks}
-use Rattle.sm_registers.specs.declared.registers.Registers.{Registers}
 use Rattle.dreq_pacing.specs.declared.due.Due.{Due}
 use Rattle.block_core.specs.Block.{BlockState}
 use Rattle.span_step.specs.declared.ages.Ages.{Ages}
 use Rattle.span_step.specs.Contexts.{Context}
-use Rattle.span_step.specs.Steps.{bounds_of, bounds_in, period_of, is_named}
-use Rattle.span_ticks.specs.Rows.{IsSoundTable}
-use Rattle.span_ticks.specs.UnderWay.{Watch, IsUnderWay, flow_of}
-use Rattle.span_ticks.specs.Following.{InAges}
+use Rattle.span_step.specs.Steps.{bounds_of, bounds_in, period_of}
 use Rattle.span_check.specs.Marks.{Mark, names}
 use Rattle.span_check.specs.Holding.{counted, IsQuiet, IsUnbroken, Holds}
 use Rattle.span_check.specs.Runs.{marks_over}
-use Rattle.span_check.proofs.Counting.{one_if, counted-suc, AreOpen}
+use Rattle.span_check.proofs.Counting.{counted-suc, AreOpen}
 use Rattle.span_check.proofs.Periods.{no-more, no-less}
-use Rattle.span_check.proofs.Steps.{TicksFollow}
-use Rattle.span_check.proofs.Walk.{IsBeside, IsThere, IsFine, there, fine}
-use Rattle.span_check.proofs.Pacing.{TickTest, IsRun, IsPaced, paced}
-
--- as a premise: what `span_ticks` says of a span that names no address
-abbrev pub HasRoom : Type 0
-HasRoom =
-    (u : Setup) (sp : Span) (rows : Context → Option Ages) (s : MachineSetup) (r : Registers) (w : Watch)
-    → slice_index_or u.machines sp.machine None ≡ Some s → IsSoundTable u sp rows → ((address : ℕ) → is_named sp address ≡ false)
-    → IsUnderWay u sp rows s (flow_of r) w → (n : ℕ) → InAges n w.ages → n + 1 ≤ (bounds_of sp s).1
+use Rattle.span_check.proofs.Premises.{Laws}
+use Rattle.span_check.proofs.Walk.{IsBeside, IsFine, there, fine}
+use Rattle.span_check.proofs.Pacing.{IsRun, IsPaced, paced}
 
 -- a divider's period is at least a clock
 period-long : (s : MachineSetup) → 256 ≤ period_of s
@@ -59,23 +47,23 @@ not-early sp period min s c marks b long p enough =
     let less = no-less period p.first (counted marks s c) min long enough in
     omega (arith, p.between.last, p.start, less)
 
-pub holds-clocks : TicksFollow → HasRoom → TickTest → (u : Setup) (sp : Span) (rows : Context → Option Ages) (s : MachineSetup) (seen : ℕ → ℕ) (host : ℕ → Due) (states : ℕ → BlockState) → IsBeside u sp rows s seen host states → IsRun sp (period_of s) u.memory seen host states → sp.unit ≡ Clocks → (n : ℕ) → Holds Clocks sp.min sp.max (marks_over sp u.memory seen host states) n
+pub holds-clocks : (laws : Laws) (u : Setup) (sp : Span) (rows : Context → Option Ages) (s : MachineSetup) (seen : ℕ → ℕ) (host : ℕ → Due) (states : ℕ → BlockState) → IsBeside u sp rows s seen host states → IsRun sp (period_of s) u.memory seen host states → sp.unit ≡ Clocks → (n : ℕ) → Holds Clocks sp.min sp.max (marks_over sp u.memory seen host states) n
 unfolding bounds_of
-holds-clocks law room test u sp rows s seen host states b run unit n =
+holds-clocks laws u sp rows s seen host states b run unit n =
     let period : ℕ = period_of s in
     let marks : ℕ → Mark = marks_over sp u.memory seen host states in
     let bounds : bounds_of sp s ≡ ((256 * sp.min + period - 1) / period, 256 * sp.max / period) = ap (λ k. bounds_in k sp period) unit in
     let long = period-long s in
     let none = none-named sp unit in
     let at_pace : (f c : ℕ) → f < c → (marks f).from ≡ true → IsUnbroken marks f c → IsPaced sp period marks f (states c) c =
-    paced test sp period long none u.memory seen host states run in
+    paced laws sp period long none u.memory seen host states run in
     let open_room : (c : ℕ) → AreOpen marks (λ f. counted marks f c + 1 ≤ 256 * sp.max / period) c = λ c f below edge quiet.
-        let at = there law u sp rows s seen host states b c in
-        subst (λ (x : ℕ × ℕ). counted marks f c + 1 ≤ x.1) bounds
-        (room u sp rows s at.m.machine.registers at.w b.configured b.sound none at.going.under_way _ (at.ages f below edge quiet).0) in
+    let at = there laws u sp rows s seen host states b c in
+    subst (λ (x : ℕ × ℕ). counted marks f c + 1 ≤ x.1) bounds
+    (laws.room u sp rows s at.m.machine.registers at.w b.configured b.sound none at.going.under_way _ (at.ages f below edge quiet).0) in
     let within : (f c : ℕ) → f < c → (marks f).from ≡ true → IsQuiet marks f c → IsUnbroken marks f c → c ≤ f + sp.max = λ f c below edge quiet unbroken.
-        in-time sp period sp.max f c n marks (states c) long (at_pace f c below edge unbroken) (open_room c f below edge quiet) in
-    let each : (c : ℕ) → AreOpen marks (λ f. IsFine (bounds_of sp s).0 (bounds_of sp s).1 (marks c) (counted marks f c)) c = fine law u sp rows s seen host states b in
+    in-time sp period sp.max f c n marks (states c) long (at_pace f c below edge unbroken) (open_room c f below edge quiet) in
+    let each : (c : ℕ) → AreOpen marks (λ f. IsFine (bounds_of sp s).0 (bounds_of sp s).1 (marks c) (counted marks f c)) c = fine laws u sp rows s seen host states b in
     λ f below edge. record {
       least = λ e ends inside spoken.
           let enough : (256 * sp.min + period - 1) / period ≤ counted marks f (suc e) = subst (λ (x : ℕ × ℕ). x.0 ≤ counted marks f (suc e)) bounds

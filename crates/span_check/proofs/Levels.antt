@@ -1,12 +1,9 @@
--- A pin's level after writes, as the block and as the checker have it, and edges.
-use Rattle.std.proofs.Common.{◌≡◌, ◌==◌, ℕ, Bool, true, false, not, ◌&&◌, cond, Option, Some, None, unwrap_or, List, [], ◌∷◌, nat_lt, refl, ap, ◌∙◌}
+-- A pin's level where nothing is written, edges, and what the intent of a tick looks like.
+use Rattle.std.proofs.Common.{◌≡◌, ℕ, Bool, true, false, cond, List, [], ◌∷◌, nat_lt, refl}
 use Rattle.std.proofs.lemmas.Nat.Bits.{bit_at-zero}
-use Rattle.std.specs.Int.{bit_at}
-use Rattle.pin_matrix.specs.Pins.{last_of}
 use Rattle.pin_matrix.specs.declared.machine.MachineSetup.{MachineSetup}
 use Rattle.sm_registers.specs.declared.intent.Kind.{Kind}
-use Rattle.sm_registers.specs.declared.intent.Kind.TheVariants.{Off, First, Late, Delay}
-use Rattle.sm_registers.specs.declared.intent.Intent.{Intent}
+use Rattle.sm_registers.specs.declared.intent.Kind.TheVariants.{First, Late, Delay}
 use Rattle.sm_registers.specs.declared.registers.Registers.{Registers}
 use Rattle.sm_registers.specs.declared.view.View.{View}
 use Rattle.sm_registers.specs.Effects.{no_intent, effect_of}
@@ -16,21 +13,8 @@ use Rattle.pio_encode.specs.Word.{reading_of}
 use Rattle.sm_registers.specs.Tick.{tick_of, tick_delay, tick_word, tick_by, current_word, side_writes}
 use Rattle.block_core.specs.Block.{two_writes}
 use Rattle.span_step.specs.Courses.{is_edge}
-use Rattle.span_step.specs.Outcomes.{level_at}
 use Rattle.span_ticks.specs.Following.{level_after}
 use Rattle.span_check.specs.Marks.{changes}
-
-level_by : (b : Bool) (x y : ℕ) → (cond b x y == 1) ≡ unwrap_or (cond b (Some (x == 1)) None) (y == 1)
-level_by true x y = refl
-level_by false x y = refl
-
--- the last write gives the level
-pub last-level_after : (p bit : ℕ) (ws : List (ℕ × ℕ)) → (last_of p bit ws == 1) ≡ level_after p ws (bit == 1)
-unfolding last_of
-last-level_after p bit [] = refl
-last-level_after p bit (w ∷ ws) =
-    last-level_after p (cond (bit_at w.0 p == 1) (bit_at w.1 p) bit) ws
-    ∙ ap (level_after p ws) (level_by (bit_at w.0 p == 1) (bit_at w.1 p) bit)
 
 -- nothing is written
 pub level-none : (p : ℕ) (level : Bool) → level_after p (two_writes no_intent.level) level ≡ level

@@ -2,6 +2,7 @@ pub mod WorkedSetups
 pub mod WorkedRows
 pub mod Counting
 pub mod Levels
+pub mod Premises
 pub mod Steps
 pub mod Walk
 pub mod Periods

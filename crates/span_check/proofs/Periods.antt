@@ -1,5 +1,5 @@
 -- Clocks and ticks of a divider, on numbers alone. Tick k after a restart in clock r comes in clock r + k * period / 256.
-use Rattle.std.proofs.Common.{◌≡◌, ℕ, zero, suc, ◌+◌, ◌-◌, ◌*◌, ◌/◌, ◌<◌, ◌≤◌, ◌⊎◌, inl, inr, refl, ap, sym, ◌∙◌, arith}
+use Rattle.std.proofs.Common.{◌≡◌, ℕ, suc, ◌+◌, ◌-◌, ◌*◌, ◌/◌, ◌<◌, ◌≤◌, ◌⊎◌, inl, inr, ap, ◌∙◌, arith}
 use Rattle.std.proofs.Math.Nat.{div-mul-le_self, lt-div-mul-add, mul-le-mul_right}
 
 -- so many ticks after tick k, the next one isn't before clock c, and the last one is
@@ -37,7 +37,7 @@ between-tick restarted period k n c j h b e =
     record { last = omega (arith, now); next = omega (arith, now, more) }
 
 pub between-idle : (restarted period k n c : ℕ) → IsBetween restarted period k n c → ((j : ℕ) → restarted + j * period / 256 ≡ c → ⊥) → IsBetween restarted period k n (suc c)
-between-idle restarted period k n c b none = record { last = omega (arith, b.last); next = elim (cases_le (restarted + (k + n + 1) * period / 256) c) [ | inl le ↦ absurd (none (k + n + 1) (omega (arith, le, b.next))) | inr more ↦ omega (arith, more) ] }
+between-idle restarted period k n c b none = record { last = omega (arith, b.last); next = elim (cases_le (restarted + (k + n + 1) * period / 256) c) [ inl le ↦ absurd (none (k + n + 1) (omega (arith, le, b.next))) | inr more ↦ omega (arith, more) ] }
 
 -- no more ticks than fit into `max` clocks take no more
 pub no-more : (period k n max : ℕ) → 256 ≤ period → n ≤ 256 * max / period → (k + n) * period / 256 ≤ k * period / 256 + max

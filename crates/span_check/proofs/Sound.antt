@@ -2,22 +2,20 @@
 use Rattle.std.proofs.Common.{◌≡◌, ◌==◌, ℕ, zero, suc, ◌+◌, ◌<◌, nat_lt, Bool, true, false, not, ◌&&◌, ◌||◌, cond, Option, Some, None, option_map, IfSome, List, [], ◌∷◌, length, unwrap_or, slice_index_or, refl, ap, sym, subst, ◌∙◌, arith}
 use Rattle.std.proofs.lemmas.Bool.{and_parts}
 use Rattle.std.proofs.lemmas.Bool.Decides.{nat_tests}
-use Rattle.std.specs.Int.{bit_at}
 use Rattle.std.specs.List.{AllByRecursion, Contains}
-use Rattle.pin_matrix.specs.Pins.{last_of}
 use Rattle.pin_matrix.specs.Setups.{ids_are_places}
 use Rattle.pin_matrix.specs.declared.machine.MachineSetup.{MachineSetup}
 use Rattle.pin_matrix.specs.declared.setup.Setup.{Setup}
 use Rattle.pin_matrix.specs.declared.span.Span.{Span}
 use Rattle.sm_registers.specs.State.{first_registers}
 use Rattle.dreq_pacing.specs.declared.due.Due.{Due}
-use Rattle.block_core.specs.Slots.{Slot, first_slot, place_after}
-use Rattle.block_core.specs.Block.{BlockState, first_state, first_place, view_of, two_writes}
-use Rattle.block_core.specs.Following.{Follows, place_at, intent_in, leaves_level, OthersLeave}
+use Rattle.block_core.specs.Slots.{first_slot}
+use Rattle.block_core.specs.Block.{BlockState, first_state}
+use Rattle.block_core.specs.Following.{Follows, place_at, leaves_level, OthersLeave}
 use Rattle.span_step.specs.declared.ages.Ages.{Ages}
 use Rattle.span_step.specs.declared.ages.Ages.TheVariants.{Empty}
 use Rattle.span_step.specs.declared.stepped.Next.{Next}
-use Rattle.span_step.specs.Contexts.{Context, is_placed, is_small}
+use Rattle.span_step.specs.Contexts.{Context, is_small}
 use Rattle.span_step.specs.Courses.{start}
 use Rattle.span_step.specs.Laws.{first_cause}
 use Rattle.span_step.specs.Steps.{context_steps, period_of}
@@ -25,11 +23,12 @@ use Rattle.span_bounds.specs.declared.entry.Entry.{Entry}
 use Rattle.span_bounds.specs.declared.entry.Entry.TheVariants.{Absent, Present}
 use Rattle.span_bounds.specs.declared.row.Row.{Row}
 use Rattle.span_bounds.specs.Numbers.{number_of}
-use Rattle.span_bounds.specs.Tables.{entry_at, LiesAt, IsTable, known_of, is_high, started, start_context, AllLieIn, EachRow, IsClosed, IsGood, ages_of}
-use Rattle.span_ticks.specs.Rows.{IsInRow, HasRow, IsSoundRow, IsSoundTable}
-use Rattle.span_ticks.specs.UnderWay.{Watch, Covers, IsAt, IsUnderWay, flow_of}
+use Rattle.span_bounds.specs.Tables.{entry_at, LiesAt, IsTable, known_of, started, start_context, AllLieIn, EachRow, IsClosed, IsGood, ages_of}
+use Rattle.span_ticks.specs.Rows.{IsInRow, HasRow, IsSoundTable}
+use Rattle.span_ticks.specs.UnderWay.{Covers, IsAt, flow_of}
 use Rattle.span_verdict.specs.Sharing.{holds, writes_pin, writes_span, may_write, shares, IsUnshared}
-use Rattle.span_check.proofs.Steps.{IsGoing, IsAfter}
+use Rattle.span_check.proofs.Premises.{Laws}
+use Rattle.span_check.proofs.Steps.{IsAfter}
 use Rattle.span_check.proofs.Walk.{IsBeside}
 use Rattle.span_check.proofs.Pacing.{IsRun}
 
@@ -58,14 +57,10 @@ at-row P (x ∷ rows) r (suc k) h below e = at-row P rows r k h.1 (omega (arith,
 of-row : (P : Row → Type 0) (rows : List Row) (r : Row) → EachRow P rows → Contains rows r → P r
 of-row P rows r h c = at-row P rows r c.0 h c.1 c.2
 
--- as a premise: what the tables' crate says of an entry
-abbrev pub EntriesAreRows : Type 0
-EntriesAreRows = (rows : List Row) (k : Context) (a : Ages) → IsTable rows → is_placed k.address k.x k.y ≡ true → entry_at rows (number_of k) ≡ Present a → Contains rows (record { context = k; ages = a })
-
-pub sound_table : EntriesAreRows → (u : Setup) (sp : Span) (rows : List Row) → IsTable rows → IsClosed u sp rows → IsGood u sp rows → IsSoundTable u sp (rows_of rows)
-sound_table law u sp rows table closed good = record {
+pub sound_table : (laws : Laws) (u : Setup) (sp : Span) (rows : List Row) → IsTable rows → IsClosed u sp rows → IsGood u sp rows → IsSoundTable u sp (rows_of rows)
+sound_table laws u sp rows table closed good = record {
   row = λ k a placed h.
-      let there = law rows k a table placed (present (entry_at rows (number_of k)) a h) in
+      let there = laws.entries rows k a table placed (present (entry_at rows (number_of k)) a h) in
       record {
         closed = all-in-rows rows _ (of-row (λ r. AllLieIn rows (context_steps u sp r.context r.ages).nexts) rows _ closed.steps there);
         good = of-row (λ r. first_cause (context_steps u sp r.context r.ages).causes ≡ None) rows _ good there;
@@ -113,10 +108,11 @@ place_id place zero (Some m ∷ machines) s h e =
     let same : m ≡ s = ap (λ (o : Option MachineSetup). unwrap_or o m) e in
     let id : m.id ≡ place = is_same m.id place (and_parts (m.id == place) (ids_are_places (place + 1) machines) h).0 in
     ap (λ (x : MachineSetup). x.id) (sym same) ∙ id ∙ here where
-  is_same : (a b : ℕ) → (a == b) ≡ true → a ≡ b
-  is_same a b f = grind (arith, nat_tests)
-  here : place ≡ place + 0
-  here = omega arith
+      is_same : (a b : ℕ) → (a == b) ≡ true → a ≡ b
+      is_same a b f = grind (arith, nat_tests)
+
+      here : place ≡ place + 0
+      here = omega arith
 place_id place (suc i) (None ∷ machines) s h e = place_id (place + 1) i machines s h e ∙ on where
   on : place + 1 + i ≡ place + suc i
   on = omega arith
@@ -151,66 +147,48 @@ start-agrees u sp s = record {
   below : nat_lt s.start 32 ≡ true
   below = grind (arith, nat_tests, s.start_in_memory)
 
--- as premises: what the laws say of a start, of each place, and of a pin
-abbrev pub StartsUnderWay : Type 0
-StartsUnderWay =
-    (u : Setup) (sp : Span) (rows : Context → Option Ages) (s : MachineSetup) (k : Context) → IsAt k (flow_of (first_registers s))
-    → IsInRow Empty (rows k) → IsUnderWay u sp rows s (flow_of (first_registers s)) (start k Empty)
+-- in a run of a setup, for a span whose pins no other machine may write
+module _ (laws : Laws) (u : Setup) (sp : Span) (s : MachineSetup) (configured : slice_index_or u.machines sp.machine None ≡ Some s) (alone : IsUnshared u sp) (seen : ℕ → ℕ) (host : ℕ → Due) (states : ℕ → BlockState) (begins : states 0 ≡ first_state u) (follows : Follows u.memory seen host states) where
+  after-each : (c : ℕ) → IsAfter sp u.memory (seen c) (host c) (states c) (states (suc c))
+  after-each c = record {
+    place = laws.places_go_on u.memory seen host states follows c sp.machine;
+    from = laws.own_pins u u.memory seen host states begins follows sp.machine sp.from_pin sp.from_pin_is_a_pin (others-leave-from u sp alone) c;
+    to = laws.own_pins u u.memory seen host states begins follows sp.machine sp.to_pin sp.to_pin_is_a_pin (others-leave-to u sp alone) c;
+  }
 
-abbrev pub PlacesStart : Type 0
-PlacesStart = (s : Setup) (id : ℕ) → id < 4 → place_at (first_state s) id ≡ first_place s id
+  first-place : place_at (states 0) sp.machine ≡ Some (first_slot s)
+  first-place =
+      ap (λ (x : BlockState). place_at x sp.machine) begins ∙ laws.places_start u sp.machine sp.machine_in_block ∙ ap (option_map first_slot) configured
 
-abbrev pub PlacesGoOn : Type 0
-PlacesGoOn =
-    (memory : List ℕ) (seen : ℕ → ℕ) (host : ℕ → Due) (states : ℕ → BlockState) → Follows memory seen host states → (clock id : ℕ)
-    → place_at (states (suc clock)) id ≡ place_after (view_of memory (seen clock) (states clock)) (host clock) (place_at (states clock) id)
+  pub beside : (rows : List Row) → IsSoundTable u sp (rows_of rows) → LiesAt Empty (entry_at rows (number_of (start_context u sp))) → IsBeside u sp (rows_of rows) s seen host states
+  unfolding start_context
+  beside rows sound at_start =
+      let k : Context = started (Some s) u sp in
+      let same : started (slice_index_or u.machines sp.machine None) u sp ≡ k = ap (λ m. started m u sp) configured in
+      let row : IsInRow Empty (rows_of rows k) = in-row Empty _ (subst (λ x. LiesAt Empty (entry_at rows (number_of x))) same at_start) in
+      record {
+        configured = configured;
+        sound = sound;
+        m = first_slot s;
+        w = start k Empty;
+        start = record {
+          slot = first-place;
+          setup = refl;
+          under_way = laws.begins u sp (rows_of rows) s k (start-agrees u sp s) row;
+          from = rw begins refl;
+          to = rw begins refl;
+        };
+        after = after-each;
+      }
 
-abbrev pub PinsAreOwn : Type 0
-PinsAreOwn =
-    (s : Setup) (memory : List ℕ) (seen : ℕ → ℕ) (host : ℕ → Due) (states : ℕ → BlockState) → states 0 ≡ first_state s
-    → Follows memory seen host states → (id p : ℕ) → p < 32 → OthersLeave id p s.machines → (clock : ℕ)
-    → bit_at (states (suc clock)).levels p ≡ last_of p (bit_at (states clock).levels p) (two_writes (intent_in memory (seen clock) (host clock) (states clock) id).level)
-
-after-each : PlacesGoOn → PinsAreOwn → (u : Setup) (sp : Span) → IsUnshared u sp → (seen : ℕ → ℕ) (host : ℕ → Due) (states : ℕ → BlockState) → states 0 ≡ first_state u → Follows u.memory seen host states → (c : ℕ) → IsAfter sp u.memory (seen c) (host c) (states c) (states (suc c))
-after-each go_on own u sp alone seen host states begins follows c = record {
-  place = go_on u.memory seen host states follows c sp.machine;
-  from = own u u.memory seen host states begins follows sp.machine sp.from_pin sp.from_pin_is_a_pin (others-leave-from u sp alone) c;
-  to = own u u.memory seen host states begins follows sp.machine sp.to_pin sp.to_pin_is_a_pin (others-leave-to u sp alone) c;
-}
-
-first-slot : PlacesStart → (u : Setup) (sp : Span) (s : MachineSetup) → slice_index_or u.machines sp.machine None ≡ Some s → (b : BlockState) → b ≡ first_state u → place_at b sp.machine ≡ Some (first_slot s)
-first-slot starts u sp s configured b begins =
-    ap (λ (x : BlockState). place_at x sp.machine) begins ∙ starts u sp.machine sp.machine_in_block ∙ ap (option_map first_slot) configured
-
-pub beside : StartsUnderWay → PlacesStart → PlacesGoOn → PinsAreOwn → (u : Setup) (sp : Span) (rows : List Row) (s : MachineSetup) → slice_index_or u.machines sp.machine None ≡ Some s → IsSoundTable u sp (rows_of rows) → LiesAt Empty (entry_at rows (number_of (start_context u sp))) → IsUnshared u sp → (seen : ℕ → ℕ) (host : ℕ → Due) (states : ℕ → BlockState) → states 0 ≡ first_state u → Follows u.memory seen host states → IsBeside u sp (rows_of rows) s seen host states
-unfolding start_context
-beside way starts go_on own u sp rows s configured sound at_start alone seen host states begins follows =
-    let k : Context = started (Some s) u sp in
-    let same : started (slice_index_or u.machines sp.machine None) u sp ≡ k = ap (λ m. started m u sp) configured in
-    let row : IsInRow Empty (rows_of rows k) = in-row Empty _ (subst (λ x. LiesAt Empty (entry_at rows (number_of x))) same at_start) in
-    record {
-      configured = configured;
-      sound = sound;
-      m = first_slot s;
-      w = start k Empty;
-      start = record {
-        slot = first-slot starts u sp s configured (states 0) begins;
-        setup = refl;
-        under_way = way u sp (rows_of rows) s k (start-agrees u sp s) row;
-        from = rw begins refl;
-        to = rw begins refl;
-      };
-      after = after-each go_on own u sp alone seen host states begins follows;
-    }
-
-pub run_of : PlacesStart → PlacesGoOn → PinsAreOwn → (u : Setup) (sp : Span) (s : MachineSetup) → slice_index_or u.machines sp.machine None ≡ Some s → IsUnshared u sp → (seen : ℕ → ℕ) (host : ℕ → Due) (states : ℕ → BlockState) → states 0 ≡ first_state u → Follows u.memory seen host states → IsRun sp (period_of s) u.memory seen host states
-run_of starts go_on own u sp s configured alone seen host states begins follows = record {
-  m = first_slot s;
-  slot = first-slot starts u sp s configured (states 0) begins;
-  id = place_id 0 sp.machine u.machines s u.at_their_places configured ∙ from_zero sp.machine;
-  clock = refl;
-  period_is = refl;
-  after = after-each go_on own u sp alone seen host states begins follows;
-} where
-  from_zero : (n : ℕ) → 0 + n ≡ n
-  from_zero n = omega arith
+  pub run_of : IsRun sp (period_of s) u.memory seen host states
+  run_of = record {
+    m = first_slot s;
+    slot = first-place;
+    id = place_id 0 sp.machine u.machines s u.at_their_places configured ∙ from_zero sp.machine;
+    clock = refl;
+    period_is = refl;
+    after = after-each;
+  } where
+    from_zero : (n : ℕ) → 0 + n ≡ n
+    from_zero n = omega arith

@@ -1,13 +1,12 @@
 -- Setups of one machine for the worked rows.
-use Rattle.std.proofs.Common.{◌≡◌, ℕ, ◌+◌, ◌<◌, ◌≤◌, ◌^◌, IsTrue, Bool, true, false, Option, Some, None, List, [], ◌∷◌, ◌++◌, replicate, refl, arith, cond}
+use Rattle.std.proofs.Common.{ℕ, ◌<◌, ◌≤◌, ◌^◌, IsTrue, Bool, true, false, Some, None, List, [], ◌∷◌, ◌++◌, replicate, refl, arith}
 use Rattle.pio_encode.specs.declared.rule.SideRule.{SideRule}
 use Rattle.pin_matrix.specs.declared.mapping.Mapping.{Mapping}
 use Rattle.pin_matrix.specs.declared.machine.MachineSetup.{MachineSetup}
 use Rattle.pin_matrix.specs.declared.setup.Setup.{Setup}
 use Rattle.pin_matrix.specs.Setups.{ids_are_places}
 use Rattle.pin_matrix.specs.declared.span.Span.{Span}
-use Rattle.pin_matrix.specs.declared.span.SpanUnit.{SpanUnit}
-use Rattle.pin_matrix.specs.declared.span.SpanUnit.TheVariants.{Ticks, Clocks}
+use Rattle.pin_matrix.specs.declared.span.SpanUnit.TheVariants.{Ticks}
 
 -- no side-set
 abbrev pub no_side : SideRule

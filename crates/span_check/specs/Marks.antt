@@ -4,7 +4,7 @@
 --   changes          an edge: the level before and after
 --   counts, strays   which ticks count, and which must not come while the span is open
 --   mark_of          the mark of a clock
-use Rattle.std.specs.Prelude.{◌≡◌, ℕ, ◌==◌, Bool, true, false, not, ◌&&◌, ◌||◌, Option, Some, None, List, slice_index_or}
+use Rattle.std.specs.Prelude.{ℕ, ◌==◌, Bool, true, false, not, ◌&&◌, ◌||◌, Option, Some, None, List, slice_index_or}
 use Rattle.std.specs.Int.{bit_at}
 use Rattle.std.specs.List.{list_any}
 use Rattle.pin_matrix.specs.declared.span.Span.{Span}

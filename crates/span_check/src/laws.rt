@@ -11,7 +11,9 @@ use block_core::{
 };
 use clock_divider::tick_test;
 use span_bounds::each_entry_is_that_of_a_row;
-use span_ticks::{a_start_is_under_way, a_tick_follows_the_table, open_ages_have_room};
+use span_ticks::{
+    a_start_is_under_way, a_tick_follows_the_table, levels_are_last_writes, open_ages_have_room,
+};
 
 /// Where some table is closed and good, and no other machine's mapping holds a pin of the span, the span holds in every run of
 /// its setup, whatever the stimulus and the length, and whatever pads the machines see. The span's machine is configured.
@@ -22,6 +24,7 @@ pub fn a_provable_span_holds_in_every_run()
     a_tick_follows_the_table();
     open_ages_have_room();
     a_start_is_under_way();
+    levels_are_last_writes();
     each_entry_is_that_of_a_row();
     each_place_goes_its_own_way();
     a_pin_of_one_machine();
