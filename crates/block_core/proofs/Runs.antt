@@ -1,11 +1,12 @@
 -- The laws of a run, clock by clock.
-use Rattle.std.proofs.Common.{◌≡◌, ℕ, zero, suc, ◌+◌, List, refl, ap, ◌∙◌, arith}
+use Rattle.std.proofs.Common.{◌≡◌, ℕ, zero, suc, ◌+◌, List, refl, ap, sym, ◌∙◌, arith}
 use Rattle.pin_matrix.specs.declared.setup.Setup.{Setup}
 use Rattle.pin_matrix.specs.Pads.{seen_of}
 use Rattle.dreq_pacing.specs.declared.due.Due.{Due}
 use Rattle.dreq_pacing.specs.declared.line.Line.{Line}
 use Rattle.dreq_pacing.specs.Ports.{due_in, due_at, transfers_at, transfers_after}
-use Rattle.block_core.specs.Block.{Run, run_at, run_from, next, stepped}
+use Rattle.block_core.specs.Block.{Run, run_at, run_from, first_run, next, stepped}
+use Rattle.block_core.specs.Following.{Follows}
 use Rattle.block_core.specs.History.{pad_at, pad_before}
 use Rattle.block_core.specs.Hosted.{hosted_at, hosted_next, host_of, asked_at}
 
@@ -59,3 +60,19 @@ pub state-run_at : (s : Setup) (host : ℕ → Due) (c : ℕ) →
 unfolding run_from next
 state-run_at s host c =
     rw (memory-run_from _ host c, bypass-run_at s host c, pad_2-run_at s host c) refl
+
+-- what the machines see of the block's own pads
+abbrev pub seen_at : Setup → (ℕ → Due) → ℕ → ℕ
+seen_at s host c = seen_of s.bypass (pad_at s host c) (pad_before s host c)
+
+pub run_follows : (s : Setup) (host : ℕ → Due) → Follows s.memory (seen_at s host) host (λ c. (run_at s host c).state)
+run_follows s host c = state-run_at s host c
+
+-- beside a stimulus
+pub hosted_follows : (s : Setup) (lines : List Line) → Follows s.memory (seen_at s (host_of (first_run s) lines)) (host_of (first_run s) lines) (λ c. (hosted_at (first_run s) lines c).run.state)
+hosted_follows s lines c =
+    let start = first_run s in
+    let host = host_of start lines in
+    ap (λ (r : Run). r.state) (run-hosted_at start lines (suc c))
+    ∙ state-run_at s host c
+    ∙ ap (λ (r : Run). stepped s.memory (seen_at s host c) (host c) r.state) (sym (run-hosted_at start lines c))

@@ -10,7 +10,9 @@ use Rattle.sm_registers.specs.declared.view.View.{View}
 use Rattle.dreq_pacing.specs.declared.due.Due.{Due}
 use Rattle.block_core.specs.Slots.{Slot, first_slot, enabled_by, timed_by, lined, has_tick, settled_slot, slot_after, place_after}
 use Rattle.block_core.specs.Block as block
-use Rattle.block_core.specs.Block.{Run, next, run_from, run_at, first_run, first_state, first_place, view_of, seen_in}
+use Rattle.block_core.specs.Block.{BlockState, run_from, run_at, first_state, view_of}
+use Rattle.block_core.specs.Following.{Follows}
+use Rattle.block_core.proofs.Runs.{seen_at, run_follows}
 use Rattle.block_core.specs.History.{restarted_before, restarted_at, enabled_before, enabled_at, Ticks, OfEach}
 
 -- a divider in a clock
@@ -59,13 +61,12 @@ unfolding restarted_before enabled_before
 first_timed host None = tt
 first_timed host (Some s) = record { timed = refl; enabled = refl }
 
-timed-run_at : (s : Setup) (host : ℕ → Due) (clock : ℕ) → OfEach (IsTimed host clock) (run_at s host clock).state.machines
-unfolding run_from next block.stepped
-timed-run_at s host zero = (first_timed host _, (first_timed host _, (first_timed host _, (first_timed host _, tt))))
-timed-run_at s host (suc clock) =
-    let r = run_at s host clock in
-    each_after (IsTimed host clock) (IsTimed host (suc clock)) (view_of r.memory (seen_in (host clock) r) r.state) (host clock)
-    (timed_after host clock (view_of r.memory (seen_in (host clock) r) r.state)) r.state.machines (timed-run_at s host clock)
+timed-states : (s : Setup) (memory : List ℕ) (seen : ℕ → ℕ) (host : ℕ → Due) (states : ℕ → BlockState) → states 0 ≡ first_state s → Follows memory seen host states → (clock : ℕ) → OfEach (IsTimed host clock) (states clock).machines
+unfolding block.stepped
+timed-states s memory seen host states begins follows zero = rw begins (first_timed host _, (first_timed host _, (first_timed host _, (first_timed host _, tt))))
+timed-states s memory seen host states begins follows (suc clock) =
+    let v = view_of memory (seen clock) (states clock) in
+    rw (follows clock) (each_after (IsTimed host clock) (IsTimed host (suc clock)) v (host clock) (timed_after host clock v) (states clock).machines (timed-states s memory seen host states begins follows clock))
 
 period_of-pos : (int frac : ℕ) → 0 < period_of int frac
 period_of-pos zero frac = omega arith
@@ -89,9 +90,13 @@ tick_timed test host clock m h =
       (λ t. at ∙ both _ _ t.enabled (ticks.1 t.period)),
     )
 
+pub ticks-states : ((restarted period clock : ℕ) → 0 < period → IsTrue (is_tick restarted period clock) ↔ (IsTickClock restarted period clock)) → (s : Setup) (memory : List ℕ) (seen : ℕ → ℕ) (host : ℕ → Due) (states : ℕ → BlockState) → states 0 ≡ first_state s → Follows memory seen host states → (clock : ℕ) → OfEach (λ m. IsTrue (has_tick (lined (host clock) m)) ↔ (Ticks host m.machine.setup clock)) (states clock).machines
+ticks-states test s memory seen host states begins follows clock =
+    each_then (IsTimed host clock) (λ m. IsTrue (has_tick (lined (host clock) m)) ↔ (Ticks host m.machine.setup clock)) (tick_timed test host clock) (states clock).machines (timed-states s memory seen host states begins follows clock)
+
 pub ticks-run_at : ((restarted period clock : ℕ) → 0 < period → IsTrue (is_tick restarted period clock) ↔ (IsTickClock restarted period clock)) → (s : Setup) (host : ℕ → Due) (clock : ℕ) → OfEach (λ m. IsTrue (has_tick (lined (host clock) m)) ↔ (Ticks host m.machine.setup clock)) (run_at s host clock).state.machines
-ticks-run_at test s host clock =
-    each_then (IsTimed host clock) (λ m. IsTrue (has_tick (lined (host clock) m)) ↔ (Ticks host m.machine.setup clock)) (tick_timed test host clock) (run_at s host clock).state.machines (timed-run_at s host clock)
+unfolding run_from
+ticks-run_at test s host clock = ticks-states test s s.memory (seen_at s host) host (λ c. (run_at s host c).state) refl (run_follows s host) clock
 
 -- a clock leaves the setups
 setups_after : (v : View) (d : Due) (places : List (Option Slot)) → map (option_map (λ (m : Slot). m.machine.setup)) (map (place_after v d) places) ≡ map (option_map (λ (m : Slot). m.machine.setup)) places
@@ -100,9 +105,12 @@ setups_after v d [] = refl
 setups_after v d (None ∷ places) = ap (λ (rest : List (Option MachineSetup)). None ∷ rest) (setups_after v d places)
 setups_after v d (Some m ∷ places) = ap (λ (rest : List (Option MachineSetup)). Some m.machine.setup ∷ rest) (setups_after v d places)
 
+pub setups-states : (s : Setup) (memory : List ℕ) (seen : ℕ → ℕ) (host : ℕ → Due) (states : ℕ → BlockState) → states 0 ≡ first_state s → Follows memory seen host states → (clock : ℕ) → map (option_map (λ (m : Slot). m.machine.setup)) (states clock).machines ≡ map (option_map (λ (m : Slot). m.machine.setup)) (first_state s).machines
+unfolding block.stepped
+setups-states s memory seen host states begins follows zero = rw begins refl
+setups-states s memory seen host states begins follows (suc clock) =
+    rw (follows clock) (setups_after (view_of memory (seen clock) (states clock)) (host clock) (states clock).machines ∙ setups-states s memory seen host states begins follows clock)
+
 pub setups-run_at : (s : Setup) (host : ℕ → Due) (clock : ℕ) → map (option_map (λ (m : Slot). m.machine.setup)) (run_at s host clock).state.machines ≡ map (option_map (λ (m : Slot). m.machine.setup)) (first_state s).machines
-unfolding run_from next block.stepped
-setups-run_at s host zero = refl
-setups-run_at s host (suc clock) =
-    let r = run_at s host clock in
-    setups_after (view_of r.memory (seen_in (host clock) r) r.state) (host clock) r.state.machines ∙ setups-run_at s host clock
+unfolding run_from
+setups-run_at s host clock = setups-states s s.memory (seen_at s host) host (λ c. (run_at s host c).state) refl (run_follows s host) clock

@@ -7,7 +7,7 @@ use Rattle.pin_matrix.specs.Pins.{IsWrite}
 use Rattle.sm_registers.specs.declared.intent.Intent.{Intent}
 use Rattle.block_core.specs.Block.{two_writes, level_writes, direction_writes}
 
-two_of : IsWrite (0, 0) → (writes : List (ℕ × ℕ)) (rest : List (ℕ × ℕ)) → AllByRecursion IsWrite writes → AllByRecursion IsWrite rest → AllByRecursion IsWrite (two_writes writes ++ rest)
+pub two_of : IsWrite (0, 0) → (writes : List (ℕ × ℕ)) (rest : List (ℕ × ℕ)) → AllByRecursion IsWrite writes → AllByRecursion IsWrite rest → AllByRecursion IsWrite (two_writes writes ++ rest)
 two_of none [] rest h k = (none, (none, k))
 two_of none (w ∷ []) rest h k = (h.0, (none, k))
 two_of none (w ∷ x ∷ more) rest h k = (h.0, (h.1.0, k))

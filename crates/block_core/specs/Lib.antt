@@ -6,3 +6,4 @@ pub mod Hosted
 pub mod History
 pub mod Kept
 pub mod Merging
+pub mod Following

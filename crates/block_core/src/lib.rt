@@ -2,12 +2,17 @@
 #![tactic(auto)]
 
 mod block;
+mod following;
 mod laws;
 mod merging;
 mod sample;
 mod slot;
 
 pub use block::Block;
+pub use following::{
+    a_block_sees_its_own_pads, a_pin_of_one_machine, each_place_goes_its_own_way,
+    ticks_follow_the_divider_over_any_pads,
+};
 pub use laws::{
     a_stimulus_is_a_system, clocks_are_counted, each_pin_gets_the_last_write,
     pads_are_seen_two_clocks_late, ticks_follow_the_divider, unused_fifos_ask_as_before,

@@ -32,7 +32,7 @@ use Rattle.span_bounds.specs.Sums.{passages, one_if, open_at}
 use Rattle.span_bounds.specs.Take.{IsTaken}
 use Rattle.span_bounds.specs.Answers.{HasCause, IsGoodLeast, IsBadEverywhere, cause_at, AreGoodBelow}
 use Rattle.span_bounds.proofs.Placing.{number_of-context_at, context_at-number_of}
-use Rattle.span_bounds.proofs.Rows.{entry_at-rows_from, IsTable-rows_from}
+use Rattle.span_bounds.proofs.Grids.{entry_at-rows_from, IsTable-rows_from}
 
 -- ages of at least n at an entry
 abbrev pub ReachesAt : ℕ → Entry → Type 0

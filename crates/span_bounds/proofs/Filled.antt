@@ -23,7 +23,7 @@ use Rattle.span_bounds.specs.Answers.{filled, cause_by, cause_at}
 use Rattle.span_bounds.proofs.Nexts.{EachNext-both}
 use Rattle.span_bounds.proofs.Joins.{beside}
 use Rattle.span_bounds.proofs.Placing.{number_of-context_at}
-use Rattle.span_bounds.proofs.Rows.{entry_at-rows_from, IsTable-rows_from}
+use Rattle.span_bounds.proofs.Grids.{entry_at-rows_from, IsTable-rows_from}
 use Rattle.span_bounds.proofs.Ends.{ReachesAt, left_above, cap_fits, most_fits, row_at, in_lie, closed_at, each_row_at, starts}
 
 -- the entries by which the rows are judged

@@ -17,7 +17,7 @@ use Rattle.span_bounds.specs.Edges.{at}
 use Rattle.span_bounds.specs.Take.{IsTaken}
 use Rattle.span_bounds.specs.Answers.{cause_by, cause_at, filled, IsBadAt, AreGoodBelow, IsFirstBad}
 use Rattle.span_bounds.proofs.Placing.{context_at-number_of}
-use Rattle.span_bounds.proofs.Rows.{entry_at-rows_from}
+use Rattle.span_bounds.proofs.Grids.{entry_at-rows_from}
 use Rattle.span_bounds.proofs.Ends.{IsBadEverywhere-ends}
 use Rattle.span_bounds.proofs.Filled.{filled_all, at_filled, table, closed_table, same_first}
 

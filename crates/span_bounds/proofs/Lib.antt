@@ -1,6 +1,6 @@
 pub mod Nexts
 pub mod Placing
-pub mod Rows
+pub mod Grids
 pub mod Reaching
 pub mod Joins
 pub mod Counts
@@ -9,3 +9,4 @@ pub mod Takes
 pub mod Ends
 pub mod Filled
 pub mod Firsts
+pub mod Members

@@ -33,6 +33,14 @@ impl Grid {
         Ok(Grid { entries })
     }
 
+    /// How many entries it has.
+    pub(crate) fn len(&self) -> usize
+        ensures value { result ≡ 139392 }
+        ensures size { length self.now ≡ 139392 }
+    {
+        self.entries.len()
+    }
+
     /// What it says of a context.
     pub(crate) fn at(&self, number: usize) -> Entry
         requires { number < 139392 }

@@ -6,10 +6,12 @@ mod count;
 mod derived;
 mod entry;
 mod grid;
+mod laws;
 mod number;
 mod reach;
 mod row;
 mod row_step;
+mod rows;
 mod stack;
 mod start;
 mod table;
@@ -17,8 +19,8 @@ mod take;
 
 pub use answer::derive;
 pub use derived::Derived;
+pub use laws::{each_context_has_its_number, each_entry_is_that_of_a_row};
 pub use row::Row;
+pub use rows::Rows;
+pub use start::start_context;
 pub use table::Table;
-
-#[cfg(test)]
-mod tests;

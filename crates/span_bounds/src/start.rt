@@ -5,9 +5,10 @@ ghost use Rattle.span_bounds.specs.Tables as spec;
 use pin_matrix::{MachineSetup, Setup, Span};
 use span_step::Context;
 
-/// The machine's first address, its X and Y where they are below 32, and the initial levels.
+/// Where a table starts: the machine's first address, its X and Y where they are below 32, and the initial levels of the
+/// span's pins. The span's machine is configured.
 #[tactic(auto, unfolding(crate::specs::Tables::start_context))]
-pub(crate) fn start_context(setup: &Setup, span: &Span) -> Context
+pub fn start_context(setup: &Setup, span: &Span) -> Context
     requires { IsSome (slice_index_or setup.now.machines span.now.machine None) }
     ensures { result ≡ spec.start_context setup.now span.now }
 {

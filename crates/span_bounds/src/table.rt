@@ -2,10 +2,12 @@
 ghost use Rattle.std.specs.Prelude.{◌≡◌};
 ghost use Rattle.span_bounds.specs.Numbers.{number_of};
 ghost use Rattle.span_bounds.specs.Tables as spec;
+ghost use Rattle.span_bounds.specs.Tables.{IsTable};
 
 use crate::entry::Entry;
 use crate::grid::Grid;
 use crate::number;
+use crate::rows::Rows;
 use span_step::{Ages, Context};
 use std::marker::Model;
 
@@ -35,8 +37,16 @@ impl Table {
         Table { grid }
     }
 
+    /// Its rows, in context order.
+    pub fn rows(&self) -> Rows<'_>
+        ensures rows { result ≡ self.now }
+        ensures table { IsTable self.now }
+    {
+        Rows::of(&self.grid)
+    }
+
     /// The ages that a context has, if it has a row.
-    #[tactic(auto, using(crate::proofs::Rows::looked_up))]
+    #[tactic(auto, using(crate::proofs::Grids::looked_up))]
     pub fn ages(&self, context: &Context) -> Option<Ages>
         ensures { result ≡ spec.ages_of (spec.entry_at self.now (number_of context.now)) }
     {

@@ -1,0 +1,141 @@
+-- A machine's place in a run, and the pins to which it alone is mapped.
+use Rattle.std.proofs.Common.{◌≡◌, ℕ, zero, suc, ◌<◌, ◌==◌, Bool, true, false, not, ◌&&◌, ◌||◌, Option, Some, None, option_map, IfSome, List, [], ◌∷◌, ◌++◌, map, cond, slice_index_or, refl, ap, sym, ◌∙◌, subst, arith}
+use Rattle.std.proofs.lemmas.Bool.{and_parts}
+use Rattle.std.proofs.lemmas.Nat.Bits.{bit_at-zero}
+use Rattle.std.proofs.Math.ListN.{get_or-map}
+use Rattle.std.specs.Int.{bit_at}
+use Rattle.std.specs.List.{AllByRecursion}
+use Rattle.pin_matrix.specs.Pins.{IsWrite, IsFree, merged, last_of}
+use Rattle.pin_matrix.specs.declared.machine.MachineSetup.{MachineSetup}
+use Rattle.pin_matrix.specs.declared.setup.Setup.{Setup}
+use Rattle.sm_registers.specs.declared.registers.Registers.{Registers}
+use Rattle.sm_registers.specs.declared.view.View.{View}
+use Rattle.sm_registers.specs.declared.intent.Intent.{Intent}
+use Rattle.sm_registers.specs.Effects.{no_intent}
+use Rattle.sm_registers.specs.Laws.{WritesPins}
+use Rattle.sm_registers.specs.Queues.{Queues}
+use Rattle.sm_registers.specs.Rules.{holds}
+use Rattle.sm_registers.specs.State.{queues_of}
+use Rattle.sm_registers.specs.Tick.{tick_of}
+use Rattle.dreq_pacing.specs.declared.due.Due.{Due}
+use Rattle.block_core.specs.Slots.{Slot, first_slot, lined, has_tick, acted, place_after, place_intent}
+use Rattle.block_core.specs.Block.{BlockState, first_state, first_place, stepped, view_of, intents_of, two_writes, level_writes}
+use Rattle.block_core.specs.Following.{Follows, place_at, intent_in, leaves_level, OthersLeave}
+use Rattle.block_core.proofs.Writes.{two_of}
+
+pub place-start : (s : Setup) (id : ℕ) → id < 4 → place_at (first_state s) id ≡ first_place s id
+place-start s zero h = refl
+place-start s (suc zero) h = refl
+place-start s (suc (suc zero)) h = refl
+place-start s (suc (suc (suc zero))) h = refl
+place-start s (suc (suc (suc (suc id)))) h = absurd (omega arith)
+
+pub place-after : (memory : List ℕ) (seen : ℕ → ℕ) (host : ℕ → Due) (states : ℕ → BlockState) → Follows memory seen host states → (clock id : ℕ) → place_at (states (suc clock)) id ≡ place_after (view_of memory (seen clock) (states clock)) (host clock) (place_at (states clock) id)
+unfolding stepped
+place-after memory seen host states follows clock id =
+    ap (λ (b : BlockState). place_at b id) (follows clock)
+    ∙ get_or-map (place_after (view_of memory (seen clock) (states clock)) (host clock)) (states clock).machines id None
+
+-- a fact of what a place wants, which holds of a tick and of nothing
+of_intent : (P : Intent → Type 0) (v : View) (d : Due) → P no_intent → (m : Slot) → P (tick_of m.machine.setup v (queues_of m.machine.ports.fifos) m.machine.registers).1 → P (place_intent v d (Some m))
+unfolding acted
+of_intent P v d none m tick = elim (has_tick (lined d m)) as (λ b. P (cond b (tick_of m.machine.setup v (queues_of m.machine.ports.fifos) m.machine.registers) (m.machine.registers, no_intent)).1) [ true ↦ tick | false ↦ none ]
+
+-- what two sections of the block's laws say, as premises here
+abbrev pub TicksWritePins : Type 0
+TicksWritePins = (s : MachineSetup) (v : View) (q : Queues) (r : Registers) → WritesPins (tick_of s v q r).1
+
+abbrev pub TicksWriteOwnPins : Type 0
+TicksWriteOwnPins =
+    (s : MachineSetup) (v : View) (q : Queues) (r : Registers) (p : ℕ) → p < 32 → holds s.out p ≡ false → holds s.set p ≡ false
+    → (s.side_rule.pindirs || not (holds s.side p)) ≡ true → AllByRecursion (IsFree p) (tick_of s v q r).1.level
+
+place_writes : TicksWritePins → IsWrite (0, 0) → (v : View) (d : Due) (place : Option Slot) → AllByRecursion IsWrite (place_intent v d place).level
+place_writes law none v d None = (none, (none, tt))
+place_writes law none v d (Some m) =
+    of_intent (λ i. AllByRecursion IsWrite i.level) v d (none, (none, tt)) m (law m.machine.setup v (queues_of m.machine.ports.fifos) m.machine.registers).level
+
+all_writes : TicksWritePins → IsWrite (0, 0) → (v : View) (d : Due) (places : List (Option Slot)) → AllByRecursion IsWrite (level_writes (intents_of v d places))
+all_writes law none v d [] = tt
+all_writes law none v d (place ∷ places) =
+    two_of none (place_intent v d place).level (level_writes (intents_of v d places)) (place_writes law none v d place) (all_writes law none v d places)
+
+is_not : (b : Bool) → not b ≡ true → b ≡ false
+is_not true h = cc
+is_not false h = refl
+
+free_two : (p : ℕ) (writes : List (ℕ × ℕ)) → AllByRecursion (IsFree p) writes → AllByRecursion (IsFree p) (two_writes writes)
+free_two p [] h = (bit_at-zero p, (bit_at-zero p, tt))
+free_two p (w ∷ []) h = (h.0, (bit_at-zero p, tt))
+free_two p (w ∷ x ∷ more) h = (h.0, (h.1.0, tt))
+
+place_free : TicksWriteOwnPins → (v : View) (d : Due) (p : ℕ) → p < 32 → (place : Option Slot) → IfSome (option_map (λ (m : Slot). m.machine.setup) place) (λ s. leaves_level p s ≡ true) → AllByRecursion (IsFree p) (two_writes (place_intent v d place).level)
+place_free law v d p inside None h = (bit_at-zero p, (bit_at-zero p, tt))
+place_free law v d p inside (Some m) h =
+    let s = m.machine.setup in
+    let parts = and_parts (not (holds s.out p)) (not (holds s.set p) && (s.side_rule.pindirs || not (holds s.side p))) h in
+    let rest = and_parts (not (holds s.set p)) (s.side_rule.pindirs || not (holds s.side p)) parts.1 in
+    free_two p (place_intent v d (Some m)).level
+    (of_intent (λ i. AllByRecursion (IsFree p) i.level) v d (bit_at-zero p, (bit_at-zero p, tt)) m
+    (law s v (queues_of m.machine.ports.fifos) m.machine.registers p inside (is_not _ parts.0) (is_not _ rest.0) rest.1))
+
+-- writes that leave a pin, before others
+free_append : (p : ℕ) (a b : List (ℕ × ℕ)) → AllByRecursion (IsFree p) a → AllByRecursion (IsFree p) b → AllByRecursion (IsFree p) (a ++ b)
+free_append p [] b h k = k
+free_append p (w ∷ a) b h k = (h.0, free_append p a b h.1 k)
+
+last_append : (p old : ℕ) (a b : List (ℕ × ℕ)) → last_of p old (a ++ b) ≡ last_of p (last_of p old a) b
+unfolding last_of
+last_append p old [] b = refl
+last_append p old (w ∷ a) b = last_append p (cond (bit_at w.0 p == 1) (bit_at w.1 p) old) a b
+
+-- as a premise: a pin that no write holds stays
+abbrev pub FreeStays : Type 0
+FreeStays = (p old : ℕ) (ws : List (ℕ × ℕ)) → AllByRecursion (IsFree p) ws → last_of p old ws ≡ old
+
+-- each of the places leaves the pin
+abbrev AllLeave : ℕ → List (Option Slot) → Type 0
+AllLeave p places = (other : ℕ) → IfSome (slice_index_or (map (option_map (λ (m : Slot). m.machine.setup)) places) other None) (λ s. leaves_level p s ≡ true)
+
+all_free : TicksWriteOwnPins → (v : View) (d : Due) (p : ℕ) → p < 32 → (places : List (Option Slot)) → AllLeave p places → AllByRecursion (IsFree p) (level_writes (intents_of v d places))
+all_free law v d p inside [] h = tt
+all_free law v d p inside (place ∷ places) h =
+    free_append p (two_writes (place_intent v d place).level) (level_writes (intents_of v d places)) (place_free law v d p inside place (h zero)) (all_free law v d p inside places (λ other. h (suc other)))
+
+-- the writes of the one machine are all that there is
+last-own : TicksWriteOwnPins → FreeStays → (v : View) (d : Due) (p : ℕ) → p < 32 → (places : List (Option Slot)) (id old : ℕ) → OthersLeave id p (map (option_map (λ (m : Slot). m.machine.setup)) places) → last_of p old (level_writes (intents_of v d places)) ≡ last_of p old (two_writes (place_intent v d (slice_index_or places id None)).level)
+unfolding last_of
+last-own law stays v d p inside [] id old h = sym (stays p old ((0, 0) ∷ (0, 0) ∷ []) (bit_at-zero p, (bit_at-zero p, tt)))
+last-own law stays v d p inside (place ∷ places) zero old h =
+    let own = two_writes (place_intent v d place).level in
+    last_append p old own (level_writes (intents_of v d places))
+    ∙ stays p (last_of p old own) (level_writes (intents_of v d places)) (all_free law v d p inside places (λ other. h (suc other) (λ e. absurd (omega (arith, e)))))
+last-own law stays v d p inside (place ∷ places) (suc id) old h =
+    let first = two_writes (place_intent v d place).level in
+    let free = place_free law v d p inside place (h zero (λ e. absurd (omega (arith, e)))) in
+    last_append p old first (level_writes (intents_of v d places))
+    ∙ ap (λ o. last_of p o (level_writes (intents_of v d places))) (stays p old first free)
+    ∙ last-own law stays v d p inside places id old (λ other apart. h (suc other) (λ e. apart (omega (arith, e))))
+
+-- the setups are at their places from the start
+some_first : (P : MachineSetup → Type 0) (s : Option MachineSetup) → IfSome s P → IfSome (option_map (λ (m : Slot). m.machine.setup) (option_map first_slot s)) P
+some_first P None h = tt
+some_first P (Some s) h = h
+
+leave-first : (s : Setup) (id p : ℕ) → OthersLeave id p s.machines → OthersLeave id p (map (option_map (λ (m : Slot). m.machine.setup)) (first_state s).machines)
+leave-first s id p h zero apart = some_first (λ t. leaves_level p t ≡ true) (slice_index_or s.machines 0 None) (h 0 apart)
+leave-first s id p h (suc zero) apart = some_first (λ t. leaves_level p t ≡ true) (slice_index_or s.machines 1 None) (h 1 apart)
+leave-first s id p h (suc (suc zero)) apart = some_first (λ t. leaves_level p t ≡ true) (slice_index_or s.machines 2 None) (h 2 apart)
+leave-first s id p h (suc (suc (suc zero))) apart = some_first (λ t. leaves_level p t ≡ true) (slice_index_or s.machines 3 None) (h 3 apart)
+leave-first s id p h (suc (suc (suc (suc other)))) apart = tt
+
+-- as a premise: of a pin's writes the last gives its level
+abbrev pub LastStands : Type 0
+LastStands = (p old : ℕ) (ws : List (ℕ × ℕ)) → p < 32 → AllByRecursion IsWrite ws → bit_at (merged old ws) p ≡ last_of p (bit_at old p) ws
+
+pub own_level : TicksWritePins → TicksWriteOwnPins → IsWrite (0, 0) → LastStands → FreeStays → (s : Setup) (memory : List ℕ) (seen : ℕ) (d : Due) (b : BlockState) (id p : ℕ) → p < 32 → OthersLeave id p s.machines → map (option_map (λ (m : Slot). m.machine.setup)) b.machines ≡ map (option_map (λ (m : Slot). m.machine.setup)) (first_state s).machines → bit_at (stepped memory seen d b).levels p ≡ last_of p (bit_at b.levels p) (two_writes (intent_in memory seen d b id).level)
+unfolding stepped
+own_level writes law none last stays s memory seen d b id p inside others same =
+    let v = view_of memory seen b in
+    last p b.levels (level_writes (intents_of v d b.machines)) inside (all_writes writes none v d b.machines)
+    ∙ last-own law stays v d p inside b.machines id (bit_at b.levels p) (subst (OthersLeave id p) (sym same) (leave-first s id p others))

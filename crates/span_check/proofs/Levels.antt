@@ -1,0 +1,46 @@
+-- A pin's level where nothing is written, edges, and what the intent of a tick looks like.
+use Rattle.std.proofs.Common.{◌≡◌, ℕ, Bool, true, false, cond, List, [], ◌∷◌, nat_lt, refl}
+use Rattle.std.proofs.lemmas.Nat.Bits.{bit_at-zero}
+use Rattle.pin_matrix.specs.declared.machine.MachineSetup.{MachineSetup}
+use Rattle.sm_registers.specs.declared.intent.Kind.{Kind}
+use Rattle.sm_registers.specs.declared.intent.Kind.TheVariants.{First, Late, Delay}
+use Rattle.sm_registers.specs.declared.registers.Registers.{Registers}
+use Rattle.sm_registers.specs.declared.view.View.{View}
+use Rattle.sm_registers.specs.Effects.{no_intent, effect_of}
+use Rattle.sm_registers.specs.Queues.{Queues}
+use Rattle.pio_encode.specs.declared.op.Op.{Op}
+use Rattle.pio_encode.specs.Word.{reading_of}
+use Rattle.sm_registers.specs.Tick.{tick_of, tick_delay, tick_word, tick_by, current_word, side_writes}
+use Rattle.block_core.specs.Block.{two_writes}
+use Rattle.span_step.specs.Courses.{is_edge}
+use Rattle.span_ticks.specs.Following.{level_after}
+use Rattle.span_check.specs.Marks.{changes}
+
+-- nothing is written
+pub level-none : (p : ℕ) (level : Bool) → level_after p (two_writes no_intent.level) level ≡ level
+level-none p level = rw (bit_at-zero p) refl
+
+pub changes-is_edge : (rise a b : Bool) → changes rise a b ≡ is_edge rise a b
+changes-is_edge true a b = refl
+changes-is_edge false a b = refl
+
+-- a level that stays makes no edge
+pub no-edge : (rise a : Bool) → is_edge rise a a ≡ false
+no-edge true true = refl
+no-edge true false = refl
+no-edge false true = refl
+no-edge false false = refl
+
+-- a fact of the intent of a tick: it is no clock without a tick, and has two writes to levels
+pub of-tick : (P : Kind → List (ℕ × ℕ) → Type 0) → ((w x : ℕ × ℕ) → P Delay (w ∷ x ∷ [])) → ((w x : ℕ × ℕ) → P First (w ∷ x ∷ [])) → ((w x : ℕ × ℕ) → P Late (w ∷ x ∷ [])) → (s : MachineSetup) (v : View) (q : Queues) (r : Registers) → P (tick_of s v q r).1.kind (tick_of s v q r).1.level
+unfolding tick_of tick_delay tick_word tick_by
+of-tick P delay first late s v q r =
+    let op : Op = reading_of (current_word v r) s.side_rule in
+    elim (nat_lt 0 r.delay) as (λ b. let t = cond b (tick_delay s q r) (tick_word op s v q r) in P t.1.kind t.1.level) [
+      | true ↦ delay (0, 0) (0, 0)
+      | false ↦
+          elim (r.begun) as (λ b. P (cond b Late First) ((effect_of op.act s v q r).level ∷ cond s.side_rule.pindirs (0, 0) (side_writes op.side r.begun s) ∷ [])) [
+            | true ↦ late _ _
+            | false ↦ first _ _
+          ]
+    ]

@@ -1,0 +1,13 @@
+pub mod WorkedSetups
+pub mod WorkedRows
+pub mod Counting
+pub mod Levels
+pub mod Premises
+pub mod Steps
+pub mod Walk
+pub mod Periods
+pub mod InTicks
+pub mod Pacing
+pub mod InClocks
+pub mod Sound
+pub mod Held

@@ -1,0 +1,73 @@
+-- A run beside the checker's table, clock by clock.
+use Rattle.std.proofs.Common.{◌≡◌, ℕ, zero, suc, ◌+◌, ◌≤◌, true, false, Option, Some, None, slice_index_or, sym, subst, arith}
+use Rattle.pin_matrix.specs.declared.machine.MachineSetup.{MachineSetup}
+use Rattle.pin_matrix.specs.declared.setup.Setup.{Setup}
+use Rattle.pin_matrix.specs.declared.span.Span.{Span}
+use Rattle.dreq_pacing.specs.declared.due.Due.{Due}
+use Rattle.block_core.specs.Slots.{Slot}
+use Rattle.block_core.specs.Block.{BlockState}
+use Rattle.span_step.specs.declared.ages.Ages.{Ages}
+use Rattle.span_step.specs.Contexts.{Context}
+use Rattle.span_step.specs.Steps.{bounds_of}
+use Rattle.span_ticks.specs.Rows.{IsSoundTable}
+use Rattle.span_ticks.specs.UnderWay.{Watch}
+use Rattle.span_check.specs.Marks.{Mark}
+use Rattle.span_check.specs.Holding.{counted}
+use Rattle.span_check.specs.Runs.{marks_over}
+use Rattle.span_check.proofs.Counting.{one_if, counted-suc, counted-none, AreOpen, open-after}
+use Rattle.span_check.proofs.Premises.{Laws}
+use Rattle.span_check.proofs.Steps.{Fits, IsGoing, IsAfter, GoesOn, one_clock}
+
+-- a run of a setup beside a table: what the proof asks of it
+pub record IsBeside (u : Setup) (sp : Span) (rows : Context → Option Ages) (s : MachineSetup) (seen : ℕ → ℕ) (host : ℕ → Due) (states : ℕ → BlockState) : Type 0 where
+  pub configured : slice_index_or u.machines sp.machine None ≡ Some s
+  pub sound : IsSoundTable u sp rows
+  pub m : Slot
+  pub w : Watch
+  pub start : IsGoing u sp rows s (states 0) m w
+  pub after : (c : ℕ) → IsAfter sp u.memory (seen c) (host c) (states c) (states (suc c))
+
+-- the machine at the start of clock c, with what was counted since each from-edge that is open
+pub record IsThere (u : Setup) (sp : Span) (rows : Context → Option Ages) (s : MachineSetup) (marks : ℕ → Mark) (b : BlockState) (c : ℕ) : Type 0 where
+  pub m : Slot
+  pub w : Watch
+  pub going : IsGoing u sp rows s b m w
+  pub ages : AreOpen marks (λ from. Fits (bounds_of sp s).1 (counted marks from c) w.ages) c
+
+-- what a clock is for a from-edge since which so many ticks counted
+pub record IsFine (min max : ℕ) (k : Mark) (n : ℕ) : Type 0 where
+  pub most : n + one_if k.counts ≤ max
+  pub least : k.to ≡ true → min ≤ n + one_if k.counts
+  pub strays : k.strays ≡ false
+
+module _ (laws : Laws) (u : Setup) (sp : Span) (rows : Context → Option Ages) (s : MachineSetup) (seen : ℕ → ℕ) (host : ℕ → Due) (states : ℕ → BlockState) (b : IsBeside u sp rows s seen host states) where
+  next_clock : (c : ℕ) → (there : IsThere u sp rows s (marks_over sp u.memory seen host states) (states c) c) → GoesOn u sp rows s (states (suc c)) (marks_over sp u.memory seen host states c) there.w.ages
+  next_clock c there =
+      one_clock laws u sp rows s b.configured b.sound (seen c) (host c) (states c) (states (suc c)) there.m there.w (b.after c) there.going
+
+  there_after : (c : ℕ) → IsThere u sp rows s (marks_over sp u.memory seen host states) (states c) c → IsThere u sp rows s (marks_over sp u.memory seen host states) (states (suc c)) (suc c)
+  there_after c there =
+      let marks : ℕ → Mark = marks_over sp u.memory seen host states in
+      let max : ℕ = (bounds_of sp s).1 in
+      let next = next_clock c there in
+      record {
+        m = next.m;
+        w = next.w;
+        going = next.going;
+        ages = open-after marks (λ from. Fits max (counted marks from c) there.w.ages) (λ from. Fits max (counted marks from (suc c)) next.w.ages) c
+            (λ from earlier quiet h. subst (λ k. Fits max k next.w.ages) (sym (counted-suc marks from c earlier)) (next.goes.stays (counted marks from c) h quiet))
+            (λ edge. subst (λ k. Fits max k next.w.ages) (sym (counted-none marks c (suc c) (omega arith))) (next.goes.fresh edge))
+            there.ages;
+      }
+
+  pub there : (c : ℕ) → IsThere u sp rows s (marks_over sp u.memory seen host states) (states c) c
+  there zero = record { m = b.m; w = b.w; going = b.start; ages = λ from below. absurd (omega (arith, below)) }
+  there (suc c) = there_after c (there c)
+
+  -- each clock is fine for each from-edge that is open
+  pub fine : (c : ℕ) → let marks = marks_over sp u.memory seen host states in AreOpen marks (λ from. IsFine (bounds_of sp s).0 (bounds_of sp s).1 (marks c) (counted marks from c)) c
+  fine c from below edge quiet =
+      let at = there c in
+      let fits = at.ages from below edge quiet in
+      let next = next_clock c at in
+      record { most = next.goes.most _ fits; least = next.goes.least _ fits; strays = next.goes.strays _ fits }

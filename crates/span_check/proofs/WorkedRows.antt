@@ -1,0 +1,105 @@
+-- Worked rows: what the definitions give for runs that were worked out by hand.
+use Rattle.std.proofs.Common.{◌≡◌, ℕ, true, false, [], ◌∷◌, refl, arith}
+use Rattle.pin_matrix.specs.declared.setup.Setup.{Setup}
+use Rattle.pin_matrix.specs.declared.span.SpanUnit.TheVariants.{Clocks}
+use Rattle.dreq_pacing.specs.declared.line.Act.TheVariants.{Tx, Restart, Disable, Enable}
+use Rattle.clock_divider.specs.Ticks.{is_tick}
+use Rattle.fifo_pair.specs.Fifos.{settled}
+use Rattle.pin_matrix.specs.Pins.{merged}
+use Rattle.pio_encode.specs.Word.{reading_of, act_of, push_or_pull_at, delay_of, side_of, mov_at, set_at}
+use Rattle.sm_registers.specs.Effects.{effect_of, jmp_effect, out_effect, pull_effect, set_effect, mov_effect}
+use Rattle.sm_registers.specs.State.{settled_ports}
+use Rattle.sm_registers.specs.Tick.{tick_of, tick_delay, tick_word, tick_by, after_effect}
+use Rattle.dreq_pacing.specs.Ports.{due_in, transfers_after}
+use Rattle.block_core.specs.Shown.{requests_of}
+use Rattle.block_core.specs.Block.{stepped, next}
+use Rattle.block_core.specs.Hosted.{hosted_at, hosted_next}
+use Rattle.block_core.specs.Slots.{acted, settled_slot}
+use Rattle.span_check.specs.Marks.{Mark, mark_of}
+use Rattle.span_check.specs.Holding.{counted, measured}
+use Rattle.span_check.specs.Runs.{marks_in}
+use Rattle.span_check.proofs.WorkedSetups.{plain_machine, side_one, side_one_opt, pin_0, block_of, span_of}
+
+-- a UART transmitter: `pull side 1 [7]`, `set x, 7 side 0 [7]`, `out pins, 1`, `jmp x-- 2 [6]`
+uart : Setup
+uart = block_of (record plain_machine { side_rule = side_one_opt; side = pin_0; out = pin_0; wrap_top = 3; wrap_top_in_memory = omega arith }) refl (40864 ∷ 63271 ∷ 24577 ∷ 1602 ∷ []) 1
+
+-- from its fall, the start bit, to a rise; the byte 0x41 waits in TX from clock 0 on
+start_bit : ℕ → Mark
+start_bit = marks_in (span_of false true 8 72 (omega arith) (omega arith) []) uart (record { clock = 0; act = Tx 0 65 } ∷ [])
+
+-- the start bit begins in clock 9, and the first data bit, a 1, in clock 17
+uart-row : ((start_bit 9).from ≡ true) × ((start_bit 17).to ≡ true) × (counted start_bit 9 18 ≡ 8)
+unfolding uart start_bit mark_of counted hosted_at hosted_next next stepped acted settled_slot is_tick settled merged reading_of act_of push_or_pull_at delay_of side_of set_at mov_at effect_of jmp_effect out_effect pull_effect set_effect mov_effect settled_ports tick_of tick_delay tick_word tick_by after_effect due_in transfers_after requests_of
+uart-row = (refl, refl, refl)
+
+-- a WS2812 transmitter: `out x, 1 side 0 [2]`, `jmp !x 3 side 1 [1]`, `jmp 0 side 1 [4]`, `nop side 0 [4]`, with autopull
+ws2812 : Setup
+ws2812 = block_of (record plain_machine { side_rule = side_one; side = pin_0; autopull = true; pull_threshold = 24; out_right = false; wrap_top = 3; wrap_top_in_memory = omega arith; pulls_some = omega arith; pulls_a_word = omega arith }) refl (25121 ∷ 4387 ∷ 5120 ∷ 41026 ∷ []) 0
+
+-- the high time of a 1
+high : ℕ → Mark
+high = marks_in (span_of true false 2 7 (omega arith) (omega arith) []) ws2812 (record { clock = 0; act = Tx 0 2147483648 } ∷ [])
+
+-- OUT stalls in clock 0, the OSR is refilled in clock 1, and OUT finishes in clock 2
+ws2812-row : ((high 5).from ≡ true) × ((high 12).to ≡ true) × (counted high 5 13 ≡ 7)
+unfolding ws2812 high mark_of counted hosted_at hosted_next next stepped acted settled_slot is_tick settled merged reading_of act_of push_or_pull_at delay_of side_of set_at mov_at effect_of jmp_effect out_effect pull_effect set_effect mov_effect settled_ports tick_of tick_delay tick_word tick_by after_effect due_in transfers_after requests_of
+ws2812-row = (refl, refl, refl)
+
+-- a PULL that waits with pin 0 high: `pull side 1`, `nop side 0`
+waiting : Setup
+waiting = block_of (record plain_machine { side_rule = side_one; side = pin_0; wrap_top = 1; wrap_top_in_memory = omega arith }) refl (37024 ∷ 41026 ∷ []) 0
+
+-- the high time, with the stall named and without
+named : ℕ → Mark
+named = marks_in (span_of true false 1 1 (omega arith) (omega arith) (0 ∷ [])) waiting (record { clock = 5; act = Tx 0 7 } ∷ [])
+
+unnamed : ℕ → Mark
+unnamed = marks_in (span_of true false 1 1 (omega arith) (omega arith) []) waiting (record { clock = 5; act = Tx 0 7 } ∷ [])
+
+-- six late ticks, of which the last pulls: not counted where they are named, and amiss where they are not
+waiting-row : ((named 0).from ≡ true) × ((named 7).to ≡ true) × (counted named 0 8 ≡ 1) × ((named 1).strays ≡ false) × ((unnamed 1).strays ≡ true) × (counted unnamed 0 8 ≡ 7)
+unfolding waiting named unnamed mark_of counted hosted_at hosted_next next stepped acted settled_slot is_tick settled merged reading_of act_of push_or_pull_at delay_of side_of set_at mov_at effect_of jmp_effect out_effect pull_effect set_effect mov_effect settled_ports tick_of tick_delay tick_word tick_by after_effect due_in transfers_after requests_of
+waiting-row = (refl, refl, refl, refl, refl, refl)
+
+-- `set pins, 1`, `set pins, 0`, with a divider of 2.5
+square : Setup
+square = block_of (record plain_machine { int = 2; frac = 128; wrap_top = 1; wrap_top_in_memory = omega arith; divides = refl }) refl (57345 ∷ 57344 ∷ []) 0
+
+-- the high time, with a restart of the divider in clock 6
+restarted : ℕ → Mark
+restarted = marks_in (span_of true false 1 1 (omega arith) (omega arith) []) square (record { clock = 6; act = Restart 0 } ∷ [])
+
+-- ticks come in the clocks 0, 2, 5, 6, 8, 11
+restarted-row : ((restarted 0).from ≡ true) × ((restarted 2).to ≡ true) × ((restarted 5).from ≡ true) × ((restarted 6).to ≡ true) × ((restarted 6).breaks ≡ true) × (counted restarted 5 7 ≡ 1) × (measured Clocks restarted 0 3 ≡ 2)
+unfolding square restarted mark_of counted hosted_at hosted_next next stepped acted settled_slot is_tick settled merged reading_of act_of push_or_pull_at delay_of side_of set_at mov_at effect_of jmp_effect out_effect pull_effect set_effect mov_effect settled_ports tick_of tick_delay tick_word tick_by after_effect due_in transfers_after requests_of
+restarted-row = (refl, refl, refl, refl, refl, refl, refl)
+
+-- the same with a divider of 1
+fast : Setup
+fast = block_of (record plain_machine { wrap_top = 1; wrap_top_in_memory = omega arith }) refl (57345 ∷ 57344 ∷ []) 0
+
+-- the machine is disabled in clock 3 and enabled in clock 5
+disabled : ℕ → Mark
+disabled = marks_in (span_of true false 1 1 (omega arith) (omega arith) []) fast (record { clock = 3; act = Disable 0 } ∷ record { clock = 5; act = Enable 0 } ∷ [])
+
+-- pin 0 is high from clock 2 to clock 5, which is one tick, and three clocks
+disabled-row : ((disabled 2).from ≡ true) × ((disabled 5).to ≡ true) × ((disabled 3).breaks ≡ true) × (counted disabled 2 6 ≡ 1) × (measured Clocks disabled 2 6 ≡ 3)
+unfolding fast disabled mark_of counted hosted_at hosted_next next stepped acted settled_slot is_tick settled merged reading_of act_of push_or_pull_at delay_of side_of set_at mov_at effect_of jmp_effect out_effect pull_effect set_effect mov_effect settled_ports tick_of tick_delay tick_word tick_by after_effect due_in transfers_after requests_of
+disabled-row = (refl, refl, refl, refl, refl)
+
+-- `set pins, 1 [2]`, `set pins, 0`: from a rise to the next one, which is both an end and a new begin
+periods : ℕ → Mark
+periods = marks_in (span_of true true 4 4 (omega arith) (omega arith) []) (block_of (record plain_machine { wrap_top = 1; wrap_top_in_memory = omega arith }) refl (57857 ∷ 57344 ∷ []) 0) []
+
+periods-row : ((periods 0).from ≡ true) × ((periods 4).to ≡ true) × ((periods 4).from ≡ true) × (counted periods 0 5 ≡ 4)
+unfolding periods mark_of counted hosted_at hosted_next next stepped acted settled_slot is_tick settled merged reading_of act_of push_or_pull_at delay_of side_of set_at mov_at effect_of jmp_effect out_effect pull_effect set_effect mov_effect settled_ports tick_of tick_delay tick_word tick_by after_effect due_in transfers_after requests_of
+periods-row = (refl, refl, refl, refl)
+
+-- `set pins, 1`, `jmp 1`: the pin never falls, and the count goes on
+endless : ℕ → Mark
+endless = marks_in (span_of true false 0 100 (omega arith) (omega arith) []) (block_of plain_machine refl (57345 ∷ 1 ∷ []) 0) []
+
+endless-row : ((endless 0).from ≡ true) × ((endless 9).to ≡ false) × (counted endless 0 10 ≡ 9)
+unfolding endless mark_of counted hosted_at hosted_next next stepped acted settled_slot is_tick settled merged reading_of act_of push_or_pull_at delay_of side_of set_at mov_at effect_of jmp_effect out_effect pull_effect set_effect mov_effect settled_ports tick_of tick_delay tick_word tick_by after_effect due_in transfers_after requests_of
+endless-row = (refl, refl, refl)

@@ -1,0 +1,54 @@
+-- That a span holds up to some clock, by the marks of the clocks.
+--   counted          the ticks between two clocks that count
+--   measured         what a span counts
+--   IsQuiet          no to-edge comes between two clocks
+--   Ends             the first to-edge comes
+--   IsSpokenOf       what a span in clocks says nothing of
+--   HoldsFrom        what is asked from one from-edge on
+--   Holds            from each
+use Rattle.std.specs.Prelude.{◌≡◌, ℕ, zero, suc, ◌+◌, ◌-◌, ◌<◌, ◌≤◌, nat_lt, true, false, ◌&&◌, if◌then◌else◌}
+use Rattle.pin_matrix.specs.declared.span.SpanUnit.{SpanUnit}
+use Rattle.pin_matrix.specs.declared.span.SpanUnit.TheVariants.{Ticks, Clocks}
+use Rattle.span_check.specs.Marks.{Mark}
+
+-- how many ticks count in the clocks after clock s and before clock `end`
+unfoldable pub counted : (ℕ → Mark) → (s end : ℕ) → ℕ
+counted m s zero = 0
+counted m s (suc c) = counted m s c + (if nat_lt s c && (m c).counts then 1 else 0)
+
+-- what a span counts from clock s up to the clock before `end`: ticks, or clocks
+abbrev pub measured : SpanUnit → (ℕ → Mark) → (s end : ℕ) → ℕ
+measured Ticks m s end = counted m s end
+measured Clocks m s end = end - 1 - s
+
+-- no to-edge comes after clock s and before clock `end`
+abbrev pub IsQuiet : (ℕ → Mark) → (s end : ℕ) → Type 0
+IsQuiet m s end = (c : ℕ) → s < c → c < end → (m c).to ≡ false
+
+-- the first to-edge after clock s comes in clock e
+pub record Ends (m : ℕ → Mark) (s e : ℕ) : Type 0 where
+  pub after : s < e
+  pub first : IsQuiet m s e
+  pub edge : (m e).to ≡ true
+
+-- no line disables or restarts the machine after clock s and before clock `end`
+abbrev pub IsUnbroken : (ℕ → Mark) → (s end : ℕ) → Type 0
+IsUnbroken m s end = (c : ℕ) → s < c → c < end → (m c).breaks ≡ false
+
+-- A span in clocks says nothing of a from-edge after which such a line comes; a span in ticks speaks of each.
+abbrev pub IsSpokenOf : SpanUnit → (ℕ → Mark) → (s end : ℕ) → Type 0
+IsSpokenOf Ticks m s end = Unit {0}
+IsSpokenOf Clocks m s end = IsUnbroken m s end
+
+-- What is asked from the from-edge in clock s on, in the clocks before clock n. Where a to-edge comes, the count up to the
+-- first one is within the bounds; where none comes, the count so far is no more than the most. Up to there no late tick comes at
+-- an address that the span doesn't name.
+pub record HoldsFrom (unit : SpanUnit) (min max : ℕ) (m : ℕ → Mark) (n s : ℕ) : Type 0 where
+  pub least : (e : ℕ) → Ends m s e → e < n → IsSpokenOf unit m s (suc e) → min ≤ measured unit m s (suc e)
+  pub most : (e : ℕ) → Ends m s e → e < n → IsSpokenOf unit m s (suc e) → measured unit m s (suc e) ≤ max
+  pub unclosed : IsQuiet m s n → IsSpokenOf unit m s n → measured unit m s n ≤ max
+  pub strays : (c : ℕ) → s < c → c < n → IsQuiet m s c → IsSpokenOf unit m s (suc c) → (m c).strays ≡ false
+
+-- so it is from each from-edge before clock n on
+abbrev pub Holds : SpanUnit → (min max : ℕ) → (ℕ → Mark) → (n : ℕ) → Type 0
+Holds unit min max m n = (s : ℕ) → s < n → (m s).from ≡ true → HoldsFrom unit min max m n s

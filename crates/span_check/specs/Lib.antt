@@ -1,0 +1,4 @@
+pub mod Marks
+pub mod Holding
+pub mod Runs
+pub mod Proved

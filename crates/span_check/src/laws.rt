@@ -1,0 +1,34 @@
+//! The law of the timing checker, on a function that does nothing.
+ghost use Rattle.std.specs.Prelude.{IsSome, None, slice_index_or};
+ghost use Rattle.pin_matrix.specs.declared.setup.Setup.{Setup};
+ghost use Rattle.pin_matrix.specs.declared.span.Span.{Span};
+ghost use Rattle.span_bounds.specs.Tables.{IsProvable};
+ghost use Rattle.span_verdict.specs.Sharing.{IsUnshared};
+ghost use Rattle.span_check.specs.Proved.{HoldsInEveryRun};
+
+use block_core::{
+    a_pin_of_one_machine, a_stimulus_is_a_system, clocks_are_counted, each_place_goes_its_own_way,
+};
+use clock_divider::tick_test;
+use span_bounds::each_entry_is_that_of_a_row;
+use span_ticks::{
+    a_start_is_under_way, a_tick_follows_the_table, levels_are_last_writes, open_ages_have_room,
+};
+
+/// Where some table is closed and good, and no other machine's mapping holds a pin of the span, the span holds in every run of
+/// its setup, whatever the stimulus and the length, and whatever pads the machines see. The span's machine is configured.
+pub fn a_provable_span_holds_in_every_run()
+    ensures { (u : Setup) (sp : Span) → IsSome (slice_index_or u.machines sp.machine None)
+        → IsProvable u sp → IsUnshared u sp → HoldsInEveryRun u sp }
+{
+    a_tick_follows_the_table();
+    open_ages_have_room();
+    a_start_is_under_way();
+    levels_are_last_writes();
+    each_entry_is_that_of_a_row();
+    each_place_goes_its_own_way();
+    a_pin_of_one_machine();
+    tick_test();
+    a_stimulus_is_a_system();
+    clocks_are_counted();
+}

@@ -1,0 +1,8 @@
+//! The timing checker's promise: a provable span holds in every run.
+#![tactic(auto)]
+
+mod checking;
+mod laws;
+
+pub use checking::{check, recheck};
+pub use laws::a_provable_span_holds_in_every_run;

@@ -1,0 +1,58 @@
+-- Where no cause is there at the end of a course, there was none on the way.
+use Rattle.std.proofs.Common.{◌≡◌, Bool, true, false, ◌||◌, None, List, [], ◌∷◌, refl}
+use Rattle.span_step.specs.declared.cause.Causes.{Causes}
+use Rattle.span_step.specs.Courses.{Rules, watched, followed, delay_tick, joined}
+use Rattle.span_step.specs.Contexts.{Context}
+use Rattle.span_step.specs.Laws.{first_cause}
+use Rattle.span_ticks.specs.UnderWay.{ValueOf, Watch}
+
+-- a tick of a course
+abbrev pub Tick : Type 0
+Tick = ValueOf (λ (k : Context). delay_tick)
+
+-- no cause is there
+pub record IsClean (c : Causes) : Type 0 where
+  pub u1 : c.u1 ≡ false
+  pub u2 : c.u2 ≡ false
+  pub u3 : c.u3 ≡ false
+  pub u4 : c.u4 ≡ false
+
+clean_by : (a b c d : Bool) → first_cause (record { u1 = a; u2 = b; u3 = c; u4 = d }) ≡ None → IsClean (record { u1 = a; u2 = b; u3 = c; u4 = d })
+clean_by true b c d h = cc
+clean_by false true c d h = cc
+clean_by false false true d h = cc
+clean_by false false false true h = cc
+clean_by false false false false h = record { u1 = refl; u2 = refl; u3 = refl; u4 = refl }
+
+pub clean_of : (c : Causes) → first_cause c ≡ None → IsClean c
+clean_of c h = let p = clean_by c.u1 c.u2 c.u3 c.u4 h in record { u1 = p.u1; u2 = p.u2; u3 = p.u3; u4 = p.u4 }
+
+pub none_of : (c : Causes) → IsClean c → first_cause c ≡ None
+none_of c h = rw (h.u1, h.u2, h.u3, h.u4) refl
+
+none_left : (a b : Bool) → (a || b) ≡ false → a ≡ false
+none_left true b h = cc
+none_left false b h = refl
+
+none_right : (a b : Bool) → (a || b) ≡ false → b ≡ false
+none_right true b h = cc
+none_right false b h = h
+
+pub clean_left : (a b : Causes) → IsClean (joined a b) → IsClean a
+clean_left a b h = record { u1 = none_left _ _ h.u1; u2 = none_left _ _ h.u2; u3 = none_left _ _ h.u3; u4 = none_left _ _ h.u4 }
+
+pub clean_right : (a b : Causes) → IsClean (joined a b) → IsClean b
+clean_right a b h = record {
+  u1 = none_right a.u1 b.u1 h.u1;
+  u2 = none_right a.u2 b.u2 h.u2;
+  u3 = none_right a.u3 b.u3 h.u3;
+  u4 = none_right a.u4 b.u4 h.u4;
+}
+
+pub clean_watched : (r : Rules) (w : Watch) (t : Tick) → IsClean (watched r w t).causes → IsClean w.causes
+unfolding watched
+clean_watched r w t h = clean_left _ _ h
+
+pub clean_followed : (r : Rules) (ts : List Tick) (w : Watch) → IsClean (followed r ts w).causes → IsClean w.causes
+clean_followed r [] w h = h
+clean_followed r (t ∷ ts) w h = clean_watched r w t (clean_followed r ts (watched r w t) h)

@@ -1,0 +1,292 @@
+-- A tick of an instruction is matched by a tick of one of its courses.
+use Rattle.std.proofs.Common.{◌≡◌, ℕ, nat_lt, ◌+◌, ◌≤◌, Bool, true, false, ◌&&◌, if◌then◌else◌, Option, Some, None, unwrap_or, slice_index_or, refl, sym, ap, ◌∙◌, inl, inr, subst, arith}
+use Rattle.std.proofs.lemmas.Bool.{cases_lt}
+use Rattle.pio_encode.specs.declared.op.Op.{Op}
+use Rattle.pin_matrix.specs.declared.machine.MachineSetup.{MachineSetup}
+use Rattle.pin_matrix.specs.declared.setup.Setup.{Setup}
+use Rattle.pin_matrix.specs.declared.span.Span.{Span}
+use Rattle.sm_registers.specs.declared.intent.Kind.TheVariants.{First, Late, Delay}
+use Rattle.sm_registers.specs.declared.registers.Registers.{Registers}
+use Rattle.sm_registers.specs.declared.view.View.{View}
+use Rattle.sm_registers.specs.Queues.{Queues}
+use Rattle.sm_registers.specs.Effects.{Effect, effect_of}
+use Rattle.sm_registers.specs.Tick.{tick_by, tick_of}
+use Rattle.span_step.specs.declared.ages.Ages.{Ages}
+use Rattle.span_step.specs.Contexts.{Context, is_placed, is_small, IsInside}
+use Rattle.span_step.specs.Outcomes.{Outcome, level_at, may_stall}
+use Rattle.span_step.specs.Courses.{watched, followed, start, prompt, delayed, delay_tick, delay_ticks, over}
+use Rattle.span_step.specs.Laws.{AllPlaced}
+use Rattle.span_step.specs.Steps.{visit_of, rules_of, side_of, bounds_of, is_named, context_steps}
+use Rattle.span_ticks.specs.Rows.{IsInRow, IsSoundTable}
+use Rattle.span_ticks.specs.UnderWay.{Watch, flow_of, IsAt, IsResting, IsBegun, IsUnderWay, op_at, rested, stalled_from}
+use Rattle.span_ticks.specs.Following.{InAges, IsFollowed, IsAged, is_late, opens}
+use Rattle.span_ticks.proofs.Clean.{IsClean, clean_followed, clean_watched}
+use Rattle.span_ticks.proofs.Aging.{inside_ages, tick_ages, tick_fresh, waiting_ages, no_fresh, widened_ages}
+use Rattle.span_ticks.proofs.Ends.{EndsWell, AllEnds, IsKnownRow, known_row}
+use Rattle.span_ticks.proofs.Explained.{Picked, Explains, explained, level_none}
+use Rattle.span_ticks.proofs.Stalls.{IsStall, stalls, Found, found}
+use Rattle.span_ticks.proofs.Opened.{delay_here, tick_here, flow_done, flow_stalled, two_levels, over_levels, side_level, side_from, side_to, side_late}
+use Rattle.span_ticks.proofs.Resting.{rested_none, delay_clean, delay_followed, rests_after}
+
+late_is : (begun : Bool) → is_late (if begun then Late else First) ≡ begun
+late_is true = refl
+late_is false = refl
+
+widened_opens : (sp : Span) (w v x : Watch) → w.from ≡ v.from → opens sp v x ≡ true → opens sp w x ≡ true
+widened_opens sp w v x e h = rw e h
+
+-- what all ticks of a row's instruction share
+record IsHere (u : Setup) (sp : Span) (rows : Context → Option Ages) (s : MachineSetup) (r : Registers) (k : Context) (a : Ages) : Type 0 where
+  pending : r.pending ≡ None
+  left : r.delay ≡ 0
+  agrees : IsAt k (flow_of r)
+  row : rows k ≡ Some a
+  known : IsKnownRow u sp rows s k a
+
+-- the machine is at the row's start, whose ages may be more
+record IsWidened (k : Context) (a : Ages) (w : Watch) : Type 0 where
+  from : k.from ≡ w.from
+  to : k.to ≡ w.to
+  inside : IsInside w.ages a
+
+-- one of its courses' first ticks
+abbrev prompt_from : Setup → Span → MachineSetup → Context → Ages → Outcome → Watch
+prompt_from u sp s k a o =
+    let side = side_of s sp (op_at u s k.address).side in
+    watched (rules_of s sp k.address) (start k a) (record { late = false; from = over side.from o.from; to = over side.to o.to })
+
+-- the late tick in which the rest of an outcome comes
+abbrev late_from : Setup → Span → MachineSetup → Context → Ages → Outcome → Watch
+late_from u sp s k a o = watched (rules_of s sp k.address) (stalled_from u sp s k a) (record { late = true; from = o.from; to = o.to })
+
+-- no cause comes with the ticks of a course that ends well
+late_clean : (u : Setup) (sp : Span) (rows : Context → Option Ages) (s : MachineSetup) (k : Context) (a : Ages) (o : Outcome) → may_stall (op_at u s k.address).act s ≡ true
+    → AllEnds rows (visit_of s sp (op_at u s k.address) k a) o → IsClean (late_from u sp s k a o).causes
+unfolding visit_of delayed
+late_clean u sp rows s k a o may ends = clean_followed (rules_of s sp k.address) (delay_ticks (op_at u s k.address).delay) (late_from u sp s k a o) (ends.later may).clean
+
+prompt_clean : (u : Setup) (sp : Span) (rows : Context → Option Ages) (s : MachineSetup) (k : Context) (a : Ages) (o : Outcome)
+    → AllEnds rows (visit_of s sp (op_at u s k.address) k a) o → IsClean (prompt_from u sp s k a o).causes
+unfolding visit_of prompt
+prompt_clean u sp rows s k a o ends = clean_followed (rules_of s sp k.address) (delay_ticks (op_at u s k.address).delay) (prompt_from u sp s k a o) ends.at_once.clean
+
+-- it stalls in its first tick
+first_stall : (u : Setup) (sp : Span) (rows : Context → Option Ages) (s : MachineSetup) (q : Queues) (r : Registers) (k : Context) (a : Ages) (w : Watch) (e : Effect)
+    → IsHere u sp rows s r k a → r.begun ≡ false → IsWidened k a w → IsStall (may_stall (op_at u s k.address).act s) r e → e.stalled ≡ true
+    → IsFollowed u sp rows s k.address w (tick_by (op_at u s k.address) s q r e)
+unfolding tick_by watched
+first_stall u sp rows s q r k a w e here begun wide st stalled =
+    let op : Op = op_at u s k.address in
+    let side = side_of s sp op.side in
+    let one : Found (AllEnds rows (visit_of s sp op k a)) = found _ op.act s sp k here.known.tame here.known.ends in
+    let clean : IsClean (stalled_from u sp s k a).causes =
+    clean_watched (rules_of s sp k.address) (stalled_from u sp s k a) (record { late = true; from = one.outcome.from; to = one.outcome.to }) (late_clean u sp rows s k a one.outcome (st.stalls stalled) one.holds) in
+    record {
+      after = stalled_from u sp s k a;
+      under_way = inr (subst (λ f. IsBegun u sp rows s f (stalled_from u sp s k a)) (sym (flow_stalled op s q r e stalled (st.flow stalled))) (record {
+        pending = here.pending;
+        begun = refl;
+        delay = here.left;
+        context = k;
+        ages = a;
+        agrees = record { placed = here.agrees.placed; address = here.agrees.address; x = here.agrees.x; y = here.agrees.y };
+        row = here.row;
+        stalls = st.stalls stalled;
+        watch = refl;
+      }));
+      from = ap (unwrap_or side.from) wide.from
+          ∙ two_levels sp.from_pin e.level (side_level s op.side r.begun) side.from None w.from (side_from s sp op.side r.begun begun) (ap (level_at sp.from_pin) (st.level stalled) ∙ level_none sp.from_pin);
+      to = ap (unwrap_or side.to) wide.to
+          ∙ two_levels sp.to_pin e.level (side_level s op.side r.begun) side.to None w.to (side_to s sp op.side r.begun begun) (ap (level_at sp.to_pin) (st.level stalled) ∙ level_none sp.to_pin);
+      ages = λ n i. widened_ages s sp k.address _ (start k a) w (stalled_from u sp s k a) n (sym wide.to)
+          (tick_ages s sp k.address _ (start k a) (record { late = false; from = side.from; to = side.to }) (late_is r.begun ∙ begun) clean n (inside_ages n w.ages a wide.inside i));
+      fresh = λ o. tick_fresh s sp k.address (start k a) (record { late = false; from = side.from; to = side.to }) (widened_opens sp (start k a) w (stalled_from u sp s k a) wide.from o);
+    }
+
+-- where its rest goes
+end_rests : (sp : Span) (rows : Context → Option Ages) (u : Setup) (s : MachineSetup) (q : Queues) (r : Registers) (k : Context) (a : Ages) (e : Effect) (o : Outcome) (w : Watch)
+    → IsHere u sp rows s r k a → e.stalled ≡ false → Explains sp e o
+    → EndsWell rows (visit_of s sp (op_at u s k.address) k a) o (followed (rules_of s sp k.address) (delay_ticks (op_at u s k.address).delay) w)
+    → IsResting sp rows s (flow_of (tick_by (op_at u s k.address) s q r e).0) w
+unfolding visit_of
+end_rests sp rows u s q r k a e o w here ends x well =
+    subst (λ f. IsResting sp rows s f w) (sym (flow_done (op_at u s k.address) s sp q r e o k.address here.pending here.agrees.address ends x))
+    (rests_after sp rows s k.address _ (op_at u s k.address).delay e.registers.x e.registers.y o.x o.y w well.placed x.x x.y well.clean well.row)
+
+-- it finishes in its first tick
+first_finish : (u : Setup) (sp : Span) (rows : Context → Option Ages) (s : MachineSetup) (q : Queues) (r : Registers) (k : Context) (a : Ages) (w : Watch) (e : Effect)
+    → IsHere u sp rows s r k a → r.begun ≡ false → IsWidened k a w → e.stalled ≡ false → Picked (AllEnds rows (visit_of s sp (op_at u s k.address) k a)) sp e
+    → IsFollowed u sp rows s k.address w (tick_by (op_at u s k.address) s q r e)
+unfolding tick_by watched visit_of prompt
+first_finish u sp rows s q r k a w e here begun wide ends p =
+    let op : Op = op_at u s k.address in
+    let side = side_of s sp op.side in
+    let o : Outcome = p.outcome in
+    record {
+      after = prompt_from u sp s k a o;
+      under_way = inl (end_rests sp rows u s q r k a e o (prompt_from u sp s k a o) here ends p.explains p.holds.at_once);
+      from = over_levels side.from o.from k.from ∙ ap (λ l. unwrap_or side.from (unwrap_or o.from l)) wide.from
+          ∙ two_levels sp.from_pin e.level (side_level s op.side r.begun) side.from o.from w.from (side_from s sp op.side r.begun begun) p.explains.from;
+      to = over_levels side.to o.to k.to ∙ ap (λ l. unwrap_or side.to (unwrap_or o.to l)) wide.to
+          ∙ two_levels sp.to_pin e.level (side_level s op.side r.begun) side.to o.to w.to (side_to s sp op.side r.begun begun) p.explains.to;
+      ages = λ n i. widened_ages s sp k.address _ (start k a) w (prompt_from u sp s k a o) n (sym wide.to)
+          (tick_ages s sp k.address _ (start k a) (record { late = false; from = over side.from o.from; to = over side.to o.to }) (late_is r.begun ∙ begun) (prompt_clean u sp rows s k a o p.holds) n (inside_ages n w.ages a wide.inside i));
+      fresh = λ h. tick_fresh s sp k.address (start k a) (record { late = false; from = over side.from o.from; to = over side.to o.to }) (widened_opens sp (start k a) w (prompt_from u sp s k a o) wide.from h);
+    }
+
+-- it has stalled, and does so again
+late_stall : (u : Setup) (sp : Span) (rows : Context → Option Ages) (s : MachineSetup) (q : Queues) (r : Registers) (k : Context) (a : Ages) (e : Effect)
+    → IsHere u sp rows s r k a → r.begun ≡ true → may_stall (op_at u s k.address).act s ≡ true → IsStall (may_stall (op_at u s k.address).act s) r e → e.stalled ≡ true
+    → IsFollowed u sp rows s k.address (stalled_from u sp s k a) (tick_by (op_at u s k.address) s q r e)
+unfolding tick_by
+late_stall u sp rows s q r k a e here begun may st stalled =
+    let op : Op = op_at u s k.address in
+    let w : Watch = stalled_from u sp s k a in
+    let one : Found (AllEnds rows (visit_of s sp op k a)) = found _ op.act s sp k here.known.tame here.known.ends in
+    record {
+      after = w;
+      under_way = inr (subst (λ f. IsBegun u sp rows s f w) (sym (flow_stalled op s q r e stalled (st.flow stalled))) (record {
+        pending = here.pending;
+        begun = refl;
+        delay = here.left;
+        context = k;
+        ages = a;
+        agrees = record { placed = here.agrees.placed; address = here.agrees.address; x = here.agrees.x; y = here.agrees.y };
+        row = here.row;
+        stalls = may;
+        watch = refl;
+      }));
+      from = two_levels sp.from_pin e.level (side_level s op.side r.begun) None None w.from (side_late sp.from_pin s op.side r.begun begun) (ap (level_at sp.from_pin) (st.level stalled) ∙ level_none sp.from_pin);
+      to = two_levels sp.to_pin e.level (side_level s op.side r.begun) None None w.to (side_late sp.to_pin s op.side r.begun begun) (ap (level_at sp.to_pin) (st.level stalled) ∙ level_none sp.to_pin);
+      ages = λ n i. waiting_ages s sp k.address _ w (record { late = true; from = one.outcome.from; to = one.outcome.to }) (late_is r.begun ∙ begun) refl (late_clean u sp rows s k a one.outcome may one.holds) n i;
+      fresh = λ h. no_fresh sp w h;
+    }
+
+-- it has stalled, and finishes
+late_finish : (u : Setup) (sp : Span) (rows : Context → Option Ages) (s : MachineSetup) (q : Queues) (r : Registers) (k : Context) (a : Ages) (e : Effect)
+    → IsHere u sp rows s r k a → r.begun ≡ true → may_stall (op_at u s k.address).act s ≡ true → e.stalled ≡ false → Picked (AllEnds rows (visit_of s sp (op_at u s k.address) k a)) sp e
+    → IsFollowed u sp rows s k.address (stalled_from u sp s k a) (tick_by (op_at u s k.address) s q r e)
+unfolding tick_by watched visit_of delayed
+late_finish u sp rows s q r k a e here begun may ends p =
+    let op : Op = op_at u s k.address in
+    let w : Watch = stalled_from u sp s k a in
+    let o : Outcome = p.outcome in
+    record {
+      after = late_from u sp s k a o;
+      under_way = inl (end_rests sp rows u s q r k a e o (late_from u sp s k a o) here ends p.explains (p.holds.later may));
+      from = two_levels sp.from_pin e.level (side_level s op.side r.begun) None o.from w.from (side_late sp.from_pin s op.side r.begun begun) p.explains.from;
+      to = two_levels sp.to_pin e.level (side_level s op.side r.begun) None o.to w.to (side_late sp.to_pin s op.side r.begun begun) p.explains.to;
+      ages = λ n i. tick_ages s sp k.address _ w (record { late = true; from = o.from; to = o.to }) (late_is r.begun ∙ begun) (late_clean u sp rows s k a o may p.holds) n i;
+      fresh = λ h. tick_fresh s sp k.address w (record { late = true; from = o.from; to = o.to }) h;
+    }
+
+and_left : (a b : Bool) → (a && b) ≡ true → a ≡ true
+and_left true b h = refl
+and_left false b h = h
+
+and_right : (a b : Bool) → (a && b) ≡ true → b ≡ true
+and_right true b h = h
+and_right false b h = absurd (let x : false ≡ true = h in cc)
+
+-- the row in which ages lie
+record IsRowOf (a : Ages) (o : Option Ages) : Type 0 where
+  ages : Ages
+  row : o ≡ Some ages
+  inside : IsInside a ages
+
+row_of : (a : Ages) (o : Option Ages) → IsInRow a o → IsRowOf a o
+row_of a None h = absurd h
+row_of a (Some b) h = record { ages = b; row = refl; inside = h }
+
+-- one outcome explains what an instruction does that finishes
+picked_here : (u : Setup) (sp : Span) (rows : Context → Option Ages) (s : MachineSetup) (v : View) (q : Queues) (r : Registers) (k : Context) (a : Ages) → IsHere u sp rows s r k a
+    → (effect_of (op_at u s k.address).act s v q r).stalled ≡ false → Picked (AllEnds rows (visit_of s sp (op_at u s k.address) k a)) sp (effect_of (op_at u s k.address).act s v q r)
+picked_here u sp rows s v q r k a here ends =
+    let small : (is_small k.x && is_small k.y) ≡ true = and_right (nat_lt k.address 32) (is_small k.x && is_small k.y) here.agrees.placed in
+    explained (AllEnds rows (visit_of s sp (op_at u s k.address) k a)) (op_at u s k.address).act s sp k v q r here.known.tame
+    (and_left (is_small k.x) (is_small k.y) small) (and_right (is_small k.x) (is_small k.y) small) here.agrees.x here.agrees.y ends here.known.ends
+
+-- all first ticks of an instruction, and all late ones
+first_tick : (u : Setup) (sp : Span) (rows : Context → Option Ages) (s : MachineSetup) (v : View) (q : Queues) (r : Registers) (k : Context) (a : Ages) (w : Watch)
+    → IsHere u sp rows s r k a → r.begun ≡ false → IsWidened k a w
+    → IsFollowed u sp rows s k.address w (tick_by (op_at u s k.address) s q r (effect_of (op_at u s k.address).act s v q r))
+first_tick u sp rows s v q r k a w here begun wide = by (effect_of (op_at u s k.address).act s v q r).stalled refl where
+  by : (z : Bool) → (effect_of (op_at u s k.address).act s v q r).stalled ≡ z → IsFollowed u sp rows s k.address w (tick_by (op_at u s k.address) s q r (effect_of (op_at u s k.address).act s v q r))
+  by true e = first_stall u sp rows s q r k a w _ here begun wide (stalls (op_at u s k.address).act s v q r) e
+  by false e = first_finish u sp rows s q r k a w _ here begun wide e (picked_here u sp rows s v q r k a here e)
+
+late_tick : (u : Setup) (sp : Span) (rows : Context → Option Ages) (s : MachineSetup) (v : View) (q : Queues) (r : Registers) (k : Context) (a : Ages)
+    → IsHere u sp rows s r k a → r.begun ≡ true → may_stall (op_at u s k.address).act s ≡ true
+    → IsFollowed u sp rows s k.address (stalled_from u sp s k a) (tick_by (op_at u s k.address) s q r (effect_of (op_at u s k.address).act s v q r))
+late_tick u sp rows s v q r k a here begun may = by (effect_of (op_at u s k.address).act s v q r).stalled refl where
+  by : (z : Bool) → (effect_of (op_at u s k.address).act s v q r).stalled ≡ z → IsFollowed u sp rows s k.address (stalled_from u sp s k a) (tick_by (op_at u s k.address) s q r (effect_of (op_at u s k.address).act s v q r))
+  by true e = late_stall u sp rows s q r k a _ here begun may (stalls (op_at u s k.address).act s v q r) e
+  by false e = late_finish u sp rows s q r k a _ here begun may e (picked_here u sp rows s v q r k a here e)
+
+-- what is known of each row in range
+abbrev pub AreKnown : Setup → Span → (Context → Option Ages) → MachineSetup → Type 0
+AreKnown u sp rows s = (k : Context) (a : Ages) → is_placed k.address k.x k.y ≡ true → rows k ≡ Some a → IsKnownRow u sp rows s k a
+
+pub are_known : (u : Setup) (sp : Span) (rows : Context → Option Ages) (s : MachineSetup) → slice_index_or u.machines sp.machine None ≡ Some s → IsSoundTable u sp rows
+    → ((k : Context) (a : Ages) → is_placed k.address k.x k.y ≡ true → AllPlaced (context_steps u sp k a).nexts) → AreKnown u sp rows s
+are_known u sp rows s configured table within k a placed row = known_row u sp rows s k a configured (table.row k a placed row) (within k a placed)
+
+-- a machine at its instruction is in a row
+resting_here : (u : Setup) (sp : Span) (rows : Context → Option Ages) (s : MachineSetup) (r : Registers) (w : Watch) → AreKnown u sp rows s → r.delay ≡ 0 → (h : IsResting sp rows s (flow_of r) w)
+    → (a : Ages) × (IsHere u sp rows s r h.context a × IsWidened h.context a w)
+resting_here u sp rows s r w known left h =
+    let same : rested s sp (flow_of r) w ≡ w = rested_none s sp (flow_of r) w left in
+    let row : IsRowOf w.ages (rows h.context) = row_of w.ages (rows h.context) (subst (λ (x : Watch). IsInRow x.ages (rows h.context)) same h.row) in (
+      row.ages,
+      (
+        record { pending = h.pending; left = left; agrees = h.agrees; row = row.row; known = known h.context row.ages h.agrees.placed row.row },
+        record { from = h.from ∙ ap (λ (x : Watch). x.from) same; to = h.to ∙ ap (λ (x : Watch). x.to) same; inside = row.inside },
+      ),
+    )
+
+begun_here : (u : Setup) (sp : Span) (rows : Context → Option Ages) (s : MachineSetup) (r : Registers) (w : Watch) → AreKnown u sp rows s → (h : IsBegun u sp rows s (flow_of r) w) → IsHere u sp rows s r h.context h.ages
+begun_here u sp rows s r w known h =
+    record { pending = h.pending; left = h.delay; agrees = h.agrees; row = h.row; known = known h.context h.ages h.agrees.placed h.row }
+
+-- any tick
+pub tick_followed : (u : Setup) (sp : Span) (rows : Context → Option Ages) (s : MachineSetup) (v : View) (q : Queues) (r : Registers) (w : Watch) → AreKnown u sp rows s → v.memory ≡ u.memory
+    → IsUnderWay u sp rows s (flow_of r) w → IsFollowed u sp rows s r.pc w (tick_of s v q r)
+tick_followed u sp rows s v q r w known memory (inl h) = elim (cases_lt 0 r.delay) [
+  | inl more ↦ subst (λ t. IsFollowed u sp rows s r.pc w t) (sym (delay_here s v q r more)) (delay_followed u sp rows s q r w more h)
+  | inr none ↦
+      let left : r.delay ≡ 0 = omega arith in
+      let at = resting_here u sp rows s r w known left h in
+      subst (λ t. IsFollowed u sp rows s r.pc w t) (sym (tick_here u s v q r h.context.address memory h.pending left h.agrees.address))
+      (subst (λ p. IsFollowed u sp rows s p w (tick_by (op_at u s h.context.address) s q r (effect_of (op_at u s h.context.address).act s v q r))) h.agrees.address
+      (first_tick u sp rows s v q r h.context at.0 w at.1.0 h.begun at.1.1))
+]
+tick_followed u sp rows s v q r w known memory (inr h) =
+    subst (λ t. IsFollowed u sp rows s r.pc w t) (sym (tick_here u s v q r h.context.address memory h.pending h.delay h.agrees.address))
+    (subst (λ p. IsFollowed u sp rows s p w (tick_by (op_at u s h.context.address) s q r (effect_of (op_at u s h.context.address).act s v q r))) h.agrees.address
+    (subst (λ (x : Watch). IsFollowed u sp rows s h.context.address x (tick_by (op_at u s h.context.address) s q r (effect_of (op_at u s h.context.address).act s v q r))) (sym h.watch)
+    (late_tick u sp rows s v q r h.context h.ages (begun_here u sp rows s r w known h) h.begun h.stalls)))
+
+-- where no address is named, an open age may be one tick more
+pub ages_have_room : (u : Setup) (sp : Span) (rows : Context → Option Ages) (s : MachineSetup) (r : Registers) (w : Watch) → AreKnown u sp rows s → ((address : ℕ) → is_named sp address ≡ false)
+    → IsUnderWay u sp rows s (flow_of r) w → (n : ℕ) → InAges n w.ages → n + 1 ≤ (bounds_of sp s).1
+ages_have_room u sp rows s r w known unnamed (inl h) n i = elim (cases_lt 0 r.delay) [
+  | inl more ↦ (tick_ages s sp r.pc Delay w delay_tick refl (delay_clean sp rows s r w more h) n i).most
+  | inr none ↦
+      let left : r.delay ≡ 0 = omega arith in
+      let at = resting_here u sp rows s r w known left h in
+      let k : Context = h.context in
+      let op : Op = op_at u s k.address in
+      let side = side_of s sp op.side in
+      let one : Found (AllEnds rows (visit_of s sp op k at.0)) = found _ op.act s sp k at.1.0.known.tame at.1.0.known.ends in
+      (tick_ages s sp k.address First (start k at.0) (record { late = false; from = over side.from one.outcome.from; to = over side.to one.outcome.to }) refl
+      (prompt_clean u sp rows s k at.0 one.outcome one.holds) n (inside_ages n w.ages at.0 at.1.1.inside i)).most
+]
+ages_have_room u sp rows s r w known unnamed (inr h) n i =
+    let here = begun_here u sp rows s r w known h in
+    let k : Context = h.context in
+    let op : Op = op_at u s k.address in
+    let one : Found (AllEnds rows (visit_of s sp op k h.ages)) = found _ op.act s sp k here.known.tame here.known.ends in
+    let late : IsAged s sp k.address Late (stalled_from u sp s k h.ages) _ n =
+    tick_ages s sp k.address Late (stalled_from u sp s k h.ages) (record { late = true; from = one.outcome.from; to = one.outcome.to }) refl
+    (late_clean u sp rows s k h.ages one.outcome h.stalls one.holds) n (subst (λ (x : Watch). InAges n x.ages) h.watch i) in
+    absurd (let x : false ≡ true = sym (unnamed k.address) ∙ late.named refl in cc)

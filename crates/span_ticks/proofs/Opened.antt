@@ -1,0 +1,128 @@
+-- A tick, opened: what the checker follows of the registers after it, and which levels it writes.
+use Rattle.std.proofs.Common.{◌≡◌, ℕ, ◌-◌, ◌<◌, nat_lt, nat_le, Bool, true, false, ◌&&◌, cond, if◌then◌else◌, Option, Some, None, is_some, unwrap_or, [], ◌∷◌, slice_index, refl, sym, ap, ◌∙◌, arith}
+use Rattle.std.proofs.lemmas.Bool.Decides.{nat_tests}
+use Rattle.pio_encode.specs.declared.op.Op.{Op}
+use Rattle.pio_encode.specs.Word.{reading_of}
+use Rattle.pin_matrix.specs.Pins.{writes_of}
+use Rattle.pin_matrix.specs.declared.machine.MachineSetup.{MachineSetup}
+use Rattle.pin_matrix.specs.declared.setup.Setup.{Setup}
+use Rattle.pin_matrix.specs.declared.span.Span.{Span}
+use Rattle.sm_registers.specs.declared.registers.Registers.{Registers}
+use Rattle.sm_registers.specs.declared.view.View.{View}
+use Rattle.sm_registers.specs.Queues.{Queues}
+use Rattle.sm_registers.specs.Effects.{Effect, effect_of}
+use Rattle.sm_registers.specs.Tick.{current_word, word_at, pc_after, delay_after, after_effect, refilled, osr_filled_from, side_writes, tick_delay, tick_by, tick_word, tick_of}
+use Rattle.span_step.specs.Outcomes.{Outcome, level_at}
+use Rattle.span_step.specs.Courses.{over}
+use Rattle.span_step.specs.Steps.{Visit, next_address, side_of, address_after}
+use Rattle.span_ticks.specs.Following.{level_after}
+use Rattle.span_ticks.specs.UnderWay.{ValueOf, Flow, flow_of, op_at}
+use Rattle.span_ticks.proofs.Explained.{Explains, level_none}
+
+-- a refill changes nothing that the checker follows
+flow_if : (b : Bool) (x y : Registers) → flow_of x ≡ flow_of y → flow_of (cond b x y) ≡ flow_of y
+flow_if true x y h = h
+flow_if false x y h = refl
+
+flow_filled : (front : Option ℕ) (r : Registers) → flow_of (osr_filled_from front r) ≡ flow_of r
+flow_filled None r = refl
+flow_filled (Some word) r = refl
+
+flow_refilled : (s : MachineSetup) (q : Queues) (r : Registers) → flow_of (refilled s q r) ≡ flow_of r
+flow_refilled s q r = flow_if (s.autopull && nat_le s.pull_threshold r.out_count) _ r (flow_filled q.front r)
+
+-- a tick of a delay
+pub delay_here : (s : MachineSetup) (v : View) (q : Queues) (r : Registers) → 0 < r.delay → tick_of s v q r ≡ tick_delay s q r
+unfolding tick_of
+delay_here s v q r h = let left : nat_lt 0 r.delay ≡ true = grind (arith, nat_tests) in rw left refl
+
+pub flow_delay : (s : MachineSetup) (q : Queues) (r : Registers) → flow_of (tick_delay s q r).0 ≡ record (flow_of r) { delay = r.delay - 1 }
+unfolding tick_delay
+flow_delay s q r = flow_refilled s q (record r { delay = r.delay - 1 })
+
+-- a tick of the instruction in memory
+pub tick_here : (u : Setup) (s : MachineSetup) (v : View) (q : Queues) (r : Registers) (address : ℕ) → v.memory ≡ u.memory → r.pending ≡ None → r.delay ≡ 0 → address ≡ r.pc
+    → tick_of s v q r ≡ tick_by (op_at u s address) s q r (effect_of (op_at u s address).act s v q r)
+unfolding tick_of tick_word
+tick_here u s v q r address memory pending left here =
+    let none : nat_lt 0 r.delay ≡ false = grind (arith, nat_tests) in
+    let word : current_word v r ≡ slice_index u.memory address =
+    ap (λ p. word_at p v r.pc) pending ∙ ap (λ m. slice_index m r.pc) memory ∙ ap (λ a. slice_index u.memory a) (sym here) in
+    ap (λ b. cond b (tick_delay s q r) (tick_word (reading_of (current_word v r) s.side_rule) s v q r)) none
+    ∙ ap (λ w. tick_word (reading_of w s.side_rule) s v q r) word
+
+-- where it finishes
+pub flow_done : (op : Op) (s : MachineSetup) (sp : Span) (q : Queues) (r : Registers) (e : Effect) (o : Outcome) (address : ℕ) → r.pending ≡ None → address ≡ r.pc → e.stalled ≡ false → Explains sp e o
+    → flow_of (tick_by op s q r e).0 ≡ record { pc = address_after o.jump (next_address s address); x = e.registers.x; y = e.registers.y; delay = op.delay; pending = None; begun = false }
+unfolding tick_by after_effect
+flow_done op s sp q r e o address pending here ends x =
+    let y : flow_of (refilled s q (after_effect op.delay s r e)) ≡ flow_of (after_effect op.delay s r e) = flow_refilled s q (after_effect op.delay s r e) in
+    let done : Registers = record e.registers { pc = pc_after e.jump (is_some r.pending) s r; pending = e.pending; delay = delay_after e.pending op.delay; begun = false } in
+    let goes : pc_after e.jump (is_some r.pending) s r ≡ address_after o.jump (next_address s address) =
+    ap (λ j. pc_after j (is_some r.pending) s r) x.jump ∙ ap (λ p. pc_after o.jump (is_some p) s r) pending ∙ to_next o.jump in
+    y ∙ ap (λ b. flow_of (cond b (record e.registers { begun = true }) done)) ends
+    ∙ ap (λ p. record { pc = p; x = e.registers.x; y = e.registers.y; delay = delay_after e.pending op.delay; pending = e.pending; begun = false }) goes
+    ∙ ap (λ p. record { pc = address_after o.jump (next_address s address); x = e.registers.x; y = e.registers.y; delay = delay_after p op.delay; pending = p; begun = false }) x.pending where
+      to_next : (j : Option ℕ) → pc_after j false s r ≡ address_after j (next_address s address)
+      to_next (Some a) = refl
+      to_next None = ap (λ a. next_address s a) (sym here)
+
+-- where it stalls
+pub flow_stalled : (op : Op) (s : MachineSetup) (q : Queues) (r : Registers) (e : Effect) → e.stalled ≡ true → flow_of e.registers ≡ flow_of r
+    → flow_of (tick_by op s q r e).0 ≡ record (flow_of r) { begun = true }
+unfolding tick_by after_effect
+flow_stalled op s q r e stalls same =
+    let done : Registers = record e.registers { pc = pc_after e.jump (is_some r.pending) s r; pending = e.pending; delay = delay_after e.pending op.delay; begun = false } in
+    flow_refilled s q (after_effect op.delay s r e) ∙ ap (λ b. flow_of (cond b (record e.registers { begun = true }) done)) stalls
+    ∙ ap (λ (f : Flow). record f { begun = true }) same
+
+-- two writes to a pin
+pub two_levels : (p : ℕ) (first second : ℕ × ℕ) (a b : Option Bool) (level : Bool) → level_at p second ≡ a → level_at p first ≡ b
+    → unwrap_or a (unwrap_or b level) ≡ level_after p (first ∷ second ∷ []) level
+two_levels p first second a b level h k = rw (← h, ← k) refl
+
+pub over_levels : (a b : Option Bool) (level : Bool) → unwrap_or (over a b) level ≡ unwrap_or a (unwrap_or b level)
+over_levels (Some x) b level = refl
+over_levels None b level = refl
+
+-- side-set's write to levels
+abbrev pub side_level : MachineSetup → Option ℕ → Bool → ℕ × ℕ
+side_level s side begun = if s.side_rule.pindirs then (0, 0) else side_writes side begun s
+
+-- what a tick writes to the span's two pins
+abbrev Write : Type 0
+Write = ValueOf (λ (v : Visit). v.side)
+
+pub side_from : (s : MachineSetup) (sp : Span) (side : Option ℕ) (begun : Bool) → begun ≡ false → level_at sp.from_pin (side_level s side begun) ≡ (side_of s sp side).from
+side_from s sp None begun h = by s.side_rule.pindirs where
+  by : (b : Bool) → level_at sp.from_pin (cond b (0, 0) (0, 0)) ≡ None
+  by true = level_none sp.from_pin
+  by false = level_none sp.from_pin
+side_from s sp (Some value) true h = absurd (let x : true ≡ false = h in cc)
+side_from s sp (Some value) false h = by s.side_rule.pindirs where
+  by : (b : Bool) → level_at sp.from_pin (cond b (0, 0) (writes_of s.side value)) ≡ (cond {A = Write} b (record { from = None; to = None }) (record { from = level_at sp.from_pin (writes_of s.side value); to = level_at sp.to_pin (writes_of s.side value) })).from
+  by true = level_none sp.from_pin
+  by false = refl
+
+pub side_to : (s : MachineSetup) (sp : Span) (side : Option ℕ) (begun : Bool) → begun ≡ false → level_at sp.to_pin (side_level s side begun) ≡ (side_of s sp side).to
+side_to s sp None begun h = by s.side_rule.pindirs where
+  by : (b : Bool) → level_at sp.to_pin (cond b (0, 0) (0, 0)) ≡ None
+  by true = level_none sp.to_pin
+  by false = level_none sp.to_pin
+side_to s sp (Some value) true h = absurd (let x : true ≡ false = h in cc)
+side_to s sp (Some value) false h = by s.side_rule.pindirs where
+  by : (b : Bool) → level_at sp.to_pin (cond b (0, 0) (writes_of s.side value)) ≡ (cond {A = Write} b (record { from = None; to = None }) (record { from = level_at sp.from_pin (writes_of s.side value); to = level_at sp.to_pin (writes_of s.side value) })).to
+  by true = level_none sp.to_pin
+  by false = refl
+
+-- an instruction that has begun writes no side-set
+pub side_late : (p : ℕ) (s : MachineSetup) (side : Option ℕ) (begun : Bool) → begun ≡ true → level_at p (side_level s side begun) ≡ None
+side_late p s None begun h = by s.side_rule.pindirs where
+  by : (b : Bool) → level_at p (cond b (0, 0) (0, 0)) ≡ None
+  by true = level_none p
+  by false = level_none p
+side_late p s (Some value) false h = absurd (let x : false ≡ true = h in cc)
+side_late p s (Some value) true h = by s.side_rule.pindirs where
+  by : (b : Bool) → level_at p (cond b (0, 0) (0, 0)) ≡ None
+  by true = level_none p
+  by false = level_none p

@@ -1,0 +1,91 @@
+-- A delay, tick by tick, and where an instruction that has finished rests.
+use Rattle.std.proofs.Common.{◌≡◌, ℕ, zero, suc, ◌-◌, ◌<◌, true, false, Option, None, refl, sym, ap, ◌∙◌, inl, subst, arith}
+use Rattle.pin_matrix.specs.declared.machine.MachineSetup.{MachineSetup}
+use Rattle.pin_matrix.specs.declared.setup.Setup.{Setup}
+use Rattle.pin_matrix.specs.declared.span.Span.{Span}
+use Rattle.sm_registers.specs.declared.registers.Registers.{Registers}
+use Rattle.sm_registers.specs.declared.intent.Kind.TheVariants.{Delay}
+use Rattle.sm_registers.specs.Queues.{Queues}
+use Rattle.sm_registers.specs.Tick.{tick_delay}
+use Rattle.span_step.specs.declared.ages.Ages.{Ages}
+use Rattle.span_step.specs.Contexts.{Context, is_placed}
+use Rattle.span_step.specs.Courses.{Rules, watched, followed, delay_tick, delay_ticks}
+use Rattle.span_step.specs.Laws.{first_cause}
+use Rattle.span_step.specs.Steps.{rules_of}
+use Rattle.span_ticks.specs.Rows.{IsInRow}
+use Rattle.span_ticks.specs.UnderWay.{Watch, Flow, flow_of, rested, IsResting, Covers}
+use Rattle.span_ticks.specs.Following.{IsFollowed}
+use Rattle.span_ticks.proofs.Clean.{IsClean, clean_of, none_of, clean_followed}
+use Rattle.span_ticks.proofs.Aging.{tick_ages, tick_fresh}
+use Rattle.span_ticks.proofs.Explained.{level_none}
+use Rattle.span_ticks.proofs.Opened.{flow_delay, two_levels}
+
+pub rested_none : (s : MachineSetup) (sp : Span) (f : Flow) (w : Watch) → f.delay ≡ 0 → rested s sp f w ≡ w
+rested_none s sp f w h = ap (λ d. followed (rules_of s sp f.pc) (delay_ticks d) w) h
+
+delay_step : (r : Rules) (w : Watch) (d : ℕ) → 0 < d → followed r (delay_ticks d) w ≡ followed r (delay_ticks (d - 1)) (watched r w delay_tick)
+delay_step r w zero h = absurd (let x : ⊥ = omega arith in x)
+delay_step r w (suc d) h = let e : d ≡ suc d - 1 = omega arith in ap (λ n. followed r (delay_ticks n) (watched r w delay_tick)) e
+
+-- the rules of each address say the same of a delay
+pub same_rest : (s : MachineSetup) (sp : Span) (a b d : ℕ) (w : Watch) → followed (rules_of s sp a) (delay_ticks d) w ≡ followed (rules_of s sp b) (delay_ticks d) w
+unfolding watched rules_of
+same_rest s sp a b zero w = refl
+same_rest s sp a b (suc d) w = same_rest s sp a b d (watched (rules_of s sp a) w delay_tick)
+
+-- after one tick of a delay
+pub delay_clean : (sp : Span) (rows : Context → Option Ages) (s : MachineSetup) (r : Registers) (w : Watch) → 0 < r.delay → IsResting sp rows s (flow_of r) w
+    → IsClean (watched (rules_of s sp r.pc) w delay_tick).causes
+delay_clean sp rows s r w more h =
+    let step = delay_step (rules_of s sp r.pc) w r.delay more in
+    let good : first_cause (followed (rules_of s sp r.pc) (delay_ticks (r.delay - 1)) (watched (rules_of s sp r.pc) w delay_tick)).causes ≡ None =
+    ap (λ (x : Watch). first_cause x.causes) (sym step) ∙ h.good in
+    clean_followed (rules_of s sp r.pc) (delay_ticks (r.delay - 1)) (watched (rules_of s sp r.pc) w delay_tick) (clean_of _ good)
+
+delay_rests : (sp : Span) (rows : Context → Option Ages) (s : MachineSetup) (r : Registers) (w : Watch) → 0 < r.delay → IsResting sp rows s (flow_of r) w
+    → IsResting sp rows s (record (flow_of r) { delay = r.delay - 1 }) (watched (rules_of s sp r.pc) w delay_tick)
+delay_rests sp rows s r w more h =
+    let step = delay_step (rules_of s sp r.pc) w r.delay more in
+    record {
+      pending = h.pending;
+      begun = h.begun;
+      context = h.context;
+      agrees = record { placed = h.agrees.placed; address = h.agrees.address; x = h.agrees.x; y = h.agrees.y };
+      from = h.from ∙ ap (λ (x : Watch). x.from) step;
+      to = h.to ∙ ap (λ (x : Watch). x.to) step;
+      good = ap (λ (x : Watch). first_cause x.causes) (sym step) ∙ h.good;
+      row = subst (λ (x : Watch). IsInRow x.ages (rows h.context)) step h.row;
+    }
+
+pub delay_followed : (u : Setup) (sp : Span) (rows : Context → Option Ages) (s : MachineSetup) (q : Queues) (r : Registers) (w : Watch) → 0 < r.delay → IsResting sp rows s (flow_of r) w
+    → IsFollowed u sp rows s r.pc w (tick_delay s q r)
+unfolding tick_delay watched
+delay_followed u sp rows s q r w more h = record {
+  after = watched (rules_of s sp r.pc) w delay_tick;
+  under_way = inl (subst (λ f. IsResting sp rows s f (watched (rules_of s sp r.pc) w delay_tick)) (sym (flow_delay s q r)) (delay_rests sp rows s r w more h));
+  from = two_levels sp.from_pin (0, 0) (0, 0) None None w.from (level_none sp.from_pin) (level_none sp.from_pin);
+  to = two_levels sp.to_pin (0, 0) (0, 0) None None w.to (level_none sp.to_pin) (level_none sp.to_pin);
+  ages = λ n i. tick_ages s sp r.pc Delay w delay_tick refl (delay_clean sp rows s r w more h) n i;
+  fresh = λ o. tick_fresh s sp r.pc w delay_tick o;
+}
+
+-- where an instruction has finished
+pub rests_after : (sp : Span) (rows : Context → Option Ages) (s : MachineSetup) (address next d x y : ℕ) (known other : Option ℕ) (w : Watch) → is_placed next known other ≡ true → Covers known x → Covers other y
+    → IsClean (followed (rules_of s sp address) (delay_ticks d) w).causes
+    → IsInRow (followed (rules_of s sp address) (delay_ticks d) w).ages
+    (rows (record { address = next; x = known; y = other; from = (followed (rules_of s sp address) (delay_ticks d) w).from; to = (followed (rules_of s sp address) (delay_ticks d) w).to }))
+    → IsResting sp rows s (record { pc = next; x = x; y = y; delay = d; pending = None; begun = false }) w
+rests_after sp rows s address next d x y known other w placed cx cy clean row =
+    let end : Watch = followed (rules_of s sp address) (delay_ticks d) w in
+    let here : Context = record { address = next; x = known; y = other; from = end.from; to = end.to } in
+    let same : end ≡ followed (rules_of s sp next) (delay_ticks d) w = same_rest s sp address next d w in
+    record {
+      pending = refl;
+      begun = refl;
+      context = here;
+      agrees = record { placed = placed; address = refl; x = cx; y = cy };
+      from = ap (λ (x : Watch). x.from) same;
+      to = ap (λ (x : Watch). x.to) same;
+      good = ap (λ (x : Watch). first_cause x.causes) (sym same) ∙ none_of _ clean;
+      row = subst (λ (x : Watch). IsInRow x.ages (rows here)) same row;
+    }

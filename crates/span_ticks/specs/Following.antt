@@ -1,0 +1,70 @@
+-- How a tick of a machine goes on along the rows of a table.
+--   InAges           a number is one of the ages
+--   level_after      a pin's level after writes
+--   older_by         an age after a tick
+--   IsAged           what comes of an open age in a tick
+--   IsFollowed       what comes of a tick
+use Rattle.std.specs.Prelude.{◌≡◌, ℕ, ◌+◌, ◌≤◌, Bool, true, false, ◌&&◌, if◌then◌else◌, Option, List, fold, unwrap_or}
+use Rattle.pin_matrix.specs.declared.machine.MachineSetup.{MachineSetup}
+use Rattle.pin_matrix.specs.declared.setup.Setup.{Setup}
+use Rattle.pin_matrix.specs.declared.span.Span.{Span}
+use Rattle.sm_registers.specs.declared.intent.Intent.{Intent}
+use Rattle.sm_registers.specs.declared.intent.Kind.{Kind}
+use Rattle.sm_registers.specs.declared.intent.Kind.TheVariants.{Off, First, Late, Delay}
+use Rattle.sm_registers.specs.declared.registers.Registers.{Registers}
+use Rattle.span_step.specs.declared.ages.Ages.{Ages}
+use Rattle.span_step.specs.declared.ages.Ages.TheVariants.{Empty, Between}
+use Rattle.span_step.specs.Contexts.{Context}
+use Rattle.span_step.specs.Outcomes.{level_at}
+use Rattle.span_step.specs.Courses.{is_edge}
+use Rattle.span_step.specs.Steps.{bounds_of, is_named}
+use Rattle.span_ticks.specs.UnderWay.{Watch, IsUnderWay, flow_of}
+
+-- a number is one of the ages
+abbrev pub InAges : ℕ → Ages → Type 0
+InAges n Empty = ⊥
+InAges n (Between lo hi) = (lo ≤ n) × (n ≤ hi)
+
+-- a pin's level after writes, of which a later one stands over an earlier one
+abbrev pub level_after : ℕ → List (ℕ × ℕ) → Bool → Bool
+level_after p writes level = fold (λ old w. unwrap_or (level_at p w) old) level writes
+
+-- a tick of an instruction that stalled before
+abbrev pub is_late : Kind → Bool
+is_late Off = false
+is_late First = false
+is_late Late = true
+is_late Delay = false
+
+-- an age after a tick at an address: one more, unless the tick is late and the span leaves out stalls there
+abbrev pub older_by : Span → (address : ℕ) → Kind → ℕ → ℕ
+older_by sp address kind n = n + (if is_late kind && is_named sp address then 0 else 1)
+
+-- the span's to-edge comes between two watches
+abbrev pub closes : Span → Watch → Watch → Bool
+closes sp before after = is_edge sp.to_rise before.to after.to
+
+-- the span's from-edge comes between two watches
+abbrev pub opens : Span → Watch → Watch → Bool
+opens sp before after = is_edge sp.from_rise before.from after.from
+
+-- What comes of an open age in a tick at an address. It stays within the span's bounds in ticks: the most in any case, and
+-- the least where the to-edge comes. Where it doesn't come, the age is among those after the tick. A late tick is at an address
+-- that the span names.
+pub record IsAged (s : MachineSetup) (sp : Span) (address : ℕ) (kind : Kind) (before after : Watch) (n : ℕ) : Type 0 where
+  pub most : older_by sp address kind n ≤ (bounds_of sp s).1
+  pub least : closes sp before after ≡ true → (bounds_of sp s).0 ≤ older_by sp address kind n
+  pub stays : closes sp before after ≡ false → InAges (older_by sp address kind n) after.ages
+  pub named : is_late kind ≡ true → is_named sp address ≡ true
+
+-- What comes of a tick at an address, which leaves these registers and this intent: some watch after it, with which the
+-- machine is under way again. The pins' levels are those that the tick writes; each open age is as `IsAged` says, and a
+-- from-edge adds the age 0.
+pub record IsFollowed (u : Setup) (sp : Span) (rows : Context → Option Ages) (s : MachineSetup) (address : ℕ)
+    (before : Watch) (tick : Registers × Intent) : Type 0 where
+  pub after : Watch
+  pub under_way : IsUnderWay u sp rows s (flow_of tick.0) after
+  pub from : after.from ≡ level_after sp.from_pin tick.1.level before.from
+  pub to : after.to ≡ level_after sp.to_pin tick.1.level before.to
+  pub ages : (n : ℕ) → InAges n before.ages → IsAged s sp address tick.1.kind before after n
+  pub fresh : opens sp before after ≡ true → InAges 0 after.ages

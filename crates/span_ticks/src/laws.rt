@@ -1,0 +1,58 @@
+//! Laws of a machine's ticks beside a table of the timing checker, each on a function that does nothing.
+ghost use Rattle.std.specs.Prelude.{◌≡◌, ℕ, ◌+◌, ◌≤◌, ◌==◌, false, List, Option, Some, None, slice_index_or};
+ghost use Rattle.pin_matrix.specs.Pins.{last_of};
+ghost use Rattle.pin_matrix.specs.declared.machine.MachineSetup as setup;
+ghost use Rattle.pin_matrix.specs.declared.setup.Setup as block;
+ghost use Rattle.pin_matrix.specs.declared.span.Span as span;
+ghost use Rattle.sm_registers.specs.Queues as queues;
+ghost use Rattle.sm_registers.specs.State.{first_registers};
+ghost use Rattle.sm_registers.specs.Tick.{tick_of};
+ghost use Rattle.sm_registers.specs.declared.registers.Registers as registers;
+ghost use Rattle.sm_registers.specs.declared.view.View as view;
+ghost use Rattle.span_step.specs.Contexts.{Context};
+ghost use Rattle.span_step.specs.Courses.{start};
+ghost use Rattle.span_step.specs.Steps.{bounds_of, is_named};
+ghost use Rattle.span_step.specs.declared.ages.Ages.{Ages};
+ghost use Rattle.span_step.specs.declared.ages.Ages.TheVariants as variants;
+ghost use Rattle.span_ticks.specs.Following.{InAges, IsFollowed, level_after};
+ghost use Rattle.span_ticks.specs.Rows.{IsInRow, IsSoundTable};
+ghost use Rattle.span_ticks.specs.UnderWay.{IsAt, IsUnderWay, Watch, flow_of};
+
+use span_step::next_contexts_are_in_range;
+
+/// A machine that is under way along the rows of a sound table is so after each tick, whatever it sees of the pins, the flags
+/// and the FIFOs. Its open ages grow as the table says and stay within the span's bounds.
+pub fn a_tick_follows_the_table()
+    ensures { (u : block.Setup) (sp : span.Span) (rows : Context → Option Ages) (s : setup.MachineSetup)
+        (v : view.View) (q : queues.Queues) (r : registers.Registers) (w : Watch)
+        → slice_index_or u.machines sp.machine None ≡ Some s → IsSoundTable u sp rows
+        → v.memory ≡ u.memory → IsUnderWay u sp rows s (flow_of r) w
+        → IsFollowed u sp rows s r.pc w (tick_of s v q r) }
+{
+    next_contexts_are_in_range();
+}
+
+/// Where the span names no address, each open age of a machine that is under way may be one tick more: its next tick is not
+/// late, or nothing is open.
+pub fn open_ages_have_room()
+    ensures { (u : block.Setup) (sp : span.Span) (rows : Context → Option Ages) (s : setup.MachineSetup)
+        (r : registers.Registers) (w : Watch)
+        → slice_index_or u.machines sp.machine None ≡ Some s → IsSoundTable u sp rows
+        → ((address : ℕ) → is_named sp address ≡ false) → IsUnderWay u sp rows s (flow_of r) w
+        → (n : ℕ) → InAges n w.ages → n + 1 ≤ (bounds_of sp s).1 }
+{
+    next_contexts_are_in_range();
+}
+
+/// At its start a machine is under way in any context that agrees with it and has a row. No age is open.
+pub fn a_start_is_under_way()
+    ensures { (u : block.Setup) (sp : span.Span) (rows : Context → Option Ages) (s : setup.MachineSetup) (k : Context)
+        → IsAt k (flow_of (first_registers s)) → IsInRow variants.Empty (rows k)
+        → IsUnderWay u sp rows s (flow_of (first_registers s)) (start k variants.Empty) }
+{}
+
+/// A pin's level after writes is the bit of the last one that holds it, as `pin_matrix` says of a block's pins.
+pub fn levels_are_last_writes()
+    ensures { (p : ℕ) (writes : List (ℕ × ℕ)) (old : ℕ)
+        → level_after p writes (old == 1) ≡ (last_of p old writes == 1) }
+{}

@@ -1,0 +1,92 @@
+-- The tests of a table say what a table's being closed and good says.
+use Rattle.std.proofs.Common.{◌≡◌, ◌≤◌, nat_le, Bool, true, false, ◌&&◌, Option, Some, None, List, [], ◌∷◌, refl, arith}
+use Rattle.std.proofs.lemmas.Bool.Decides.{nat_tests}
+use Rattle.std.specs.List.{list_all}
+use Rattle.pin_matrix.specs.declared.setup.Setup.{Setup}
+use Rattle.pin_matrix.specs.declared.span.Span.{Span}
+use Rattle.span_step.specs.declared.ages.Ages.{Ages}
+use Rattle.span_step.specs.declared.ages.Ages.TheVariants.{Empty, Between}
+use Rattle.span_step.specs.declared.cause.Cause.{Cause}
+use Rattle.span_step.specs.declared.stepped.Next.{Next}
+use Rattle.span_step.specs.Contexts.{IsInside}
+use Rattle.span_step.specs.Laws.{first_cause}
+use Rattle.span_step.specs.Steps.{context_steps}
+use Rattle.span_bounds.specs.declared.entry.Entry.{Entry}
+use Rattle.span_bounds.specs.declared.entry.Entry.TheVariants.{Absent, Present}
+use Rattle.span_bounds.specs.declared.row.Row.{Row}
+use Rattle.span_bounds.specs.Tables.{LiesAt, start_context, AllLieIn, EachRow, IsClosed, IsGood}
+use Rattle.span_verdict.specs.Tables.{is_inside, lies_at, lies_in, all_lie_in, is_none, is_right}
+
+inside : (a b : Ages) → is_inside a b ≡ true → IsInside a b
+inside Empty b e = tt
+inside (Between lo hi) Empty e = absurd (bad e) where
+  bad : false ≡ true → ⊥
+  bad e = cc
+inside (Between lo hi) (Between low high) e =
+    let p : low ≤ lo = grind (arith, nat_tests) in
+    let q : hi ≤ high = grind (arith, nat_tests) in (p, q)
+
+is_inside-true : (a b : Ages) → IsInside a b → is_inside a b ≡ true
+is_inside-true Empty b h = refl
+is_inside-true (Between lo hi) Empty h = absurd h
+is_inside-true (Between lo hi) (Between low high) h =
+    let p : nat_le low lo ≡ true = grind (arith, nat_tests) in
+    let q : nat_le hi high ≡ true = grind (arith, nat_tests) in rw (p, q) refl
+
+pub lies : (a : Ages) (e : Entry) → lies_at a e ≡ true → LiesAt a e
+lies a Absent e = absurd (bad e) where
+  bad : false ≡ true → ⊥
+  bad e = cc
+lies a (Present b) e = inside a b e
+
+pub lies_at-true : (a : Ages) (e : Entry) → LiesAt a e → lies_at a e ≡ true
+lies_at-true a Absent h = absurd h
+lies_at-true a (Present b) h = is_inside-true a b h
+
+both : (a b : Bool) → (a && b) ≡ true → (a ≡ true) × (b ≡ true)
+both true b e = (refl, e)
+both false b e = absurd (bad e) where
+  bad : false ≡ true → ⊥
+  bad e = cc
+
+all_lie : (rows : List Row) (ns : List Next) → list_all (λ n. lies_in rows n.context n.ages) ns ≡ true → AllLieIn rows ns
+all_lie rows [] e = tt
+all_lie rows (n ∷ ns) e = let p = both _ _ e in (lies n.ages _ p.0, all_lie rows ns p.1)
+
+list_all-lies : (rows : List Row) (ns : List Next) → AllLieIn rows ns → list_all (λ n. lies_in rows n.context n.ages) ns ≡ true
+list_all-lies rows [] h = refl
+list_all-lies rows (n ∷ ns) h = rw (lies_at-true n.ages _ h.0, list_all-lies rows ns h.1) refl
+
+none : (o : Option Cause) → is_none o ≡ true → o ≡ None
+none None e = refl
+none (Some cause) e = absurd (bad e) where
+  bad : false ≡ true → ⊥
+  bad e = cc
+
+right : (u : Setup) (sp : Span) (rows : List Row) (r : Row) → is_right u sp rows r ≡ true → (first_cause (context_steps u sp r.context r.ages).causes ≡ None) × AllLieIn rows (context_steps u sp r.context r.ages).nexts
+unfolding is_right all_lie_in
+right u sp rows r e = let p = both _ _ e in (none _ p.0, all_lie rows _ p.1)
+
+is_right-true : (u : Setup) (sp : Span) (rows : List Row) (r : Row) → first_cause (context_steps u sp r.context r.ages).causes ≡ None → AllLieIn rows (context_steps u sp r.context r.ages).nexts → is_right u sp rows r ≡ true
+unfolding is_right all_lie_in
+is_right-true u sp rows r e h = rw (e, list_all-lies rows _ h) refl
+
+good : (u : Setup) (sp : Span) (rows rs : List Row) → list_all (is_right u sp rows) rs ≡ true → IsGood u sp rs
+good u sp rows [] e = tt
+good u sp rows (r ∷ rs) e = let p = both _ _ e in ((right u sp rows r p.0).0, good u sp rows rs p.1)
+
+steps : (u : Setup) (sp : Span) (rows rs : List Row) → list_all (is_right u sp rows) rs ≡ true → EachRow (λ r. AllLieIn rows (context_steps u sp r.context r.ages).nexts) rs
+steps u sp rows [] e = tt
+steps u sp rows (r ∷ rs) e = let p = both _ _ e in ((right u sp rows r p.0).1, steps u sp rows rs p.1)
+
+all_right : (u : Setup) (sp : Span) (rows rs : List Row) → EachRow (λ r. AllLieIn rows (context_steps u sp r.context r.ages).nexts) rs → IsGood u sp rs → list_all (is_right u sp rows) rs ≡ true
+all_right u sp rows [] h k = refl
+all_right u sp rows (r ∷ rs) h k = rw (is_right-true u sp rows r k.0 h.0, all_right u sp rows rs h.1 k.1) refl
+
+-- the tests of the start and of the rows say that a table is closed and good
+pub closed_and_good : (u : Setup) (sp : Span) (rows : List Row) → lies_in rows (start_context u sp) Empty ≡ true → list_all (is_right u sp rows) rows ≡ true → IsClosed u sp rows × IsGood u sp rows
+closed_and_good u sp rows s e = (record { starts = lies Empty _ s; steps = steps u sp rows rows e }, good u sp rows rows e)
+
+-- and the other way round
+pub tests_pass : (u : Setup) (sp : Span) (rows : List Row) → IsClosed u sp rows × IsGood u sp rows → list_all (is_right u sp rows) rows ≡ true
+tests_pass u sp rows h = all_right u sp rows rows h.0.steps h.1

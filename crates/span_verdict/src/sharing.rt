@@ -1,0 +1,59 @@
+//! Which machines may write a span's pins.
+ghost use Rattle.std.specs.Prelude.{◌≡◌, ◌<◌, MatchOption};
+ghost use Rattle.span_verdict.specs.Sharing as spec;
+ghost use Rattle.span_verdict.specs.Sharing.{NoneShares, IsFirstSharer, IsUnshared, IsLeastSharer};
+
+use pin_matrix::{MachineSetup, Mapping, Setup, Span};
+
+/// The least machine (0 to 3), other than the span's own, whose OUT, SET or side-set mapping holds the span's from-pin or
+/// to-pin; side-set that goes to directions isn't asked. `None` exactly where there is no such machine. Mappings are asked,
+/// and not what the machine's program writes (choice of this profile).
+pub fn shared_by(setup: &Setup, span: &Span) -> Option<u8>
+    ensures { MatchOption result (IsUnshared setup.now span.now) (λ machine. IsLeastSharer setup.now span.now machine) }
+{
+    first_sharer(&setup.machines, span)
+}
+
+/// The least of these machines that shares a pin of the span.
+fn first_sharer(machines: &[Option<MachineSetup>; 4], span: &Span) -> Option<u8>
+    ensures { MatchOption result (NoneShares machines.now span.now) (λ machine. IsFirstSharer machines.now span.now machine) }
+{
+    (0..4).find(|machine| shares(machines, span, *machine))
+}
+
+/// Whether a machine (0 to 3) is configured, isn't the span's own, and may write a pin of the span.
+#[tactic(auto, unfolding(crate::specs::Sharing::shares))]
+fn shares(machines: &[Option<MachineSetup>; 4], span: &Span, machine: u8) -> bool
+    requires { machine < 4 }
+    ensures { result ≡ spec.shares machines.now span.now machine }
+{
+    match &machines[usize::from(machine)] {
+        Some(other) => machine != span.machine && writes_span(other, span),
+        None => false,
+    }
+}
+
+/// Whether a level mapping of the machine holds a pin of the span.
+fn writes_span(machine: &MachineSetup, span: &Span) -> bool
+    ensures { result ≡ spec.writes_span machine.now span.now }
+{
+    writes_pin(machine, span.from_pin) || writes_pin(machine, span.to_pin)
+}
+
+/// Whether a level mapping of the machine holds a pin (0 to 31).
+fn writes_pin(machine: &MachineSetup, pin: u8) -> bool
+    requires { pin < 32 }
+    ensures { result ≡ spec.writes_pin machine.now pin }
+{
+    holds(&machine.out, pin)
+        || holds(&machine.set, pin)
+        || (!machine.side_rule.pindirs && holds(&machine.side, pin))
+}
+
+/// Whether a mapping holds a pin (0 to 31).
+fn holds(mapping: &Mapping, pin: u8) -> bool
+    requires { pin < 32 }
+    ensures { result ≡ spec.holds mapping.now pin }
+{
+    (pin + 32 - mapping.base) % 32 < mapping.count
+}
