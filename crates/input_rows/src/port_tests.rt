@@ -11,6 +11,88 @@ const ALL: Requests = Requests {
     rx: [true; 4],
 };
 
+const NO: Option<(u32, bool)> = None;
+
+/// A stimulus, the clock from which all requests are up, and the words of machine 0: whether a transfer moves them.
+static WORDS: [(&str, u64, [Option<(u32, bool)>; 12]); 2] = [
+    // A line goes first, and the transfer follows in the next clock.
+    (
+        "0 feed 0 3 7 8 9\n3 tx 0 1",
+        0,
+        [
+            Some((7, true)),
+            NO,
+            NO,
+            Some((1, false)),
+            Some((8, true)),
+            NO,
+            NO,
+            Some((9, true)),
+            NO,
+            NO,
+            NO,
+            NO,
+        ],
+    ),
+    // The period counts from the move.
+    (
+        "2 feed 0 4 5 6",
+        5,
+        [NO, NO, NO, NO, NO, Some((5, true)), NO, NO, NO, Some((6, true)), NO, NO],
+    ),
+];
+
+/// A stimulus, and the reads of machine 0 where requests are up from clock 6 on: whether a transfer makes them.
+static READS: [(&str, [Option<bool>; 12]); 2] = [
+    (
+        "0 drain 0 4",
+        [
+            None,
+            None,
+            None,
+            None,
+            None,
+            None,
+            Some(true),
+            None,
+            None,
+            None,
+            Some(true),
+            None,
+        ],
+    ),
+    (
+        "0 drain 0 4\n6 rx 0",
+        [
+            None,
+            None,
+            None,
+            None,
+            None,
+            None,
+            Some(false),
+            Some(true),
+            None,
+            None,
+            None,
+            Some(true),
+        ],
+    ),
+];
+
+/// A stimulus, the requests in clock 0 and after it, and the next clock in which something happens.
+static NEXT: [(&str, Requests, Requests, Option<u64>); 9] = [
+    ("", ALL, ALL, None),
+    ("7 rx 3", NONE, NONE, Some(7)),
+    ("0 feed 0 3 7 8", NONE, ALL, Some(1)),
+    ("0 feed 0 3 7 8", NONE, NONE, None),
+    ("0 feed 0 3 7 8", ALL, ALL, Some(3)),
+    ("0 feed 0 3 7", ALL, ALL, None),
+    ("0 feed 0 9 5 6\n4 pin 0 1", ALL, ALL, Some(4)),
+    ("0 drain 1 9\n4 pin 0 1", ALL, NONE, Some(4)),
+    ("0 drain 1 2\n4 pin 0 1", ALL, ALL, Some(2)),
+];
+
 // What is done in clocks 0 to 11 where no request is up before a clock, and all are from it on.
 fn dues(schedule: &Schedule, from: u64) -> [Due; 12] {
     let mut ports = HostPorts::new(schedule);
@@ -51,76 +133,27 @@ fn next_after(schedule: &Schedule, at_first: &Requests, then: &Requests) -> Opti
     ports.next_due(1, then)
 }
 
-fn line(word: u32) -> Option<(u32, bool)> {
-    Some((word, false))
-}
-
-fn paced(word: u32) -> Option<(u32, bool)> {
-    Some((word, true))
-}
-
 #[test]
 fn moves_words(rt: HostRuntime) {
-    let no = None;
-    let rows = [
-        // A line goes first, and the transfer follows in the next clock.
-        (
-            b"0 feed 0 3 7 8 9\n3 tx 0 1".as_slice(),
-            0,
-            [
-                paced(7),
-                no,
-                no,
-                line(1),
-                paced(8),
-                no,
-                no,
-                paced(9),
-                no,
-                no,
-                no,
-                no,
-            ],
-        ),
-        // The period counts from the move.
-        (
-            b"2 feed 0 4 5 6",
-            5,
-            [no, no, no, no, no, paced(5), no, no, no, paced(6), no, no],
-        ),
-    ];
-    for (text, from, want) in rows {
-        let schedule = read_stimulus(rt.alloc(), text).expect(&rt, "a stimulus");
-        assert_eq!(rt; words(&dues(&schedule, from)), want);
+    for (text, from, want) in &WORDS {
+        let schedule = read_stimulus(rt.alloc(), text.as_bytes()).expect(&rt, "a stimulus");
+        assert!(rt; words(&dues(&schedule, *from)) == *want, "{text:?}");
     }
 }
 
 #[test]
 fn reads_words(rt: HostRuntime) {
-    let no = None;
-    let line = Some(false);
-    let paced = Some(true);
-    let rows = [
-        (
-            b"0 drain 0 4".as_slice(),
-            [no, no, no, no, no, no, paced, no, no, no, paced, no],
-        ),
-        (
-            b"0 drain 0 4\n6 rx 0",
-            [no, no, no, no, no, no, line, paced, no, no, no, paced],
-        ),
-    ];
-    for (text, want) in rows {
-        let schedule = read_stimulus(rt.alloc(), text).expect(&rt, "a stimulus");
-        assert_eq!(rt; reads(&dues(&schedule, 6)), want);
+    for (text, want) in &READS {
+        let schedule = read_stimulus(rt.alloc(), text.as_bytes()).expect(&rt, "a stimulus");
+        assert!(rt; reads(&dues(&schedule, 6)) == *want, "{text:?}");
     }
 }
 
 #[test]
 fn sets_pins_and_machines(rt: HostRuntime) {
     let text =
-        b"version 2\n0 pin 3 1\n0 pin 3 0\n0 pin 4 1\n1 pin 3 1\n1 disable 2\n1 restart 2\n3 enable 2";
-    let schedule = read_stimulus(rt.alloc(), text.as_slice()).expect(&rt, "a stimulus");
+        "version 2\n0 pin 3 1\n0 pin 3 0\n0 pin 4 1\n1 pin 3 1\n1 disable 2\n1 restart 2\n3 enable 2";
+    let schedule = read_stimulus(rt.alloc(), text.as_bytes()).expect(&rt, "a stimulus");
     let [first, second, third, fourth, ..] = dues(&schedule, 0);
     let only_third = [false, false, true, false];
     assert!(rt;
@@ -153,19 +186,8 @@ fn sets_pins_and_machines(rt: HostRuntime) {
 
 #[test]
 fn tells_the_next_clock(rt: HostRuntime) {
-    let rows = [
-        (b"".as_slice(), ALL, ALL, None),
-        (b"7 rx 3", NONE, NONE, Some(7)),
-        (b"0 feed 0 3 7 8", NONE, ALL, Some(1)),
-        (b"0 feed 0 3 7 8", NONE, NONE, None),
-        (b"0 feed 0 3 7 8", ALL, ALL, Some(3)),
-        (b"0 feed 0 3 7", ALL, ALL, None),
-        (b"0 feed 0 9 5 6\n4 pin 0 1", ALL, ALL, Some(4)),
-        (b"0 drain 1 9\n4 pin 0 1", ALL, NONE, Some(4)),
-        (b"0 drain 1 2\n4 pin 0 1", ALL, ALL, Some(2)),
-    ];
-    for (text, at_first, then, want) in rows {
-        let schedule = read_stimulus(rt.alloc(), text).expect(&rt, "a stimulus");
-        assert_eq!(rt; next_after(&schedule, &at_first, &then), want);
+    for (text, at_first, then, want) in &NEXT {
+        let schedule = read_stimulus(rt.alloc(), text.as_bytes()).expect(&rt, "a stimulus");
+        assert!(rt; next_after(&schedule, at_first, then) == *want, "{text:?}");
     }
 }

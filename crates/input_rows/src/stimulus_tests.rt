@@ -1,118 +1,120 @@
 //! Rows of stimuli: what is read of them, worked by hand from the rules.
+use StimKind::{Backwards, BadLine, Crowded, Many, Range};
 use dreq_pacing::{StimFault, StimKind, read_stimulus};
 use std::alloc::{AllocError, Global};
+use std::test::Fail;
 
-// How many lines a text has, or its fault.
-fn outcome(alloc: Global, text: &[u8]) -> Result<usize, StimFault> {
-    match read_stimulus(alloc, text) {
-        Ok(schedule) => Ok(schedule.lines().len()),
-        Err(fault) => Err(fault),
-    }
-}
+/// Texts, and how many lines are read of them.
+static READ: [(&str, usize); 18] = [
+    ("", 0),
+    ("\n \t\r\n# a comment\n", 0),
+    ("5 pin 0 1\n5 pin 0 0\n", 2),
+    ("0 tx 0 1\n0 tx 1 2\n1 tx 0 3", 3),
+    ("0 feed 0 1000000 4294967295", 1),
+    // Numbers.
+    ("00 rx 0x3", 1),
+    ("0xAb rx 0", 1),
+    ("1000000000000 rx 0", 1),
+    // A comment begins inside a field too.
+    ("0 pin 0 1#x", 1),
+    // What doesn't crowd what.
+    ("0 feed 0 1 1\n0 drain 0 1", 2),
+    ("0 tx 0 1\n0 rx 0\n0 feed 0 1 1", 3),
+    // A version has no clock, and is no line of the schedule.
+    ("version 2\n3 disable 0\n5 enable 0", 2),
+    ("version 2\n3 disable 0\n3 restart 0\n3 enable 1", 3),
+    ("# first\n\n version 0x2 # two\n3 enable 0", 1),
+    ("version 02\n3 enable 0", 1),
+    ("version 2\n0 rx 0", 1),
+    ("version 1\n0 rx 0", 1),
+    ("version 2", 0),
+];
 
-fn at(line: usize, kind: StimKind) -> Result<usize, StimFault> {
-    Err(StimFault::At { line, kind })
+/// Texts, and the first faulty line with its fault.
+static REFUSED: [(&str, usize, StimKind); 40] = [
+    ("5 pin 0 1\n4 pin 0 0\n", 2, Backwards),
+    ("0 pin 32 1", 1, Range),
+    ("0 pin 31 2", 1, Range),
+    ("0 tx 0 1\n0 tx 0 2", 2, Crowded),
+    ("0 push 0", 1, BadLine),
+    ("0 tx 0", 1, BadLine),
+    ("0 rx 0 0", 1, BadLine),
+    ("0 feed 0 3", 1, BadLine),
+    ("0 feed 0 0 1", 1, Range),
+    ("0 feed 0 1000001 1", 1, Range),
+    ("0 feed 0 1 4294967296", 1, Range),
+    // The whole line's form comes before any range.
+    ("0 pin 99 x", 1, BadLine),
+    ("0 tx 9 1 1", 1, BadLine),
+    // Ranges come before the order.
+    ("5 rx 0\n4 rx 4", 2, Range),
+    ("5 rx 0\n4 rx 0", 2, Backwards),
+    // Numbers.
+    ("99999999999999999999 rx 0", 1, Range),
+    ("0xfffffffffffffffffffff rx 0", 1, Range),
+    ("18446744073709551616 rx 0", 1, Range),
+    ("0X0 rx 0", 1, BadLine),
+    ("0x rx 0", 1, BadLine),
+    ("-1 rx 0", 1, BadLine),
+    ("+1 rx 0", 1, BadLine),
+    ("1000000000001 rx 0", 1, Range),
+    ("0 pin 0 #1", 1, BadLine),
+    // What crowds what.
+    ("0 feed 0 1 1\n9 feed 0 1 1", 2, Crowded),
+    ("0 drain 3 1\n9 drain 3 1", 2, Crowded),
+    ("0 rx 2\n0 rx 2", 2, Crowded),
+    ("version 2\n3 disable 0\n3 enable 0", 3, Crowded),
+    ("version 2\n3 restart 0\n3 restart 0", 3, Crowded),
+    // Versions.
+    ("3 disable 0\n5 enable 0", 1, BadLine),
+    ("version 1\n3 disable 0", 2, BadLine),
+    ("version 3", 1, Range),
+    ("version 0", 1, Range),
+    ("version 99999999999", 1, Range),
+    ("version", 1, BadLine),
+    ("version x", 1, BadLine),
+    ("version -1", 1, BadLine),
+    ("version 2 2", 1, BadLine),
+    ("version 2\nversion 2", 2, BadLine),
+    ("0 rx 0\nversion 3", 2, BadLine),
+];
+
+/// How many lines a text has, or its fault.
+fn lines_of(alloc: Global, text: &str) -> Result<usize, StimFault> {
+    let schedule = read_stimulus(alloc, text.as_bytes())?;
+    Ok(schedule.lines().len())
 }
 
 #[test]
 fn reads_lines(rt: HostRuntime) {
-    use StimKind::{Backwards, BadLine, Crowded, Range};
-    let rows = [
-        (b"".as_slice(), Ok(0)),
-        (b"\n \t\r\n# a comment\n", Ok(0)),
-        (b"5 pin 0 1\n4 pin 0 0\n", at(2, Backwards)),
-        (b"5 pin 0 1\n5 pin 0 0\n", Ok(2)),
-        (b"0 pin 32 1", at(1, Range)),
-        (b"0 pin 31 2", at(1, Range)),
-        (b"0 tx 0 1\n0 tx 0 2", at(2, Crowded)),
-        (b"0 tx 0 1\n0 tx 1 2\n1 tx 0 3", Ok(3)),
-        (b"0 push 0", at(1, BadLine)),
-        (b"0 tx 0", at(1, BadLine)),
-        (b"0 rx 0 0", at(1, BadLine)),
-        (b"0 feed 0 3", at(1, BadLine)),
-        (b"0 feed 0 0 1", at(1, Range)),
-        (b"0 feed 0 1000000 4294967295", Ok(1)),
-        (b"0 feed 0 1000001 1", at(1, Range)),
-        (b"0 feed 0 1 4294967296", at(1, Range)),
-        // The whole line's form comes before any range.
-        (b"0 pin 99 x", at(1, BadLine)),
-        (b"0 tx 9 1 1", at(1, BadLine)),
-        // Ranges come before the order.
-        (b"5 rx 0\n4 rx 4", at(2, Range)),
-        (b"5 rx 0\n4 rx 0", at(2, Backwards)),
-        // Numbers.
-        (b"99999999999999999999 rx 0", at(1, Range)),
-        (b"0xfffffffffffffffffffff rx 0", at(1, Range)),
-        (b"18446744073709551616 rx 0", at(1, Range)),
-        (b"00 rx 0x3", Ok(1)),
-        (b"0X0 rx 0", at(1, BadLine)),
-        (b"0x rx 0", at(1, BadLine)),
-        (b"-1 rx 0", at(1, BadLine)),
-        (b"+1 rx 0", at(1, BadLine)),
-        (b"0xAb rx 0", Ok(1)),
-        (b"1000000000000 rx 0", Ok(1)),
-        (b"1000000000001 rx 0", at(1, Range)),
-        // A comment begins inside a field too.
-        (b"0 pin 0 1#x", Ok(1)),
-        (b"0 pin 0 #1", at(1, BadLine)),
-        // What crowds what.
-        (b"0 feed 0 1 1\n0 drain 0 1", Ok(2)),
-        (b"0 feed 0 1 1\n9 feed 0 1 1", at(2, Crowded)),
-        (b"0 drain 3 1\n9 drain 3 1", at(2, Crowded)),
-        (b"0 tx 0 1\n0 rx 0\n0 feed 0 1 1", Ok(3)),
-        (b"0 rx 2\n0 rx 2", at(2, Crowded)),
-    ];
-    for (text, want) in rows {
-        assert_eq!(rt; outcome(rt.alloc(), text), want);
+    for &(text, lines) in &READ {
+        assert_eq!(rt; lines_of(rt.alloc(), text), Ok(lines), "{text:?}");
     }
 }
 
 #[test]
-fn reads_versions(rt: HostRuntime) {
-    use StimKind::{BadLine, Crowded, Range};
-    let rows = [
-        (b"version 2\n3 disable 0\n5 enable 0".as_slice(), Ok(2)),
-        (b"3 disable 0\n5 enable 0", at(1, BadLine)),
-        (b"version 1\n3 disable 0", at(2, BadLine)),
-        (b"version 2\n3 disable 0\n3 enable 0", at(3, Crowded)),
-        (b"version 2\n3 disable 0\n3 restart 0\n3 enable 1", Ok(3)),
-        (b"version 2\n3 restart 0\n3 restart 0", at(3, Crowded)),
-        (b"# first\n\n version 0x2 # two\n3 enable 0", Ok(1)),
-        (b"version 02\n3 enable 0", Ok(1)),
-        (b"version 3", at(1, Range)),
-        (b"version 0", at(1, Range)),
-        (b"version 99999999999", at(1, Range)),
-        (b"version", at(1, BadLine)),
-        (b"version x", at(1, BadLine)),
-        (b"version -1", at(1, BadLine)),
-        (b"version 2 2", at(1, BadLine)),
-        (b"version 2\nversion 2", at(2, BadLine)),
-        (b"0 rx 0\nversion 3", at(2, BadLine)),
-        // It has no clock.
-        (b"version 2\n0 rx 0", Ok(1)),
-    ];
-    for (text, want) in rows {
-        assert_eq!(rt; outcome(rt.alloc(), text), want);
+fn refuses_lines(rt: HostRuntime) {
+    for &(text, line, kind) in &REFUSED {
+        let fault = StimFault::At { line, kind };
+        assert_eq!(rt; lines_of(rt.alloc(), text), Err(fault), "{text:?}");
     }
 }
 
-// So many lines of one kind.
-fn many_lines(alloc: Global, number: usize) -> Result<Vec<u8>, AllocError> {
-    let mut text = Vec::new(alloc);
+/// So many lines of one kind.
+fn many_lines(alloc: Global, number: usize) -> Result<String, AllocError> {
+    let mut text = String::new(alloc);
     for _ in 0..number {
-        text.extend_from_slice(b"0 pin 0 1\n")?;
+        text.push_str("0 pin 0 1\n")?;
     }
     Ok(text)
 }
 
 #[test]
-fn reads_a_million_lines(rt: HostRuntime) {
-    let rows = [
-        (1_000_000, Ok(1_000_000)),
-        (1_000_001, at(1_000_001, StimKind::Many)),
-    ];
-    for (number, want) in rows {
-        let text = many_lines(rt.alloc(), number).expect(&rt, "memory");
-        assert_eq!(rt; outcome(rt.alloc(), text.as_slice()), want);
-    }
+fn reads_a_million_lines_and_no_more(rt: HostRuntime) -> Result<(), Fail> {
+    let mut text = many_lines(rt.alloc(), 1_000_000)?;
+    assert_eq!(rt; lines_of(rt.alloc(), &text), Ok(1_000_000));
+    text.push_str("0 pin 0 1\n")?;
+    let fault = StimFault::At { line: 1_000_001, kind: Many };
+    assert_eq!(rt; lines_of(rt.alloc(), &text), Err(fault));
+    Ok(())
 }

@@ -6,7 +6,7 @@ use pin_matrix::{MachineSetup, Mapping, Setup, Spans};
 use pio_encode::SideRule;
 
 /// What is seen after a clock.
-#[derive(Clone, Copy, Debug)]
+#[derive(Clone, Copy)]
 pub enum Seen {
     /// All levels.
     Levels(u32),

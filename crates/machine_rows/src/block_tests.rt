@@ -5,10 +5,10 @@ use crate::block_row::{Row, Seen, setup_of};
 use crate::block_rows::BLOCK;
 use crate::port_rows::PORTS;
 use block_core::{Block, Sample};
-use dreq_pacing::{HostPorts, read_stimulus};
+use dreq_pacing::{HostPorts, Schedule, read_stimulus};
 use fifo_pair::{Fifo, PlainFifo, RingFifo};
 use pin_matrix::Spans;
-use std::alloc::Global;
+use std::alloc::{AllocError, Global};
 use std::process::Abort;
 use std::test::Fail;
 
@@ -38,34 +38,40 @@ fn clocks_of(row: &Row) -> u64
     last.min(100_000) + 1
 }
 
-/// The row's clocks, one after the other.
-fn run<F: Fifo>(rt: &impl Abort, alloc: Global, row: &Row) -> Result<(), Fail> {
+/// Whether all is seen that a row shows after a clock.
+fn are_seen(row: &Row, sample: &Sample, clock: u64) -> bool {
+    row.seen
+        .iter()
+        .all(|&(at, seen)| at != clock || is_seen(sample, seen))
+}
+
+/// The row's clocks, one after the other: the first after which something isn't seen.
+fn unseen<F: Fifo>(
+    alloc: Global,
+    row: &Row,
+    schedule: &Schedule,
+) -> Result<Option<u64>, AllocError> {
     let setup = setup_of(row, Spans::empty(alloc));
-    let schedule = match read_stimulus(alloc, row.stimulus.as_bytes()) {
-        Ok(schedule) => schedule,
-        Err(fault) => panic!(rt; "{}: {fault:?}", row.shows),
-    };
-    let mut ports = HostPorts::new(&schedule);
+    let mut ports = HostPorts::new(schedule);
     let mut block = Block::<F>::new(alloc, &setup)?;
     for clock in 0..clocks_of(row) {
         let due = ports.at(clock, &block.requests());
         block.clock(&due);
-        let sample = block.view();
-        for &(at, seen) in row.seen {
-            assert!(rt;
-                at != clock || is_seen(&sample, seen),
-                "{}: {seen:?} after clock {clock}",
-                row.shows
-            );
+        if !are_seen(row, &block.view(), clock) {
+            return Ok(Some(clock));
         }
     }
-    Ok(())
+    Ok(None)
 }
 
+/// Both kinds of FIFO show what each row says.
 fn run_all(rt: &impl Abort, alloc: Global, rows: &[Row]) -> Result<(), Fail> {
     for row in rows {
-        run::<PlainFifo>(rt, alloc, row)?;
-        run::<RingFifo>(rt, alloc, row)?;
+        let schedule = read_stimulus(alloc, row.stimulus.as_bytes()).expect(rt, row.shows);
+        let plain = unseen::<PlainFifo>(alloc, row, &schedule)?;
+        let ring = unseen::<RingFifo>(alloc, row, &schedule)?;
+        assert_eq!(rt; plain, None, "{}", row.shows);
+        assert_eq!(rt; ring, None, "{}", row.shows);
     }
     Ok(())
 }

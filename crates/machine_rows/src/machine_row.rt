@@ -21,7 +21,7 @@ pub enum Event {
 }
 
 /// What is seen after a clock.
-#[derive(Clone, Copy, Debug)]
+#[derive(Clone, Copy)]
 pub enum Seen {
     Level(u32),
     Direction(u32),

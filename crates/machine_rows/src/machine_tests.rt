@@ -7,7 +7,7 @@ use crate::machine_shifts::SHIFTS;
 use fifo_pair::{Fifo, PlainFifo, RingFifo};
 use irq_flags::Flags;
 use sm_registers::{Machine, View};
-use std::alloc::Global;
+use std::alloc::{AllocError, Global};
 use std::process::Abort;
 use std::test::Fail;
 
@@ -90,33 +90,32 @@ fn is_seen<F: Fifo>(machine: &Machine<F>, around: &Around, seen: Seen) -> bool {
     }
 }
 
-/// The row's clocks, one after the other.
-fn run<F: Fifo>(rt: &impl Abort, alloc: Global, row: &Row) -> Result<(), Fail> {
+/// Whether all is seen that a row shows after a clock.
+fn are_seen<F: Fifo>(machine: &Machine<F>, around: &Around, row: &Row, now: u8) -> bool {
+    row.seen.iter().all(|&(clock, seen)| clock != now || is_seen(machine, around, seen))
+}
+
+/// The row's clocks, one after the other: the first after which something isn't seen.
+fn unseen<F: Fifo>(alloc: Global, row: &Row) -> Result<Option<u8>, AllocError> {
     let setup = setup_of(&row.setup, row.words.len());
     let mut machine = Machine::<F>::new(alloc, &setup)?;
     let mut around = with_memory(row.words);
     for now in 0..CLOCKS {
         clock(&mut machine, &mut around, row.events, now);
-        for &(clock, seen) in row.seen {
-            if clock == now {
-                assert!(rt;
-                    is_seen(&machine, &around, seen),
-                    "{}: {seen:?} after clock {now}",
-                    row.shows
-                );
-            }
+        if !are_seen(&machine, &around, row, now) {
+            return Ok(Some(now));
         }
     }
-    for &(clock, _) in row.seen {
-        assert!(rt; clock < CLOCKS, "{}", row.shows);
-    }
-    Ok(())
+    Ok(None)
 }
 
+/// Both kinds of FIFO show what each row says, in the clocks that are looked at.
 fn run_all(rt: &impl Abort, alloc: Global, rows: &[Row]) -> Result<(), Fail> {
     for row in rows {
-        run::<PlainFifo>(rt, alloc, row)?;
-        run::<RingFifo>(rt, alloc, row)?;
+        let is_short = row.seen.iter().all(|&(clock, _)| clock < CLOCKS);
+        assert!(rt; is_short, "{}", row.shows);
+        assert_eq!(rt; unseen::<PlainFifo>(alloc, row)?, None, "{}", row.shows);
+        assert_eq!(rt; unseen::<RingFifo>(alloc, row)?, None, "{}", row.shows);
     }
     Ok(())
 }
@@ -141,9 +140,9 @@ fn reserved_words_do_nothing(rt: HostRuntime) -> Result<(), Fail> {
         let mut machine = Machine::<PlainFifo>::new(rt.alloc(), &setup_of(&PLAIN, 2))?;
         let mut around = with_memory(&[word, 0xe001]);
         clock(&mut machine, &mut around, &[], 0);
-        assert_eq!(rt; (around.level, around.direction), (0, 0), "{word:04x}");
+        assert!(rt; around.level == 0 && around.direction == 0, "{word:04x}");
         clock(&mut machine, &mut around, &[], 1);
-        assert_eq!(rt; (around.level, around.direction), (1, 0), "{word:04x}");
+        assert!(rt; around.level == 1 && around.direction == 0, "{word:04x}");
     }
     Ok(())
 }

@@ -15,7 +15,7 @@ const NONE: (u32, u32) = (0, 0);
 #[test]
 fn writes_a_mapping(rt: HostRuntime) {
     // Base, count, value, pins written, their bits.
-    let rows = [
+    static ROWS: [(u8, u8, u32, u32, u32); 8] = [
         (0, 0, 0xFFFF_FFFF, 0, 0),
         (31, 0, 1, 0, 0),
         (0, 32, 0xDEAD_BEEF, 0xFFFF_FFFF, 0xDEAD_BEEF),
@@ -27,12 +27,11 @@ fn writes_a_mapping(rt: HostRuntime) {
         // Bits above a short value are 0.
         (0, 4, 1, 0b1111, 0b0001),
     ];
-    for (base, count, value, pins, bits) in rows {
+    for &(base, count, value, pins, bits) in &ROWS {
         assert!(rt; base < 32 && count <= 32);
         let mapping = Mapping { base, count };
-        assert_eq!(rt;
-            writes_of(&mapping, value),
-            (pins, bits),
+        assert!(rt;
+            writes_of(&mapping, value) == (pins, bits),
             "{base}:{count} {value:#x}"
         );
     }
@@ -41,14 +40,17 @@ fn writes_a_mapping(rt: HostRuntime) {
 #[test]
 fn counts_from_a_base(rt: HostRuntime) {
     // Pins, base, pins from it.
-    let rows = [
+    static ROWS: [(u32, u8, u32); 4] = [
         (0x8000_0001, 0, 0x8000_0001),
         (0x8000_0001, 1, 0xC000_0000),
         (0x8000_0001, 31, 0b11),
         (0b1000, 3, 1),
     ];
-    for (pins, base, want) in rows {
-        assert_eq!(rt; pins_from(pins, base), want, "{pins:#x} from {base}");
+    for &(pins, base, want) in &ROWS {
+        assert!(rt;
+            base < 32 && pins_from(pins, base) == want,
+            "{pins:#x} from {base}"
+        );
     }
 }
 
@@ -77,33 +79,29 @@ fn merges_writes(rt: HostRuntime) {
         ),
     ];
     for (old, writes, want) in rows {
-        assert_eq!(rt; merge4(old, &writes), want, "{old} {writes:?}");
+        assert!(rt; merge4(old, &writes) == want, "{want}");
     }
 }
 
 #[test]
 fn pads(rt: HostRuntime) {
     // Level, direction, outside value, pad.
-    let rows = [
+    static ROWS: [(u32, u32, u32, u32); 5] = [
         (1, 1, 0, 1),
         (1, 0, 0, 0),
         (0, 1, 1, 0),
         (0, 0, 1, 1),
         (0xFF00_FF00, 0xFFFF_0000, 0x0F0F_0F0F, 0xFF00_0F0F),
     ];
-    for (level, direction, outside, want) in rows {
-        assert_eq!(rt;
-            pad_of(level, direction, outside),
-            want,
-            "{level:#x} {direction:#x} {outside:#x}"
-        );
+    for &(level, direction, outside, want) in &ROWS {
+        assert!(rt; pad_of(level, direction, outside) == want, "{want:#x}");
     }
 }
 
 #[test]
 fn sees_two_clocks_late(rt: HostRuntime) {
     // The pads before, the pins without synchroniser; the pads of five clocks, what is seen in each, whether they settled.
-    let rows = [
+    static ROWS: [(u32, u32, [u32; 5], [u32; 5], [bool; 5]); 3] = [
         (
             1,
             0,
@@ -126,20 +124,16 @@ fn sees_two_clocks_late(rt: HostRuntime) {
             [true, true, false, false, true],
         ),
     ];
-    for (before, bypass, pads, seen, settled) in rows {
+    for &(before, bypass, pads, seen, settled) in &ROWS {
         let mut sync = Sync::new(before, bypass);
         for clock in 0..5 {
-            assert_eq!(rt;
-                sync.seen(pads[clock]),
-                seen[clock],
+            let pad = pads[clock];
+            assert!(rt; sync.seen(pad) == seen[clock], "{bypass:#x} at {clock}");
+            assert!(rt;
+                sync.settled(pad) == settled[clock],
                 "{bypass:#x} at {clock}"
             );
-            assert_eq!(rt;
-                sync.settled(pads[clock]),
-                settled[clock],
-                "{bypass:#x} at {clock}"
-            );
-            sync.step(pads[clock]);
+            sync.step(pad);
         }
     }
 }
@@ -269,7 +263,7 @@ fn keeps_at_most_64_spans(rt: HostRuntime) {
 #[test]
 fn knows_names_of_spans(rt: HostRuntime) {
     // 32 and 33 bytes, and what isn't a name's.
-    let rows = [
+    static ROWS: [(&str, bool); 6] = [
         ("a234567890123456789012345678901Z", true),
         ("a234567890123456789012345678901Zz", false),
         ("_-", true),
@@ -277,7 +271,7 @@ fn knows_names_of_spans(rt: HostRuntime) {
         ("a b", false),
         ("a.b", false),
     ];
-    for (name, wanted) in rows {
+    for &(name, wanted) in &ROWS {
         assert_eq!(rt; is_span_name(name.as_bytes()), wanted, "{name}");
     }
 }

@@ -15,7 +15,10 @@ use step_count::Steps;
 use vcd_trace::{ListTrace, Trace};
 
 // The datasheet's example: `set pindirs, 1`, `set pins, 1 [1]`, `set pins, 0`, `jmp 1`.
-const WORDS: [u16; 4] = [0xe081, 0xe101, 0xe000, 0x0001];
+const MEMORY: [u16; 32] = [
+    0xe081, 0xe101, 0xe000, 0x0001, 0, 0, 0, 0, 0, 0, 0, 0, 0, 0, 0, 0, 0, 0, 0, 0, 0, 0, 0, 0, 0,
+    0, 0, 0, 0, 0, 0, 0,
+];
 
 // Pin 0 after each clock, as the datasheet draws it: high for two clocks of four, from clock 1 on.
 const LEVELS: [u32; 8] = [0, 1, 1, 0, 0, 1, 1, 0];
@@ -72,26 +75,16 @@ fn run_of<F: Fifo, L: Ledger>(
     Ok((ended, trace))
 }
 
-// Machine 0 with the words from address 0 on, and all else as it is by default.
+// Machine 0 over the memory, and all else as it is by default.
 fn setup_of(alloc: Global) -> Setup {
-    let mut memory = [0; 32];
-    for (address, word) in WORDS.iter().enumerate() {
-        memory[address] = *word;
-    }
+    let mut setup = Setup::of(MEMORY, Spans::empty(alloc));
     let rule = SideRule {
         bits: 0,
         opt: false,
         pindirs: false,
     };
-    Setup {
-        memory,
-        machines: [Some(MachineSetup::of(0, rule)), None, None, None],
-        high: 0,
-        level: 0,
-        out: 0,
-        bypass: 0,
-        spans: Spans::empty(alloc),
-    }
+    setup.place(MachineSetup::of(0, rule));
+    setup
 }
 
 // Whether pin 0 is an output that shows the wave, and nothing else shows anything.

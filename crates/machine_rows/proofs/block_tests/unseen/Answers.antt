@@ -1,7 +1,7 @@
 use Rattle.std.proofs.Common.{ℕ, ◌+◌, ap, ◌∙◌}
 use Rattle.dreq_pacing.specs.Ports.{Ports}
 use Rattle.block_core.specs.Block.{Run, next}
-use Rattle.machine_rows.proofs.block_tests.run.Goals as goal
+use Rattle.machine_rows.proofs.block_tests.unseen.Goals as goal
 
 pub loop-clock-preserved : goal.loop-clock-preserved
 unfolding next
