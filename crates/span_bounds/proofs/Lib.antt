@@ -10,3 +10,4 @@ pub mod Ends
 pub mod Filled
 pub mod Firsts
 pub mod Members
+pub mod Prefix

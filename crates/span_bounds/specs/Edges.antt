@@ -1,10 +1,11 @@
 -- Words of the sweeps, which work with the numbers of contexts.
+--   padded           a grid of which some entries are written
 --   at               what a grid says of a number
 --   nexts_at         the nexts of the context with a number
 --   AllLie           each next lies within an entry
 --   IsClosedAt       a table, as a function of the number, is closed
 --   Among            a number waits
-use Rattle.std.specs.Prelude.{◌≡◌, ℕ, ◌<◌, ◌⊎◌, List, [], ◌∷◌, slice_index_or}
+use Rattle.std.specs.Prelude.{◌≡◌, ℕ, ◌-◌, ◌<◌, ◌⊎◌, List, [], ◌∷◌, ◌++◌, length, replicate, slice_index_or}
 use Rattle.pin_matrix.specs.declared.setup.Setup.{Setup}
 use Rattle.pin_matrix.specs.declared.span.Span.{Span}
 use Rattle.span_step.specs.declared.ages.Ages.{Ages}
@@ -15,6 +16,10 @@ use Rattle.span_bounds.specs.declared.entry.Entry.{Entry}
 use Rattle.span_bounds.specs.declared.entry.Entry.TheVariants.{Absent, Present}
 use Rattle.span_bounds.specs.Numbers.{number_of, context_at}
 use Rattle.span_bounds.specs.Tables.{LiesAt, start_context}
+
+-- a grid of which these entries are written: no rows come after them
+abbrev pub padded : List Entry → List Entry
+padded xs = xs ++ replicate (139392 - length xs) Absent
 
 -- what a grid says of a number
 abbrev pub at : List Entry → ℕ → Entry

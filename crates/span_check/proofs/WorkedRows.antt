@@ -1,7 +1,7 @@
 -- Worked rows: what the definitions give for runs that were worked out by hand.
-use Rattle.std.proofs.Common.{◌≡◌, ℕ, true, false, [], ◌∷◌, refl, arith}
+use Rattle.std.proofs.Common.{◌≡◌, ℕ, zero, suc, sym, ◌∙◌, true, false, [], ◌∷◌, refl, arith}
 use Rattle.pin_matrix.specs.declared.setup.Setup.{Setup}
-use Rattle.pin_matrix.specs.declared.span.SpanUnit.TheVariants.{Clocks}
+use Rattle.pin_matrix.specs.declared.span.SpanUnit.TheVariants.{Ticks, Clocks}
 use Rattle.dreq_pacing.specs.declared.line.Act.TheVariants.{Tx, Restart, Disable, Enable}
 use Rattle.clock_divider.specs.Ticks.{is_tick}
 use Rattle.fifo_pair.specs.Fifos.{settled}
@@ -16,7 +16,7 @@ use Rattle.block_core.specs.Block.{stepped, next}
 use Rattle.block_core.specs.Hosted.{hosted_at, hosted_next}
 use Rattle.block_core.specs.Slots.{acted, settled_slot}
 use Rattle.span_check.specs.Marks.{Mark, mark_of}
-use Rattle.span_check.specs.Holding.{counted, measured}
+use Rattle.span_check.specs.Holding.{counted, measured, IsQuiet, Ends, IsSpokenOf, HoldsFrom}
 use Rattle.span_check.specs.Runs.{marks_in}
 use Rattle.span_check.proofs.WorkedSetups.{plain_machine, side_one, side_one_opt, pin_0, block_of, span_of}
 
@@ -87,6 +87,28 @@ disabled = marks_in (span_of true false 1 1 (omega arith) (omega arith) []) fast
 disabled-row : ((disabled 2).from ≡ true) × ((disabled 5).to ≡ true) × ((disabled 3).breaks ≡ true) × (counted disabled 2 6 ≡ 1) × (measured Clocks disabled 2 6 ≡ 3)
 unfolding fast disabled mark_of counted hosted_at hosted_next next stepped acted settled_slot is_tick settled merged reading_of act_of push_or_pull_at delay_of side_of set_at mov_at effect_of jmp_effect out_effect pull_effect set_effect mov_effect settled_ports tick_of tick_delay tick_word tick_by after_effect due_in transfers_after requests_of
 disabled-row = (refl, refl, refl, refl, refl)
+
+-- of a span in ticks this is said: with at least 2 it doesn't hold
+two_clocks : (m : ℕ → Mark) → (m 3).to ≡ false → (m 4).to ≡ false → IsQuiet m 2 5
+two_clocks m h k zero after before = absurd (omega (arith, after))
+two_clocks m h k (suc zero) after before = absurd (omega (arith, after))
+two_clocks m h k (suc (suc zero)) after before = absurd (omega (arith, after))
+two_clocks m h k (suc (suc (suc zero))) after before = h
+two_clocks m h k (suc (suc (suc (suc zero)))) after before = k
+two_clocks m h k (suc (suc (suc (suc (suc c))))) after before = absurd (omega (arith, before))
+
+high_until_5 : (Ends disabled 2 5) × (counted disabled 2 6 ≡ 1)
+unfolding fast disabled mark_of counted hosted_at hosted_next next stepped acted settled_slot is_tick settled merged reading_of act_of push_or_pull_at delay_of side_of set_at mov_at effect_of jmp_effect out_effect pull_effect set_effect mov_effect settled_ports tick_of tick_delay tick_word tick_by after_effect due_in transfers_after requests_of
+high_until_5 = (record { after = omega arith; first = two_clocks disabled refl refl; edge = refl }, refl)
+
+disabled-in-ticks : HoldsFrom Ticks 2 2 disabled 6 2 → ⊥
+disabled-in-ticks h = omega (arith, h.least 5 high_until_5.0 (omega arith) tt, high_until_5.1)
+
+-- of a span in clocks nothing is said
+disabled-in-clocks : IsSpokenOf Clocks disabled 2 6 → ⊥
+disabled-in-clocks h = never (sym (h 3 (omega arith) (omega arith)) ∙ disabled-row.2) where
+  never : false ≡ true → ⊥
+  never e = cc
 
 -- `set pins, 1 [2]`, `set pins, 0`: from a rise to the next one, which is both an end and a new begin
 periods : ℕ → Mark

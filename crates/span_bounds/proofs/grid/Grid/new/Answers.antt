@@ -1,4 +1,5 @@
+use Rattle.span_bounds.proofs.Prefix.{padded_none}
 use Rattle.span_bounds.proofs.grid.Grid.new.Goals as goal
 
 pub returns : goal.returns
-returns c = c.in_ok-entries.ensures.items_if_clones_equal (λ y h. h)
+returns c = padded_none _ c.in_ok-entries.ensures.items

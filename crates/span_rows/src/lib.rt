@@ -1,0 +1,5 @@
+//! The worked rows of the timing checker, run over the public calls of its crates.
+#![tactic(auto)]
+
+#[cfg(test)]
+mod verdict_tests;
