@@ -11,3 +11,4 @@ pub mod Filled
 pub mod Firsts
 pub mod Members
 pub mod Prefix
+pub mod Marked

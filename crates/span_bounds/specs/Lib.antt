@@ -6,3 +6,4 @@ pub mod Sums
 pub mod Count
 pub mod Take
 pub mod Answers
+pub mod Marks

@@ -7,6 +7,7 @@ use crate::count::count;
 use crate::derived::Derived;
 use crate::entry::Entry;
 use crate::grid::Grid;
+use crate::marks::Marks;
 use crate::number::{CONTEXTS, context_at};
 use crate::reach::reach;
 use crate::row_step::row_step;
@@ -58,7 +59,7 @@ fn derive_counted<L: Ledger>(
     ensures steps { steps.new ≤ steps.old + 5 * 139392 }
 {
     let mut table = Grid::new(alloc)?;
-    let mut left = Grid::new(alloc)?;
+    let mut left = Marks::new(alloc)?;
     let mut missing = vec![in alloc; 0; CONTEXTS]?;
     let mut stack = Stack::new(alloc)?;
     reach(setup, span, &mut left, &mut stack, steps);
@@ -85,7 +86,7 @@ fn derive_counted<L: Ledger>(
 fn first_bad<L: Ledger>(
     setup: &Setup,
     span: &Span,
-    left: &Grid,
+    left: &Marks,
     table: &Grid,
     steps: &mut Steps<L>,
 ) -> Option<(usize, Cause)>
@@ -106,7 +107,7 @@ fn first_bad<L: Ledger>(
 fn judged<L: Ledger>(
     setup: &Setup,
     span: &Span,
-    left: &Grid,
+    left: &Marks,
     table: &Grid,
     number: usize,
     steps: &mut Steps<L>,

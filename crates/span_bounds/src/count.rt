@@ -10,6 +10,7 @@ ghost use Rattle.span_bounds.specs.Count.{Count, Counted};
 
 use crate::entry::Entry;
 use crate::grid::Grid;
+use crate::marks::Marks;
 use crate::number::number_of;
 use crate::row_step::row_step;
 use pin_matrix::{Setup, Span};
@@ -21,7 +22,7 @@ use step_count::Steps;
 pub(crate) fn count<L: Ledger>(
     setup: &Setup,
     span: &Span,
-    reach: &Grid,
+    reach: &Marks,
     table: &mut Grid,
     missing: &mut Vec<u32>,
     steps: &mut Steps<L>,
@@ -41,7 +42,7 @@ pub(crate) fn count<L: Ledger>(
 fn count_number<L: Ledger>(
     setup: &Setup,
     span: &Span,
-    reach: &Grid,
+    reach: &Marks,
     table: &mut Grid,
     missing: &mut Vec<u32>,
     number: usize,
@@ -64,7 +65,7 @@ fn count_number<L: Ledger>(
 fn count_row<L: Ledger>(
     setup: &Setup,
     span: &Span,
-    reach: &Grid,
+    reach: &Marks,
     table: &mut Grid,
     missing: &mut Vec<u32>,
     number: usize,

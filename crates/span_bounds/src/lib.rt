@@ -7,6 +7,7 @@ mod derived;
 mod entry;
 mod grid;
 mod laws;
+mod marks;
 mod number;
 mod reach;
 mod row;

@@ -6,7 +6,7 @@ ghost use Rattle.span_bounds.specs.Reach as spec;
 ghost use Rattle.span_bounds.specs.Reach.{Sweep, IsReach, Raised, room};
 
 use crate::entry::Entry;
-use crate::grid::Grid;
+use crate::marks::{Mark, Marks};
 use crate::number::number_of;
 use crate::row_step::row_step;
 use crate::stack::Stack;
@@ -20,7 +20,7 @@ use step_count::Steps;
 pub(crate) fn reach<L: Ledger>(
     setup: &Setup,
     span: &Span,
-    grid: &mut Grid,
+    grid: &mut Marks,
     waiting: &mut Stack,
     steps: &mut Steps<L>,
 )
@@ -42,7 +42,7 @@ pub(crate) fn reach<L: Ledger>(
 fn visit<L: Ledger>(
     setup: &Setup,
     span: &Span,
-    grid: &mut Grid,
+    grid: &mut Marks,
     waiting: &mut Stack,
     number: usize,
     steps: &mut Steps<L>,
@@ -65,7 +65,7 @@ fn visit<L: Ledger>(
 fn visit_row<L: Ledger>(
     setup: &Setup,
     span: &Span,
-    grid: &mut Grid,
+    grid: &mut Marks,
     waiting: &mut Stack,
     number: usize,
     ages: Ages,
@@ -87,7 +87,7 @@ fn visit_row<L: Ledger>(
 }
 
 /// Raises the entry of a number to hold these ages; where it didn't, the number waits.
-fn raise(grid: &mut Grid, waiting: &mut Stack, number: usize, ages: Ages)
+fn raise(grid: &mut Marks, waiting: &mut Stack, number: usize, ages: Ages)
     requires number { number < 139392 }
     requires room { room grid.old + length waiting.old ≤ 278784 }
     ensures raised { Raised number ages grid.old grid.new waiting.old waiting.new }
@@ -95,7 +95,7 @@ fn raise(grid: &mut Grid, waiting: &mut Stack, number: usize, ages: Ages)
 {
     if !holds(ages, grid.at(number)) {
         waiting.push(number);
-        grid.put(number, Entry::Present(plain(ages)));
+        grid.put(number, Mark::of(ages));
     }
 }
 
@@ -106,16 +106,5 @@ fn holds(ages: Ages, entry: Entry) -> bool
     match entry {
         Entry::Absent => false,
         Entry::Present(there) => !ages.is_open() || there.is_open(),
-    }
-}
-
-/// The ages for a mark: open or not.
-fn plain(ages: Ages) -> Ages
-    ensures { result ≡ spec.plain ages }
-{
-    if ages.is_open() {
-        Ages::Between(0, 0)
-    } else {
-        Ages::Empty
     }
 }

@@ -10,6 +10,7 @@ ghost use Rattle.span_bounds.specs.Take.{Takes, IsTaken, AreReady, Passed, work_
 use crate::count::join;
 use crate::entry::Entry;
 use crate::grid::Grid;
+use crate::marks::{Mark, Marks};
 use crate::number::number_of;
 use crate::row_step::row_step;
 use crate::stack::Stack;
@@ -23,7 +24,7 @@ use step_count::Steps;
 pub(crate) fn take<L: Ledger>(
     setup: &Setup,
     span: &Span,
-    left: &mut Grid,
+    left: &mut Marks,
     table: &mut Grid,
     missing: &mut Vec<u32>,
     ready: &mut Stack,
@@ -43,7 +44,7 @@ pub(crate) fn take<L: Ledger>(
 }
 
 /// Adds the open rows that wait for none.
-fn add_ready(left: &Grid, missing: &Vec<u32>, ready: &mut Stack)
+fn add_ready(left: &Marks, missing: &Vec<u32>, ready: &mut Stack)
     requires numbers { length missing.now.items ≡ 139392 }
     requires ready { ready.old ≡ [] }
     ensures { AreReady left.now missing.now.items ready.new 139392 }
@@ -54,7 +55,7 @@ fn add_ready(left: &Grid, missing: &Vec<u32>, ready: &mut Stack)
 }
 
 /// Adds a number if its row is left and waits for none.
-fn add_if_ready(left: &Grid, missing: &Vec<u32>, ready: &mut Stack, number: usize)
+fn add_if_ready(left: &Marks, missing: &Vec<u32>, ready: &mut Stack, number: usize)
     requires number { number < 139392 }
     requires numbers { length missing.now.items ≡ 139392 }
     requires before { AreReady left.now missing.now.items ready.old number }
@@ -66,7 +67,7 @@ fn add_if_ready(left: &Grid, missing: &Vec<u32>, ready: &mut Stack, number: usiz
 }
 
 /// Whether a number's row is left and waits for none.
-fn is_ready(left: &Grid, missing: &Vec<u32>, number: usize) -> bool
+fn is_ready(left: &Marks, missing: &Vec<u32>, number: usize) -> bool
     requires number { number < 139392 }
     requires numbers { length missing.now.items ≡ 139392 }
     ensures { result ≡ spec.is_ready left.now missing.now.items number }
@@ -88,7 +89,7 @@ pub(crate) fn is_open(entry: Entry) -> bool
 fn take_number<L: Ledger>(
     setup: &Setup,
     span: &Span,
-    left: &mut Grid,
+    left: &mut Marks,
     table: &mut Grid,
     missing: &mut Vec<u32>,
     ready: &mut Stack,
@@ -115,7 +116,7 @@ fn take_number<L: Ledger>(
 fn take_row<L: Ledger>(
     setup: &Setup,
     span: &Span,
-    left: &mut Grid,
+    left: &mut Marks,
     table: &mut Grid,
     missing: &mut Vec<u32>,
     ready: &mut Stack,
@@ -133,7 +134,7 @@ fn take_row<L: Ledger>(
     ensures work { work_left missing.new.items ready.new ≤ work_left missing.old.items ready.old }
     ensures steps { steps.new ≤ steps.old + 1 }
 {
-    left.put(number, Entry::Absent);
+    left.put(number, Mark::Absent);
     let stepped = row_step(setup, span, number, ages, steps);
     for next in stepped.nexts.as_slice() {
         pass(table, missing, ready, number_of(&next.context), next);

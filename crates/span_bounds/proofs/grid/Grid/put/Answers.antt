@@ -1,4 +1,4 @@
-use Rattle.std.proofs.Common.{rules, ◌≡◌, ◌<◌, ◌≤◌, ◌++◌, ◌∷◌, [], length, set, ap, ◌∙◌, vec_capacity, arith}
+use Rattle.std.proofs.Common.{rules, ◌≡◌, ◌<◌, ◌++◌, ◌∷◌, [], length, set, ap, ◌∙◌}
 use Rattle.span_bounds.specs.declared.entry.Entry.TheVariants.{Absent}
 use Rattle.span_bounds.proofs.Prefix.{padded_pushed, length_pushed, padded-set}
 use Rattle.span_bounds.proofs.grid.Grid.put.Goals as goal
