@@ -1,4 +1,5 @@
--- What a span looks at in one clock of a run, as a logic analyser at the block's outputs would see it.
+-- What a span looks at in one clock of a run: edges, as a logic analyser at the block's outputs would see them, and the ticks of its
+-- machine.
 --   Mark             what it looks at
 --   is_high          a pin's output level
 --   changes          an edge: the level before and after
