@@ -3,8 +3,9 @@ ghost use Rattle.std.specs.Prelude.{◌≡◌, ◌≤◌, true, IsSome, None, sl
 
 use pin_matrix::{MachineSetup, Mapping, Setup, Span, SpanUnit, Spans, Stalls};
 use pio_encode::{Name, SideRule};
+use span_check::{check, recheck};
 use span_step::Cause;
-use span_verdict::{Verdict, judge, recheck};
+use span_verdict::Verdict;
 use std::alloc::Global;
 
 const PLAIN: SideRule = SideRule {
@@ -515,7 +516,7 @@ fn said_of(alloc: Global, row: &Row) -> Option<(Says, bool)> {
     if !has_machine_0(&setup.machines) {
         return None;
     }
-    match judge(alloc, &setup, &span).ok()? {
+    match check(alloc, &setup, &span).ok()? {
         Verdict::Proved { table, opens } => {
             Some((Says::Proved(opens), recheck(&table, &setup, &span)))
         }
