@@ -1,0 +1,72 @@
+-- The line of a verdict on a span (choice of this profile). Each begins with some text before it: none where `check` writes it,
+-- and the program's name in the line of a fault.
+--   known_text       what is known of X or Y
+--   proved_line      the line of a span that is proved
+--   refusal_line     the line of a span that isn't
+--   verdict_line     the line of either
+use Rattle.std.specs.Prelude.{ℕ, ◌++◌, Bool, true, false, Option, Some, None, List, Result, Ok, Err, codes, decimal}
+use Rattle.span_step.specs.declared.cause.Cause.{Cause}
+use Rattle.span_step.specs.declared.cause.Cause.TheVariants.{U1, U2, U3, U4}
+use Rattle.span_step.specs.Contexts.{Context}
+use Rattle.verdict_lines.specs.declared.refusal.Refusal.{Refusal}
+use Rattle.verdict_lines.specs.declared.refusal.Refusal.TheVariants.{Unproved, Shared}
+
+-- what is known of X or Y: a number, or any
+abbrev pub known_text : Option ℕ → List ℕ
+known_text None = codes "any"
+known_text (Some n) = decimal n
+
+-- a pin's level
+abbrev pub level_text : Bool → List ℕ
+level_text false = codes "0"
+level_text true = codes "1"
+
+-- the levels of the from-pin and the to-pin
+abbrev pub levels_text : (from to : Bool) → List ℕ
+levels_text from to = codes " from " ++ level_text from ++ codes " to " ++ level_text to
+
+-- whether a span opens
+abbrev pub opens_text : Bool → List ℕ
+opens_text false = codes "no"
+opens_text true = codes "yes"
+
+-- the code of a cause
+abbrev pub cause_text : Cause → List ℕ
+cause_text U1 = codes "U1"
+cause_text U2 = codes "U2"
+cause_text U3 = codes "U3"
+cause_text U4 = codes "U4"
+
+-- the line of a span that is proved, with this word for whether it opens
+abbrev pub opening_line : (front name opens : List ℕ) → List ℕ
+opening_line front name opens = front ++ codes "span " ++ name ++ codes " proved opens " ++ opens ++ codes "\n"
+
+-- the line of a span that is proved
+abbrev pub proved_line : (front name : List ℕ) → (opens : Bool) → List ℕ
+proved_line front name opens = opening_line front name (opens_text opens)
+
+-- the line of a bad context, with these words for what is known of it
+abbrev pub context_line : (front name : List ℕ) → (address : ℕ) → (x y levels cause : List ℕ) → List ℕ
+context_line front name address x y levels cause =
+    front ++ codes "span " ++ name ++ codes " unproved at " ++ decimal address
+    ++ codes " x " ++ x ++ codes " y " ++ y ++ levels ++ codes ": " ++ cause ++ codes "\n"
+
+-- the line of a span whose table has this bad context, for this cause
+abbrev pub unproved_line : (front name : List ℕ) → Context → Cause → List ℕ
+unproved_line front name k cause =
+    context_line front name k.address (known_text k.x) (known_text k.y) (levels_text k.from k.to) (cause_text cause)
+
+-- the line of a span of which another machine may write a pin
+abbrev pub shared_line : (front name : List ℕ) → (machine : ℕ) → List ℕ
+shared_line front name machine =
+    front ++ codes "span " ++ name ++ codes " unproved by machine " ++ decimal machine ++ codes ": U5\n"
+
+-- the line of a span that isn't proved
+abbrev pub refusal_line : (front name : List ℕ) → Refusal → List ℕ
+refusal_line front name (Unproved context cause) = unproved_line front name context cause
+refusal_line front name (Shared machine) = shared_line front name machine
+
+-- the line of a verdict
+abbrev pub verdict_line : (front name : List ℕ) → Result Bool Refusal → List ℕ
+verdict_line front name (Ok opens) = proved_line front name opens
+verdict_line front name (Err refusal) = refusal_line front name refusal
