@@ -1,7 +1,7 @@
 //! Expressions, each with its items or its first fault, worked by hand from the language's rules (Pico SDK manual,
 //! section 3.3.2, and the choices of this profile).
 
-/// A source; its expression in postfix order, with `~` for a sign, and the token behind it; or its first fault, and the token
+/// A source; its expression in postfix order, with `~` for a sign, and the token after it; or its first fault, and the token
 /// of that.
 pub static EXPRESSIONS: &str = r#"
 7 - 2 * 3 => 7 2 3*- @5
@@ -56,16 +56,22 @@ x => Syntax @0
 (1 - (::2 / 1 => Ambiguous @4
 "#;
 
-/// Text before, `(` this often, text between, `)` this often, text behind; and the token that is too deep, if one is.
-pub static DEPTHS: [(&[u8], usize, &[u8], &[u8], Option<usize>); 10] = [
-    (b"", 64, b"1", b"", None),
-    (b"", 65, b"1", b"", Some(64)),
-    (b"::", 63, b"0", b"", None),
-    (b"::", 64, b"0", b"", Some(64)),
-    (b"- 1 + ", 64, b"2", b"", None),
-    (b"", 62, b"- - 1", b"", None),
-    (b"", 63, b"- - 1", b"", Some(64)),
-    (b"", 64, b"::1", b"", Some(64)),
-    (b"", 64, b"- ::1", b"", Some(64)),
-    (b"::", 65, b"1", b"+ 1", Some(64)),
-];
+/// The same of expressions in which 64 or more are open.
+pub static DEPTHS: &str = r#"
+`64 (`1`64 )` => 1 @129
+`65 (`1`65 )` => TooDeep @64
+::`63 (`0`63 )` => 0: @128
+::`64 (`0`64 )` => TooDeep @64
+- 1 + `64 (`2`64 )` => 1~ 2+ @132
+`62 (`- - 1`62 )` => 1~~ @127
+`63 (`- - 1`63 )` => TooDeep @64
+`64 (`::1`64 )` => TooDeep @64
+`64 (`- ::1`64 )` => TooDeep @64
+::`65 (`1`65 )`+ 1 => TooDeep @64
+"#;
+
+/// The same of sources of 262,144 bytes.
+pub static LARGEST: &str = r#"
+`131072 ( ` => TooDeep @64
+`131072 - ` => TooDeep @64
+"#;

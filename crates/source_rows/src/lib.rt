@@ -6,8 +6,6 @@ mod config_rows;
 #[cfg(test)]
 mod config_tests;
 #[cfg(test)]
-mod default_tests;
-#[cfg(test)]
 mod expression_rows;
 #[cfg(test)]
 mod expression_tests;
@@ -20,6 +18,8 @@ mod program_rows;
 #[cfg(test)]
 mod program_tests;
 #[cfg(test)]
+mod setup_texts;
+#[cfg(test)]
 mod span_rows;
 #[cfg(test)]
 mod statement_rows;
@@ -29,6 +29,8 @@ mod statement_tests;
 mod statement_texts;
 #[cfg(test)]
 mod table;
+#[cfg(test)]
+mod telling;
 #[cfg(test)]
 mod token_rows;
 #[cfg(test)]

@@ -1,7 +1,7 @@
 //! Tables of machines with the first fault that the rules give, worked by hand.
 
 /// Begins a machine's table, over a program at address 5.
-pub const MACHINE: &[u8] = b"[[load]]\nprogram = \"square\"\nat = 5\n[[machine]]\n";
+pub const MACHINE: &str = r#"[[load]]|program = "square"|at = 5|[[machine]]|"#;
 
 /// What begins a machine's table, and the first fault.
 pub static HEADS: &str = r#"
@@ -21,8 +21,9 @@ id = 0|program = "square"|[[machine]]|id = 1|program = "square" => ok
 id = 0|program = "square"|y = -1|[[machine]]|id = 0 => machine[0].y: C4
 "#;
 
-/// Goes on with a machine's table.
-pub const RUNS: &[u8] = b"id = 0\nprogram = \"square\"\n";
+/// Begins the table of machine 0.
+pub const RUNS: &str =
+    r#"[[load]]|program = "square"|at = 5|[[machine]]|id = 0|program = "square"|"#;
 
 /// What goes on so, and the first fault.
 pub static KEYS: &str = r#"

@@ -1,7 +1,7 @@
 //! Sources, each with its first fault, and those at the limits, worked by hand from the language's rules (Pico SDK manual,
 //! section 3.3, and the choices of this profile).
 
-/// A source, and its first fault behind its line.
+/// A source, and its first fault after its line.
 pub static FAULTS: &str = r#"
 ### The first fault of the tokens comes before all others.
 .program p|jmp $ => 2 L1
@@ -90,100 +90,28 @@ a: => 1 S2
 .define a k|.program p|set x, 99 => 1 V1 k
 "#;
 
-/// Text; two texts, each so many times, with their number from 0 in the place of `#`; text behind; and what is told.
-pub static REPEATED: [(&[u8], &[u8], usize, &[u8], usize, &[u8], &[u8]); 14] = [
-    (
-        b".program p\n",
-        b"nop\n",
-        32,
-        b"",
-        0,
-        b"a:",
-        b"p none 0 0..31 a=32:",
-    ),
-    (b".program p\n", b"nop\n", 33, b"", 0, b"", b"34 S6"),
-    (
-        b".program p\n",
-        b"nop\n",
-        32,
-        b"",
-        0,
-        b".wrap_target\nnop",
-        b"35 S6",
-    ),
-    (
-        b".program p\njmp a\n",
-        b"nop\n",
-        31,
-        b"",
-        0,
-        b"a:",
-        b"2 S7 jmp 32",
-    ),
-    (
-        b".program p\n",
-        b"nop\n",
-        32,
-        b"",
-        0,
-        b"nop side 0",
-        b"34 S6",
-    ),
-    (
-        b"",
-        b".program p#\nnop\n",
-        64,
-        b"",
-        0,
-        b".program p64",
-        b"129 S12",
-    ),
-    (
-        b"",
-        b".program p#\nnop\n",
-        64,
-        b"",
-        0,
-        b".program p63",
-        b"129 S5 p63",
-    ),
-    (b"", b".define a# 1\n", 1024, b"", 0, b"", b""),
-    (b"", b".define a# 1\n", 1025, b"", 0, b"", b"1025 S12"),
-    (
-        b"",
-        b".define a# 1\n",
-        1024,
-        b"",
-        0,
-        b".define a7 1",
-        b"1025 S5 a7",
-    ),
-    (
-        b"",
-        b".define a# 1\n",
-        1024,
-        b"",
-        0,
-        b".program p\na: nop",
-        b"1026 S12",
-    ),
-    (
-        b".program p\n",
-        b"nop\n",
-        32,
-        b".define a# 1\n",
-        1024,
-        b"a: nop side 0",
-        b"1058 S12",
-    ),
-    (b".program p\nset x, ", b"(", 64, b"", 0, b"1", b"2 S1"),
-    (b".program p\nset x, ", b"(", 65, b"", 0, b"1", b"2 V5"),
-];
+/// Sources at the limits, with what is told of their programs' shapes, or the first fault after its line.
+pub static LIMITS: &str = r#"
+.program p|`32 nop|`a: => p none 0 0..31 a=32:
+.program p|`33 nop|` => 34 S6
+.program p|`32 nop|`.wrap_target|nop => 35 S6
+.program p|jmp a|`31 nop|`a: => 2 S7 jmp 32
+.program p|`32 nop|`nop side 0 => 34 S6
+`64 .program p#|nop|`.program p64 => 129 S12
+`64 .program p#|nop|`.program p63 => 129 S5 p63
+`1024 .define a# 1|` => 
+`1025 .define a# 1|` => 1025 S12
+`1024 .define a# 1|`.define a7 1 => 1025 S5 a7
+`1024 .define a# 1|`.program p|a: nop => 1026 S12
+.program p|`32 nop|``1024 .define a# 1|`a: nop side 0 => 1058 S12
+.program p|set x, `64 (`1 => 2 S1
+.program p|set x, `65 (`1 => 2 V5
+"#;
 
-/// A line of 13 bytes, and what is told of a program with a `nop` before so many of them that a source is at its largest.
-pub static LARGEST: [(&[u8], &[u8]); 4] = [
-    (b".wrap_target\n", b"3 S13"),
-    (b"nop side 0  \n", b"3 S9"),
-    (b"set x, 1 + 1\n", b"34 S6"),
-    (b"; no word   \n", b"p a042"),
-];
+/// So many lines of 13 bytes that a source with a `nop` before them has 262,144 bytes, and its words or its first fault.
+pub static LARGEST: &str = r#"
+`20163 .wrap_target|` => 3 S13
+`20163 nop side 0  |` => 3 S9
+`20163 set x, 1 + 1|` => 34 S6
+`20163 ; no word   |` => p a042
+"#;

@@ -1,142 +1,103 @@
 //! Sources worked by hand, and the largest ones.
-use crate::program_faults::{FAULTS, LARGEST, REPEATED};
+use crate::program_faults::{FAULTS, LARGEST, LIMITS};
 use crate::program_rows::{SHAPES, WORDS};
-use crate::table::{is_row, row};
+use crate::table::rows_hold;
+use crate::telling::Subject;
 use pio_assemble::{Program, SourceFault, Symbol, assemble};
 use std::alloc::{AllocError, Global};
 use std::test::Fail;
 
-/// How many lines of 13 bytes fit into 262,144 bytes, behind two others.
-const MOST_LINES: usize = 20_163;
-
 #[test]
 fn words_are_those_worked_by_hand(rt: HostRuntime) -> Result<(), Fail> {
-    for line in WORDS.lines() {
-        if is_row(line) {
-            let (source, want) = row(rt.alloc(), line)?;
-            let told = told(rt.alloc(), &source, true)?;
-            assert!(rt; told.as_str() == want, "{line}");
-        }
-    }
-    Ok(())
+    rows_hold(rt.alloc(), Subject::Words, "", WORDS)
 }
 
 #[test]
 fn shapes_are_those_worked_by_hand(rt: HostRuntime) -> Result<(), Fail> {
-    for line in SHAPES.lines() {
-        if is_row(line) {
-            let (source, want) = row(rt.alloc(), line)?;
-            let told = told(rt.alloc(), &source, false)?;
-            assert!(rt; told.as_str() == want, "{line}");
-        }
-    }
-    Ok(())
+    rows_hold(rt.alloc(), Subject::Shapes, "", SHAPES)
 }
 
 #[test]
 fn faults_are_those_worked_by_hand(rt: HostRuntime) -> Result<(), Fail> {
-    for line in FAULTS.lines() {
-        if is_row(line) {
-            let (source, want) = row(rt.alloc(), line)?;
-            let told = told(rt.alloc(), &source, true)?;
-            assert!(rt; told.as_str() == want, "{line}");
-        }
-    }
-    Ok(())
+    rows_hold(rt.alloc(), Subject::Words, "", FAULTS)
 }
 
 #[test]
 fn limits_are_those_of_the_profile(rt: HostRuntime) -> Result<(), Fail> {
-    for &(before, first, many, second, more, behind, want) in &REPEATED {
-        let mut source = Vec::from_slice(rt.alloc(), before)?;
-        repeat(rt.alloc(), &mut source, first, many)?;
-        repeat(rt.alloc(), &mut source, second, more)?;
-        source.extend_from_slice(behind)?;
-        let told = told(rt.alloc(), &source, false)?;
-        assert!(rt; told.as_bytes() == want, "{many} {first:?} {told}");
-    }
-    Ok(())
+    rows_hold(rt.alloc(), Subject::Shapes, "", LIMITS)
 }
 
 #[test]
 fn the_largest_sources_end_in_one_answer(rt: HostRuntime) -> Result<(), Fail> {
-    for &(line, want) in &LARGEST {
-        let mut source = Vec::from_slice(rt.alloc(), b".program p\nnop\n")?;
-        repeat(rt.alloc(), &mut source, line, MOST_LINES)?;
-        let told = told(rt.alloc(), &source, true)?;
-        assert!(rt; told.as_bytes() == want, "{line:?} {told}");
-    }
-    Ok(())
+    rows_hold(rt.alloc(), Subject::Words, ".program p|nop|", LARGEST)
 }
 
-/// A text so many times, with its number in the place of `#`.
-fn repeat(alloc: Global, source: &mut Vec<u8>, text: &[u8], many: usize) -> Result<(), AllocError> {
-    for number in 0..many {
-        for byte in text {
-            if *byte == b'#' {
-                let digits = format!(in alloc; "{number}")?;
-                source.extend_from_slice(digits.as_bytes())?;
-            } else {
-                source.push(*byte)?;
-            }
-        }
-    }
-    Ok(())
-}
-
-/// The programs with their words or their shapes, or the fault behind its line.
-fn told(alloc: Global, source: &[u8], words: bool) -> Result<String, AllocError> {
-    let mut text = String::new(alloc);
+/// Adds the source's programs with their words, or its fault after its line.
+pub fn tell_words(alloc: Global, source: &[u8], text: &mut String) -> Result<(), Fail> {
     match assemble(alloc, source) {
-        Ok(programs) => {
-            for program in &programs {
-                tell_program(alloc, program, words, &mut text)?;
-            }
-            Ok(text)
-        }
-        Err(SourceFault::Memory) => Err(AllocError),
-        Err(SourceFault::Found { line, kind }) => format!(in alloc; "{line} {kind}"),
+        Ok(programs) => tell_each_words(&programs, text),
+        Err(fault) => tell_fault(&fault, text),
     }
 }
 
-fn tell_program(
-    alloc: Global,
-    program: &Program,
-    words: bool,
-    text: &mut String,
-) -> Result<(), AllocError> {
-    if !text.is_empty() {
-        text.push_str(" ")?;
+/// Adds the source's programs with their shapes, or its fault after its line.
+pub fn tell_shapes(alloc: Global, source: &[u8], text: &mut String) -> Result<(), Fail> {
+    match assemble(alloc, source) {
+        Ok(programs) => tell_each_shape(&programs, text),
+        Err(fault) => tell_fault(&fault, text),
     }
-    text.push_str(program.name.as_str())?;
-    if words {
+}
+
+fn tell_fault(fault: &SourceFault, text: &mut String) -> Result<(), Fail> {
+    match fault {
+        SourceFault::Found { line, kind } => Ok(write!(text, "{line} {kind}")?),
+        SourceFault::Memory => Err("memory".into()),
+    }
+}
+
+fn tell_each_words(programs: &[Program], text: &mut String) -> Result<(), Fail> {
+    for program in programs {
+        tell_name(program, text)?;
         for word in &program.words {
-            text.push_str(format!(in alloc; " {word:04x}")?.as_str())?;
+            write!(text, " {word:04x}")?;
         }
-        return Ok(());
     }
-    tell_shape(alloc, program, text)
+    Ok(())
 }
 
-fn tell_shape(alloc: Global, program: &Program, text: &mut String) -> Result<(), AllocError> {
+fn tell_each_shape(programs: &[Program], text: &mut String) -> Result<(), Fail> {
+    for program in programs {
+        tell_name(program, text)?;
+        tell_shape(program, text)?;
+        for symbol in program.symbols.as_slice() {
+            tell_symbol(symbol, text)?;
+        }
+    }
+    Ok(())
+}
+
+/// Adds the program's name, after a blank where others are before it.
+fn tell_name(program: &Program, text: &mut String) -> Result<(), AllocError> {
+    let gap = if text.is_empty() { "" } else { " " };
+    write!(text, "{gap}{}", program.name)
+}
+
+fn tell_shape(program: &Program, text: &mut String) -> Result<(), AllocError> {
     match program.origin {
-        Some(origin) => text.push_str(format!(in alloc; " {origin}")?.as_str())?,
+        Some(origin) => write!(text, " {origin}")?,
         None => text.push_str(" none")?,
     }
-    text.push_str(format!(in alloc; " {}", program.side.bits)?.as_str())?;
-    text.push_str(if program.side.opt { "?" } else { "" })?;
-    text.push_str(if program.side.pindirs { "!" } else { "" })?;
-    let wraps = format!(in alloc; " {}..{}", program.wrap_bottom, program.wrap_top)?;
-    text.push_str(wraps.as_str())?;
-    for symbol in program.symbols.as_slice() {
-        tell_symbol(alloc, symbol, text)?;
-    }
-    Ok(())
+    let opt = if program.side.opt { "?" } else { "" };
+    let pindirs = if program.side.pindirs { "!" } else { "" };
+    write!(
+        text,
+        " {}{opt}{pindirs} {}..{}",
+        program.side.bits, program.wrap_bottom, program.wrap_top
+    )
 }
 
-fn tell_symbol(alloc: Global, symbol: &Symbol, text: &mut String) -> Result<(), AllocError> {
-    let value = format!(in alloc; " {}={}", symbol.name, symbol.value)?;
-    text.push_str(value.as_str())?;
-    text.push_str(if symbol.is_label { ":" } else { "" })?;
-    text.push_str(if symbol.public { "+" } else { "" })
+fn tell_symbol(symbol: &Symbol, text: &mut String) -> Result<(), AllocError> {
+    let label = if symbol.is_label { ":" } else { "" };
+    let public = if symbol.public { "+" } else { "" };
+    write!(text, " {}={}{label}{public}", symbol.name, symbol.value)
 }

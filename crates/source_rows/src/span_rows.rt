@@ -1,8 +1,8 @@
 //! Tables of spans with the first fault that the rules give, worked by hand.
 
 /// Begins a span's table, over one machine.
-pub const SPAN: &[u8] =
-    b"[[load]]\nprogram = \"square\"\nat = 5\n[[machine]]\nid = 2\nprogram = \"square\"\nstart = \"again\"\n[[span]]\n";
+pub const SPAN: &str =
+    r#"[[load]]|program = "square"|at = 5|[[machine]]|id = 2|program = "square"|start = "again"|[[span]]|"#;
 
 /// What begins a span's table, and the first fault.
 pub static SPANS: &str = r#"
@@ -33,9 +33,9 @@ name = "a"|machine = 2|from_pin = 3|to_pin = 3|from_edge = "rise"|to_edge = "fal
 name = "a"|machine = 2|from_pin = 3|to_pin = 3|from_edge = "rise"|to_edge = "fall"|min = 3|max = 3 => ok
 "#;
 
-/// Goes on with a span's table.
-pub const ENDS: &[u8] =
-    b"name = \"a\"\nmachine = 2\nfrom_pin = 3\nto_pin = 4\nfrom_edge = \"rise\"\nto_edge = \"fall\"\n";
+/// Begins the table of a span from a rise of pin 3 to a fall of pin 4.
+pub const ENDS: &str =
+    r#"[[load]]|program = "square"|at = 5|[[machine]]|id = 2|program = "square"|start = "again"|[[span]]|name = "a"|machine = 2|from_pin = 3|to_pin = 4|from_edge = "rise"|to_edge = "fall"|"#;
 
 /// What goes on so, and the first fault.
 pub static BOUNDS: &str = r#"
@@ -57,4 +57,10 @@ min = 1|max = 1|unit = "clocks"|stalls = {} => span[0].stalls: C3
 min = 1|max = 1|unit = "ticks"|stalls = ["again", "again"] => ok
 min = 1|max = 1|[[span]]|name = "a" => span[1].machine: C13
 min = 1|max = 1|[[span]]|name = 1 => span[1].name: C3
+### Many stalls.
+min = 1|max = 1|stalls = [`16 "again",`] => ok
+min = 1|max = 1|stalls = [`17 "again",`] => span[0].stalls: C12
+min = 1|max = 1|stalls = [`17 "no",`] => span[0].stalls: C12
+min = 1|max = 1|stalls = [`16 "again",`1] => span[0].stalls: C3
+min = 1|max = 1|unit = "clocks"|stalls = [`17 "again",`] => span[0].stalls: C12
 "#;

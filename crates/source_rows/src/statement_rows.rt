@@ -1,6 +1,5 @@
 //! Lines, each with its statement or its fault, worked by hand from the language's rules (Pico SDK manual, section 3.3,
 //! and the choices of this profile).
-use pio_statement::StatementKind;
 
 /// Lines, each with its statement: a form's name, then operands, expressions in postfix order with `~` for a sign; or with
 /// what is wrong with it.
@@ -197,23 +196,11 @@ set x, 2 * ::(1) => Ambiguous
 |nop|.fifo nop|jmp 3|.wrap 5| a:|nop => Nothing|Nop|Directive|Jmp Always 3|Syntax|Label false a|Nop
 "#;
 
-/// Text, text that stands this often, text behind; and what is wrong with the line, if anything is.
-pub static DEPTHS: [(&[u8], &[u8], usize, &[u8], Option<StatementKind>); 5] = [
-    (b"set x, ", b"(", 65, b"1", Some(StatementKind::TooDeep)),
-    (
-        b"set x, ::",
-        b"(",
-        65,
-        b"1 + 1",
-        Some(StatementKind::TooDeep),
-    ),
-    (b"set x, ", b"- ", 64, b"::1", Some(StatementKind::TooDeep)),
-    (b"set x, ", b"- ", 64, b"1", None),
-    (
-        b"set x, ",
-        b"- ",
-        64,
-        b"1 .fifo",
-        Some(StatementKind::Directive),
-    ),
-];
+/// The same of lines in which 64 or more are open.
+pub static DEPTHS: &str = r#"
+set x, `65 (`1 => TooDeep
+set x, ::`65 (`1 + 1 => TooDeep
+set x, `64 - `::1 => TooDeep
+set x, `64 - `1 => Set X 1`64 ~`
+set x, `64 - `1 .fifo => Directive
+"#;

@@ -1,163 +1,145 @@
 //! Statements as short texts, for the tests.
 use pio_expr::{Expr, Item};
 use pio_statement::{Code, Form, Instruction, Statement, Suffix};
-use std::alloc::{AllocError, Global};
+use std::alloc::AllocError;
+use std::fmt::Debug;
 
-/// A statement: its name, then its operands.
-pub fn statement_text(alloc: Global, statement: &Statement) -> Result<String, AllocError> {
+/// Adds a statement: its name, then its operands.
+pub fn tell_statement(statement: &Statement, text: &mut String) -> Result<(), AllocError> {
     match statement {
-        Statement::Nothing => format!(in alloc; "Nothing"),
-        Statement::Program(name) => format!(in alloc; "Program {}", name.as_str()),
+        Statement::Nothing => text.push_str("Nothing"),
+        Statement::Program(name) => write!(text, "Program {name}"),
         Statement::Define {
             public,
             name,
             value,
         } => {
-            let value = expr_text(alloc, value)?;
-            format!(in alloc; "Define {public} {} {value}", name.as_str())
+            write!(text, "Define {public} {name} ")?;
+            tell_expr(value, text)
         }
-        Statement::Origin(address) => {
-            let address = expr_text(alloc, address)?;
-            format!(in alloc; "Origin {address}")
-        }
+        Statement::Origin(address) => tell_with("Origin ", address, text),
         Statement::SideSet { bits, opt, pindirs } => {
-            let bits = expr_text(alloc, bits)?;
-            format!(in alloc; "SideSet {bits} {opt} {pindirs}")
+            tell_with("SideSet ", bits, text)?;
+            write!(text, " {opt} {pindirs}")
         }
-        Statement::WrapTarget => format!(in alloc; "WrapTarget"),
-        Statement::Wrap => format!(in alloc; "Wrap"),
-        Statement::LangOpt => format!(in alloc; "LangOpt"),
-        Statement::PioVersion(version) => {
-            let version = expr_text(alloc, version)?;
-            format!(in alloc; "PioVersion {version}")
+        Statement::WrapTarget => text.push_str("WrapTarget"),
+        Statement::Wrap => text.push_str("Wrap"),
+        Statement::LangOpt => text.push_str("LangOpt"),
+        Statement::PioVersion(version) => tell_with("PioVersion ", version, text),
+        Statement::Label {
+            public,
+            name,
+            code: None,
+        } => write!(text, "Label {public} {name}"),
+        Statement::Label {
+            public,
+            name,
+            code: Some(code),
+        } => {
+            write!(text, "Label {public} {name} ")?;
+            tell_code(code, text)
         }
-        Statement::Label { public, name, code } => {
-            let code = label_code_text(alloc, code)?;
-            format!(in alloc; "Label {public} {}{code}", name.as_str())
-        }
-        Statement::Code(code) => code_text(alloc, code),
+        Statement::Code(code) => tell_code(code, text),
     }
 }
 
-fn label_code_text(alloc: Global, code: &Option<Code>) -> Result<String, AllocError> {
-    match code {
-        Some(code) => {
-            let text = code_text(alloc, code)?;
-            format!(in alloc; " {text}")
-        }
-        None => Ok(String::new(alloc)),
-    }
+/// Adds a word, then an expression.
+fn tell_with(name: &str, value: &Expr, text: &mut String) -> Result<(), AllocError> {
+    text.push_str(name)?;
+    tell_expr(value, text)
 }
 
-fn code_text(alloc: Global, code: &Code) -> Result<String, AllocError> {
+fn tell_code(code: &Code, text: &mut String) -> Result<(), AllocError> {
     match code {
-        Code::Word(value) => {
-            let value = expr_text(alloc, value)?;
-            format!(in alloc; "Word {value}")
-        }
+        Code::Word(value) => tell_with("Word ", value, text),
         Code::Instruction(Instruction { form, suffix }) => {
-            let form = form_text(alloc, form)?;
-            let suffix = suffix_text(alloc, suffix)?;
-            format!(in alloc; "{form}{suffix}")
+            tell_form(form, text)?;
+            tell_suffix(suffix, text)
         }
     }
 }
 
-fn form_text(alloc: Global, form: &Form) -> Result<String, AllocError> {
+fn tell_form(form: &Form, text: &mut String) -> Result<(), AllocError> {
     match form {
-        Form::Nop => format!(in alloc; "Nop"),
-        Form::Jmp { condition, target } => {
-            let target = expr_text(alloc, target)?;
-            format!(in alloc; "Jmp {condition:?} {target}")
-        }
+        Form::Nop => text.push_str("Nop"),
+        Form::Jmp { condition, target } => tell_operands("Jmp", condition, target, text),
         Form::Wait {
             polarity,
             source,
             index,
             relative,
         } => {
-            let polarity = expr_text(alloc, polarity)?;
-            let index = expr_text(alloc, index)?;
-            format!(in alloc; "Wait {polarity} {source:?} {index} {relative}")
+            tell_with("Wait ", polarity, text)?;
+            write!(text, " {source:?} ")?;
+            tell_expr(index, text)?;
+            write!(text, " {relative}")
         }
-        Form::In { source, count } => {
-            let count = expr_text(alloc, count)?;
-            format!(in alloc; "In {source:?} {count}")
-        }
-        Form::Out { destination, count } => {
-            let count = expr_text(alloc, count)?;
-            format!(in alloc; "Out {destination:?} {count}")
-        }
-        Form::Push { if_full, block } => format!(in alloc; "Push {if_full} {block}"),
-        Form::Pull { if_empty, block } => format!(in alloc; "Pull {if_empty} {block}"),
+        Form::In { source, count } => tell_operands("In", source, count, text),
+        Form::Out { destination, count } => tell_operands("Out", destination, count, text),
+        Form::Push { if_full, block } => write!(text, "Push {if_full} {block}"),
+        Form::Pull { if_empty, block } => write!(text, "Pull {if_empty} {block}"),
         Form::Mov {
             destination,
             operation,
             source,
-        } => format!(in alloc; "Mov {destination:?} {operation:?} {source:?}"),
+        } => write!(text, "Mov {destination:?} {operation:?} {source:?}"),
         Form::Irq {
             mode,
             index,
             relative,
         } => {
-            let index = expr_text(alloc, index)?;
-            format!(in alloc; "Irq {mode:?} {index} {relative}")
+            tell_operands("Irq", mode, index, text)?;
+            write!(text, " {relative}")
         }
-        Form::Set { destination, value } => {
-            let value = expr_text(alloc, value)?;
-            format!(in alloc; "Set {destination:?} {value}")
-        }
+        Form::Set { destination, value } => tell_operands("Set", destination, value, text),
     }
 }
 
-fn suffix_text(alloc: Global, suffix: &Suffix) -> Result<String, AllocError> {
+/// Adds a form's name, an operand and an expression.
+fn tell_operands<D: Debug>(
+    name: &str,
+    operand: &D,
+    value: &Expr,
+    text: &mut String,
+) -> Result<(), AllocError> {
+    write!(text, "{name} {operand:?} ")?;
+    tell_expr(value, text)
+}
+
+fn tell_suffix(suffix: &Suffix, text: &mut String) -> Result<(), AllocError> {
     match suffix {
-        Suffix::None => Ok(String::new(alloc)),
-        Suffix::Side(side) => side_text(alloc, side),
-        Suffix::Delay(delay) => delay_text(alloc, delay),
+        Suffix::None => Ok(()),
+        Suffix::Side(side) => tell_with(" side ", side, text),
+        Suffix::Delay(delay) => tell_with(" delay ", delay, text),
         Suffix::SideDelay { side, delay } => {
-            let side = side_text(alloc, side)?;
-            let delay = delay_text(alloc, delay)?;
-            format!(in alloc; "{side}{delay}")
+            tell_with(" side ", side, text)?;
+            tell_with(" delay ", delay, text)
         }
         Suffix::DelaySide { delay, side } => {
-            let delay = delay_text(alloc, delay)?;
-            let side = side_text(alloc, side)?;
-            format!(in alloc; "{delay}{side}")
+            tell_with(" delay ", delay, text)?;
+            tell_with(" side ", side, text)
         }
     }
 }
 
-fn side_text(alloc: Global, side: &Expr) -> Result<String, AllocError> {
-    let side = expr_text(alloc, side)?;
-    format!(in alloc; " side {side}")
-}
-
-fn delay_text(alloc: Global, delay: &Expr) -> Result<String, AllocError> {
-    let delay = expr_text(alloc, delay)?;
-    format!(in alloc; " delay {delay}")
-}
-
-/// An expression in postfix order: a blank between two operands, `~` for a sign.
-pub fn expr_text(alloc: Global, expr: &Expr) -> Result<String, AllocError> {
-    let mut text = String::new(alloc);
-    for item in expr.items() {
-        let piece = item_text(alloc, item, text.is_empty())?;
-        text.push_str(piece.as_str())?;
+/// Adds an expression in postfix order: a blank between two operands, `~` for a sign.
+pub fn tell_expr(expr: &Expr, text: &mut String) -> Result<(), AllocError> {
+    for (place, item) in expr.items().iter().enumerate() {
+        let gap = if place == 0 { "" } else { " " };
+        tell_item(item, gap, text)?;
     }
-    Ok(text)
+    Ok(())
 }
 
-fn item_text(alloc: Global, item: &Item, first: bool) -> Result<String, AllocError> {
-    let gap = if first { "" } else { " " };
+fn tell_item(item: &Item, gap: &str, text: &mut String) -> Result<(), AllocError> {
     match item {
-        Item::Number(number) => format!(in alloc; "{gap}{number}"),
-        Item::Name(name) => format!(in alloc; "{gap}{}", name.as_str()),
-        Item::Add => format!(in alloc; "+"),
-        Item::Subtract => format!(in alloc; "-"),
-        Item::Multiply => format!(in alloc; "*"),
-        Item::Divide => format!(in alloc; "/"),
-        Item::Negate => format!(in alloc; "~"),
-        Item::Reverse => format!(in alloc; ":"),
+        Item::Number(number) => write!(text, "{gap}{number}"),
+        Item::Name(name) => write!(text, "{gap}{name}"),
+        Item::Add => text.push_str("+"),
+        Item::Subtract => text.push_str("-"),
+        Item::Multiply => text.push_str("*"),
+        Item::Divide => text.push_str("/"),
+        Item::Negate => text.push_str("~"),
+        Item::Reverse => text.push_str(":"),
     }
 }

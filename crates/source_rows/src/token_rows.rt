@@ -1,8 +1,7 @@
 //! Lexical inputs, each with its tokens or its first fault, worked by hand from the language's rules (Pico SDK manual,
 //! section 3.3).
-use pio_lex::LexKind;
 
-/// A source, and its tokens' texts with a blank between, a newline shown as `|`; or its first fault behind its line.
+/// A source, and its tokens' texts with a blank between; or its first fault after its line.
 pub static TOKENS: &str = r#"
  => 
 ### The longest token stands.
@@ -94,43 +93,39 @@ nop % x {|%} => 1 L1
 % c|{|%} => 1 L1
 |%} => 2 L1
 .lang_opt|% => 2 L1
+### A CR, a tab, and bytes that are no text.
+ ^09^0d => 
+^0d|| => | |
+nop^0djmp 1 => nop jmp 1
+ % 9- { $|$|/* */ %}|^09 %}$|nop => | nop
+.program p|^ff => 2 L1
+^ef^bb^bfnop => 1 L1
+nop|^00 => 2 L1
+nop||^0b => 3 L1
+^0c => 1 L1
+nop^0d^0d$ => 1 L1
 "#;
 
-/// The same of sources with a CR, a tab, or bytes that are no text.
-pub static BYTES: [(&[u8], &str); 10] = [
-    (b" \t\r", ""),
-    (b"\r\n\n", "| |"),
-    (b"nop\rjmp 1", "nop jmp 1"),
-    (b" % 9- { $\n$\n/* */ %}\n\t %}$\nnop", "| nop"),
-    (b".program p\n\xff", "2 L1"),
-    (b"\xef\xbb\xbfnop", "1 L1"),
-    (b"nop\n\0", "2 L1"),
-    (b"nop\n\n\x0b", "3 L1"),
-    (b"\x0c", "1 L1"),
-    (b"nop\r\r$", "1 L1"),
-];
-
-/// Bytes that are repeated up to the largest source, and how many tokens these have, or the fault on line 1.
-pub static LARGEST: [(&[u8], Result<usize, LexKind>); 11] = [
-    (b";", Ok(0)),
-    (b"(", Ok(262_144)),
-    (b"\n", Ok(262_144)),
-    (b"- ", Ok(131_072)),
-    (b"/*", Err(LexKind::OpenComment)),
-    (b"0", Ok(1)),
-    (b"9", Err(LexKind::BadNumber)),
-    (b"a", Ok(1)),
-    (b"%c{\n", Err(LexKind::OpenBlock)),
-    (b"\0", Err(LexKind::BadByte)),
-    (b"\xff", Err(LexKind::BadByte)),
-];
+/// Sources of 262,144 bytes, and how many tokens these have; or the first fault after its line.
+pub static LARGEST: &str = r#"
+`262144 ;` => 0
+`262144 (` => 262144
+`262144 |` => 262144
+`131072 - ` => 131072
+`131072 /*` => 1 L3
+`262144 0` => 1
+`262144 9` => 1 L2
+`262144 a` => 1
+`65536 %c{|` => 1 L4
+`262144 ^00` => 1 L1
+`262144 ^ff` => 1 L1
+"#;
 
 /// A source, and its tokens' kinds, lines, places and lengths.
 pub static PLACED: &[u8] =
     b", : ::\n/*\n*/[] () + - -- * / ! != ~ a 0x10 .Wrap .in NoP if_Full Side_set";
 
-pub static PLACES: &str = r#"
-Comma 1 0 1
+pub static PLACES: &str = r#"Comma 1 0 1
 Colon 1 2 1
 DoubleColon 1 4 2
 Newline 1 6 1

@@ -23,30 +23,22 @@ x = +1 => ok
 x = 1__0 => file: C1
 x = 1_0 => ok
 x = 1|y = 2|x = 1 => file: C1
+x = 1^0d|y = 2^0d| => ok
+x = 1 # ^00 => file: C1
 "#;
 
-/// Bytes that no text has, or that no line of a table has: what stands before them, the bytes, and the first fault.
-pub static TEXTS: [(&[u8], &[u8], &str); 14] = [
-    (b"", b"\xef\xbb\xbf", "ok"),
-    (b"", b"\xef\xbb\xbfpins = {}\n", "ok"),
-    (b"", b"\xef\xbb\xbf\xef\xbb\xbfpins = {}\n", "file: C1"),
-    (b"", b"pins = {}\n# \xff\n", "file: C1"),
-    (b"", b"# \xc3\n", "file: C1"),
-    (b"", b"[pins]\n[pins]\n", "file: C1"),
-    (b"", b"[[load]]\n[load]\n", "file: C1"),
-    (b"", b"[pins]\rhigh = []\n", "file: C1"),
-    (b"", b"# a\rb\n", "file: C1"),
-    (b"", b"[pins]\r\nhigh = []\r\n", "ok"),
-    (b"", b"pins.high = [1]\n", "ok"),
-    (b"", b"\"pins\" = {}", "ok"),
-    (
-        b"[[load]]\nprogram = \"square\"\nat = 5\n[[machine]]\nid = 0\nprogram = \"square\"\n",
-        b"x = 1\r\ny = 2\r\n",
-        "ok",
-    ),
-    (
-        b"[[load]]\nprogram = \"square\"\nat = 5\n[[machine]]\nid = 0\nprogram = \"square\"\n",
-        b"x = 1 # \x00",
-        "file: C1",
-    ),
-];
+/// Whole files: byte order marks, bytes that are no text, tables that are there twice, and ends of lines.
+pub static TEXTS: &str = r#"
+^ef^bb^bf => ok
+^ef^bb^bfpins = {}| => ok
+^ef^bb^bf^ef^bb^bfpins = {}| => file: C1
+pins = {}|# ^ff| => file: C1
+# ^c3| => file: C1
+[pins]|[pins]| => file: C1
+[[load]]|[load]| => file: C1
+[pins]^0dhigh = []| => file: C1
+# a^0db| => file: C1
+[pins]^0d|high = []^0d| => ok
+pins.high = [1]| => ok
+"pins" = {} => ok
+"#;

@@ -1,7 +1,8 @@
 //! Expressions with their values or their first faults, under symbols, worked by hand from the language's rules (Pico SDK
 //! manual, section 3.3.2, and the choices of this profile).
 
-/// The globals, then the program's symbols; the expression that is asked; its value or its first fault.
+/// The globals; the program's symbols, where a program has begun; the expression that is asked; its value or its first
+/// fault. A symbol is a define, as `k = j`, or a label with its number, as `start: 5`.
 pub static VALUES: &str = r#"
 ### The names of a define are looked up where it stands; a program hides a global.
 k = j, j = 1 | j = 2 | k => 1
@@ -32,4 +33,12 @@ k = 1 / 0 |  | k + 2147483647 * 2 => division by zero
  |  | -7 / 2 => -3
  |  | 7 - 2 * 3 - 1 => 0
  |  | k => unknown k
+### A label is its number.
+ | start: 5 | start + 1 => 6
+### Chains that double are worked out at once.
+d0 = 1`31 , d@ = d# + d#` | d30 => 1073741824
+d0 = 1`31 , d@ = d# + d#` | d31 => overflow
+### The longest chain and the longest ring.
+`1023 c# = c@, `c1023 = 7 | c0 => 7
+`1023 c# = c@, `c1023 = c0 | c0 => cycle c0
 "#;
