@@ -1,0 +1,4 @@
+pub mod Outside
+pub mod Judged
+pub mod Promise
+pub mod Stages
