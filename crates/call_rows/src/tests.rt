@@ -6,6 +6,7 @@ use crate::rows_config::CONFIGURED;
 use crate::rows_machine::MACHINES;
 use crate::rows_refused::{FILES, KEYS, MACHINE, SPAN, SPANS, TOML};
 use crate::rows_sources::SOURCES;
+use commands::piotool;
 use pio_edge::{MemShelf, MemSink};
 use std::alloc::{AllocError, Global};
 use std::marker::Brand;
@@ -13,7 +14,6 @@ use std::process::Abort;
 use std::sync::ledger::{Blank, Ledger};
 use std::test::Fail;
 use step_count::Steps;
-use whole_call::piotool;
 
 #[test]
 fn ends_as_worked_out(rt: HostRuntime) -> Result<(), Fail> {

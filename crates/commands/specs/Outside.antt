@@ -1,5 +1,5 @@
 -- The outside before and after a call: the files, what the output has taken, and the faults.
-use Rattle.std.specs.Prelude.{◌≡◌, ℕ, Option, Some, None, List}
+use Rattle.std.specs.Prelude.{◌≡◌, Option, Some, None}
 use Rattle.pio_edge.specs.Count.{Faults}
 use Rattle.pio_edge.specs.Edge.{Files}
 use Rattle.fault_lines.specs.Output.{Output}

@@ -1,4 +1,5 @@
-//! The three commands: each reads its files from a shelf and writes its text to an output.
+//! The whole program as one call over its words, a shelf of files, an output and an error output; and its three commands, each of
+//! which reads its files from the shelf and writes its text to the output.
 #![tactic(auto)]
 
 mod command_asm;
@@ -8,7 +9,6 @@ mod fetch;
 mod setup;
 mod source;
 mod stimulus;
+mod top;
 
-pub use command_asm::asm;
-pub use command_dis::dis;
-pub use command_run::{RunFiles, run};
+pub use top::piotool;

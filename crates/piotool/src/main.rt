@@ -4,6 +4,7 @@
 
 ghost use Rattle.std.specs.Prelude.{◌≡◌};
 
+use commands::piotool;
 use fault_lines::{Ended, Fault, end_with};
 use pio_edge::{ErrSink, FileShelf, OutSink};
 use std::env;
@@ -13,7 +14,6 @@ use std::process::ExitCode;
 use std::rt::{Env, Files};
 use std::sync::ledger::{Blank, Ledger};
 use step_count::Steps;
-use whole_call::piotool;
 
 fn main(rt: HostRuntime) -> ExitCode {
     let end = counted::<Brand, HostRuntime, _>(&rt, rt.stderr(), Blank::new(1));

@@ -4,7 +4,7 @@ use Rattle.clap.specs.Walk.{Text}
 use Rattle.fault_lines.specs.declared.fault.Fault.{Fault}
 use Rattle.commands.specs.Outside.{Call}
 use Rattle.commands.specs.Promise.{Ends}
-use Rattle.whole_call.specs.Wanted.{wanted}
+use Rattle.commands.specs.Wanted.{wanted}
 
 -- how a call of these words ends
 abbrev pub EndsAs : List Text → Call → Option Fault → Type 0

@@ -7,7 +7,7 @@ use Rattle.clap.specs.Walk.{Text}
 use Rattle.command_line.specs.Words.{IsTaken}
 use Rattle.commands.specs.Judged.{Judged, right, wrong, judge}
 use Rattle.commands.specs.Outside.{HasSuch, Call}
-use Rattle.whole_call.specs.Wanted.{wanted}
+use Rattle.commands.specs.Wanted.{wanted}
 
 -- `tool` takes the words, the files are told, memory sufficed, and no count rose
 pub record Quiet (words : List Text) (c : Call) (f : Files) (found : Option Fault) : Type 0 where

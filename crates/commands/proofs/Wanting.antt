@@ -8,10 +8,10 @@ use Rattle.command_line.specs.Words.{Asked, Asks, IsRefused, IsWithinRange, asm,
 use Rattle.fault_lines.specs.declared.fault.Fault.{Fault}
 use Rattle.fault_lines.specs.declared.fault.Fault.TheVariants.{Usage}
 use Rattle.commands.specs.Outside.{Call, Untouched}
-use Rattle.whole_call.specs.Wanted.{wanted, with_room, unless_faulty}
+use Rattle.commands.specs.Wanted.{wanted, with_room, unless_faulty}
 use Rattle.commands.specs.Promise.{Ends}
 use Rattle.commands.specs.Stages.{CommandEnds}
-use Rattle.whole_call.specs.Ends.{EndsAs, WorkEnds}
+use Rattle.commands.specs.Ends.{EndsAs, WorkEnds}
 
 -- what is in range has room
 room_within : (a : Asked) → IsWithinRange a → has_no_room a ≡ false

@@ -1,7 +1,7 @@
 use Rattle.std.proofs.Common.{map, string_bytes, refl, subst}
 use Rattle.command_line.specs.Words.{asked_by, HasCause, IsRefused}
-use Rattle.whole_call.proofs.Wanting.{work_ends, usage_ends}
-use Rattle.whole_call.proofs.top.work.Goals as goal
+use Rattle.commands.proofs.Wanting.{work_ends, usage_ends}
+use Rattle.commands.proofs.top.work.Goals as goal
 
 pub returns-in-Ok-clause-ends : goal.returns-in-Ok-clause-ends
 returns-in-Ok-clause-ends g c = work_ends _ (asked_by c.in-Ok.order) _ c.obey.result c.in-Ok.ensures.ok c.in-Ok.ensures.range c.obey.ensures.ends

@@ -1,16 +1,18 @@
 //! The call: the words, then what they ask for, and its end told.
 ghost use Rattle.std.specs.Prelude.{◌≡◌, ◌≢◌, ◌+◌, ◌≤◌, map, Some, Err, string_bytes};
 ghost use Rattle.command_line.specs.Words.{IsTaken, IsWithinRange, asked_by, clocks_asked, most_clocks};
-ghost use Rattle.whole_call.specs.Complete.{FilesDecide};
+ghost use Rattle.commands.specs.Complete.{FilesDecide};
 ghost use Rattle.commands.specs.Outside.{call_of};
 ghost use Rattle.fault_lines.specs.Output.{output_of};
 ghost use Rattle.commands.specs.Stages.{CommandEnds};
-ghost use Rattle.whole_call.specs.Ends.{EndsAs, WorkEnds};
+ghost use Rattle.commands.specs.Ends.{EndsAs, WorkEnds};
 ghost use Rattle.fault_lines.specs.Told as told_spec;
 ghost use Rattle.fault_lines.specs.Told.{TellsFault};
 
+use crate::command_asm::asm;
+use crate::command_dis::dis;
+use crate::command_run::{RunFiles, run};
 use command_line::{Order, WordsFault, read};
-use commands::{RunFiles, asm, dis, run};
 use fault_lines::{Ended, Fault, end_with};
 use pio_edge::{Shelf, Sink};
 use std::alloc::Global;

@@ -9,9 +9,9 @@ use Rattle.command_line.specs.Words.{Asked, IsTaken}
 use Rattle.commands.specs.Judged.{Judged, right, wrong, IfRight, judge, file_in}
 use Rattle.commands.specs.Outside.{HasSuch, Call}
 use Rattle.commands.specs.Promise.{Ends}
-use Rattle.whole_call.specs.Ends.{EndsAs}
-use Rattle.whole_call.specs.Wanted.{wanted}
-use Rattle.whole_call.specs.Complete.{EndsByFiles, FilesDecide}
+use Rattle.commands.specs.Ends.{EndsAs}
+use Rattle.commands.specs.Wanted.{wanted}
+use Rattle.commands.specs.Complete.{EndsByFiles, FilesDecide}
 
 -- of files that are told, what holds of them holds
 of_told : (P : Files → Type 0) (files : Option Files) (f : Files) → files ≡ Some f → IfSome files P → P f

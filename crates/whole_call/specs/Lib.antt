@@ -1,3 +1,0 @@
-pub mod Wanted
-pub mod Ends
-pub mod Complete
