@@ -145,7 +145,7 @@ const SIDED: ProgramRow = ProgramRow {
     symbols: &[("yours", 2, true, false)],
 };
 
-pub const ROWS: [Row; 7] = [
+pub static ROWS: [Row; 7] = [
     Row {
         shows: "no program",
         programs: &[],
@@ -183,7 +183,7 @@ pub const ROWS: [Row; 7] = [
     },
 ];
 
-pub const STOP_ROWS: [StopRow; 5] = [
+pub static STOP_ROWS: [StopRow; 5] = [
     StopRow {
         shows: "in the name",
         programs: &[WS2812],
