@@ -61,7 +61,7 @@ const THIRTY_THREE_WORDS: &str =
 // The changes of the square wave, from the datasheet's example: up in clock 1, two clocks long, every four clocks.
 const EIGHT_CLOCKS: &str = "#1\n1!\n#3\n0!\n#5\n1!\n#7\n0!\n#8\n";
 
-pub static ROWS: [Row; 38] = [
+pub static ROWS: [Row; 19] = [
     Row {
         name: "a square wave of eight clocks",
         words: RUN_8,
@@ -306,6 +306,10 @@ pub static ROWS: [Row; 38] = [
         ),
         err: "",
     },
+];
+
+/// More of them.
+pub static MORE_ROWS: [Row; 19] = [
     Row {
         name: "words under an optional rule",
         words: &["piotool", "dis", "--opt", "--side", "1", "s"],

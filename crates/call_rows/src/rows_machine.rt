@@ -2,7 +2,7 @@
 
 use crate::rows::{Row, Text};
 
-pub static MACHINES: [Row; 27] = [
+pub static MACHINES: [Row; 12] = [
     Row {
         name: "a transmitter whose first PULL stalls, with its side-set",
         words: &["piotool", "run", "--source", "s", "--clocks", "1"],
@@ -265,6 +265,10 @@ pub static MACHINES: [Row; 27] = [
         ),
         err: "",
     },
+];
+
+/// More of them.
+pub static MORE_MACHINES: [Row; 15] = [
     Row {
         name: "an instruction that came as a word",
         words: &[

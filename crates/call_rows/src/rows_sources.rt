@@ -57,7 +57,7 @@ const ONEWIRE: &str =
 const ONEWIRE_LISTING: &str =
     "program onewire origin none side 1 pindirs wrap 11 19\n00 6021 out x, 1 side 0\n01 002b jmp !x, 11 side 0\n02 ff4e set y, 14 side 1 [15]\n03 bf42 nop side 1 [15]\n04 1f83 jmp y--, 3 side 1 [15]\n05 ef24 set x, 4 side 0 [15]\n06 ef24 set x, 4 side 0 [15]\n07 ef24 set x, 4 side 0 [15]\n08 e524 set x, 4 side 0 [5]\n09 4f01 in pins, 1 side 0 [15]\n10 0f4a jmp x--, 10 side 0 [15]\n11 80e0 pull ifempty block side 0\n12 b542 nop side 1 [5]\n13 7021 out x, 1 side 1\n14 1051 jmp x--, 17 side 1\n15 bf42 nop side 1 [15]\n16 bf42 nop side 1 [15]\n17 a842 nop side 0 [8]\n18 4f01 in pins, 1 side 0 [15]\n19 8f60 push iffull block side 0 [15]\n";
 
-pub static SOURCES: [Row; 9] = [
+pub static SOURCES: [Row; 5] = [
     Row {
         name: "an LED strip",
         words: &["piotool", "asm", "s"],
@@ -118,6 +118,10 @@ pub static SOURCES: [Row; 9] = [
         out: Text::Lines(QUADRATURE_LISTING),
         err: "",
     },
+];
+
+/// More of them.
+pub static MORE_SOURCES: [Row; 4] = [
     Row {
         name: "pulse-width modulation",
         words: &["piotool", "asm", "s"],

@@ -1,11 +1,11 @@
 //! The whole program over a shelf and sinks in memory: worked runs, and each end with its line and its status.
 ghost use Rattle.std.specs.Prelude.{◌≡◌};
 
-use crate::rows::{ROWS, Row, SQUARE_WAVE, Text};
+use crate::rows::{MORE_ROWS, ROWS, Row, SQUARE_WAVE, Text};
 use crate::rows_config::CONFIGURED;
-use crate::rows_machine::MACHINES;
+use crate::rows_machine::{MACHINES, MORE_MACHINES};
 use crate::rows_refused::{FILES, KEYS, MACHINE, SPAN, SPANS, TOML};
-use crate::rows_sources::SOURCES;
+use crate::rows_sources::{MORE_SOURCES, SOURCES};
 use commands::piotool;
 use pio_edge::{MemShelf, MemSink};
 use std::alloc::{AllocError, Global};
@@ -21,6 +21,11 @@ fn ends_as_worked_out(rt: HostRuntime) -> Result<(), Fail> {
 }
 
 #[test]
+fn more_ends_as_worked_out(rt: HostRuntime) -> Result<(), Fail> {
+    each_ends_as_worked_out(&rt, rt.alloc(), &MORE_ROWS)
+}
+
+#[test]
 fn ends_as_worked_out_under_a_configuration(rt: HostRuntime) -> Result<(), Fail> {
     each_ends_as_worked_out(&rt, rt.alloc(), &CONFIGURED)
 }
@@ -31,8 +36,18 @@ fn ends_as_worked_out_for_every_instruction(rt: HostRuntime) -> Result<(), Fail>
 }
 
 #[test]
+fn more_ends_as_worked_out_for_every_instruction(rt: HostRuntime) -> Result<(), Fail> {
+    each_ends_as_worked_out(&rt, rt.alloc(), &MORE_MACHINES)
+}
+
+#[test]
 fn ends_as_worked_out_for_real_sources(rt: HostRuntime) -> Result<(), Fail> {
     each_ends_as_worked_out(&rt, rt.alloc(), &SOURCES)
+}
+
+#[test]
+fn more_ends_as_worked_out_for_real_sources(rt: HostRuntime) -> Result<(), Fail> {
+    each_ends_as_worked_out(&rt, rt.alloc(), &MORE_SOURCES)
 }
 
 #[test]
