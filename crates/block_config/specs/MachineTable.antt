@@ -228,8 +228,15 @@ machine_keys_of run clock pins flags counts = record {
   status_n = counts.status_n;
 }
 
+-- the machine of a table that runs there, with this divider and these pins
+abbrev pub machine_with_pins : Members → RunKeys → ClockKeys → PinKeys → Result MachineKeys Refusal
+machine_with_pins t run clock pins =
+    and_then (flags_at t) (λ flags. and_then (counts_at t) (λ counts. Ok (machine_keys_of run clock pins flags counts)))
+
+-- the machine of a table that runs there
+abbrev pub machine_running : Members → RunKeys → Result MachineKeys Refusal
+machine_running t run = and_then (clock_at t) (λ clock. and_then (pins_at t) (λ pins. machine_with_pins t run clock pins))
+
 -- the machine of a table, behind the machines of the tables before it
 abbrev pub machine_of_table : List (Option MachineKeys) → List Loaded → Members → Result MachineKeys Refusal
-machine_of_table machines loads t =
-    and_then (run_at machines loads t) (λ run. and_then (clock_at t) (λ clock. and_then (pins_at t) (λ pins.
-    and_then (flags_at t) (λ flags. and_then (counts_at t) (λ counts. Ok (machine_keys_of run clock pins flags counts))))))
+machine_of_table machines loads t = and_then (run_at machines loads t) (λ run. machine_running t run)

@@ -74,7 +74,7 @@ impl fmt::Display for ConfigKind {
 }
 
 /// Why there is no setup.
-#[derive(Debug, PartialEq, Eq, Drop)]
+#[derive(Debug, Drop)]
 pub enum ConfigFault {
     /// Memory ran out.
     Memory,

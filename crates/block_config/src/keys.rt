@@ -2,7 +2,7 @@
 ghost use Rattle.std.specs.Prelude.{◌≤◌, unwrap_or};
 
 /// A key whose value is a whole number.
-#[derive(Clone, Copy, Debug)]
+#[derive(Clone, Copy)]
 pub struct NumberKey {
     pub name: &'static str,
     /// The least value.
@@ -16,7 +16,7 @@ pub struct NumberKey {
 }
 
 /// A key whose value is `true` or `false`.
-#[derive(Clone, Copy, Debug)]
+#[derive(Clone, Copy)]
 pub struct FlagKey {
     pub name: &'static str,
     /// The value where the key is absent.

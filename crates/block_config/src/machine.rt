@@ -51,7 +51,7 @@ const PIN_KEYS: [NumberKey; 7] = [
 ];
 
 /// The pins of a machine.
-#[derive(Clone, Copy, Debug)]
+#[derive(Clone, Copy)]
 pub struct PinValues {
     pub in_base: u8,
     pub out_base: u8,
@@ -80,7 +80,8 @@ impl PinValues {
     pub fn read(table: &Table) -> Result<Self, Lack>
         ensures { seen pins_view result ≡ spec.pins_at (table_view table.now) }
     {
-        let pins = numbers_at(table, &PIN_KEYS)?;
+        let numbers = numbers_at(table, &PIN_KEYS)?;
+        let pins = numbers.as_slice();
         Ok(PinValues {
             in_base: pins[0] as u8,
             out_base: pins[1] as u8,

@@ -87,7 +87,7 @@ const COUNT_KEYS: [NumberKey; 5] = [
 ];
 
 /// The divider of a machine.
-#[derive(Clone, Copy, Debug)]
+#[derive(Clone, Copy)]
 pub struct ClockValues {
     pub int: u16,
     pub frac: u8,
@@ -106,7 +106,8 @@ impl ClockValues {
     pub fn read(table: &Table) -> Result<Self, Lack>
         ensures { seen clock_view result ≡ spec.clock_at (table_view table.now) }
     {
-        let clock = numbers_at(table, &CLOCK_KEYS)?;
+        let numbers = numbers_at(table, &CLOCK_KEYS)?;
+        let clock = numbers.as_slice();
         let int = clock[0] as u16;
         let frac = clock[1] as u8;
         if int == 0 && frac != 0 {
@@ -120,7 +121,7 @@ impl ClockValues {
 }
 
 /// The flags of a machine.
-#[derive(Clone, Copy, Debug)]
+#[derive(Clone, Copy)]
 pub struct FlagValues {
     pub in_right: bool,
     pub out_right: bool,
@@ -144,7 +145,8 @@ impl FlagValues {
     pub fn read(table: &Table) -> Result<Self, Lack>
         ensures { seen flags_view result ≡ spec.flags_at (table_view table.now) }
     {
-        let flags = flags_at(table, &FLAG_KEYS)?;
+        let values = flags_at(table, &FLAG_KEYS)?;
+        let flags = values.as_slice();
         if flags[4] && flags[5] {
             return Err(Lack {
                 key: "join_rx",
@@ -165,7 +167,7 @@ impl FlagValues {
 }
 
 /// The thresholds and the registers of a machine.
-#[derive(Clone, Copy, Debug)]
+#[derive(Clone, Copy)]
 pub struct CountValues {
     pub push_threshold: u8,
     pub pull_threshold: u8,
@@ -191,7 +193,8 @@ impl CountValues {
     pub fn read(table: &Table) -> Result<Self, Lack>
         ensures { seen counts_view result ≡ spec.counts_at (table_view table.now) }
     {
-        let counts = numbers_at(table, &COUNT_KEYS)?;
+        let numbers = numbers_at(table, &COUNT_KEYS)?;
+        let counts = numbers.as_slice();
         Ok(CountValues {
             push_threshold: counts[0] as u8,
             pull_threshold: counts[1] as u8,

@@ -27,11 +27,32 @@ pub fn machine_of(
         (map loaded_of loads.now) (table_view table.now) }
 {
     let run = Running::read(table, loads, machines)?;
+    machine_running(table, &run)
+}
+
+/// The machine of a table, which runs there.
+fn machine_running(table: &Table, run: &Running) -> Result<MachineSetup, Lack>
+    ensures { seen keys_of_machine result
+        ≡ spec.machine_running (table_view table.now) (run_view run.now) }
+{
     let clock = ClockValues::read(table)?;
     let pins = PinValues::read(table)?;
+    machine_with_pins(table, run, &clock, &pins)
+}
+
+/// The machine of a table, with this divider and these pins.
+fn machine_with_pins(
+    table: &Table,
+    run: &Running,
+    clock: &ClockValues,
+    pins: &PinValues,
+) -> Result<MachineSetup, Lack>
+    ensures { seen keys_of_machine result
+        ≡ spec.machine_with_pins (table_view table.now) (run_view run.now) (clock_view clock.now) (pins_view pins.now) }
+{
     let flags = FlagValues::read(table)?;
     let counts = CountValues::read(table)?;
-    Ok(setup_of(&run, &clock, &pins, &flags, &counts))
+    Ok(setup_of(run, clock, pins, &flags, &counts))
 }
 
 /// A machine of its parts.

@@ -9,7 +9,7 @@ use std::alloc::Global;
 use std::fmt;
 
 /// A table of a configuration; those of an array count from 0.
-#[derive(Clone, Copy, Debug, PartialEq, Eq)]
+#[derive(Clone, Copy)]
 pub enum Section {
     Load(usize),
     Machine(usize),

@@ -13,7 +13,7 @@ use crate::value::number_in;
 use toml::{Table, Value};
 
 /// The pins that a configuration sets at the start.
-#[derive(Clone, Copy, Debug)]
+#[derive(Clone, Copy)]
 pub struct PinLists {
     pub high: u32,
     pub level: u32,

@@ -4,7 +4,7 @@ ghost use Rattle.std.specs.Prelude.{◌+◌, ◌≤◌, length};
 use pio_assemble::Program;
 
 /// A program that is loaded at an address.
-#[derive(Clone, Copy, Debug)]
+#[derive(Clone, Copy)]
 pub struct Load<'a> {
     pub program: &'a Program,
     pub address: u8,

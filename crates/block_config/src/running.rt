@@ -18,7 +18,7 @@ const ID_KEY: NumberKey = NumberKey {
 };
 
 /// A machine's number, its program and the address of its first instruction.
-#[derive(Clone, Copy, Debug)]
+#[derive(Clone, Copy)]
 pub struct Running<'a> {
     pub id: u8,
     pub load: Load<'a>,

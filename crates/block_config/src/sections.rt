@@ -21,7 +21,7 @@ use toml::{Table, Value};
 const NAMES: [&str; 4] = ["load", "machine", "pins", "span"];
 
 /// The sections of a configuration; an array that is absent is empty.
-#[derive(Clone, Copy, Debug)]
+#[derive(Clone, Copy)]
 pub struct Sections<'t> {
     pub loads: &'t [Value],
     pub machines: &'t [Value],

@@ -46,7 +46,7 @@ const BOUND_KEYS: [NumberKey; 2] = [
 ];
 
 /// From where to where a span goes.
-#[derive(Clone, Copy, Debug)]
+#[derive(Clone, Copy)]
 pub struct EndValues {
     pub machine: u8,
     pub from_pin: u8,
@@ -134,7 +134,7 @@ impl EndValues {
 }
 
 /// How long a span lasts.
-#[derive(Clone, Copy, Debug)]
+#[derive(Clone, Copy)]
 pub struct BoundValues {
     pub unit: SpanUnit,
     pub min: u32,

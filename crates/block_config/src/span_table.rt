@@ -11,7 +11,7 @@ use pin_matrix::MachineSetup;
 use toml::Table;
 
 /// What a span says behind its name.
-#[derive(Debug, Drop)]
+#[derive(Drop)]
 pub struct SpanValues {
     pub ends: EndValues,
     pub bounds: BoundValues,

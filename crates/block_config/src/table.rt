@@ -16,7 +16,7 @@ use arrayvec::ArrayVec;
 use toml::{Table, Value};
 
 /// What is wrong with a key of a table.
-#[derive(Clone, Copy, Debug)]
+#[derive(Clone, Copy)]
 pub struct Lack {
     pub key: &'static str,
     pub kind: ConfigKind,

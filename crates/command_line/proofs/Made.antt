@@ -1,14 +1,11 @@
 -- The command is made of its subcommands.
-use Rattle.std.proofs.Common.{◌≡◌, ap, ◌∙◌}
+use Rattle.std.proofs.Common.{◌≡◌, ap, ◌∙◌, Result, Ok, Err, IfOk}
 use Rattle.clap.specs.Simple.{App, with_subcommand}
 use Rattle.command_line.specs.Tool.{bare_app, asm_app, run_app, dis_app, tool}
 
--- a command with a subcommand that is this one
-pub added : (old new given sub : App) → new ≡ with_subcommand old given.top → given ≡ sub → new ≡ with_subcommand old sub.top
-added old new given sub made is = made ∙ ap (λ x. with_subcommand old x.top) is
-
--- one subcommand after the other
-pub tool_of : (a b c d : App) → a ≡ bare_app → b ≡ with_subcommand a asm_app.top → c ≡ with_subcommand b run_app.top → d ≡ with_subcommand c dis_app.top → d ≡ tool
+-- the last subcommand makes the whole
+pub tool_of : {C E : Type 0} (view : C → App) (r : Result C E) (a s : App) → a ≡ with_subcommand (with_subcommand bare_app asm_app.top) run_app.top → s ≡ dis_app → IfOk r (λ c. view c ≡ with_subcommand a s.top) → IfOk r (λ c. view c ≡ tool)
 unfolding tool
-tool_of a b c d first second third fourth =
-    fourth ∙ ap (λ x. with_subcommand x dis_app.top) (third ∙ ap (λ x. with_subcommand x run_app.top) (second ∙ ap (λ x. with_subcommand x asm_app.top) first))
+tool_of view (Ok c) a s first sub made =
+    made ∙ ap (λ x. with_subcommand a x.top) sub ∙ ap (λ x. with_subcommand x dis_app.top) first
+tool_of view (Err e) a s first sub made = made

@@ -40,10 +40,14 @@ RunWords = (name source : Text) (config stimulus : Option Text) (clocks : Text)
     → AskWhere (is_unsigned_in 0 clock_limit clocks) (run_words name source config stimulus clocks)
     (run source config stimulus (number_of clocks))
 
+-- the digit `0`; the others follow it
+abbrev pub digit_0 : ℕ
+digit_0 = 48
+
 -- `dis --side=n [--opt] -- FILE`, of a program of any name, where n is one digit
 abbrev pub dis_words : Text → Text → ℕ → Bool → List Text
 dis_words name file side opt =
-    name ∷ codes "dis" ∷ (codes "--side=" ++ (48 + side) ∷ [])
+    name ∷ codes "dis" ∷ (codes "--side=" ++ (digit_0 + side) ∷ [])
     ∷ (if opt then codes "--opt" ∷ codes "--" ∷ file ∷ [] else codes "--" ∷ file ∷ [])
 
 -- they ask for the text of FILE exactly where there is room for `--opt`, whatever FILE is

@@ -14,11 +14,28 @@ pub fn tool<'a>(alloc: Global) -> Result<Command<'a>, AllocError>
     ensures app { IfOk result (λ c. app_of c ≡ tool_app) }
     ensures local { IfOk result (λ c. (fields_of c).has_globals ≡ false) }
 {
-    let command = bare(alloc);
-    let command = add(command, asm(alloc)?)?;
-    let command = add(command, run(alloc)?)?;
-    let command = add(command, dis(alloc)?)?;
-    Ok(command)
+    let command = first_two(alloc)?;
+    let sub = dis(alloc)?;
+    add(command, sub)
+}
+
+/// The command with its subcommands `asm` and `run`.
+fn first_two<'a>(alloc: Global) -> Result<Command<'a>, AllocError>
+    ensures app { IfOk result (λ c. app_of c ≡ with_subcommand (with_subcommand bare_app asm_app.top) run_app.top) }
+    ensures local { IfOk result (λ c. (fields_of c).has_globals ≡ false) }
+{
+    let command = first(alloc)?;
+    let sub = run(alloc)?;
+    add(command, sub)
+}
+
+/// The command with its subcommand `asm`.
+fn first<'a>(alloc: Global) -> Result<Command<'a>, AllocError>
+    ensures app { IfOk result (λ c. app_of c ≡ with_subcommand bare_app asm_app.top) }
+    ensures local { IfOk result (λ c. (fields_of c).has_globals ≡ false) }
+{
+    let sub = asm(alloc)?;
+    add(bare(alloc), sub)
 }
 
 #[tactic(auto, unfolding(crate::specs::Tool::bare_app))]

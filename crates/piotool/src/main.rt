@@ -2,32 +2,10 @@
 //! Here real files, standard output and standard error are handed to the one call that does everything.
 #![tactic(auto)]
 
-mod asm;
-mod dis;
-mod fault;
-mod fetch;
-#[cfg(test)]
-mod rows;
-#[cfg(test)]
-mod rows_config;
-#[cfg(test)]
-mod rows_machine;
-#[cfg(test)]
-mod rows_refused;
-#[cfg(test)]
-mod rows_sources;
-mod run;
-mod setup;
-mod source;
-mod stimulus;
-#[cfg(test)]
-mod tests;
-mod told;
-mod top;
-
 ghost use Rattle.std.specs.Prelude.{◌≡◌};
 
-use fault::Fault;
+use commands::piotool;
+use fault_lines::{Ended, Fault, end_with};
 use pio_edge::{ErrSink, FileShelf, OutSink};
 use std::env;
 use std::io::{self, ErrorKind, Write};
@@ -36,7 +14,6 @@ use std::process::ExitCode;
 use std::rt::{Env, Files};
 use std::sync::ledger::{Blank, Ledger};
 use step_count::Steps;
-use top::{Ended, end_with, piotool};
 
 fn main(rt: HostRuntime) -> ExitCode {
     let end = counted::<Brand, HostRuntime, _>(&rt, rt.stderr(), Blank::new(1));

@@ -6,8 +6,3 @@ mod listing;
 mod symbol;
 
 pub use listing::put_listing;
-
-#[cfg(test)]
-mod rows;
-#[cfg(test)]
-mod tests;

@@ -1,0 +1,19 @@
+//! The worked rows of whole calls of the program, run over a shelf and sinks in memory.
+#![tactic(auto)]
+
+#[cfg(test)]
+mod listing_rows;
+#[cfg(test)]
+mod listing_tests;
+#[cfg(test)]
+mod rows;
+#[cfg(test)]
+mod rows_config;
+#[cfg(test)]
+mod rows_machine;
+#[cfg(test)]
+mod rows_refused;
+#[cfg(test)]
+mod rows_sources;
+#[cfg(test)]
+mod tests;

@@ -1,0 +1,13 @@
+use Rattle.std.proofs.Common.{map, string_bytes, refl, subst}
+use Rattle.command_line.specs.Words.{asked_by, HasCause, IsRefused}
+use Rattle.commands.proofs.Wanting.{work_ends, usage_ends}
+use Rattle.commands.proofs.top.work.Goals as goal
+
+pub returns-in-Ok-clause-ends : goal.returns-in-Ok-clause-ends
+returns-in-Ok-clause-ends g c = work_ends _ (asked_by c.in-Ok.order) _ c.obey.result c.in-Ok.ensures.ok c.in-Ok.ensures.range c.obey.ensures.ends
+
+pub returns-in-Err-Usage-clause-ends : goal.returns-in-Err-Usage-clause-ends
+returns-in-Err-Usage-clause-ends g c =
+    let words = map string_bytes c.args.words.now in
+    let refused : IsRefused words = subst (HasCause words) c.in-Err-Usage.field-0-is c.in-Err-Usage.ensures.cause in
+    usage_ends words _ refused (record { shelf = refl; out = refl })

@@ -1,0 +1,16 @@
+-- The end-to-end promise: how a call of words ends.
+use Rattle.std.specs.Prelude.{Option, Some, None, List, Result, Ok, Err}
+use Rattle.clap.specs.Walk.{Text}
+use Rattle.fault_lines.specs.declared.fault.Fault.{Fault}
+use Rattle.commands.specs.Outside.{Call}
+use Rattle.commands.specs.Promise.{Ends}
+use Rattle.commands.specs.Wanted.{wanted}
+
+-- how a call of these words ends
+abbrev pub EndsAs : List Text → Call → Option Fault → Type 0
+EndsAs words c found = Ends (wanted words) c found
+
+-- the work of a call of these words ends as promised
+abbrev pub WorkEnds : List Text → Call → Result (Unit {0}) Fault → Type 0
+WorkEnds words c (Ok _) = EndsAs words c None
+WorkEnds words c (Err e) = EndsAs words c (Some e)

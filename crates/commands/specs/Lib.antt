@@ -1,0 +1,7 @@
+pub mod Outside
+pub mod Wanted
+pub mod Judged
+pub mod Promise
+pub mod Stages
+pub mod Ends
+pub mod Complete

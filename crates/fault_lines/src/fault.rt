@@ -1,0 +1,43 @@
+//! Everything that keeps a command from its text, with the line and the status that tell it.
+
+use block_config::ConfigKind;
+use dreq_pacing::StimKind;
+use pio_assemble::SourceKind;
+use pio_encode::Name;
+use word_file::WordKind;
+
+/// A file that a command reads.
+#[derive(Clone, Copy, Debug)]
+pub enum File {
+    /// The pioasm source.
+    Source,
+    /// A file of words.
+    Words,
+    /// The configuration.
+    Config,
+    /// The stimulus.
+    Stimulus,
+}
+
+/// Why a command didn't do all that was asked.
+#[derive(Debug, Drop)]
+pub enum Fault {
+    /// The words ask for nothing that there is.
+    Usage,
+    /// A file wasn't fetched.
+    Shelf(File),
+    /// A file has more bytes than its limit.
+    TooLong(File),
+    /// The first fault of a file of words: its line, from 1 on, and its kind.
+    Words(usize, WordKind),
+    /// The first fault of the source: its line, from 1 on, and its kind.
+    Source(usize, SourceKind),
+    /// The first fault of the configuration, or of the setup without one: the path of its key, and its kind.
+    Config(Name, ConfigKind),
+    /// The first fault of the stimulus: its line, from 1 on, and its kind.
+    Stim(usize, StimKind),
+    /// The output failed.
+    Out,
+    /// Memory ran out.
+    Memory,
+}

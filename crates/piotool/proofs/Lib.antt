@@ -1,4 +1,0 @@
-pub mod Quiet
-pub mod Preparing
-pub mod Wanting
-pub mod Pieces

@@ -1,6 +1,0 @@
-use Rattle.std.proofs.Common.{rules}
-use Rattle.piotool.proofs.Quiet.{files_decide}
-use Rattle.piotool.proofs.top.piotool.Goals as goal
-
-pub returns-clause-complete : goal.returns-clause-complete
-returns-clause-complete g c = files_decide _ _ _ (search rules) (search rules)
