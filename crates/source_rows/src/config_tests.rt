@@ -68,49 +68,49 @@ fn default_setups(rt: HostRuntime) -> Result<(), Fail> {
 }
 
 /// Adds the first fault of a configuration over the four programs, or `ok`.
-pub fn tell_fault(alloc: Global, source: &[u8], text: &mut String) -> Result<(), Fail> {
-    let programs = assemble(alloc, PROGRAMS)?;
+pub fn tell_fault(alloc: Global, source: &[u8], text: &mut String) -> Option<()> {
+    let programs = assemble(alloc, PROGRAMS).ok()?;
     match read_config(alloc, source, &programs) {
-        Ok(_) => Ok(text.push_str("ok")?),
+        Ok(_) => text.push_str("ok").ok(),
         Err(fault) => tell_fault_text(&fault, text),
     }
 }
 
 /// Adds the first fault of a configuration over the four programs, and its kind.
-pub fn tell_kind(alloc: Global, source: &[u8], text: &mut String) -> Result<(), Fail> {
-    let programs = assemble(alloc, PROGRAMS)?;
+pub fn tell_kind(alloc: Global, source: &[u8], text: &mut String) -> Option<()> {
+    let programs = assemble(alloc, PROGRAMS).ok()?;
     tell_made_kind(&read_config(alloc, source, &programs), text)
 }
 
-fn tell_made_kind(made: &Result<Setup, ConfigFault>, text: &mut String) -> Result<(), Fail> {
+fn tell_made_kind(made: &Result<Setup, ConfigFault>, text: &mut String) -> Option<()> {
     match made {
-        Err(ConfigFault::At { key, kind }) => Ok(write!(text, "{key}: {kind} {kind:?}")?),
-        _ => Err("no fault".into()),
+        Err(ConfigFault::At { key, kind }) => write!(text, "{key}: {kind} {kind:?}").ok(),
+        _ => None,
     }
 }
 
 /// Adds what the setup of a configuration over the four programs says, or its first fault.
-pub fn tell_setup(alloc: Global, source: &[u8], text: &mut String) -> Result<(), Fail> {
-    let programs = assemble(alloc, PROGRAMS)?;
+pub fn tell_setup(alloc: Global, source: &[u8], text: &mut String) -> Option<()> {
+    let programs = assemble(alloc, PROGRAMS).ok()?;
     tell_made(&read_config(alloc, source, &programs), text)
 }
 
 /// Adds what the default setup of a source's programs says, or its fault.
-pub fn tell_default(alloc: Global, source: &[u8], text: &mut String) -> Result<(), Fail> {
-    let programs = assemble(alloc, source)?;
+pub fn tell_default(alloc: Global, source: &[u8], text: &mut String) -> Option<()> {
+    let programs = assemble(alloc, source).ok()?;
     tell_made(&default_setup(alloc, &programs), text)
 }
 
-fn tell_made(made: &Result<Setup, ConfigFault>, text: &mut String) -> Result<(), Fail> {
+fn tell_made(made: &Result<Setup, ConfigFault>, text: &mut String) -> Option<()> {
     match made {
-        Ok(setup) => Ok(tell_setup_text(setup, text)?),
+        Ok(setup) => tell_setup_text(setup, text).ok(),
         Err(fault) => tell_fault_text(fault, text),
     }
 }
 
-fn tell_fault_text(fault: &ConfigFault, text: &mut String) -> Result<(), Fail> {
+fn tell_fault_text(fault: &ConfigFault, text: &mut String) -> Option<()> {
     match fault {
-        ConfigFault::At { key, kind } => Ok(write!(text, "{key}: {kind}")?),
-        ConfigFault::Memory => Err("memory".into()),
+        ConfigFault::At { key, kind } => write!(text, "{key}: {kind}").ok(),
+        ConfigFault::Memory => None,
     }
 }

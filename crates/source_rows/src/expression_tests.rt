@@ -24,18 +24,18 @@ fn the_largest_sources_end_in_one_answer(rt: HostRuntime) -> Result<(), Fail> {
 }
 
 /// Adds the source's first expression and the token after it, or its fault and the token of that.
-pub fn tell_expression(alloc: Global, source: &[u8], text: &mut String) -> Result<(), Fail> {
-    let tokens = tokens(alloc, source)?;
+pub fn tell_expression(alloc: Global, source: &[u8], text: &mut String) -> Option<()> {
+    let tokens = tokens(alloc, source).ok()?;
     tell_read(&parse_expr(alloc, source, &tokens, 0), text)
 }
 
-fn tell_read(read: &Result<(Expr, usize), ExprFault>, text: &mut String) -> Result<(), Fail> {
+fn tell_read(read: &Result<(Expr, usize), ExprFault>, text: &mut String) -> Option<()> {
     match read {
         Ok((expr, after)) => {
-            tell_expr(expr, text)?;
-            Ok(write!(text, " @{after}")?)
+            tell_expr(expr, text).ok()?;
+            write!(text, " @{after}").ok()
         }
-        Err(ExprFault::At { place, kind }) => Ok(write!(text, "{kind:?} @{place}")?),
-        Err(ExprFault::Memory) => Err("memory".into()),
+        Err(ExprFault::At { place, kind }) => write!(text, "{kind:?} @{place}").ok(),
+        Err(ExprFault::Memory) => None,
     }
 }

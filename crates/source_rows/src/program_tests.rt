@@ -33,7 +33,7 @@ fn the_largest_sources_end_in_one_answer(rt: HostRuntime) -> Result<(), Fail> {
 }
 
 /// Adds the source's programs with their words, or its fault after its line.
-pub fn tell_words(alloc: Global, source: &[u8], text: &mut String) -> Result<(), Fail> {
+pub fn tell_words(alloc: Global, source: &[u8], text: &mut String) -> Option<()> {
     match assemble(alloc, source) {
         Ok(programs) => tell_each_words(&programs, text),
         Err(fault) => tell_fault(&fault, text),
@@ -41,39 +41,39 @@ pub fn tell_words(alloc: Global, source: &[u8], text: &mut String) -> Result<(),
 }
 
 /// Adds the source's programs with their shapes, or its fault after its line.
-pub fn tell_shapes(alloc: Global, source: &[u8], text: &mut String) -> Result<(), Fail> {
+pub fn tell_shapes(alloc: Global, source: &[u8], text: &mut String) -> Option<()> {
     match assemble(alloc, source) {
         Ok(programs) => tell_each_shape(&programs, text),
         Err(fault) => tell_fault(&fault, text),
     }
 }
 
-fn tell_fault(fault: &SourceFault, text: &mut String) -> Result<(), Fail> {
+fn tell_fault(fault: &SourceFault, text: &mut String) -> Option<()> {
     match fault {
-        SourceFault::Found { line, kind } => Ok(write!(text, "{line} {kind}")?),
-        SourceFault::Memory => Err("memory".into()),
+        SourceFault::Found { line, kind } => write!(text, "{line} {kind}").ok(),
+        SourceFault::Memory => None,
     }
 }
 
-fn tell_each_words(programs: &[Program], text: &mut String) -> Result<(), Fail> {
+fn tell_each_words(programs: &[Program], text: &mut String) -> Option<()> {
     for program in programs {
-        tell_name(program, text)?;
+        tell_name(program, text).ok()?;
         for word in &program.words {
-            write!(text, " {word:04x}")?;
+            write!(text, " {word:04x}").ok()?;
         }
     }
-    Ok(())
+    Some(())
 }
 
-fn tell_each_shape(programs: &[Program], text: &mut String) -> Result<(), Fail> {
+fn tell_each_shape(programs: &[Program], text: &mut String) -> Option<()> {
     for program in programs {
-        tell_name(program, text)?;
-        tell_shape(program, text)?;
+        tell_name(program, text).ok()?;
+        tell_shape(program, text).ok()?;
         for symbol in program.symbols.as_slice() {
-            tell_symbol(symbol, text)?;
+            tell_symbol(symbol, text).ok()?;
         }
     }
-    Ok(())
+    Some(())
 }
 
 /// Adds the program's name, after a blank where others are before it.

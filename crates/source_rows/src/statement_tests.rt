@@ -23,26 +23,26 @@ fn at_most_64_are_open(rt: HostRuntime) -> Result<(), Fail> {
 }
 
 /// Adds the source's lines, each its statement or what is wrong with it.
-pub fn tell_lines(alloc: Global, source: &[u8], text: &mut String) -> Result<(), Fail> {
-    let tokens = tokens(alloc, source)?;
+pub fn tell_lines(alloc: Global, source: &[u8], text: &mut String) -> Option<()> {
+    let tokens = tokens(alloc, source).ok()?;
     tell_all(alloc, source, &tokens, text)
 }
 
-fn tell_all(alloc: Global, source: &[u8], tokens: &[Token], text: &mut String) -> Result<(), Fail>
+fn tell_all(alloc: Global, source: &[u8], tokens: &[Token], text: &mut String) -> Option<()>
     requires { All (IsTokenOf source.now) tokens.now }
 {
     let mut from = 0;
     for line in 0..=tokens.len() {
         if line > 0 {
-            text.push_str("\n")?;
+            text.push_str("\n").ok()?;
         }
         tell_line(alloc, source, tokens, from, text)?;
         from = line_end(tokens, from);
         if from == tokens.len() {
-            return Ok(());
+            return Some(());
         }
     }
-    Err("another end".into())
+    None
 }
 
 /// Adds the line from a token on: its statement, which ends where the line does, or what is wrong with it.
@@ -52,7 +52,7 @@ fn tell_line(
     tokens: &[Token],
     from: usize,
     text: &mut String,
-) -> Result<(), Fail>
+) -> Option<()>
     requires tokens { All (IsTokenOf source.now) tokens.now }
     requires from { from ≤ length tokens.now }
 {
@@ -64,11 +64,11 @@ fn tell_read(
     read: &Result<(Statement, usize), StatementFault>,
     end: usize,
     text: &mut String,
-) -> Result<(), Fail> {
+) -> Option<()> {
     match read {
-        Ok((statement, after)) if *after == end => Ok(tell_statement(statement, text)?),
-        Ok(_) => Err("another end".into()),
-        Err(StatementFault::Found(kind)) => Ok(write!(text, "{kind:?}")?),
-        Err(StatementFault::Memory) => Err("memory".into()),
+        Ok((statement, after)) if *after == end => tell_statement(statement, text).ok(),
+        Ok(_) => text.push_str("another end").ok(),
+        Err(StatementFault::Found(kind)) => write!(text, "{kind:?}").ok(),
+        Err(StatementFault::Memory) => None,
     }
 }

@@ -6,7 +6,6 @@ use crate::statement_tests::tell_lines;
 use crate::token_tests::{tell_number, tell_tokens};
 use crate::value_tests::tell_value;
 use std::alloc::Global;
-use std::test::Fail;
 
 /// What is asked of a source.
 #[derive(Clone, Copy)]
@@ -36,8 +35,8 @@ pub enum Subject {
     DefaultSetup,
 }
 
-/// Adds what is told of a source.
-pub fn told(alloc: Global, subject: Subject, source: &[u8], text: &mut String) -> Result<(), Fail> {
+/// Adds what is told of a source; none where memory runs out, or the source is none of its table's kind.
+pub fn tell(alloc: Global, subject: Subject, source: &[u8], text: &mut String) -> Option<()> {
     match subject {
         Subject::Tokens => tell_tokens(alloc, source, text),
         Subject::TokenNumber => tell_number(alloc, source, text),

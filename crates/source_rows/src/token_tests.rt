@@ -27,7 +27,7 @@ fn the_largest_sources_end_in_one_answer(rt: HostRuntime) -> Result<(), Fail> {
 }
 
 /// Adds the texts of the source's tokens, or its first fault after its line.
-pub fn tell_tokens(alloc: Global, source: &[u8], text: &mut String) -> Result<(), Fail> {
+pub fn tell_tokens(alloc: Global, source: &[u8], text: &mut String) -> Option<()> {
     match tokens(alloc, source) {
         Ok(tokens) => tell_texts(alloc, source, &tokens, text),
         Err(fault) => tell_fault(fault, text),
@@ -35,35 +35,31 @@ pub fn tell_tokens(alloc: Global, source: &[u8], text: &mut String) -> Result<()
 }
 
 /// Adds how many tokens the source has, or its first fault after its line.
-pub fn tell_number(alloc: Global, source: &[u8], text: &mut String) -> Result<(), Fail> {
+pub fn tell_number(alloc: Global, source: &[u8], text: &mut String) -> Option<()> {
     match tokens(alloc, source) {
-        Ok(tokens) => Ok(write!(text, "{}", tokens.len())?),
+        Ok(tokens) => write!(text, "{}", tokens.len()).ok(),
         Err(fault) => tell_fault(fault, text),
     }
 }
 
-fn tell_fault(fault: LexFault, text: &mut String) -> Result<(), Fail> {
+fn tell_fault(fault: LexFault, text: &mut String) -> Option<()> {
     match fault {
-        LexFault::Found { line, kind } => Ok(write!(text, "{line} {kind}")?),
-        LexFault::Memory => Err("memory".into()),
+        LexFault::Found { line, kind } => write!(text, "{line} {kind}").ok(),
+        LexFault::Memory => None,
     }
 }
 
-fn tell_texts(
-    alloc: Global,
-    source: &[u8],
-    tokens: &[Token],
-    text: &mut String,
-) -> Result<(), Fail> {
+fn tell_texts(alloc: Global, source: &[u8], tokens: &[Token], text: &mut String) -> Option<()> {
     for token in tokens {
         if !text.is_empty() {
-            text.push_str(" ")?;
+            text.push_str(" ").ok()?;
         }
         let end = token.first.saturating_add(token.length);
-        let shown = source.get(token.first..end).ok_or("a token of the source")?;
-        text.push_str(String::from_utf8_lossy(alloc, shown)?.as_str())?;
+        let shown = source.get(token.first..end)?;
+        let shown = String::from_utf8_lossy(alloc, shown).ok()?;
+        text.push_str(shown.as_str()).ok()?;
     }
-    Ok(())
+    Some(())
 }
 
 fn tell_place(token: &Token, text: &mut String) -> Result<(), AllocError> {

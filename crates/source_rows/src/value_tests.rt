@@ -15,19 +15,14 @@ fn values_are_those_worked_by_hand(rt: HostRuntime) -> Result<(), Fail> {
 
 /// Adds what an expression is worth under symbols: the source has the globals, then the program's symbols where a program
 /// has begun, then the expression, with a newline between blanks after each.
-pub fn tell_value(alloc: Global, source: &[u8], text: &mut String) -> Result<(), Fail> {
-    let row = String::from_utf8_lossy(alloc, source)?;
+pub fn tell_value(alloc: Global, source: &[u8], text: &mut String) -> Option<()> {
+    let row = String::from_utf8_lossy(alloc, source).ok()?;
     let mut scope = Scope::new(alloc);
     tell_value_in(alloc, &mut scope, row.as_str(), text)
 }
 
-fn tell_value_in(
-    alloc: Global,
-    scope: &mut Scope,
-    row: &str,
-    text: &mut String,
-) -> Result<(), Fail> {
-    let (globals, rest) = row.split_once(" \n ").ok_or("globals")?;
+fn tell_value_in(alloc: Global, scope: &mut Scope, row: &str, text: &mut String) -> Option<()> {
+    let (globals, rest) = row.split_once(" \n ")?;
     add_symbols(alloc, scope, globals)?;
     match rest.split_once(" \n ") {
         Some((locals, asked)) => {
@@ -40,16 +35,17 @@ fn tell_value_in(
 }
 
 /// Adds the symbols of a list whose names are new.
-fn add_symbols(alloc: Global, scope: &mut Scope, list: &str) -> Result<(), Fail> {
+fn add_symbols(alloc: Global, scope: &mut Scope, list: &str) -> Option<()> {
     for symbol in list.split(", ") {
         if let Some((name, value)) = symbol.split_once(" = ") {
             let expr = expr_of(alloc, value)?;
-            add(alloc, scope, name, Symbol::Define(expr))?;
+            add(alloc, scope, name, Symbol::Define(expr)).ok()?;
         } else if let Some((name, number)) = symbol.split_once(": ") {
-            add(alloc, scope, name, Symbol::Label(number.parse()?))?;
+            let words = number.parse().ok()?;
+            add(alloc, scope, name, Symbol::Label(words)).ok()?;
         }
     }
-    Ok(())
+    Some(())
 }
 
 fn add(alloc: Global, scope: &mut Scope, name: &str, is: Symbol) -> Result<(), AllocError> {
@@ -60,19 +56,14 @@ fn add(alloc: Global, scope: &mut Scope, name: &str, is: Symbol) -> Result<(), A
     Ok(())
 }
 
-fn expr_of(alloc: Global, text: &str) -> Result<Expr, Fail> {
-    let tokens = tokens(alloc, text.as_bytes())?;
-    let (expr, _) = parse_expr(alloc, text.as_bytes(), &tokens, 0)?;
-    Ok(expr)
+fn expr_of(alloc: Global, text: &str) -> Option<Expr> {
+    let tokens = tokens(alloc, text.as_bytes()).ok()?;
+    let (expr, _) = parse_expr(alloc, text.as_bytes(), &tokens, 0).ok()?;
+    Some(expr)
 }
 
 /// Adds what the expression is worth.
-fn tell_worth(
-    alloc: Global,
-    scope: &mut Scope,
-    asked: &str,
-    text: &mut String,
-) -> Result<(), Fail> {
+fn tell_worth(alloc: Global, scope: &mut Scope, asked: &str, text: &mut String) -> Option<()> {
     let expr = expr_of(alloc, asked)?;
     tell_worth_of(alloc, scope, &expr, asked, text)
 }
@@ -84,14 +75,14 @@ fn tell_worth_of(
     expr: &Expr,
     asked: &str,
     text: &mut String,
-) -> Result<(), Fail> {
-    tell_found(&scope.value(expr, None), text)?;
-    let is_same = is_told(alloc, &scope.value(expr, None), text.as_str())?;
-    let is_named = is_told_of_name(alloc, scope, asked, text.as_str())?;
+) -> Option<()> {
+    tell_found(&scope.value(expr, None), text).ok()?;
+    let is_same = is_told(alloc, &scope.value(expr, None), text.as_str()).ok()?;
+    let is_named = is_told_of_name(alloc, scope, asked, text.as_str()).ok()?;
     if is_same && (expr.items().len() > 1 || is_named) {
-        return Ok(());
+        return Some(());
     }
-    Err("another value".into())
+    text.push_str(", then another").ok()
 }
 
 fn is_told_of_name(
