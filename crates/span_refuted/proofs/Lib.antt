@@ -1,0 +1,11 @@
+pub mod Sole
+pub mod Single
+pub mod Joining
+pub mod Visiting
+pub mod Ranks
+pub mod Tabled
+pub mod Closing
+pub mod Listing
+pub mod Calm
+pub mod Deciding
+pub mod Within
