@@ -9,3 +9,8 @@ pub mod Listing
 pub mod Calm
 pub mod Deciding
 pub mod Within
+pub mod Finished
+pub mod Registers
+pub mod Exact
+pub mod Clocks
+pub mod Clock
