@@ -14,3 +14,5 @@ pub mod Registers
 pub mod Exact
 pub mod Clocks
 pub mod Clock
+pub mod Walking
+pub mod Alone

@@ -9,7 +9,7 @@ use Rattle.span_step.specs.declared.ages.Ages.TheVariants.{Empty}
 use Rattle.span_step.specs.declared.stepped.Next.{Next}
 use Rattle.span_step.specs.declared.stepped.Stepped.{Stepped}
 use Rattle.span_step.specs.Contexts.{Context}
-use Rattle.span_step.specs.Outcomes.{Outcome, may_stall}
+use Rattle.span_step.specs.Outcomes.{Outcome, outcomes, may_stall}
 use Rattle.span_step.specs.Courses.{Rules, prompt, courses, delay_tick, no_causes, joined, start, followed}
 use Rattle.span_step.specs.Steps.{address_after, next_address, side_of, rules_of, visit_of, with_end, with_outcome, step_by, context_steps}
 use Rattle.span_refuted.specs.OneWay.{is_settled, has_one_way, instruction_at, goes_to}
@@ -65,6 +65,9 @@ two false b h = absurd (bad h) where
 -- the step from a context at an instruction with one way: what it is for any ages
 pub record IsSingle (u : Setup) (sp : Span) (s : MachineSetup) (k : Context) : Type 0 where
   pub outcome : Outcome
+  pub settled : is_settled (instruction_at u s k.address).act ≡ true
+  pub quick : may_stall (instruction_at u s k.address).act s ≡ false
+  pub only : outcomes (instruction_at u s k.address).act s sp k ≡ outcome ∷ []
   pub goes : address_after outcome.jump (next_address s k.address) ≡ goes_to (instruction_at u s k.address).act (next_address s k.address)
   pub step : (a : Ages) → context_steps u sp k a ≡ ended (next_address s k.address) outcome (end s sp (instruction_at u s k.address) outcome k a)
 
@@ -76,6 +79,9 @@ single u sp s k e h =
     let o = settled_outcome (instruction_at u s k.address).act s sp k t.0 in
     record {
       outcome = o.outcome;
+      settled = t.0;
+      quick = t.1;
+      only = o.only;
       goes = o.goes (next_address s k.address);
       step = λ a. rw e (step_ended s sp (instruction_at u s k.address) k a t.0 t.1 o);
     }
