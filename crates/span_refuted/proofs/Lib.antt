@@ -16,3 +16,5 @@ pub mod Clocks
 pub mod Clock
 pub mod Walking
 pub mod Alone
+pub mod Exactly
+pub mod WorkedRows
