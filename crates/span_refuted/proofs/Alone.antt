@@ -1,5 +1,5 @@
 -- The run of a setup without stimulus lines, for a span whose pins no other machine may write.
-use Rattle.std.proofs.Common.{◌≡◌, ◌==◌, ℕ, zero, suc, ◌+◌, ◌<◌, ◌⊎◌, Bool, true, false, not, ◌&&◌, ◌||◌, Option, Some, None, option_map, IfSome, IsSome, List, [], ◌∷◌, unwrap_or, slice_index_or, inl, inr, refl, sym, ap, subst, ◌∙◌, arith}
+use Rattle.std.proofs.Common.{◌≡◌, ◌==◌, ℕ, zero, suc, ◌+◌, ◌<◌, Bool, true, false, not, ◌&&◌, ◌||◌, Option, Some, None, option_map, IfSome, List, [], ◌∷◌, unwrap_or, slice_index_or, refl, sym, ap, subst, ◌∙◌, arith}
 use Rattle.std.proofs.lemmas.Bool.{and_parts}
 use Rattle.std.proofs.lemmas.Bool.Decides.{nat_tests}
 use Rattle.std.specs.Int.{bit_at}
@@ -20,7 +20,7 @@ use Rattle.block_core.specs.Following.{Follows, place_at, intent_in, leaves_leve
 use Rattle.block_core.specs.Hosted.{hosted_at, hosted_next, host_of}
 use Rattle.span_step.specs.Courses.{start}
 use Rattle.span_step.specs.Steps.{bounds_of, bounds_in, period_of}
-use Rattle.span_bounds.specs.Tables.{IsProvable, started, start_context}
+use Rattle.span_bounds.specs.Tables.{start_context}
 use Rattle.span_verdict.specs.Sharing.{holds, writes_pin, writes_span, may_write, shares, IsUnshared}
 use Rattle.span_check.specs.Marks.{Mark}
 use Rattle.span_check.specs.Holding.{Holds}
@@ -31,7 +31,7 @@ use Rattle.span_refuted.specs.Broken.{IsBroken}
 use Rattle.span_refuted.proofs.Visiting.{StaysPlaced, each_visit}
 use Rattle.span_refuted.proofs.Exact.{IsBrokenBy}
 use Rattle.span_refuted.proofs.Clocks.{IsTested}
-use Rattle.span_refuted.proofs.Clock.{AreLevels, IsLeft, IsAfter}
+use Rattle.span_refuted.proofs.Clock.{AreLevels, IsLeft}
 use Rattle.span_refuted.proofs.Walking.{IsRun, IsAtVisit, bad_visit_breaks}
 
 -- what the laws of block_core say
@@ -165,4 +165,4 @@ bad_visit_is_broken runs levels tested stays u sp ticks c alone b = record { clo
 
   broken : IsBrokenBy sp.min sp.max (marks_over sp u.memory (seen_beside u []) (host_of (first_run u) []) (state_beside u []))
   broken = subst (λ (x : ℕ × ℕ). IsBrokenBy x.0 x.1 (marks_over sp u.memory (seen_beside u []) (host_of (first_run u) []) (state_beside u []))) bounds
-    (bad_visit_breaks levels tested u sp c.machine (seen_beside u []) (host_of (first_run u) []) (state_beside u []) (run_alone runs u sp c.machine c.configured alone) (λ i. (each_visit stays u sp c i).single) (starts_there runs u sp c.machine _ c.configured) b)
+      (bad_visit_breaks levels tested u sp c.machine (seen_beside u []) (host_of (first_run u) []) (state_beside u []) (run_alone runs u sp c.machine c.configured alone) (λ i. (each_visit stays u sp c i).single) (starts_there runs u sp c.machine _ c.configured) b)

@@ -1,20 +1,20 @@
 -- A prompt course of an instruction with one way is bad for no other cause than U1 and U2.
-use Rattle.std.proofs.Common.{◌≡◌, ℕ, zero, suc, ◌⊎◌, Bool, true, false, ◌||◌, Option, Some, None, List, [], ◌∷◌, replicate, inl, inr, refl}
+use Rattle.std.proofs.Common.{◌≡◌, ℕ, zero, suc, ◌⊎◌, Bool, true, false, ◌||◌, Some, None, inl, inr, refl}
 use Rattle.pio_encode.specs.declared.op.Op.{Op}
 use Rattle.pin_matrix.specs.declared.machine.MachineSetup.{MachineSetup}
 use Rattle.pin_matrix.specs.declared.setup.Setup.{Setup}
 use Rattle.pin_matrix.specs.declared.span.Span.{Span}
 use Rattle.span_step.specs.declared.ages.Ages.{Ages}
 use Rattle.span_step.specs.declared.cause.Cause.{Cause}
-use Rattle.span_step.specs.declared.cause.Cause.TheVariants.{U1, U2, U3, U4}
+use Rattle.span_step.specs.declared.cause.Cause.TheVariants.{U1, U2}
 use Rattle.span_step.specs.declared.cause.Causes.{Causes}
 use Rattle.span_step.specs.Contexts.{Context}
 use Rattle.span_step.specs.Outcomes.{Outcome}
 use Rattle.span_step.specs.Courses.{Rules, watched, followed, start, delay_ticks, prompt}
 use Rattle.span_step.specs.Laws.{first_cause}
-use Rattle.span_step.specs.Steps.{context_steps, rules_of, side_of}
+use Rattle.span_step.specs.Steps.{context_steps, rules_of}
 use Rattle.span_refuted.specs.OneWay.{instruction_at}
-use Rattle.span_refuted.proofs.Single.{Watch, Tick, IsSingle, end, course}
+use Rattle.span_refuted.proofs.Single.{Watch, Tick, IsSingle, end}
 
 -- no late tick at an unnamed address came, and an address is known
 pub record IsCalm (c : Causes) : Type 0 where

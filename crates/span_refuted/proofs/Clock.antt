@@ -1,13 +1,11 @@
 -- One clock of the machine in its block, with a tick or without.
-use Rattle.std.proofs.Common.{◌≡◌, ◌==◌, ℕ, zero, suc, ◌+◌, ◌*◌, ◌≤◌, ◌<◌, ◌⊎◌, Bool, true, false, not, ◌&&◌, ◌||◌, cond, Option, Some, None, List, [], ◌∷◌, unwrap_or, slice_index_or, inl, inr, refl, sym, ap, subst, ◌∙◌, arith, add-one}
+use Rattle.std.proofs.Common.{◌≡◌, ◌==◌, ℕ, suc, ◌⊎◌, Bool, true, false, ◌&&◌, cond, Some, List, unwrap_or, slice_index_or, inl, inr, refl, sym, ap, subst, ◌∙◌, add-one}
 use Rattle.std.specs.Int.{bit_at}
-use Rattle.std.proofs.lemmas.Nat.Bits.{bit_at-zero}
 use Rattle.clock_divider.specs.Timing.{Timing}
 use Rattle.clock_divider.specs.Timing as timing
 use Rattle.clock_divider.specs.Ticks.{is_tick}
 use Rattle.pin_matrix.specs.Pins.{last_of}
 use Rattle.pin_matrix.specs.declared.machine.MachineSetup.{MachineSetup}
-use Rattle.pin_matrix.specs.declared.setup.Setup.{Setup}
 use Rattle.pin_matrix.specs.declared.span.Span.{Span}
 use Rattle.sm_registers.specs.declared.intent.Intent.{Intent}
 use Rattle.sm_registers.specs.declared.registers.Registers.{Registers}
@@ -19,15 +17,14 @@ use Rattle.dreq_pacing.specs.declared.due.Due.{Due}
 use Rattle.block_core.specs.Slots.{Slot, lined, has_tick, acted, settled_slot, slot_after, place_after, place_intent}
 use Rattle.block_core.specs.Block.{BlockState, view_of, two_writes}
 use Rattle.block_core.specs.Following.{place_at, intent_in}
-use Rattle.span_step.specs.declared.ages.Ages.{Ages}
-use Rattle.span_step.specs.Courses.{Rules, is_edge, older, after_edges, tick_causes, watched}
+use Rattle.span_step.specs.Courses.{Rules, is_edge, watched}
 use Rattle.span_ticks.specs.Following.{level_after}
 use Rattle.span_check.specs.Marks.{Mark, mark_of, is_high, changes, counts, names, pc_at}
 use Rattle.span_check.specs.Runs.{marks_over}
 use Rattle.span_refuted.proofs.Single.{Watch, Tick}
 use Rattle.span_refuted.proofs.Joining.{IsClean, clean_joined}
 use Rattle.span_refuted.proofs.Registers.{IsRest, IsTick, no_levels}
-use Rattle.span_refuted.proofs.Exact.{AreExact, IsBrokenBy, GoesWell, exact_tick, exact_idle}
+use Rattle.span_refuted.proofs.Exact.{AreExact, IsBrokenBy, exact_tick, exact_idle}
 
 -- what a law of span_ticks says
 abbrev pub AreLevels : Type 0
@@ -152,12 +149,12 @@ idle_clock levels sp s most memory seen host states c w address ticks h id none 
   from = from;
   to = to;
   exact = exact_idle (marks_over sp memory seen host states) most c w.ages
-    (ap (λ (i : Intent). counts i.kind (names sp (pc_at (place_at (states c) sp.machine)))) k.intent)
-    (edge_of sp.to_rise w.to w.to _ _ g.to to ∙ no_edge sp.to_rise w.to) g.exact;
+      (ap (λ (i : Intent). counts i.kind (names sp (pc_at (place_at (states c) sp.machine)))) k.intent)
+      (edge_of sp.to_rise w.to w.to _ _ g.to to ∙ no_edge sp.to_rise w.to) g.exact;
 } where
   k : IsClock sp s memory (seen c) (host c) (states c) (states (suc c)) g.m (g.m.machine.registers, no_intent) c
   k = clocked sp s memory (seen c) (host c) (states c) (states (suc c)) g.m _ c h g.slot g.setup id g.enabled g.running
-    (idle_acts _ (host c) g.m (ticks_by s (host c) sp.machine c g.m h.left (own_id s g.m sp.machine g.setup id) g.enabled g.running ∙ none))
+      (idle_acts _ (host c) g.m (ticks_by s (host c) sp.machine c g.m h.left (own_id s g.m sp.machine g.setup id) g.enabled g.running ∙ none))
 
   from : w.from ≡ is_high (states (suc c)).levels sp.from_pin
   from = level_of levels sp.from_pin _ _ w.from w.from _ no_intent k.intent h.from g.from (no_levels sp.from_pin w.from)
@@ -180,36 +177,36 @@ pub tick_clock : AreLevels → (sp : Span) (s : MachineSetup) (r : Rules) (memor
 unfolding mark_of watched
 tick_clock levels sp s r memory seen host states c w t address ticks next left h id some from_rise to_rise prompt acts g =
     elim (exact_tick r (marks_over sp memory seen host states) c w.ages (is_edge r.to_rise w.to (unwrap_or t.to w.to)) (is_edge r.from_rise w.from (unwrap_or t.from w.from))
-      (ap (λ (i : Intent). counts i.kind (names sp (pc_at (place_at (states c) sp.machine)))) k.intent ∙ tick.counting _)
-      (edge_of sp.to_rise w.to _ _ _ g.to to ∙ ap (λ z. is_edge z w.to (unwrap_or t.to w.to)) (sym to_rise))
-      (edge_of sp.from_rise w.from _ _ _ g.from from ∙ ap (λ z. is_edge z w.from (unwrap_or t.from w.from)) (sym from_rise))
-      g.exact) [
+    (ap (λ (i : Intent). counts i.kind (names sp (pc_at (place_at (states c) sp.machine)))) k.intent ∙ tick.counting _)
+    (edge_of sp.to_rise w.to _ _ _ g.to to ∙ ap (λ z. is_edge z w.to (unwrap_or t.to w.to)) (sym to_rise))
+    (edge_of sp.from_rise w.from _ _ _ g.from from ∙ ap (λ z. is_edge z w.from (unwrap_or t.from w.from)) (sym from_rise))
+    g.exact) [
       | inl broken ↦ inl broken
       | inr well ↦ inr (record {
-          at = record {
-            m = k.after;
-            slot = k.slot;
-            setup = k.setup;
-            enabled = k.enabled;
-            running = k.running;
-            rest = subst (λ (x : Registers). IsRest x next left) (sym k.registers) tick.rest;
-            from = from;
-            to = to;
-            exact = rw prompt well.exact;
-          };
-          clean = λ p. rw prompt (clean_joined _ _ p well.clean);
-        })
+        at = record {
+          m = k.after;
+          slot = k.slot;
+          setup = k.setup;
+          enabled = k.enabled;
+          running = k.running;
+          rest = subst (λ (x : Registers). IsRest x next left) (sym k.registers) tick.rest;
+          from = from;
+          to = to;
+          exact = rw prompt well.exact;
+        };
+        clean = λ p. rw prompt (clean_joined _ _ p well.clean);
+      })
     ] where
-  tick : IsTick sp t.from t.to next left (tick_of s (view_of memory (seen c) (states c)) (queues_of g.m.machine.ports.fifos) g.m.machine.registers)
-  tick = acts _ _ _ refl g.rest
+      tick : IsTick sp t.from t.to next left (tick_of s (view_of memory (seen c) (states c)) (queues_of g.m.machine.ports.fifos) g.m.machine.registers)
+      tick = acts _ _ _ refl g.rest
 
-  k : IsClock sp s memory (seen c) (host c) (states c) (states (suc c)) g.m (tick_of s (view_of memory (seen c) (states c)) (queues_of g.m.machine.ports.fifos) g.m.machine.registers) c
-  k = clocked sp s memory (seen c) (host c) (states c) (states (suc c)) g.m _ c h g.slot g.setup id g.enabled g.running
-    (tick_acts _ (host c) g.m (ticks_by s (host c) sp.machine c g.m h.left (own_id s g.m sp.machine g.setup id) g.enabled g.running ∙ some)
-    ∙ ap (λ x. tick_of x (view_of memory (seen c) (states c)) (queues_of g.m.machine.ports.fifos) g.m.machine.registers) g.setup)
+      k : IsClock sp s memory (seen c) (host c) (states c) (states (suc c)) g.m (tick_of s (view_of memory (seen c) (states c)) (queues_of g.m.machine.ports.fifos) g.m.machine.registers) c
+      k = clocked sp s memory (seen c) (host c) (states c) (states (suc c)) g.m _ c h g.slot g.setup id g.enabled g.running
+          (tick_acts _ (host c) g.m (ticks_by s (host c) sp.machine c g.m h.left (own_id s g.m sp.machine g.setup id) g.enabled g.running ∙ some)
+          ∙ ap (λ x. tick_of x (view_of memory (seen c) (states c)) (queues_of g.m.machine.ports.fifos) g.m.machine.registers) g.setup)
 
-  from : unwrap_or t.from w.from ≡ is_high (states (suc c)).levels sp.from_pin
-  from = level_of levels sp.from_pin _ _ w.from _ _ _ k.intent h.from g.from (tick.from w.from)
+      from : unwrap_or t.from w.from ≡ is_high (states (suc c)).levels sp.from_pin
+      from = level_of levels sp.from_pin _ _ w.from _ _ _ k.intent h.from g.from (tick.from w.from)
 
-  to : unwrap_or t.to w.to ≡ is_high (states (suc c)).levels sp.to_pin
-  to = level_of levels sp.to_pin _ _ w.to _ _ _ k.intent h.to g.to (tick.to w.to)
+      to : unwrap_or t.to w.to ≡ is_high (states (suc c)).levels sp.to_pin
+      to = level_of levels sp.to_pin _ _ w.to _ _ _ k.intent h.to g.to (tick.to w.to)

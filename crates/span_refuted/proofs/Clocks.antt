@@ -1,6 +1,5 @@
 -- Ticks come: after each clock there is one in which the divider ticks.
 use Rattle.std.proofs.Common.{◌≡◌, ℕ, zero, suc, ◌+◌, ◌-◌, ◌*◌, ◌/◌, ◌<◌, ◌≤◌, ◌↔◌, true, IsTrue, refl, subst, arith}
-use Rattle.std.proofs.Common as common
 use Rattle.clock_divider.specs.Ticks.{IsTickClock, is_tick}
 
 -- what a law of clock_divider says

@@ -1,27 +1,26 @@
 -- Each row of the table of the visits so far leads into the table with one visit more, and is good where the visits are.
-use Rattle.std.proofs.Common.{◌≡◌, ℕ, zero, suc, ◌+◌, ◌<◌, ◌==◌, Bool, true, false, cond, Option, Some, None, List, [], ◌∷◌, refl, sym, subst, arith}
+use Rattle.std.proofs.Common.{◌≡◌, ℕ, zero, suc, ◌<◌, ◌==◌, Bool, true, false, cond, [], ◌∷◌, refl, subst, arith}
 use Rattle.std.proofs.lemmas.Bool.Decides.{nat_tests}
 use Rattle.pin_matrix.specs.declared.machine.MachineSetup.{MachineSetup}
 use Rattle.pin_matrix.specs.declared.setup.Setup.{Setup}
 use Rattle.pin_matrix.specs.declared.span.Span.{Span}
 use Rattle.span_step.specs.declared.ages.Ages.{Ages}
 use Rattle.span_step.specs.Contexts.{Context}
-use Rattle.span_step.specs.Outcomes.{Outcome}
-use Rattle.span_step.specs.Courses.{start, joined, no_causes}
+use Rattle.span_step.specs.Courses.{no_causes}
 use Rattle.span_step.specs.Steps.{context_steps, rules_of}
 use Rattle.span_bounds.specs.declared.entry.Entry.{Entry}
 use Rattle.span_bounds.specs.declared.entry.Entry.TheVariants.{Absent, Present}
 use Rattle.span_bounds.specs.Numbers.{number_of, context_at}
 use Rattle.span_bounds.specs.Tables.{LiesAt}
-use Rattle.span_bounds.specs.Edges.{AllLie, EachNext, spot}
+use Rattle.span_bounds.specs.Edges.{AllLie, spot}
 use Rattle.span_bounds.specs.Sums.{join, join_into}
 use Rattle.span_refuted.specs.OneWay.{instruction_at}
 use Rattle.span_refuted.specs.Visits.{visit}
-use Rattle.span_refuted.proofs.Single.{Watch, IsSingle, end, course, ended}
+use Rattle.span_refuted.proofs.Single.{Watch, IsSingle, end, course}
 use Rattle.span_refuted.proofs.Joining.{IsClean, clean_joined, clean_right, followed_joins, start_joins, Joins}
 use Rattle.span_refuted.proofs.Visiting.{landed, next_visit}
 use Rattle.span_refuted.proofs.Ranks.{join_lies}
-use Rattle.span_refuted.proofs.Tabled.{table, with_visit, lies_visit, lies_later}
+use Rattle.span_refuted.proofs.Tabled.{table, lies_visit, lies_later}
 
 -- a row's nexts lie in a table, and it is good
 pub record IsGoodRow (u : Setup) (sp : Span) (f : ℕ → Entry) (k : Context) (a : Ages) : Type 0 where
@@ -90,7 +89,7 @@ one_more u sp s v n i a old c e = on (number_of (visit u sp n).0 == i) refl e wh
   here q = rw q (good_joined u sp s _ (visit u sp n).0 (visit u sp n).1 (table (visit u sp) n i) (v.single n) (good_visit u sp s n (v.single n) c) (λ b r. rw q at (old b r)))
 
   on : (z : Bool) → (number_of (visit u sp n).0 == i) ≡ z → cond z (Present (join_into (visit u sp n).1 (table (visit u sp) n i))) (table (visit u sp) n i) ≡ Present a
-    → IsGoodRow u sp (table (visit u sp) (suc (suc n))) (context_at i) a
+      → IsGoodRow u sp (table (visit u sp) (suc (suc n))) (context_at i) a
   on true q r = rw (← present _ _ r) (here (let m : number_of (visit u sp n).0 ≡ i = grind (arith, nat_tests) in rw (← m) (v.numbered n)))
   on false q r = old a r
 

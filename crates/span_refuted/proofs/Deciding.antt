@@ -1,19 +1,16 @@
 -- The visits are looked at one after another, until one is bad or their table is closed.
 use Rattle.std.proofs.Common.{◌≡◌, ℕ, zero, suc, ◌+◌, ◌<◌, ◌≤◌, ◌⊎◌, Option, Some, None, inl, inr, refl, arith}
 use Rattle.std.proofs.lemmas.Bool.{cases_lt}
-use Rattle.pin_matrix.specs.declared.machine.MachineSetup.{MachineSetup}
 use Rattle.pin_matrix.specs.declared.setup.Setup.{Setup}
 use Rattle.pin_matrix.specs.declared.span.Span.{Span}
-use Rattle.span_step.specs.declared.ages.Ages.{Ages}
 use Rattle.span_step.specs.declared.ages.Ages.TheVariants.{Empty}
 use Rattle.span_step.specs.declared.cause.Cause.{Cause}
 use Rattle.span_step.specs.Steps.{bounds_of}
-use Rattle.span_bounds.specs.declared.entry.Entry.TheVariants.{Present}
 use Rattle.span_bounds.specs.Numbers.{number_of}
 use Rattle.span_bounds.specs.Tables.{LiesAt, IsProvable, start_context}
 use Rattle.span_refuted.specs.OneWay.{LeavesNoChoice}
 use Rattle.span_refuted.specs.Visits.{visit, cause_at, HasBadVisit}
-use Rattle.span_refuted.proofs.Joining.{AreSmall, none_clean}
+use Rattle.span_refuted.proofs.Joining.{none_clean}
 use Rattle.span_refuted.proofs.Visiting.{StaysPlaced, IsVisit, each_visit}
 use Rattle.span_refuted.proofs.Tabled.{table, lies_visit, lies_later, lies_earlier, held, most_held, held_most, lies_or_held}
 use Rattle.span_refuted.proofs.Closing.{AreVisits, good_rows, good_later}
@@ -42,8 +39,8 @@ start_below nums stays u sp c = nums.below (start_context u sp) (each_visit stay
 closes : AreNumbers → StaysPlaced → (u : Setup) (sp : Span) (c : LeavesNoChoice u sp) (n : ℕ) → AreGood u sp n → LiesAt (visit u sp n).1 (table (visit u sp) n (number_of (visit u sp n).0)) → IsProvable u sp
 closes nums stays u sp c n good lies =
     provable_by nums stays u sp (table (visit u sp) n) (start_below nums stays u sp c)
-      (lies_earlier (visit u sp) n _ Empty lies (starts u sp n))
-      (λ i a e. good_later u sp _ _ _ a (λ j b. lies_earlier (visit u sp) n j b lies) (good_rows u sp c.machine (visits nums stays u sp c) n (λ j l. none_clean _ (good j l)) i a e))
+    (lies_earlier (visit u sp) n _ Empty lies (starts u sp n))
+    (λ i a e. good_later u sp _ _ _ a (λ j b. lies_earlier (visit u sp) n j b lies) (good_rows u sp c.machine (visits nums stays u sp c) n (λ j l. none_clean _ (good j l)) i a e))
 
 one_more : (u : Setup) (sp : Span) (n : ℕ) → AreGood u sp n → cause_at u sp n ≡ None → AreGood u sp (suc n)
 one_more u sp n good e j l = elim (cases_lt j n) [ inl less ↦ good j less | inr same ↦ (let q : j ≡ n = omega arith in rw q e) ]

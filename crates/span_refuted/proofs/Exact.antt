@@ -5,9 +5,9 @@ use Rattle.std.proofs.lemmas.Bool.Decides.{nat_tests}
 use Rattle.pin_matrix.specs.declared.span.SpanUnit.TheVariants.{Ticks}
 use Rattle.span_step.specs.declared.ages.Ages.{Ages}
 use Rattle.span_step.specs.declared.ages.Ages.TheVariants.{Empty, Between}
-use Rattle.span_step.specs.Courses.{Rules, older, after_edges, is_above, is_below, tick_causes}
+use Rattle.span_step.specs.Courses.{Rules, older, after_edges, is_below, tick_causes}
 use Rattle.span_check.specs.Marks.{Mark}
-use Rattle.span_check.specs.Holding.{counted, IsQuiet, Ends, Holds}
+use Rattle.span_check.specs.Holding.{counted, IsQuiet, Holds}
 use Rattle.span_refuted.proofs.Joining.{IsClean}
 
 -- a from-edge is open since which so many ticks counted
@@ -131,10 +131,13 @@ exact_tick r m c Empty false true e f g h = inr (record { exact = exact_fresh m 
 exact_tick r m c Empty false false e f g h = inr (record { exact = tt; clean = record { u1 = refl; u2 = refl; u3 = refl; u4 = refl } })
 exact_tick r m c (Between lo hi) closes opens e f g h = elim (cases_lt r.max (hi + 1)) [
   | inl above ↦ inl (above_breaks r.min r.max m c hi e h.1.1.1 above)
-  | inr fine ↦ elim (too_early closes f) [ inl broken ↦ inl broken | inr early ↦ inr (record {
+  | inr fine ↦ elim (too_early closes f) [
+    | inl broken ↦ inl broken
+    | inr early ↦ inr (record {
       exact = subst (λ x. AreExact m r.max (suc c) (after_edges closes opens x)) (sym (one_older r.max lo hi h.0 h.1.0)) (left closes opens f g fine);
       clean = record { u1 = lt_no r.max _ (capped r.max hi fine); u2 = early; u3 = refl; u4 = refl };
-    }) ]
+    })
+  ]
 ] where
   one_older : (most lo hi : ℕ) → lo ≤ hi → hi ≤ most → older most (Between lo hi) ≡ Between (lo + 1) (hi + 1)
   one_older most lo hi h k = pair _ _ _ _ (omega arith) (omega arith) where

@@ -1,5 +1,5 @@
 -- The law that refusing means something, by what the laws of the crates below say.
-use Rattle.std.proofs.Common.{◌≡◌, ◌↔◌, ◌⊎◌, ℕ, Option, Some, None, IsSome, List, [], slice_index_or, inl, inr, refl, sym, subst}
+use Rattle.std.proofs.Common.{◌≡◌, ◌↔◌, ◌⊎◌, ℕ, Option, Some, None, IsSome, [], slice_index_or, inl, inr, refl}
 use Rattle.pin_matrix.specs.declared.machine.MachineSetup.{MachineSetup}
 use Rattle.pin_matrix.specs.declared.setup.Setup.{Setup}
 use Rattle.pin_matrix.specs.declared.span.Span.{Span}
@@ -38,8 +38,10 @@ configured : (m : Option MachineSetup) (s : MachineSetup) → m ≡ Some s → I
 configured m s e = rw e refl
 
 pub provable_exactly : Laws → (u : Setup) (sp : Span) → sp.unit ≡ Ticks → LeavesNoChoice u sp → IsUnshared u sp → IsProvable u sp ↔ ((n : ℕ) → HoldsUpTo sp u [] n)
-provable_exactly laws u sp ticks c alone =
-    (λ proof n. (laws.holds u sp (configured _ c.machine c.configured) proof alone).beside [] n, λ holds. elim (provable_or_broken laws u sp ticks c alone) [
-      | inl proof ↦ proof
-      | inr broken ↦ absurd (broken.broken (holds broken.clocks))
-    ])
+provable_exactly laws u sp ticks c alone = (
+  λ proof n. (laws.holds u sp (configured _ c.machine c.configured) proof alone).beside [] n,
+  λ holds. elim (provable_or_broken laws u sp ticks c alone) [
+    | inl proof ↦ proof
+    | inr broken ↦ absurd (broken.broken (holds broken.clocks))
+  ],
+)

@@ -1,11 +1,11 @@
 -- A course from joined ages ends with joined ages, without cause where neither has one.
-use Rattle.std.proofs.Common.{◌≡◌, ℕ, zero, suc, ◌+◌, ◌≤◌, Bool, true, false, not, ◌&&◌, ◌||◌, nat_lt, if◌then◌else◌, Option, Some, None, List, [], ◌∷◌, fold, replicate, unwrap_or, refl, arith}
+use Rattle.std.proofs.Common.{◌≡◌, ℕ, ◌+◌, ◌≤◌, Bool, true, false, not, ◌&&◌, ◌||◌, if◌then◌else◌, Some, None, List, [], ◌∷◌, unwrap_or, refl, arith}
 use Rattle.std.proofs.lemmas.Bool.Decides.{nat_tests}
 use Rattle.span_step.specs.declared.ages.Ages.{Ages}
 use Rattle.span_step.specs.declared.ages.Ages.TheVariants.{Empty, Between}
 use Rattle.span_step.specs.declared.cause.Causes.{Causes}
 use Rattle.span_step.specs.Contexts.{Context, is_open}
-use Rattle.span_step.specs.Courses.{Rules, older, with_fresh, after_edges, is_edge, is_above, is_below, joined, tick_causes, no_causes, start, watched, followed}
+use Rattle.span_step.specs.Courses.{Rules, older, with_fresh, after_edges, is_edge, is_above, is_below, joined, tick_causes, start, watched, followed}
 use Rattle.span_step.specs.Laws.{first_cause}
 use Rattle.span_bounds.specs.Sums.{join}
 use Rattle.span_refuted.proofs.Single.{Watch, Tick}
@@ -129,15 +129,15 @@ watched_joins r t a b c h = record {
   from_joined = rw h.from_joined refl;
   to_joined = rw h.to_joined refl;
   ages = rw (h.from_joined, h.to_joined, h.from, h.to, h.ages, aged_join r.max t.late a.ages b.ages)
-    (edges_join (is_edge r.to_rise a.to (unwrap_or t.to a.to)) (is_edge r.from_rise a.from (unwrap_or t.from a.from)) (aged r.max t.late a.ages) (aged r.max t.late b.ages));
+      (edges_join (is_edge r.to_rise a.to (unwrap_or t.to a.to)) (is_edge r.from_rise a.from (unwrap_or t.from a.from)) (aged r.max t.late a.ages) (aged r.max t.late b.ages));
   clean = λ p q. clean_joined _ _ (h.clean (clean_left _ _ p) (clean_left _ _ q)) (told (clean_right _ _ p) (clean_right _ _ q));
 } where
   closing : Watch → Bool
   closing w = is_edge r.to_rise w.to (unwrap_or t.to w.to)
 
   told : IsClean (tick_causes r t.late (is_edge r.to_rise a.to (unwrap_or t.to a.to)) a.ages (aged r.max t.late a.ages))
-    → IsClean (tick_causes r t.late (is_edge r.to_rise b.to (unwrap_or t.to b.to)) b.ages (aged r.max t.late b.ages))
-    → IsClean (tick_causes r t.late (is_edge r.to_rise c.to (unwrap_or t.to c.to)) c.ages (aged r.max t.late c.ages))
+      → IsClean (tick_causes r t.late (is_edge r.to_rise b.to (unwrap_or t.to b.to)) b.ages (aged r.max t.late b.ages))
+      → IsClean (tick_causes r t.late (is_edge r.to_rise c.to (unwrap_or t.to c.to)) c.ages (aged r.max t.late c.ages))
   told p q = rw (h.to_joined, h.ages, aged_join r.max t.late a.ages b.ages) (told_join r t.late _ a.ages b.ages _ _ p (rw h.to at q))
 
 pub followed_joins : (r : Rules) (ts : List Tick) (a b c : Watch) → Joins a b c → Joins (followed r ts a) (followed r ts b) (followed r ts c)

@@ -1,5 +1,5 @@
 -- A table as a list of rows, from what it says of each number.
-use Rattle.std.proofs.Common.{◌≡◌, ◌≢◌, ℕ, zero, suc, ◌+◌, ◌*◌, ◌/◌, ◌%◌, ◌<◌, ◌≤◌, ◌⊎◌, ◌==◌, ◌&&◌, Bool, true, false, cond, nat_lt, IsTrue, Option, Some, None, List, [], ◌∷◌, refl, sym, subst, ◌∙◌, inl, inr, arith}
+use Rattle.std.proofs.Common.{◌≡◌, ℕ, zero, suc, ◌+◌, ◌/◌, ◌%◌, ◌<◌, ◌≤◌, ◌==◌, Bool, true, false, cond, nat_lt, Some, None, List, [], ◌∷◌, refl, ◌∙◌, inl, inr, arith}
 use Rattle.std.proofs.lemmas.Bool.{cases_lt}
 use Rattle.std.proofs.lemmas.Bool.Decides.{nat_tests}
 use Rattle.pin_matrix.specs.declared.setup.Setup.{Setup}
@@ -15,7 +15,7 @@ use Rattle.span_bounds.specs.declared.entry.Entry.TheVariants.{Absent, Present}
 use Rattle.span_bounds.specs.declared.row.Row.{Row}
 use Rattle.span_bounds.specs.Numbers.{number_of, context_at, known_at}
 use Rattle.span_bounds.specs.Tables.{entry_at, LiesAt, IsTableFrom, EachRow, AllLieIn, IsProvable, start_context}
-use Rattle.span_bounds.specs.Edges.{AllLie, spot}
+use Rattle.span_bounds.specs.Edges.{AllLie}
 use Rattle.span_refuted.proofs.Joining.{clean_none}
 use Rattle.span_refuted.proofs.Closing.{IsGoodRow}
 use Rattle.span_refuted.proofs.Visiting.{StaysPlaced}

@@ -1,5 +1,5 @@
 -- The ticks of a machine at instructions with one way, by its registers.
-use Rattle.std.proofs.Common.{◌≡◌, ℕ, suc, ◌+◌, ◌-◌, ◌==◌, nat_lt, Bool, true, false, not, ◌&&◌, cond, Option, Some, None, is_some, List, [], ◌∷◌, unwrap_or, slice_index, refl, sym, ap, subst, ◌∙◌, arith}
+use Rattle.std.proofs.Common.{◌≡◌, ℕ, suc, ◌-◌, nat_lt, Bool, true, false, cond, Option, Some, None, is_some, List, [], ◌∷◌, unwrap_or, slice_index, refl, sym, ap, subst, ◌∙◌, arith}
 use Rattle.std.proofs.lemmas.Bool.Decides.{nat_tests}
 use Rattle.pio_encode.specs.declared.op.Op.{Op}
 use Rattle.pio_encode.specs.Word.{reading_of}
@@ -7,7 +7,6 @@ use Rattle.pin_matrix.specs.declared.machine.MachineSetup.{MachineSetup}
 use Rattle.pin_matrix.specs.declared.setup.Setup.{Setup}
 use Rattle.pin_matrix.specs.declared.span.Span.{Span}
 use Rattle.sm_registers.specs.declared.intent.Intent.{Intent}
-use Rattle.sm_registers.specs.declared.intent.Kind.{Kind}
 use Rattle.sm_registers.specs.declared.registers.Registers.{Registers}
 use Rattle.sm_registers.specs.declared.view.View.{View}
 use Rattle.sm_registers.specs.Queues.{Queues}
@@ -104,18 +103,18 @@ unfolding tick_of tick_word
 first_tick u s sp k v q r pc o memory h settled quick only =
     subst (λ b. Ticks (cond b (tick_delay s q r) (tick_word (reading_of (current_word v r) s.side_rule) s v q r))) (sym test)
     (subst (λ op. Ticks (tick_word op s v q r)) (sym same) tick) where
-  Ticks : Registers × Intent → Type 0
-  Ticks t = IsTick sp (over (side_of s sp (instruction_at u s pc).side).from o.from) (over (side_of s sp (instruction_at u s pc).side).to o.to) (address_after o.jump (next_address s pc)) (instruction_at u s pc).delay t
+      Ticks : Registers × Intent → Type 0
+      Ticks t = IsTick sp (over (side_of s sp (instruction_at u s pc).side).from o.from) (over (side_of s sp (instruction_at u s pc).side).to o.to) (address_after o.jump (next_address s pc)) (instruction_at u s pc).delay t
 
-  test : nat_lt 0 r.delay ≡ false
-  test = rw h.left refl
+      test : nat_lt 0 r.delay ≡ false
+      test = rw h.left refl
 
-  same : reading_of (word_at r.pending v r.pc) s.side_rule ≡ instruction_at u s pc
-  same = ap (λ (z : Option ℕ). reading_of (word_at z v r.pc) s.side_rule) h.pending ∙ (ap (λ (m : List ℕ). reading_of (slice_index m r.pc) s.side_rule) memory ∙ ap (λ (a : ℕ). reading_of (slice_index u.memory a) s.side_rule) h.pc)
+      same : reading_of (word_at r.pending v r.pc) s.side_rule ≡ instruction_at u s pc
+      same = ap (λ (z : Option ℕ). reading_of (word_at z v r.pc) s.side_rule) h.pending ∙ (ap (λ (m : List ℕ). reading_of (slice_index m r.pc) s.side_rule) memory ∙ ap (λ (a : ℕ). reading_of (slice_index u.memory a) s.side_rule) h.pc)
 
-  tick : Ticks (tick_word (instruction_at u s pc) s v q r)
-  tick = subst (λ a. IsTick sp (over (side_of s sp (instruction_at u s pc).side).from o.from) (over (side_of s sp (instruction_at u s pc).side).to o.to) (address_after o.jump (next_address s a)) (instruction_at u s pc).delay (tick_word (instruction_at u s pc) s v q r)) h.pc
-    (tick_finished (instruction_at u s pc) s sp q r o (effect_of (instruction_at u s pc).act s v q r) h.pending h.begun (explained (instruction_at u s pc).act s sp k v q r o settled quick only))
+      tick : Ticks (tick_word (instruction_at u s pc) s v q r)
+      tick = subst (λ a. IsTick sp (over (side_of s sp (instruction_at u s pc).side).from o.from) (over (side_of s sp (instruction_at u s pc).side).to o.to) (address_after o.jump (next_address s a)) (instruction_at u s pc).delay (tick_word (instruction_at u s pc) s v q r)) h.pc
+          (tick_finished (instruction_at u s pc) s sp q r o (effect_of (instruction_at u s pc).act s v q r) h.pending h.begun (explained (instruction_at u s pc).act s sp k v q r o settled quick only))
 
 less_one : (d : ℕ) → suc d - 1 ≡ d
 less_one d = omega arith

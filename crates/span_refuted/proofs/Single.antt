@@ -1,16 +1,15 @@
 -- The step of an instruction with one way has one next, at the end of its prompt course.
-use Rattle.std.proofs.Common.{◌≡◌, ℕ, Bool, true, false, not, ◌&&◌, ◌||◌, Option, Some, None, List, [], ◌∷◌, slice_index_or, refl}
+use Rattle.std.proofs.Common.{◌≡◌, ℕ, Bool, true, false, not, ◌&&◌, ◌||◌, Some, None, List, [], ◌∷◌, slice_index_or, refl}
 use Rattle.pio_encode.specs.declared.op.Op.{Op}
 use Rattle.pin_matrix.specs.declared.machine.MachineSetup.{MachineSetup}
 use Rattle.pin_matrix.specs.declared.setup.Setup.{Setup}
 use Rattle.pin_matrix.specs.declared.span.Span.{Span}
 use Rattle.span_step.specs.declared.ages.Ages.{Ages}
 use Rattle.span_step.specs.declared.ages.Ages.TheVariants.{Empty}
-use Rattle.span_step.specs.declared.stepped.Next.{Next}
 use Rattle.span_step.specs.declared.stepped.Stepped.{Stepped}
 use Rattle.span_step.specs.Contexts.{Context}
 use Rattle.span_step.specs.Outcomes.{Outcome, outcomes, may_stall}
-use Rattle.span_step.specs.Courses.{Rules, prompt, courses, delay_tick, no_causes, joined, start, followed}
+use Rattle.span_step.specs.Courses.{prompt, courses, delay_tick, no_causes, joined, start, followed}
 use Rattle.span_step.specs.Steps.{address_after, next_address, side_of, rules_of, visit_of, with_end, with_outcome, step_by, context_steps}
 use Rattle.span_refuted.specs.OneWay.{is_settled, has_one_way, instruction_at, goes_to}
 use Rattle.span_refuted.proofs.Sole.{HasOutcome, settled_outcome, settled_tame}

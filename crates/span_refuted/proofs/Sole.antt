@@ -1,5 +1,5 @@
 -- An instruction with one way has one outcome.
-use Rattle.std.proofs.Common.{◌≡◌, ℕ, Bool, true, false, not, ◌&&◌, Option, Some, None, List, [], ◌∷◌, refl}
+use Rattle.std.proofs.Common.{◌≡◌, ℕ, true, false, [], ◌∷◌, refl}
 use Rattle.pio_encode.specs.declared.act.Act.{Act}
 use Rattle.pio_encode.specs.declared.act.Act.TheVariants.{Jmp, Wait, In, Out, Push, Pull, Mov, Irq, Set, Nothing}
 use Rattle.pio_encode.specs.declared.act.Condition.TheVariants as condition
@@ -9,9 +9,9 @@ use Rattle.pio_encode.specs.declared.act.SetDestination.TheVariants as set_desti
 use Rattle.pin_matrix.specs.declared.machine.MachineSetup.{MachineSetup}
 use Rattle.pin_matrix.specs.declared.span.Span.{Span}
 use Rattle.span_step.specs.Contexts.{Context}
-use Rattle.span_step.specs.Outcomes.{Outcome, outcomes, is_wild, may_stall}
+use Rattle.span_step.specs.Outcomes.{Outcome, outcomes, is_wild}
 use Rattle.span_step.specs.Steps.{address_after}
-use Rattle.span_refuted.specs.OneWay.{is_settled, has_one_way, goes_to}
+use Rattle.span_refuted.specs.OneWay.{is_settled, goes_to}
 
 -- the one outcome of an instruction
 pub record HasOutcome (a : Act) (s : MachineSetup) (sp : Span) (k : Context) : Type 0 where

@@ -1,7 +1,6 @@
 -- The visits of a machine without choice: each is in range, at the address that the machine comes to, and has one next.
-use Rattle.std.proofs.Common.{◌≡◌, ℕ, zero, suc, ◌+◌, ◌<◌, Bool, true, false, ◌&&◌, nat_lt, cond, Option, Some, None, List, [], ◌∷◌, slice_index_or, refl, sym, subst, ◌∙◌, ap, arith}
+use Rattle.std.proofs.Common.{◌≡◌, ℕ, zero, suc, ◌+◌, ◌<◌, Bool, true, false, ◌&&◌, nat_lt, cond, Some, None, refl, subst, ◌∙◌, ap, arith}
 use Rattle.std.proofs.lemmas.Bool.Decides.{nat_tests}
-use Rattle.pio_encode.specs.declared.op.Op.{Op}
 use Rattle.pin_matrix.specs.declared.machine.MachineSetup.{MachineSetup}
 use Rattle.pin_matrix.specs.declared.setup.Setup.{Setup}
 use Rattle.pin_matrix.specs.declared.span.Span.{Span}
@@ -15,7 +14,7 @@ use Rattle.span_step.specs.Laws.{AllPlaced}
 use Rattle.span_bounds.specs.Tables.{known_of, started, start_context}
 use Rattle.span_refuted.specs.OneWay.{has_one_way, instruction_at, goes_to, reached, LeavesNoChoice}
 use Rattle.span_refuted.specs.Visits.{visit}
-use Rattle.span_refuted.proofs.Single.{IsSingle, single, end, course, ended}
+use Rattle.span_refuted.proofs.Single.{IsSingle, single, end, course}
 use Rattle.span_refuted.proofs.Joining.{AreSmall, followed_small}
 
 -- what a law of span_step says: after a context in range each next one is in range

@@ -1,5 +1,5 @@
 -- From visit to visit in a run: each is bad for no cause, or the span is broken.
-use Rattle.std.proofs.Common.{◌≡◌, ◌==◌, ℕ, zero, suc, ◌+◌, ◌*◌, ◌≤◌, ◌<◌, ◌⊎◌, Bool, true, false, not, ◌&&◌, cond, Option, Some, None, List, [], ◌∷◌, slice_index_or, inl, inr, refl, sym, ap, subst, ◌∙◌, arith}
+use Rattle.std.proofs.Common.{◌≡◌, ◌==◌, ℕ, zero, suc, ◌+◌, ◌*◌, ◌≤◌, ◌⊎◌, Bool, true, false, cond, Option, Some, None, List, inl, inr, refl, sym, subst, ◌∙◌, arith}
 use Rattle.std.proofs.lemmas.Bool.Decides.{nat_tests}
 use Rattle.clock_divider.specs.Timing as timing
 use Rattle.clock_divider.specs.Ticks.{is_tick}
@@ -12,25 +12,22 @@ use Rattle.sm_registers.specs.declared.view.View.{View}
 use Rattle.sm_registers.specs.Tick.{tick_of}
 use Rattle.dreq_pacing.specs.declared.due.Due.{Due}
 use Rattle.block_core.specs.Block.{BlockState}
-use Rattle.span_step.specs.declared.ages.Ages.{Ages}
 use Rattle.span_step.specs.declared.cause.Cause.{Cause}
 use Rattle.span_step.specs.declared.cause.Cause.TheVariants.{U1, U2}
-use Rattle.span_step.specs.Contexts.{Context}
-use Rattle.span_step.specs.Outcomes.{Outcome, may_stall}
+use Rattle.span_step.specs.Outcomes.{Outcome}
 use Rattle.span_step.specs.Courses.{Rules, delay_tick, delay_ticks, prompt, over, start, watched, followed, no_causes}
-use Rattle.span_step.specs.Steps.{bounds_of, rules_of, next_address, side_of, address_after, context_steps}
+use Rattle.span_step.specs.Steps.{bounds_of, rules_of, next_address, side_of, address_after}
 use Rattle.span_check.specs.Marks.{Mark}
 use Rattle.span_check.specs.Runs.{marks_over}
-use Rattle.span_refuted.specs.OneWay.{LeavesNoChoice, instruction_at, has_one_way, is_settled, reached, goes_to}
+use Rattle.span_refuted.specs.OneWay.{instruction_at}
 use Rattle.span_refuted.specs.Visits.{visit, cause_at, HasBadVisit}
-use Rattle.span_refuted.proofs.Sole.{settled_outcome}
 use Rattle.span_refuted.proofs.Single.{Watch, Tick, IsSingle, end, course}
 use Rattle.span_refuted.proofs.Joining.{IsClean, clean_joined, clean_none}
-use Rattle.span_refuted.proofs.Visiting.{StaysPlaced, IsVisit, each_visit, next_visit, landed}
+use Rattle.span_refuted.proofs.Visiting.{next_visit}
 use Rattle.span_refuted.proofs.Registers.{IsRest, IsTick, first_tick, delay_tick as delay_acts}
 use Rattle.span_refuted.proofs.Exact.{IsBrokenBy}
 use Rattle.span_refuted.proofs.Clocks.{IsTested, tick_comes}
-use Rattle.span_refuted.proofs.Clock.{AreLevels, IsAfter, IsAt, IsTicked, idle_clock, tick_clock}
+use Rattle.span_refuted.proofs.Clock.{AreLevels, IsAfter, IsAt, idle_clock, tick_clock}
 
 -- a run of a setup in which nothing disables or restarts the span's machine, and no other machine writes its pins
 pub record IsRun (sp : Span) (s : MachineSetup) (memory : List ℕ) (seen : ℕ → ℕ) (host : ℕ → Due) (states : ℕ → BlockState) : Type 0 where
@@ -67,14 +64,14 @@ module _ (levels : AreLevels) (tested : IsTested) (sp : Span) (s : MachineSetup)
     still n = omega arith
   wait most (suc d) c w address ticks e g =
       waited (is_tick 0 (timing.period_of s.int s.frac) c) refl (λ none. wait most d (suc c) w address ticks (subst (λ n. is_tick 0 (timing.period_of s.int s.frac) n ≡ true) (next c d) e)
-        (idle_clock levels sp s most memory seen host states c w address ticks (run.after c) run.id none g)) where
-    next : (n d : ℕ) → n + suc d ≡ suc n + d
-    next n d = omega arith
+      (idle_clock levels sp s most memory seen host states c w address ticks (run.after c) run.id none g)) where
+        next : (n d : ℕ) → n + suc d ≡ suc n + d
+        next n d = omega arith
 
-    waited : (z : Bool) → is_tick 0 (timing.period_of s.int s.frac) c ≡ z → (is_tick 0 (timing.period_of s.int s.frac) c ≡ false → IsDue sp s most (marks_over sp memory seen host states) states w address ticks)
-        → IsDue sp s most (marks_over sp memory seen host states) states w address ticks
-    waited true q later = record { clock = c; tick = q; at = g }
-    waited false q later = later q
+        waited : (z : Bool) → is_tick 0 (timing.period_of s.int s.frac) c ≡ z → (is_tick 0 (timing.period_of s.int s.frac) c ≡ false → IsDue sp s most (marks_over sp memory seen host states) states w address ticks)
+            → IsDue sp s most (marks_over sp memory seen host states) states w address ticks
+        waited true q later = record { clock = c; tick = q; at = g }
+        waited false q later = later q
 
   -- the next tick
   one_tick : (r : Rules) (w : Watch) (t : Tick) (address ticks next left : ℕ) → r.from_rise ≡ sp.from_rise → r.to_rise ≡ sp.to_rise → t.late ≡ false
@@ -102,7 +99,7 @@ module _ (levels : AreLevels) (tested : IsTested) (sp : Span) (s : MachineSetup)
   -- the whole course of an instruction with one way
   passes : (r : Rules) (op : Op) (w : Watch) (o : Outcome) (address next : ℕ) → r.from_rise ≡ sp.from_rise → r.to_rise ≡ sp.to_rise
       → ((v : View) (q : _) (x : Registers) → v.memory ≡ memory → IsRest x address 0
-        → IsTick sp (over (side_of s sp op.side).from o.from) (over (side_of s sp op.side).to o.to) next op.delay (tick_of s v q x))
+      → IsTick sp (over (side_of s sp op.side).from o.from) (over (side_of s sp op.side).to o.to) next op.delay (tick_of s v q x))
       → IsPassed sp s r.max (marks_over sp memory seen host states) states w address 0
       → IsBrokenBy r.min r.max (marks_over sp memory seen host states) ⊎ IsPassed sp s r.max (marks_over sp memory seen host states) states (followed r (course s sp op o) w) next 0
   unfolding prompt
@@ -146,12 +143,15 @@ pub visit_passes : AreLevels → IsTested → (u : Setup) (sp : Span) (s : Machi
 unfolding rules_of
 visit_passes levels tested u sp s seen host states i run h there =
     elim (passes levels tested sp s u.memory seen host states run (rules_of s sp (visit u sp i).0.address) (instruction_at u s (visit u sp i).0.address) (start (visit u sp i).0 (visit u sp i).1) h.outcome
-      (visit u sp i).0.address (address_after h.outcome.jump (next_address s (visit u sp i).0.address)) refl refl
-      (λ v q x memory r. first_tick u s sp (visit u sp i).0 v q x (visit u sp i).0.address h.outcome memory r h.settled h.quick h.only)
-      (record { there = there; clean = clean_start })) [
+    (visit u sp i).0.address (address_after h.outcome.jump (next_address s (visit u sp i).0.address)) refl refl
+    (λ v q x memory r. first_tick u s sp (visit u sp i).0 v q x (visit u sp i).0.address h.outcome memory r h.settled h.quick h.only)
+    (record { there = there; clean = clean_start })) [
       | inl broken ↦ inl broken
-      | inr passed ↦ inr (subst (λ v. IsReached sp s (bounds_of sp s).1 (marks_over sp u.memory seen host states) states (start v.0 v.1) v.0.address 0) (sym (next_visit u sp s i h))
-          (rewatched sp s (bounds_of sp s).1 (marks_over sp u.memory seen host states) states _ _ _ 0 refl refl refl passed.there), clean_ended u sp s i h passed.clean)
+      | inr passed ↦ inr (
+        subst (λ v. IsReached sp s (bounds_of sp s).1 (marks_over sp u.memory seen host states) states (start v.0 v.1) v.0.address 0) (sym (next_visit u sp s i h))
+            (rewatched sp s (bounds_of sp s).1 (marks_over sp u.memory seen host states) states _ _ _ 0 refl refl refl passed.there),
+        clean_ended u sp s i h passed.clean,
+      )
     ]
 
 -- so each visit is come to, or the span is broken
@@ -175,7 +175,7 @@ pub bad_visit_breaks : AreLevels → IsTested → (u : Setup) (sp : Span) (s : M
 bad_visit_breaks levels tested u sp s seen host states run single begins b = elim (walk levels tested u sp s seen host states run single begins b.number) [
   | inl broken ↦ broken
   | inr there ↦ elim (visit_passes levels tested u sp s seen host states b.number run (single b.number) there) [
-      | inl broken ↦ broken
-      | inr passed ↦ never_both (cause_at u sp b.number) U1 U2 b.first.cause passed.1
-    ]
+    | inl broken ↦ broken
+    | inr passed ↦ never_both (cause_at u sp b.number) U1 U2 b.first.cause passed.1
+  ]
 ]

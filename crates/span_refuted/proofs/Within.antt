@@ -1,5 +1,5 @@
 -- Each visit lies within a row of any closed table; so none is bad where the table is good.
-use Rattle.std.proofs.Common.{◌≡◌, ℕ, zero, suc, ◌+◌, ◌<◌, Bool, true, false, Option, Some, None, List, [], ◌∷◌, length, slice_index_or, refl, sym, subst, ◌∙◌, arith}
+use Rattle.std.proofs.Common.{◌≡◌, ℕ, zero, suc, Bool, true, false, None, List, [], ◌∷◌, refl, sym, subst, ◌∙◌, arith}
 use Rattle.std.specs.List.{Contains}
 use Rattle.pin_matrix.specs.declared.machine.MachineSetup.{MachineSetup}
 use Rattle.pin_matrix.specs.declared.setup.Setup.{Setup}
@@ -18,7 +18,7 @@ use Rattle.span_refuted.specs.OneWay.{LeavesNoChoice}
 use Rattle.span_refuted.specs.Visits.{visit, cause_at}
 use Rattle.span_refuted.proofs.Single.{IsSingle}
 use Rattle.span_refuted.proofs.Joining.{IsClean, none_clean, clean_none}
-use Rattle.span_refuted.proofs.Visiting.{StaysPlaced, IsVisit, each_visit, landed, next_visit}
+use Rattle.span_refuted.proofs.Visiting.{StaysPlaced, each_visit, landed, next_visit}
 use Rattle.span_refuted.proofs.Ranks.{lies_trans}
 
 -- what a law of span_step says: a step is monotone
@@ -62,8 +62,8 @@ lies_next : IsMonotone → (u : Setup) (sp : Span) (s : MachineSetup) (rows : Li
     → LiesAt (visit u sp (suc i)).1 (entry_at rows (number_of (visit u sp (suc i)).0))
 lies_next monotone u sp s rows i h r = rw (next_visit u sp s i h)
     (follows rows u sp s (visit u sp i).0 (visit u sp i).1 r.ages h
-      (rw (h.step (visit u sp i).1, h.step r.ages) at (monotone u sp (visit u sp i).0 (visit u sp i).1 r.ages r.inside).nexts)
-      (rw (h.step r.ages) at r.lies))
+    (rw (h.step (visit u sp i).1, h.step r.ages) at (monotone u sp (visit u sp i).0 (visit u sp i).1 r.ages r.inside).nexts)
+    (rw (h.step r.ages) at r.lies))
 
 visit_lies : IsMonotone → StaysPlaced → AreRows → (u : Setup) (sp : Span) (c : LeavesNoChoice u sp) (p : IsProvable u sp) → (i : ℕ) → LiesAt (visit u sp i).1 (entry_at p.rows (number_of (visit u sp i).0))
 unfolding visit

@@ -1,7 +1,6 @@
 -- Worked rows: machines without choice, and the first bad visits of their spans, worked out by hand.
-use Rattle.std.proofs.Common.{◌≡◌, ℕ, zero, suc, ◌<◌, ◌≤◌, ◌^◌, ◌⊎◌, Bool, true, false, Option, Some, None, List, [], ◌∷◌, ◌++◌, replicate, inl, inr, refl, subst, arith}
-use Rattle.pio_encode.specs.declared.rule.SideRule.{SideRule}
-use Rattle.pio_encode.specs.declared.act.Act.TheVariants.{Jmp, Wait, Out, Mov}
+use Rattle.std.proofs.Common.{◌≡◌, ℕ, zero, suc, ◌<◌, ◌≤◌, ◌^◌, ◌⊎◌, true, false, Some, None, List, [], ◌∷◌, ◌++◌, replicate, inl, inr, refl, arith}
+use Rattle.pio_encode.specs.declared.act.Act.TheVariants.{Jmp, Wait, Out}
 use Rattle.pio_encode.specs.declared.act.Condition.TheVariants as condition
 use Rattle.pio_encode.specs.declared.act.OutDestination.TheVariants as out_destination
 use Rattle.pio_encode.specs.declared.act.WaitSource.TheVariants as wait_source
