@@ -1,0 +1,164 @@
+-- In a run the ages of a course are those of from-edges: the least is that of one that is open, and so is the greatest.
+use Rattle.std.proofs.Common.{◌≡◌, ℕ, zero, suc, ◌+◌, ◌<◌, ◌≤◌, ◌⊎◌, min, nat_lt, Bool, true, false, ◌&&◌, cond, inl, inr, refl, sym, ap, subst, ◌∙◌, arith}
+use Rattle.std.proofs.lemmas.Bool.{cases_lt}
+use Rattle.std.proofs.lemmas.Bool.Decides.{nat_tests}
+use Rattle.pin_matrix.specs.declared.span.SpanUnit.TheVariants.{Ticks}
+use Rattle.span_step.specs.declared.ages.Ages.{Ages}
+use Rattle.span_step.specs.declared.ages.Ages.TheVariants.{Empty, Between}
+use Rattle.span_step.specs.Courses.{Rules, older, after_edges, is_below, tick_causes}
+use Rattle.span_check.specs.Marks.{Mark}
+use Rattle.span_check.specs.Holding.{counted, IsQuiet, Holds}
+use Rattle.span_refuted.proofs.Joining.{IsClean}
+
+-- a from-edge is open since which so many ticks counted
+pub record IsSince (m : ℕ → Mark) (c n : ℕ) : Type 0 where
+  pub start : ℕ
+  pub before : start < c
+  pub edge : (m start).from ≡ true
+  pub quiet : IsQuiet m start c
+  pub count : counted m start c ≡ n
+
+-- the ages are exact, and none is above the most
+abbrev pub AreExact : (ℕ → Mark) → (most c : ℕ) → Ages → Type 0
+AreExact m most c Empty = Unit {0}
+AreExact m most c (Between lo hi) = (lo ≤ hi) × ((hi ≤ most) × (IsSince m c lo × IsSince m c hi))
+
+-- the span doesn't hold up to some clock
+abbrev pub IsBrokenBy : (min max : ℕ) → (ℕ → Mark) → Type 0
+IsBrokenBy min max m = (n : ℕ) × (Holds Ticks min max m n → ⊥)
+
+before_suc : (a c : ℕ) → a < suc c → (a < c) ⊎ (a ≡ c)
+before_suc a c h = grind arith
+
+lt_yes : (a b : ℕ) → a < b → nat_lt a b ≡ true
+lt_yes a b h = grind (arith, nat_tests)
+
+lt_no : (a b : ℕ) → b ≤ a → nat_lt a b ≡ false
+lt_no a b h = grind (arith, nat_tests)
+
+counted_none : (m : ℕ → Mark) (s c : ℕ) → c ≤ suc s → counted m s c ≡ 0
+unfolding counted
+counted_none m s zero h = refl
+counted_none m s (suc c) h =
+    let le : c ≤ s = omega arith in
+    let none : counted m s c ≡ 0 = counted_none m s c (omega arith) in
+    rw (none, lt_no s c le) refl
+
+counted_more : (m : ℕ → Mark) (s c : ℕ) → s < c → (m c).counts ≡ true → counted m s (suc c) ≡ counted m s c + 1
+unfolding counted
+counted_more m s c h e = rw (lt_yes s c h, e) refl
+
+counted_same : (m : ℕ → Mark) (s c : ℕ) → (m c).counts ≡ false → counted m s (suc c) ≡ counted m s c
+unfolding counted
+counted_same m s c e = rw e (on (nat_lt s c)) where
+  on : (b : Bool) → counted m s c + cond (b && false) 1 0 ≡ counted m s c
+  on true = omega arith
+  on false = omega arith
+
+quiet_on : (m : ℕ → Mark) (s c : ℕ) → IsQuiet m s c → (m c).to ≡ false → IsQuiet m s (suc c)
+quiet_on m s c q e d after before = elim (before_suc d c before) [ inl less ↦ q d after less | inr same ↦ rw same e ]
+
+-- a clock without a tick changes nothing
+since_idle : (m : ℕ → Mark) (c n : ℕ) → (m c).counts ≡ false → (m c).to ≡ false → IsSince m c n → IsSince m (suc c) n
+since_idle m c n e f h = record {
+  start = h.start;
+  before = (let b = h.before in omega arith);
+  edge = h.edge;
+  quiet = quiet_on m h.start c h.quiet f;
+  count = counted_same m h.start c e ∙ h.count;
+}
+
+pub exact_idle : (m : ℕ → Mark) (most c : ℕ) (a : Ages) → (m c).counts ≡ false → (m c).to ≡ false → AreExact m most c a → AreExact m most (suc c) a
+exact_idle m most c Empty e f h = tt
+exact_idle m most c (Between lo hi) e f h = (h.0, (h.1.0, (since_idle m c lo e f h.1.1.0, since_idle m c hi e f h.1.1.1)))
+
+since_tick : (m : ℕ → Mark) (c n : ℕ) → (m c).counts ≡ true → (m c).to ≡ false → IsSince m c n → IsSince m (suc c) (n + 1)
+since_tick m c n e f h = record {
+  start = h.start;
+  before = (let b = h.before in omega arith);
+  edge = h.edge;
+  quiet = quiet_on m h.start c h.quiet f;
+  count = counted_more m h.start c h.before e ∙ ap (λ k. k + 1) h.count;
+}
+
+since_fresh : (m : ℕ → Mark) (c : ℕ) → (m c).from ≡ true → IsSince m (suc c) 0
+since_fresh m c e = record { start = c; before = omega arith; edge = e; quiet = λ d after before. absurd (none d after before); count = counted_none m c (suc c) (omega arith) } where
+  none : (d : ℕ) → c < d → d < suc c → ⊥
+  none d h k = omega arith
+
+-- a from-edge with more ticks than the most
+above_breaks : (min max : ℕ) (m : ℕ → Mark) (c n : ℕ) → (m c).counts ≡ true → IsSince m c n → max < n + 1 → IsBrokenBy min max m
+above_breaks min max m c n e h more = (suc c, λ holds. on (m c).to refl holds) where
+  most : counted m h.start (suc c) ≡ n + 1
+  most = counted_more m h.start c h.before e ∙ ap (λ k. k + 1) h.count
+
+  starts : h.start < suc c
+  starts = let b = h.before in omega arith
+
+  on : (t : Bool) → (m c).to ≡ t → Holds Ticks min max m (suc c) → ⊥
+  on true f holds = over _ most ((holds h.start starts h.edge).most c (record { after = h.before; first = h.quiet; edge = f }) (omega arith) tt) where
+    over : (k : ℕ) → k ≡ n + 1 → k ≤ max → ⊥
+    over k q l = omega arith
+  on false f holds = over _ most ((holds h.start starts h.edge).unclosed (quiet_on m h.start c h.quiet f) tt) where
+    over : (k : ℕ) → k ≡ n + 1 → k ≤ max → ⊥
+    over k q l = omega arith
+
+-- a to-edge after fewer than the least
+below_breaks : (min max : ℕ) (m : ℕ → Mark) (c n : ℕ) → (m c).counts ≡ true → (m c).to ≡ true → IsSince m c n → n + 1 < min → IsBrokenBy min max m
+below_breaks min max m c n e f h less = (suc c, λ holds. under _ most ((holds h.start starts h.edge).least c (record { after = h.before; first = h.quiet; edge = f }) (omega arith) tt)) where
+  most : counted m h.start (suc c) ≡ n + 1
+  most = counted_more m h.start c h.before e ∙ ap (λ k. k + 1) h.count
+
+  starts : h.start < suc c
+  starts = let b = h.before in omega arith
+
+  under : (k : ℕ) → k ≡ n + 1 → min ≤ k → ⊥
+  under k q l = omega arith
+
+-- what a tick leaves where it breaks nothing
+pub record GoesWell (r : Rules) (m : ℕ → Mark) (c : ℕ) (a : Ages) (closes opens : Bool) : Type 0 where
+  pub exact : AreExact m r.max (suc c) (after_edges closes opens (older r.max a))
+  pub clean : IsClean (tick_causes r false closes a (older r.max a))
+
+exact_fresh : (m : ℕ → Mark) (most c : ℕ) → (m c).from ≡ true → AreExact m most (suc c) (Between 0 0)
+exact_fresh m most c e = (omega arith, (omega arith, (since_fresh m c e, since_fresh m c e)))
+
+pub exact_tick : (r : Rules) (m : ℕ → Mark) (c : ℕ) (a : Ages) (closes opens : Bool) → (m c).counts ≡ true → (m c).to ≡ closes → (m c).from ≡ opens → AreExact m r.max c a
+    → IsBrokenBy r.min r.max m ⊎ GoesWell r m c a closes opens
+exact_tick r m c Empty true true e f g h = inr (record { exact = exact_fresh m r.max c g; clean = record { u1 = refl; u2 = refl; u3 = refl; u4 = refl } })
+exact_tick r m c Empty true false e f g h = inr (record { exact = tt; clean = record { u1 = refl; u2 = refl; u3 = refl; u4 = refl } })
+exact_tick r m c Empty false true e f g h = inr (record { exact = exact_fresh m r.max c g; clean = record { u1 = refl; u2 = refl; u3 = refl; u4 = refl } })
+exact_tick r m c Empty false false e f g h = inr (record { exact = tt; clean = record { u1 = refl; u2 = refl; u3 = refl; u4 = refl } })
+exact_tick r m c (Between lo hi) closes opens e f g h = elim (cases_lt r.max (hi + 1)) [
+  | inl above ↦ inl (above_breaks r.min r.max m c hi e h.1.1.1 above)
+  | inr fine ↦ elim (too_early closes f) [
+    | inl broken ↦ inl broken
+    | inr early ↦ inr (record {
+      exact = subst (λ x. AreExact m r.max (suc c) (after_edges closes opens x)) (sym (one_older r.max lo hi h.0 h.1.0)) (left closes opens f g fine);
+      clean = record { u1 = lt_no r.max _ (capped r.max hi fine); u2 = early; u3 = refl; u4 = refl };
+    })
+  ]
+] where
+  one_older : (most lo hi : ℕ) → lo ≤ hi → hi ≤ most → older most (Between lo hi) ≡ Between (lo + 1) (hi + 1)
+  one_older most lo hi h k = pair _ _ _ _ (omega arith) (omega arith) where
+    pair : (a b c d : ℕ) → a ≡ b → c ≡ d → Between a c ≡ Between b d
+    pair a b c d e f = rw (e, f) refl
+
+  capped : (most hi : ℕ) → hi + 1 ≤ most → min hi most + 1 ≤ most
+  capped most hi h = omega arith
+
+  uncapped : (most lo least : ℕ) → lo ≤ most → least ≤ lo + 1 → least ≤ min lo most + 1
+  uncapped most lo least h k = omega arith
+
+  too_early : (z : Bool) → (m c).to ≡ z → IsBrokenBy r.min r.max m ⊎ ((z && is_below r.min (older r.max (Between lo hi))) ≡ false)
+  too_early true q = elim (cases_lt (lo + 1) r.min) [
+    | inl less ↦ inl (below_breaks r.min r.max m c lo e q h.1.1.0 less)
+    | inr enough ↦ inr (lt_no _ r.min (uncapped r.max lo r.min (let a = h.0 in let b = h.1.0 in omega arith) enough))
+  ]
+  too_early false q = inr refl
+
+  left : (z o : Bool) → (m c).to ≡ z → (m c).from ≡ o → hi + 1 ≤ r.max → AreExact m r.max (suc c) (after_edges z o (Between (lo + 1) (hi + 1)))
+  left true true p q l = exact_fresh m r.max c q
+  left true false p q l = tt
+  left false true p q l = (omega arith, (l, (since_fresh m c q, since_tick m c hi e p h.1.1.1)))
+  left false false p q l = (let a = h.0 in omega arith, (l, (since_tick m c lo e p h.1.1.0, since_tick m c hi e p h.1.1.1)))

@@ -1,0 +1,86 @@
+-- The step of an instruction with one way has one next, at the end of its prompt course.
+use Rattle.std.proofs.Common.{◌≡◌, ℕ, Bool, true, false, not, ◌&&◌, ◌||◌, Some, None, List, [], ◌∷◌, slice_index_or, refl}
+use Rattle.pio_encode.specs.declared.op.Op.{Op}
+use Rattle.pin_matrix.specs.declared.machine.MachineSetup.{MachineSetup}
+use Rattle.pin_matrix.specs.declared.setup.Setup.{Setup}
+use Rattle.pin_matrix.specs.declared.span.Span.{Span}
+use Rattle.span_step.specs.declared.ages.Ages.{Ages}
+use Rattle.span_step.specs.declared.ages.Ages.TheVariants.{Empty}
+use Rattle.span_step.specs.declared.stepped.Stepped.{Stepped}
+use Rattle.span_step.specs.Contexts.{Context}
+use Rattle.span_step.specs.Outcomes.{Outcome, outcomes, may_stall}
+use Rattle.span_step.specs.Courses.{prompt, courses, delay_tick, no_causes, joined, start, followed}
+use Rattle.span_step.specs.Steps.{address_after, next_address, side_of, rules_of, visit_of, with_end, with_outcome, step_by, context_steps}
+use Rattle.span_refuted.specs.OneWay.{is_settled, has_one_way, instruction_at, goes_to}
+use Rattle.span_refuted.proofs.Sole.{HasOutcome, settled_outcome, settled_tame}
+
+-- the types of a watch and of a tick, which their crate gives no name to others
+abbrev pub ValueOf : {A B : Type 0} → (A → B) → Type 0
+ValueOf {A} {B} f = B
+
+abbrev pub TypeOf : {A : Type 0} → A → Type 0
+TypeOf {A} a = A
+
+abbrev pub Watch : Type 0
+Watch = ValueOf (λ (k : Context). start k Empty)
+
+abbrev pub Tick : Type 0
+Tick = TypeOf delay_tick
+
+-- what a step with one course finds
+abbrev pub ended : ℕ → Outcome → Watch → Stepped
+ended following o w = record {
+  nexts = record {
+    context = record { address = address_after o.jump following; x = o.x; y = o.y; from = w.from; to = w.to };
+    ages = w.ages;
+    passes = w.passes;
+  } ∷ [];
+  causes = joined no_causes w.causes;
+  from_edge = false || w.from_edge;
+}
+
+-- the prompt course of an instruction
+abbrev pub course : MachineSetup → Span → Op → Outcome → List Tick
+course s sp op o = prompt (side_of s sp op.side) o op.delay
+
+-- what is known at its end
+abbrev pub end : MachineSetup → Span → Op → Outcome → Context → Ages → Watch
+end s sp op o k a = followed (rules_of s sp k.address) (course s sp op o) (start k a)
+
+step_ended : (s : MachineSetup) (sp : Span) (op : Op) (k : Context) (a : Ages) → is_settled op.act ≡ true → may_stall op.act s ≡ false
+    → (h : HasOutcome op.act s sp k) → step_by s sp op k a ≡ ended (next_address s k.address) h.outcome (end s sp op h.outcome k a)
+unfolding step_by visit_of with_outcome with_end courses
+step_ended s sp op k a settled quick h = rw (settled_tame op.act settled, h.only, quick) refl
+
+two : (a b : Bool) → (a && not b) ≡ true → (a ≡ true) × (b ≡ false)
+two true false h = (refl, refl)
+two true true h = absurd (bad h) where
+  bad : false ≡ true → ⊥
+  bad e = cc
+two false b h = absurd (bad h) where
+  bad : false ≡ true → ⊥
+  bad e = cc
+
+-- the step from a context at an instruction with one way: what it is for any ages
+pub record IsSingle (u : Setup) (sp : Span) (s : MachineSetup) (k : Context) : Type 0 where
+  pub outcome : Outcome
+  pub settled : is_settled (instruction_at u s k.address).act ≡ true
+  pub quick : may_stall (instruction_at u s k.address).act s ≡ false
+  pub only : outcomes (instruction_at u s k.address).act s sp k ≡ outcome ∷ []
+  pub goes : address_after outcome.jump (next_address s k.address) ≡ goes_to (instruction_at u s k.address).act (next_address s k.address)
+  pub step : (a : Ages) → context_steps u sp k a ≡ ended (next_address s k.address) outcome (end s sp (instruction_at u s k.address) outcome k a)
+
+pub single : (u : Setup) (sp : Span) (s : MachineSetup) (k : Context) → slice_index_or u.machines sp.machine None ≡ Some s
+    → has_one_way (instruction_at u s k.address).act s ≡ true → IsSingle u sp s k
+unfolding context_steps
+single u sp s k e h =
+    let t = two _ (may_stall (instruction_at u s k.address).act s) h in
+    let o = settled_outcome (instruction_at u s k.address).act s sp k t.0 in
+    record {
+      outcome = o.outcome;
+      settled = t.0;
+      quick = t.1;
+      only = o.only;
+      goes = o.goes (next_address s k.address);
+      step = λ a. rw e (step_ended s sp (instruction_at u s k.address) k a t.0 t.1 o);
+    }
