@@ -5,7 +5,7 @@ ghost use Rattle.pio_lex.specs.Words.{directive_of, row_of};
 use crate::bytes::is_same_but_case;
 
 /// The name behind the `.` of a directive.
-#[derive(Clone, Copy, Debug, PartialEq, Eq)]
+#[derive(Clone, Copy, Debug)]
 pub enum Directive {
     Program,
     Define,

@@ -5,7 +5,7 @@ ghost use Rattle.pio_lex.specs.Words.{keyword_of, row_of};
 use crate::bytes::is_same_but_case;
 
 /// A word that pioasm keeps for itself.
-#[derive(Clone, Copy, Debug, PartialEq, Eq)]
+#[derive(Clone, Copy, Debug)]
 pub enum Keyword {
     Nop,
     Jmp,
