@@ -1,7 +1,7 @@
 use Rattle.std.proofs.Common.{◌≡◌, ◌+◌, ◌*◌, None, get_or, arith, rules, sym, ap, ◌∙◌}
 use Rattle.std.specs.Char.{digit_value}
 use Rattle.pio_lex.specs.Numbers.{within}
-use Rattle.pio_lex.proofs.Numbers.{not_within, too_large}
+use Rattle.pio_lex.proofs.Numbers.{reading_none, reading_more, reading_all, no_digit, not_within, too_large}
 use Rattle.pio_lex.proofs.number.numeral.Goals as goal
 
 pub returns-in_err-value : goal.returns-in_err-value
@@ -12,3 +12,12 @@ returns-in_err-value c =
     let none : within m ≡ None = ap (λ d. within (c.loop-byte.value * c.args.radix + d)) (sym digit) ∙ sym c.in_err-value.ensures in
     let gives : c.from_residual-in_err-value.result ≡ None = search rules in
     gives ∙ too_large c.args.radix c.loop-byte.value ds c.loop-byte.byte-index (omega arith) (omega arith) (not_within m none) c.loop-byte.invariant
+
+pub loop-byte-init : goal.loop-byte-init
+loop-byte-init c = reading_none c.args.radix c.args.digits.now
+
+pub extended-requires-clause-value : goal.extended-requires-clause-value
+extended-requires-clause-value c = c.loop-byte.invariant.small
+
+pub extended-requires-clause-radix : goal.extended-requires-clause-radix
+extended-requires-clause-radix c = c.requires.high
