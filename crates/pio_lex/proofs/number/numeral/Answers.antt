@@ -1,7 +1,7 @@
 use Rattle.std.proofs.Common.{◌≡◌, ◌+◌, ◌*◌, None, get_or, arith, rules, sym, ap, ◌∙◌}
 use Rattle.std.specs.Char.{digit_value}
 use Rattle.pio_lex.specs.Numbers.{within}
-use Rattle.pio_lex.proofs.Numbers.{reading_none, reading_more, reading_all, no_digit, not_within, too_large}
+use Rattle.pio_lex.proofs.Numbers.{reading_none, not_within, too_large}
 use Rattle.pio_lex.proofs.number.numeral.Goals as goal
 
 pub returns-in_err-value : goal.returns-in_err-value
