@@ -2,6 +2,7 @@
 use Rattle.std.proofs.Common.{◌≡◌, ℕ, suc, ◌+◌, ◌-◌, ◌<◌, ℤ, Bool, true, false, List, [], ◌∷◌, ◌++◌, length, Option, Some, None, Result, Ok, Err, refl, ap, sym, subst, ◌∙◌, ◌||◌, arith, nat_eq, true≢false, append_assoc, slice_get, IfOk, OnOk, IfErr}
 use Rattle.std.specs.List.{list_any, IsDistinct}
 use Rattle.std.specs.Map.{keys_of}
+use Rattle.std.specs.Result.{result_transpose}
 use Rattle.std.proofs.lemmas.Bool.{eqb-true, eq-eqb}
 use Rattle.std.proofs.lemmas.List.{length-append, map-append}
 use Rattle.std.proofs.lemmas.List.Folds.{list_any-append}
@@ -13,7 +14,7 @@ use Rattle.pio_expr.specs.declared.fault.ValueFault.{ValueFault}
 use Rattle.pio_expr.specs.declared.fault.ValueFault.TheVariants.{Memory}
 use Rattle.pio_expr.specs.declared.frame.Frame.{Frame}
 use Rattle.pio_expr.specs.declared.work.Work.{Work}
-use Rattle.pio_expr.specs.Values.{Scope, in_program, count_of, is_among, worked_out, name_value, value_at, HasFault}
+use Rattle.pio_expr.specs.Values.{Scope, in_program, count_of, is_among, worked_out, name_value, value_at, HasFault, Gives}
 use Rattle.pio_expr.specs.Frames.{Kept, kept_at, kept_value, is_local, items_at, IsKept}
 use Rattle.pio_expr.specs.Work.{placed, places_of, items_of, IsOwn, IsFrame, AreFrames, IsLowest, seen_of, AreSeen, frames_of, Stands, left_to_do, Steps, Finished, IsNewlyKept, kept_of}
 use Rattle.pio_expr.proofs.Finding.{items_of_symbol, place_within}
@@ -220,3 +221,11 @@ kept_whole scope kept (Some p) items v is_own is distinct h =
     let keys = keys_length kept in
     ap (λ its. worked_out (name_value (count_of scope - 1) scope (p ∷ []) (in_program scope p)) its []) (sym (items_of_symbol scope p items is_own))
     ∙ kept_exact scope kept is (count_of scope - 1) p v (omega (arith, fit, keys)) h
+
+-- a step that doesn't go on ends with the value or the fault
+pub ended : (scope : Scope) (own : Option ℕ) (items : List Item) (kept : Kept) (old : Work) (kept' : Kept) (new : Work) (step : Result (Option ℤ) ValueFault) (answer : Result ℤ ValueFault) → Steps scope own items kept old kept' new step → Some answer ≡ result_transpose step → Gives answer (value_at scope own items) × IsKept scope kept'
+ended scope own items kept old kept' new (Ok None) answer steps e = absurd cc
+ended scope own items kept old kept' new (Ok (Some n)) (Ok m) steps e = let same : n ≡ m = cc in (steps.0 ∙ ap Ok same, steps.1)
+ended scope own items kept old kept' new (Ok (Some n)) (Err fault) steps e = absurd cc
+ended scope own items kept old kept' new (Err fault) (Ok m) steps e = absurd cc
+ended scope own items kept old kept' new (Err fault) (Err other) steps e = let same : fault ≡ other = cc in (subst (λ f. HasFault f (value_at scope own items)) same steps.0, steps.1)

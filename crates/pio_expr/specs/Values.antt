@@ -14,6 +14,7 @@ use Rattle.pio_expr.specs.declared.symbol.Symbol.TheVariants.{Define, Label}
 use Rattle.pio_expr.specs.declared.fault.ValueKind.{ValueKind}
 use Rattle.pio_expr.specs.declared.fault.ValueKind.TheVariants.{Unknown, Cycle}
 use Rattle.pio_expr.specs.declared.fault.ValueFault.{ValueFault}
+use Rattle.pio_expr.specs.declared.fault.ValueFault.TheVariants as value_fault
 use Rattle.answers.specs.Answers as answers
 use Rattle.answers.specs.Answers.{◌>>=◌}
 use Rattle.pio_expr.specs.Faults.{value_told}
@@ -151,6 +152,11 @@ value_of_name scope name = name_value (count_of scope) scope [] true name
 -- a returned fault is the answer, or memory ran out
 abbrev pub HasFault : {T : Type 0} → ValueFault → Result T ValueKind → Type 0
 HasFault fault answer = answers.Refuses (value_told fault) answer
+
+-- a fault tells this, or memory ran out
+abbrev pub Tells : ValueFault → ValueKind → Type 0
+Tells value_fault.Memory kind = Unit {0}
+Tells (value_fault.Found told) kind = told ≡ kind
 
 -- a returned value is the answer, or a returned fault is; want of memory is allowed
 abbrev pub Gives : Result ℤ ValueFault → Result ℤ ValueKind → Type 0

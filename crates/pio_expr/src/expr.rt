@@ -5,7 +5,7 @@ use pio_encode::Name;
 use std::marker::Model;
 
 /// One item of an expression in postfix order. An operation takes what stands before it.
-#[derive(Debug, PartialEq, Eq, Drop)]
+#[derive(Drop)]
 pub enum Item {
     /// 0 to 2147483647, as it was written.
     Number(i32),
@@ -23,7 +23,7 @@ pub enum Item {
 }
 
 /// An expression, seen as the list of its items in postfix order.
-#[derive(Debug, Drop)]
+#[derive(Drop)]
 pub struct Expr {
     items: Vec<Item>,
 }

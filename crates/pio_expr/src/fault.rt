@@ -7,7 +7,7 @@ use pio_encode::Name;
 use std::alloc::{AllocError, AllocFailed};
 
 /// What is wrong at a token of an expression.
-#[derive(Clone, Copy, Debug, PartialEq, Eq)]
+#[derive(Clone, Copy, Debug, PartialEq)]
 pub enum ExprKind {
     /// No expression goes on with this token, or ends before it.
     Syntax,
@@ -25,7 +25,7 @@ pub struct Refusal {
 }
 
 /// Why `parse_expr` gave no expression.
-#[derive(Debug, PartialEq, Eq, Drop)]
+#[derive(Debug, PartialEq, Drop)]
 pub enum ExprFault {
     /// Memory ran out.
     Memory,
@@ -50,7 +50,7 @@ impl<T: Drop> From<AllocFailed<T>> for ExprFault {
 }
 
 /// Why an expression has no value under its symbols.
-#[derive(Debug, PartialEq, Eq, Drop)]
+#[derive(Drop)]
 pub enum ValueKind {
     /// A name of no symbol.
     Unknown(Name),
@@ -63,7 +63,7 @@ pub enum ValueKind {
 }
 
 /// Why `Scope` gave no value.
-#[derive(Debug, PartialEq, Eq, Drop)]
+#[derive(Drop)]
 pub enum ValueFault {
     /// Memory ran out.
     Memory,

@@ -3,7 +3,8 @@ ghost use Rattle.std.specs.Prelude.{◌≡◌, List, [], ℕ, ℤ, Result, Ok, O
 ghost use Rattle.std.specs.HashSet.{contains};
 ghost use Rattle.std.specs.Prelude.{nat_eq};
 ghost use Rattle.pio_expr.specs.declared.fault.ValueKind.{ValueKind};
-ghost use Rattle.pio_expr.specs.Values.{number_by, left_by, first_of, behind_first, worked_out};
+ghost use Rattle.pio_expr.specs.declared.fault.ValueKind.TheVariants.{Unknown, Cycle};
+ghost use Rattle.pio_expr.specs.Values.{number_by, left_by, first_of, behind_first, worked_out, Tells};
 ghost use Rattle.pio_expr.specs.Frames.{is_local, looked_up, looked_at, Looks, Agrees, Shows, Rests};
 
 use crate::arithmetic::{add, divide, multiply, negate, reverse, subtract};
@@ -134,15 +135,33 @@ fn look_up<'a>(
         (looked_up symbols.now kept.now.entries (contains nat_eq under.now) local name.now) }
 {
     match symbols.found(local, name) {
-        None => Err(ValueFault::Found(ValueKind::Unknown(copy(alloc, name)?))),
+        None => Err(unknown(alloc, name)),
         Some((_, Symbol::Label(words))) => Ok(Named::Number(*words as i32)),
         Some((place, Symbol::Define(expr))) => match kept.get(&place) {
             Some(value) => Ok(Named::Number(*value)),
-            None if under.contains(&place) => {
-                Err(ValueFault::Found(ValueKind::Cycle(copy(alloc, name)?)))
-            }
+            None if under.contains(&place) => Err(cycle(alloc, name)),
             None => Ok(Named::Define(place, expr.items())),
         },
+    }
+}
+
+/// The fault of a name that no symbol has.
+pub fn unknown(alloc: Global, name: &Name) -> ValueFault
+    ensures { Tells result (Unknown name.now) }
+{
+    match copy(alloc, name) {
+        Ok(name) => ValueFault::Found(ValueKind::Unknown(name)),
+        Err(_) => ValueFault::Memory,
+    }
+}
+
+/// The fault of a name whose own value is being worked out.
+fn cycle(alloc: Global, name: &Name) -> ValueFault
+    ensures { Tells result (Cycle name.now) }
+{
+    match copy(alloc, name) {
+        Ok(name) => ValueFault::Found(ValueKind::Cycle(name)),
+        Err(_) => ValueFault::Memory,
     }
 }
 
@@ -178,7 +197,7 @@ fn take(numbers: &mut VecDeque<i32>) -> i32
 }
 
 /// A name of its own.
-pub fn copy(alloc: Global, name: &Name) -> Result<Name, AllocError>
+fn copy(alloc: Global, name: &Name) -> Result<Name, AllocError>
     ensures { IfOk result (λ copy. copy ≡ name.now) }
 {
     Ok(Name::new(String::from_str(alloc, name.as_str())?))

@@ -2,10 +2,10 @@
 ghost use Rattle.std.specs.Prelude.{◌≡◌, option_copied, option_map, IsTrue, ◌↔◌, OnOk, OnErr};
 ghost use Rattle.pio_expr.specs.Values.{no_symbols, begun, IsNew, with_symbol, symbol_of, own_place, IsOwnTo, value_of, value_of_name, Gives};
 
-use crate::frame::copy;
+use crate::frame::unknown;
 use crate::symbols::Symbols;
 use crate::work::work_out;
-use crate::{Expr, Symbol, ValueFault, ValueKind};
+use crate::{Expr, Symbol, ValueFault};
 use indexmap::IndexMap;
 use pio_encode::Name;
 use std::alloc::{AllocError, Global};
@@ -96,7 +96,7 @@ impl Scope {
         ensures same { self.new ≡ self.old }
     {
         match self.symbols.found(true, name) {
-            None => Err(ValueFault::Found(ValueKind::Unknown(copy(self.alloc, name)?))),
+            None => Err(unknown(self.alloc, name)),
             Some((_, Symbol::Label(words))) => Ok(*words as i32),
             Some((place, Symbol::Define(expr))) => work_out(
                 self.alloc,

@@ -3,7 +3,7 @@
 use crate::Expr;
 
 /// What a name is.
-#[derive(Debug, Drop)]
+#[derive(Drop)]
 pub enum Symbol {
     /// A `.define` with its expression.
     Define(Expr),

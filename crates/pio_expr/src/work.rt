@@ -45,10 +45,8 @@ pub fn work_out(
     }
     let mut work = Work::new(alloc, symbols, kept, own, items)?;
     loop {
-        match work.step(alloc, symbols, kept) {
-            Ok(None) => {}
-            Ok(Some(value)) => return Ok(value),
-            Err(fault) => return Err(fault),
+        if let Some(answer) = work.step(alloc, symbols, kept).transpose() {
+            return answer;
         }
     }
 }

@@ -4,7 +4,7 @@ use Rattle.std.specs.List.{list_all}
 use Rattle.std.specs.Char.{digit_value, is_digit}
 use Rattle.std.specs.Str.Parse.{digits_value, digits_value_after}
 use Rattle.std.proofs.Math.Nat.{le-mul_of_pos_right}
-use Rattle.std.proofs.lemmas.Bool.{lt-leb, le-leb, leb-false}
+use Rattle.std.proofs.lemmas.Bool.{lt-leb, le-leb, leb-false, leb-true}
 use Rattle.std.proofs.lemmas.List.{at_drop_more, at_drop_all}
 use Rattle.pio_lex.specs.Numbers.{within, numeral}
 
@@ -71,3 +71,10 @@ not_within n e = not_within_by (leb n 2147483647) refl e where
   not_within_by : (b : Bool) → leb n 2147483647 ≡ b → cond b (Some n) None ≡ None → 2147483647 < n
   not_within_by true h e = absurd cc
   not_within_by false h e = leb-false n 2147483647 h
+
+-- a value that is within
+pub is_within : (n v : ℕ) → Some v ≡ within n → (v ≡ n) × (v ≤ 2147483647)
+is_within n v e = is_within_by (leb n 2147483647) refl e where
+  is_within_by : (b : Bool) → leb n 2147483647 ≡ b → Some v ≡ cond b (Some n) None → (v ≡ n) × (v ≤ 2147483647)
+  is_within_by true h e = let same : v ≡ n = cc in (same, omega (arith, same, leb-true n 2147483647 h))
+  is_within_by false h e = absurd cc

@@ -1,11 +1,11 @@
 //! The directives of pioasm (Pico SDK manual, section 3.3).
 ghost use Rattle.std.specs.Prelude.{◌≡◌};
-ghost use Rattle.pio_lex.specs.Words.{directive_of, row_of};
+ghost use Rattle.pio_lex.specs.Words.{directive_of};
 
-use crate::bytes::is_same_but_case;
+use crate::table::beside;
 
 /// The name behind the `.` of a directive.
-#[derive(Clone, Copy, Debug, PartialEq, Eq)]
+#[derive(Clone, Copy, Debug)]
 pub enum Directive {
     Program,
     Define,
@@ -38,16 +38,6 @@ impl Directive {
     pub(crate) fn of(name: &[u8]) -> Directive
         ensures { result ≡ directive_of name.now }
     {
-        named(&NAMES, name).unwrap_or(Directive::Other)
+        beside(&NAMES, name).unwrap_or(Directive::Other)
     }
-}
-
-/// The directive beside the name, in any case of letters.
-#[tactic(auto, unfolding(crate::specs::Words::row_of))]
-fn named(rows: &[(&str, Directive)], name: &[u8]) -> Option<Directive>
-    ensures { result ≡ row_of (λ row. row.0.now) (λ row. row.1) rows.now name.now }
-{
-    rows.iter()
-        .find(|row| is_same_but_case(row.0, name))
-        .map(|row| row.1)
 }

@@ -13,7 +13,7 @@ pub fn gap(text: &[u8], last: Option<TokenKind>) -> Result<Option<usize>, LexKin
     ensures { result ≡ spec.gap_at last text.now }
 {
     let byte = text[0];
-    if last == Some(TokenKind::Directive(Directive::LangOpt)) && byte != b'\n' {
+    if is_lang_opt(last) && byte != b'\n' {
         return Ok(Some(line_length(text)));
     }
     if is_blank(byte) {
@@ -29,6 +29,12 @@ pub fn gap(text: &[u8], last: Option<TokenKind>) -> Result<Option<usize>, LexKin
         return ended(block_length(text), LexKind::OpenBlock);
     }
     Ok(None)
+}
+
+fn is_lang_opt(last: Option<TokenKind>) -> bool
+    ensures { result ≡ spec.is_lang_opt last }
+{
+    matches!(last, Some(TokenKind::Directive(Directive::LangOpt)))
 }
 
 fn begins_line(last: Option<TokenKind>) -> bool

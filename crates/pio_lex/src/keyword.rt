@@ -1,11 +1,11 @@
 //! The keywords of pioasm, which are no symbols (Pico SDK manual, section 3.3).
 ghost use Rattle.std.specs.Prelude.{◌≡◌};
-ghost use Rattle.pio_lex.specs.Words.{keyword_of, row_of};
+ghost use Rattle.pio_lex.specs.Words.{keyword_of};
 
-use crate::bytes::is_same_but_case;
+use crate::table::beside;
 
 /// A word that pioasm keeps for itself.
-#[derive(Clone, Copy, Debug, PartialEq, Eq)]
+#[derive(Clone, Copy, Debug)]
 pub enum Keyword {
     Nop,
     Jmp,
@@ -93,16 +93,6 @@ impl Keyword {
     pub fn of(text: &[u8]) -> Option<Keyword>
         ensures { result ≡ keyword_of text.now }
     {
-        spelled(&SPELLINGS, text)
+        beside(&SPELLINGS, text)
     }
-}
-
-/// The keyword beside the text, in any case of letters.
-#[tactic(auto, unfolding(crate::specs::Words::row_of))]
-fn spelled(rows: &[(&str, Keyword)], text: &[u8]) -> Option<Keyword>
-    ensures { result ≡ row_of (λ row. row.0.now) (λ row. row.1) rows.now text.now }
-{
-    rows.iter()
-        .find(|row| is_same_but_case(row.0, text))
-        .map(|row| row.1)
 }

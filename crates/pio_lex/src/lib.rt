@@ -11,6 +11,7 @@ mod lexer;
 mod number;
 mod piece;
 mod spelling;
+mod table;
 mod token;
 
 pub use directive::Directive;

@@ -1,5 +1,5 @@
 //! Numbers: decimal, or hexadecimal behind `0x`, or binary behind `0b`.
-ghost use Rattle.std.specs.Prelude.{◌≡◌, ◌≤◌, ◌+◌, ◌*◌};
+ghost use Rattle.std.specs.Prelude.{◌≡◌, ◌≤◌, ◌+◌, ◌*◌, IsTrue, length};
 ghost use Rattle.pio_lex.specs.Numbers as spec;
 
 /// The greatest number that a source may write.
@@ -10,13 +10,27 @@ const MOST: u32 = 0x7fff_ffff;
 pub fn number(word: &[u8]) -> Option<u32>
     ensures { result ≡ spec.word_number word.now }
 {
-    if word.starts_with(b"0x") || word.starts_with(b"0X") {
+    if is_hexadecimal(word) {
         return numeral(&word[2..], 16);
     }
-    if word.starts_with(b"0b") || word.starts_with(b"0B") {
+    if is_binary(word) {
         return numeral(&word[2..], 2);
     }
     numeral(word, 10)
+}
+
+fn is_hexadecimal(word: &[u8]) -> bool
+    ensures value { result ≡ spec.is_hexadecimal word.now }
+    ensures long { IsTrue result → 2 ≤ length word.now }
+{
+    word.starts_with(b"0x") || word.starts_with(b"0X")
+}
+
+fn is_binary(word: &[u8]) -> bool
+    ensures value { result ≡ spec.is_binary word.now }
+    ensures long { IsTrue result → 2 ≤ length word.now }
+{
+    word.starts_with(b"0b") || word.starts_with(b"0B")
 }
 
 /// The number that digits of the radix write, of any length.

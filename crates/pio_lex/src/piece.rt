@@ -8,7 +8,7 @@ use crate::spelling::token;
 use crate::{LexKind, TokenKind};
 
 /// What stands at a place of a source, and how many bytes it has.
-#[derive(Clone, Copy, Debug)]
+#[derive(Clone, Copy)]
 pub enum Piece {
     /// A blank, a comment, a foreign block, or the rest of a line behind `.lang_opt`.
     Gap(usize),

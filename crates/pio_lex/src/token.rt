@@ -3,7 +3,7 @@
 use crate::{Directive, Keyword};
 
 /// What a token is.
-#[derive(Clone, Copy, Debug, PartialEq, Eq)]
+#[derive(Clone, Copy, Debug)]
 pub enum TokenKind {
     /// A line ends here.
     Newline,
@@ -46,7 +46,7 @@ pub enum TokenKind {
 }
 
 /// A token of a source. Its text is `length` bytes of the source, from the byte `first` on.
-#[derive(Clone, Copy, Debug, PartialEq, Eq)]
+#[derive(Clone, Copy)]
 pub struct Token {
     pub kind: TokenKind,
     /// The line of its first byte, counted from 1.

@@ -10,10 +10,10 @@ work_out-requires-clause-own c =
     let at : found c.self.inside.symbols true c.args.name.now ≡ Some (c.in-Some-default-Define.place, Define c.items.result.now) = search rules in
     found_stands c.self.inside.symbols true c.args.name.now c.in-Some-default-Define.place (Define c.items.result.now) at
 
-pub returns-in_ok-copy-in-None-clause-value : goal.returns-in_ok-copy-in-None-clause-value
-returns-in_ok-copy-in-None-clause-value c =
+pub returns-in-None-clause-value : goal.returns-in-None-clause-value
+returns-in-None-clause-value c =
     let none : found c.args.self.now true c.args.name.now ≡ None = search rules in
-    rw c.in_ok-copy-in-None.ensures (name_unknown c.args.self.now c.args.name.now none)
+    name_unknown c.args.self.now c.args.name.now c.unknown.result none c.unknown.ensures
 
 pub returns-in-Some-default-Label-clause-value : goal.returns-in-Some-default-Label-clause-value
 returns-in-Some-default-Label-clause-value c =

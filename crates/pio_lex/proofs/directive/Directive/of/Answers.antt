@@ -7,4 +7,4 @@ use Rattle.pio_lex.proofs.directive.Directive.of.Goals as goal
 
 pub returns : goal.returns
 unfolding directive_of directives
-returns c = c.unwrap_or.ensures ∙ ap (λ o. unwrap_or o Other) (c.named.ensures ∙ viewed _ _ _ _)
+returns c = c.unwrap_or.ensures ∙ ap (λ o. unwrap_or o Other) (c.beside.ensures ∙ viewed _ _ _ _)

@@ -5,4 +5,4 @@ use Rattle.pio_lex.proofs.keyword.Keyword.of.Goals as goal
 
 pub returns : goal.returns
 unfolding keyword_of keywords
-returns c = c.spelled.ensures ∙ viewed _ _ _ _
+returns c = c.beside.ensures ∙ viewed _ _ _ _
