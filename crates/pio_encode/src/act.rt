@@ -3,7 +3,7 @@ ghost use Rattle.std.specs.Prelude.{◌≡◌, ◌<◌};
 ghost use Rattle.pio_encode.specs.Word as spec;
 
 /// When a JMP is taken.
-#[derive(Clone, Copy, PartialEq, Eq)]
+#[derive(Clone, Copy, Debug, PartialEq, Eq)]
 pub enum Condition {
     /// No text: always.
     Always,
@@ -34,7 +34,7 @@ impl Condition {
 }
 
 /// What a WAIT looks at.
-#[derive(Clone, Copy, PartialEq, Eq)]
+#[derive(Clone, Copy, Debug, PartialEq, Eq)]
 pub enum WaitSource {
     /// A pin by its own number.
     Gpio,
@@ -55,7 +55,7 @@ impl WaitSource {
 }
 
 /// Where an IN takes its bits from.
-#[derive(Clone, Copy, PartialEq, Eq)]
+#[derive(Clone, Copy, Debug, PartialEq, Eq)]
 pub enum InSource {
     Pins,
     X,
@@ -76,7 +76,7 @@ impl InSource {
 }
 
 /// Where an OUT puts its bits.
-#[derive(Clone, Copy, PartialEq, Eq)]
+#[derive(Clone, Copy, Debug, PartialEq, Eq)]
 pub enum OutDestination {
     Pins,
     X,
@@ -99,7 +99,7 @@ impl OutDestination {
 }
 
 /// Where a MOV puts its word.
-#[derive(Clone, Copy, PartialEq, Eq)]
+#[derive(Clone, Copy, Debug, PartialEq, Eq)]
 pub enum MovDestination {
     Pins,
     X,
@@ -121,7 +121,7 @@ impl MovDestination {
 }
 
 /// What a MOV does to the word on its way.
-#[derive(Clone, Copy, PartialEq, Eq)]
+#[derive(Clone, Copy, Debug, PartialEq, Eq)]
 pub enum MovOperation {
     /// Nothing.
     Plain,
@@ -142,7 +142,7 @@ impl MovOperation {
 }
 
 /// Where a MOV takes its word from.
-#[derive(Clone, Copy, PartialEq, Eq)]
+#[derive(Clone, Copy, Debug, PartialEq, Eq)]
 pub enum MovSource {
     Pins,
     X,
@@ -164,7 +164,7 @@ impl MovSource {
 }
 
 /// What a SET sets.
-#[derive(Clone, Copy, PartialEq, Eq)]
+#[derive(Clone, Copy, Debug, PartialEq, Eq)]
 pub enum SetDestination {
     Pins,
     X,
