@@ -6,7 +6,7 @@ ghost use Rattle.dreq_pacing.specs.Due as spec;
 use crate::line::Act;
 
 /// The requests of each machine for paced transfers, as at the clock's start.
-#[derive(Clone, Copy, Debug, PartialEq, Eq)]
+#[derive(Clone, Copy)]
 pub struct Requests {
     /// TX isn't full.
     pub tx: [bool; 4],
@@ -15,7 +15,7 @@ pub struct Requests {
 }
 
 /// What the system does in a clock. In `pins` and `values` bit p stands for pin p.
-#[derive(Clone, Copy, Debug, PartialEq, Eq)]
+#[derive(Clone, Copy, PartialEq, Eq)]
 pub struct Due {
     /// The pins that lines set from the outside.
     pub pins: u32,

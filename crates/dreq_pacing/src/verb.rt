@@ -1,5 +1,6 @@
 //! The words of a stimulus.
 ghost use Rattle.std.specs.Prelude.{◌≡◌};
+ghost use Rattle.std.specs.Str.{bytes_eq};
 ghost use Rattle.dreq_pacing.specs.Form as spec;
 
 /// The word behind a line's clock.
@@ -19,15 +20,15 @@ pub enum Verb {
 pub fn verb_of(name: &[u8], two: bool) -> Option<Verb>
     ensures { result ≡ spec.verb_of two name.now }
 {
-    if name == b"pin".as_slice() {
+    if is_word(name, b"pin") {
         Some(Verb::Pin)
-    } else if name == b"tx".as_slice() {
+    } else if is_word(name, b"tx") {
         Some(Verb::Tx)
-    } else if name == b"rx".as_slice() {
+    } else if is_word(name, b"rx") {
         Some(Verb::Rx)
-    } else if name == b"feed".as_slice() {
+    } else if is_word(name, b"feed") {
         Some(Verb::Feed)
-    } else if name == b"drain".as_slice() {
+    } else if is_word(name, b"drain") {
         Some(Verb::Drain)
     } else if two {
         second_verb_of(name)
@@ -40,13 +41,20 @@ pub fn verb_of(name: &[u8], two: bool) -> Option<Verb>
 fn second_verb_of(name: &[u8]) -> Option<Verb>
     ensures { result ≡ spec.second_verb_of name.now }
 {
-    if name == b"enable".as_slice() {
+    if is_word(name, b"enable") {
         Some(Verb::Enable)
-    } else if name == b"disable".as_slice() {
+    } else if is_word(name, b"disable") {
         Some(Verb::Disable)
-    } else if name == b"restart".as_slice() {
+    } else if is_word(name, b"restart") {
         Some(Verb::Restart)
     } else {
         None
     }
+}
+
+/// Whether a name is this word.
+fn is_word(name: &[u8], word: &[u8]) -> bool
+    ensures { result ≡ bytes_eq name.now word.now }
+{
+    name == word
 }

@@ -183,7 +183,7 @@ impl SetDestination {
 }
 
 /// What an instruction does, apart from its side-set and its delay.
-#[derive(Clone, Copy, Debug, PartialEq, Eq)]
+#[derive(Clone, Copy, PartialEq, Eq)]
 pub enum Act {
     /// Goes to an address (0 to 31) where the condition holds.
     Jmp {

@@ -2,7 +2,7 @@
 use crate::Act;
 
 /// One instruction as a word holds it, apart from the rule that shares bits 12 to 8.
-#[derive(Clone, Copy, Debug, PartialEq, Eq)]
+#[derive(Clone, Copy)]
 pub struct Op {
     /// The side-set value, where there is one.
     pub side: Option<u8>,
