@@ -1,6 +1,5 @@
 -- A span that is broken.
 --   IsBroken         there is a clock up to which it doesn't hold
---   IsRefused        what a verdict says of the run without stimulus
 use Rattle.std.specs.Prelude.{ℕ, []}
 use Rattle.pin_matrix.specs.declared.setup.Setup.{Setup}
 use Rattle.pin_matrix.specs.declared.span.Span.{Span}
