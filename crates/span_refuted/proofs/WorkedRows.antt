@@ -123,9 +123,9 @@ unfolding stuck visit start_context context_steps step_by with_outcome with_end 
 stuck-row = (refl, refl)
 
 -- the blink leaves no choice: it comes to addresses 0 and 1 in turn
-first : reached blink machine 0 ≡ 0
+starts_at_0 : reached blink machine 0 ≡ 0
 unfolding reached
-first = refl
+starts_at_0 = refl
 
 after_0 : (i : ℕ) → reached blink machine i ≡ 0 → reached blink machine (suc i) ≡ 1
 unfolding reached goes_to blink reading_of act_of set_at
@@ -136,7 +136,7 @@ unfolding reached goes_to blink reading_of act_of set_at
 after_1 i e = rw e refl
 
 in_turn : (i : ℕ) → (reached blink machine i ≡ 0) ⊎ (reached blink machine i ≡ 1)
-in_turn zero = inl first
+in_turn zero = inl starts_at_0
 in_turn (suc i) = elim (in_turn i) [ inl e ↦ inr (after_0 i e) | inr e ↦ inl (after_1 i e) ]
 
 way_at : (i a : ℕ) → reached blink machine i ≡ a → has_one_way (instruction_at blink machine a).act machine ≡ true → has_one_way (instruction_at blink machine (reached blink machine i)).act machine ≡ true

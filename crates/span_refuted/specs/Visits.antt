@@ -1,7 +1,8 @@
 -- The visits of a machine's instructions, one after another, with the ages of the span's open from-edges.
 --   visit            the context and the ages at each instruction
 --   cause_at         why a visit is bad
---   IsFirstBad       the first bad visit
+--   IsFirstBadVisit  the first bad visit
+--   HasBadVisit      some visit is the first bad one
 use Rattle.std.specs.Prelude.{◌≡◌, ℕ, zero, suc, ◌<◌, ◌⊎◌, Option, Some, None, List, [], ◌∷◌}
 use Rattle.pin_matrix.specs.declared.setup.Setup.{Setup}
 use Rattle.pin_matrix.specs.declared.span.Span.{Span}
@@ -38,11 +39,11 @@ cause_at u sp i = first_cause (step_from u sp i).causes
 
 -- The first bad visit: an age is above the span's most, or a to-edge comes while an age is below its least. No visit before it
 -- is bad.
-pub record IsFirstBad (u : Setup) (sp : Span) (i : ℕ) : Type 0 where
+pub record IsFirstBadVisit (u : Setup) (sp : Span) (i : ℕ) : Type 0 where
   pub cause : (cause_at u sp i ≡ Some U1) ⊎ (cause_at u sp i ≡ Some U2)
   pub earlier : (j : ℕ) → j < i → cause_at u sp j ≡ None
 
 -- some visit is the first bad one
 pub record HasBadVisit (u : Setup) (sp : Span) : Type 0 where
   pub number : ℕ
-  pub first : IsFirstBad u sp number
+  pub first : IsFirstBadVisit u sp number
