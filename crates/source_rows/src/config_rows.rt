@@ -83,22 +83,7 @@ span = ["x"]|load = [{}]| => span: C3
 [[load]]|program = "long"|at = 24|[[load]]|program = "square"|at = 30| => load[1].at: C8
 ### A machine comes before pins, whatever the order of the file.
 [pins]|high = 1|[[machine]]|id = 1| => machine[0].program: C13
-"#;
-
-/// Whole files, and what the setup says: the memory's words that aren't 0 by their address, the machines, the pins and
-/// the spans.
-pub static SETUPS: &str = r#"
- => pins 0 0 0 0
-[[load]]|program = "square"|at = 5| => 5:e081 6:e101 7:e000 8:0006 pins 0 0 0 0
-[[load]]|program = "ahead"|at = 29|[[load]]|program = "fixed"|[[load]]|program = "square"| => 0:e081 1:e101 2:e000 3:0001 7:e003 29:001f 30:e001 pins 0 0 0 0
-[pins]|high = [0, 31, 0]|level = [1]|out = []|bypass = [4, 2]| => pins 80000001 2 0 14
-[[machine]]|id = 3|program = "square"|start = "again"|[[machine]]|id = 1|program = "square"|[[load]]|program = "square"|at = 5| => 5:e081 6:e101 7:e000 8:0006 m1 5 5-8 1+0 in 0 jmp 0 out 0x0 set 0x5 side 0x0 shift true true false false 32 32 join false false status false 0 x 0 y 0 m3 6 5-8 1+0 in 0 jmp 0 out 0x0 set 0x5 side 0x0 shift true true false false 32 32 join false false status false 0 x 0 y 0 pins 0 0 0 0
-load = [{ program = "fixed" }]|[[machine]]|id = 2|program = "fixed"|divider = 2|fraction = 3|in_base = 4|out_base = 5|set_base = 6|side_base = 7|jmp_pin = 8|out_count = 9|set_count = 1|in_right = false|out_right = false|autopush = true|autopull = true|join_tx = false|join_rx = true|status_rx = true|push_threshold = 10|pull_threshold = 11|status_n = 12|x = 13|y = 14| => 7:e003 m2 7 7-7 2+3 in 4 jmp 8 out 5x9 set 6x1 side 7x0 shift false false true true 10 11 join false true status true 12 x 13 y 14 pins 0 0 0 0
-[[load]]|program = "fixed"|[[load]]|program = "long"|at = 16|[[span]]|name = "lap"|machine = 0|from_pin = 3|to_pin = 4|from_edge = "rise"|to_edge = "fall"|min = 5|max = 6|stalls = ["last", "first"]|[[span]]|name = "lap"|machine = 0|from_pin = 8|to_pin = 7|from_edge = "fall"|to_edge = "rise"|unit = "clocks"|min = 0|max = 1|[[machine]]|id = 0|program = "long"|start = "last"| => 7:e003 16:e000 17:e000 18:e000 19:e000 20:e000 21:e000 22:e000 23:e000 m0 23 16-23 1+0 in 0 jmp 0 out 0x0 set 0x5 side 0x0 shift true true false false 32 32 join false false status false 0 x 0 y 0 pins 0 0 0 0 lap m0 3 true 4 false ticks 5-6 [23 16] lap m0 8 false 7 true clocks 0-1 []
-"#;
-
-/// Whole files in which much is of one kind, and the first fault.
-pub static MANY: &str = r#"
+### Much of one kind.
 `64 [[span]]|` => span[0].name: C13
 `65 [[span]]|`[[load]]| => span: C12
 pins = []|`65 [[span]]|` => pins: C3
@@ -113,6 +98,18 @@ pins = `100 [``100 ]`| => file: C1
 ### The largest files.
 # `262142 -` => ok
 pins = { high = [`87374 31,`] } => ok
+"#;
+
+/// Whole files, and what the setup says: the memory's words that aren't 0 by their address, the machines, the pins and
+/// the spans.
+pub static SETUPS: &str = r#"
+ => pins 0 0 0 0
+[[load]]|program = "square"|at = 5| => 5:e081 6:e101 7:e000 8:0006 pins 0 0 0 0
+[[load]]|program = "ahead"|at = 29|[[load]]|program = "fixed"|[[load]]|program = "square"| => 0:e081 1:e101 2:e000 3:0001 7:e003 29:001f 30:e001 pins 0 0 0 0
+[pins]|high = [0, 31, 0]|level = [1]|out = []|bypass = [4, 2]| => pins 80000001 2 0 14
+[[machine]]|id = 3|program = "square"|start = "again"|[[machine]]|id = 1|program = "square"|[[load]]|program = "square"|at = 5| => 5:e081 6:e101 7:e000 8:0006 m1 5 5-8 1+0 in 0 jmp 0 out 0x0 set 0x5 side 0x0 shift true true false false 32 32 join false false status false 0 x 0 y 0 m3 6 5-8 1+0 in 0 jmp 0 out 0x0 set 0x5 side 0x0 shift true true false false 32 32 join false false status false 0 x 0 y 0 pins 0 0 0 0
+load = [{ program = "fixed" }]|[[machine]]|id = 2|program = "fixed"|divider = 2|fraction = 3|in_base = 4|out_base = 5|set_base = 6|side_base = 7|jmp_pin = 8|out_count = 9|set_count = 1|in_right = false|out_right = false|autopush = true|autopull = true|join_tx = false|join_rx = true|status_rx = true|push_threshold = 10|pull_threshold = 11|status_n = 12|x = 13|y = 14| => 7:e003 m2 7 7-7 2+3 in 4 jmp 8 out 5x9 set 6x1 side 7x0 shift false false true true 10 11 join false true status true 12 x 13 y 14 pins 0 0 0 0
+[[load]]|program = "fixed"|[[load]]|program = "long"|at = 16|[[span]]|name = "lap"|machine = 0|from_pin = 3|to_pin = 4|from_edge = "rise"|to_edge = "fall"|min = 5|max = 6|stalls = ["last", "first"]|[[span]]|name = "lap"|machine = 0|from_pin = 8|to_pin = 7|from_edge = "fall"|to_edge = "rise"|unit = "clocks"|min = 0|max = 1|[[machine]]|id = 0|program = "long"|start = "last"| => 7:e003 16:e000 17:e000 18:e000 19:e000 20:e000 21:e000 22:e000 23:e000 m0 23 16-23 1+0 in 0 jmp 0 out 0x0 set 0x5 side 0x0 shift true true false false 32 32 join false false status false 0 x 0 y 0 pins 0 0 0 0 lap m0 3 true 4 false ticks 5-6 [23 16] lap m0 8 false 7 true clocks 0-1 []
 "#;
 
 /// Whole files, the first fault, and its kind.

@@ -1,5 +1,5 @@
 //! Configurations over four small programs: whole setups, which fault is the first, and its text; and default setups.
-use crate::config_rows::{DEFAULTS, FILES, KINDS, MANY, PROGRAMS, SETUPS};
+use crate::config_rows::{DEFAULTS, FILES, KINDS, PROGRAMS, SETUPS};
 use crate::machine_rows::{HEADS, KEYS, MACHINE, RUNS};
 use crate::setup_texts::tell_setup_text;
 use crate::span_rows::{BOUNDS, ENDS, SPAN, SPANS};
@@ -45,11 +45,6 @@ fn the_first_fault_of_a_span(rt: HostRuntime) -> Result<(), Fail> {
 #[test]
 fn the_first_fault_of_a_bound(rt: HostRuntime) -> Result<(), Fail> {
     rows_hold(rt.alloc(), Subject::ConfigFault, ENDS, BOUNDS)
-}
-
-#[test]
-fn many_of_one_kind(rt: HostRuntime) -> Result<(), Fail> {
-    rows_hold(rt.alloc(), Subject::ConfigFault, "", MANY)
 }
 
 #[test]

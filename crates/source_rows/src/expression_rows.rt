@@ -54,10 +54,7 @@ x => Syntax @0
 2 * ::(1) => Ambiguous @2
 (1 + ::2 => Ambiguous @3
 (1 - (::2 / 1 => Ambiguous @4
-"#;
-
-/// The same of expressions in which 64 or more are open.
-pub static DEPTHS: &str = r#"
+### At most 64 are open.
 `64 (`1`64 )` => 1 @129
 `65 (`1`65 )` => TooDeep @64
 ::`63 (`0`63 )` => 0: @128
@@ -68,10 +65,7 @@ pub static DEPTHS: &str = r#"
 `64 (`::1`64 )` => TooDeep @64
 `64 (`- ::1`64 )` => TooDeep @64
 ::`65 (`1`65 )`+ 1 => TooDeep @64
-"#;
-
-/// The same of sources of 262,144 bytes.
-pub static LARGEST: &str = r#"
+### Sources of 262,144 bytes.
 `131072 ( ` => TooDeep @64
 `131072 - ` => TooDeep @64
 "#;

@@ -1,5 +1,5 @@
 //! Expressions worked by hand, and the deepest ones.
-use crate::expression_rows::{DEPTHS, EXPRESSIONS, LARGEST};
+use crate::expression_rows::EXPRESSIONS;
 use crate::statement_texts::tell_expr;
 use crate::table::rows_hold;
 use crate::telling::Subject;
@@ -11,16 +11,6 @@ use std::test::Fail;
 #[test]
 fn expressions_are_those_worked_by_hand(rt: HostRuntime) -> Result<(), Fail> {
     rows_hold(rt.alloc(), Subject::Expression, "", EXPRESSIONS)
-}
-
-#[test]
-fn at_most_64_are_open(rt: HostRuntime) -> Result<(), Fail> {
-    rows_hold(rt.alloc(), Subject::Expression, "", DEPTHS)
-}
-
-#[test]
-fn the_largest_sources_end_in_one_answer(rt: HostRuntime) -> Result<(), Fail> {
-    rows_hold(rt.alloc(), Subject::Expression, "", LARGEST)
 }
 
 /// Adds the source's first expression and the token after it, or its fault and the token of that.

@@ -194,10 +194,7 @@ set x, - ::2 => Ambiguous
 set x, 2 * ::(1) => Ambiguous
 ### Lines, one behind the other.
 |nop|.fifo nop|jmp 3|.wrap 5| a:|nop => Nothing|Nop|Directive|Jmp Always 3|Syntax|Label false a|Nop
-"#;
-
-/// The same of lines in which 64 or more are open.
-pub static DEPTHS: &str = r#"
+### At most 64 are open.
 set x, `65 (`1 => TooDeep
 set x, ::`65 (`1 + 1 => TooDeep
 set x, `64 - `::1 => TooDeep

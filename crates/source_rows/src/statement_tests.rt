@@ -3,7 +3,7 @@ ghost use Rattle.std.specs.Prelude.{◌≤◌, length};
 ghost use Rattle.std.specs.List.{All};
 ghost use Rattle.pio_lex.specs.Tokens.{IsTokenOf};
 
-use crate::statement_rows::{DEPTHS, STATEMENTS};
+use crate::statement_rows::STATEMENTS;
 use crate::statement_texts::tell_statement;
 use crate::table::rows_hold;
 use crate::telling::Subject;
@@ -15,11 +15,6 @@ use std::test::Fail;
 #[test]
 fn statements_are_those_worked_by_hand(rt: HostRuntime) -> Result<(), Fail> {
     rows_hold(rt.alloc(), Subject::Statements, "", STATEMENTS)
-}
-
-#[test]
-fn at_most_64_are_open(rt: HostRuntime) -> Result<(), Fail> {
-    rows_hold(rt.alloc(), Subject::Statements, "", DEPTHS)
 }
 
 /// Adds the source's lines, each its statement or what is wrong with it.
