@@ -38,7 +38,20 @@ static WORDS: [(&str, u64, [Option<(u32, bool)>; 12]); 2] = [
     (
         "2 feed 0 4 5 6",
         5,
-        [NO, NO, NO, NO, NO, Some((5, true)), NO, NO, NO, Some((6, true)), NO, NO],
+        [
+            NO,
+            NO,
+            NO,
+            NO,
+            NO,
+            Some((5, true)),
+            NO,
+            NO,
+            NO,
+            Some((6, true)),
+            NO,
+            NO,
+        ],
     ),
 ];
 

@@ -114,7 +114,10 @@ fn reads_a_million_lines_and_no_more(rt: HostRuntime) -> Result<(), Fail> {
     let mut text = many_lines(rt.alloc(), 1_000_000)?;
     assert_eq!(rt; lines_of(rt.alloc(), &text), Ok(1_000_000));
     text.push_str("0 pin 0 1\n")?;
-    let fault = StimFault::At { line: 1_000_001, kind: Many };
+    let fault = StimFault::At {
+        line: 1_000_001,
+        kind: Many,
+    };
     assert_eq!(rt; lines_of(rt.alloc(), &text), Err(fault));
     Ok(())
 }
