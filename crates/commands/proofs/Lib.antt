@@ -1,3 +1,5 @@
 pub mod Quiet
 pub mod Preparing
 pub mod Wanting
+pub mod Configured
+pub mod Judging
