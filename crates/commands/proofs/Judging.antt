@@ -14,7 +14,7 @@ use Rattle.verdict_lines.specs.declared.refusal.Refusal.{Refusal}
 use Rattle.verdict_lines.specs.declared.refusal.Refusal.TheVariants.{Unproved, Shared}
 use Rattle.verdict_lines.specs.Lines.{verdict_line}
 use Rattle.verdict_lines.specs.Refusals.{found_by}
-use Rattle.commands.specs.Spans.{AreConfigured, IsProvableAlone, AreProvable, AllHold, IsRefused, IsFirstRefused, IsVerdictOn, AreVerdicts, verdict_text, first_refused, IsFirstOf, AreJudged}
+use Rattle.commands.specs.Spans.{AreConfigured, IsProvableAlone, AreProvable, AllHold, IsRefused, IsFirstRefused, IsVerdictOn, AreVerdicts, verdict_text, first_refused, IsFirstOf, AreJudged, IsNext}
 
 -- what holds of each holds of the one at a place
 pub all_at : {X : Type 0} (P : X → Type 0) (xs : List X) (i : ℕ) (d : X) → AllByRecursion P xs → i < length xs → P (get_or xs i d)
@@ -65,6 +65,14 @@ judged_more u spans place found refused sp f lt is h here =
       first = first_more u (take place spans) refused sp f h.first here;
     } in
     subst (λ (l : List Span). AreJudged u l (found ++ f ∷ []) (first_refused refused sp.name f)) (sym e) whole
+
+-- the same by what the next verdict gives
+pub judged_next : (u : Setup) (spans : List Span) (place : ℕ) (found after : List (Result Bool Refusal)) (earlier refused : Option (List ℕ × Refusal)) (sp : Span)
+    → place < length spans → sp ≡ get_or spans place sp → AreJudged u (take place spans) found earlier → IsNext u sp found after earlier refused → AreJudged u (take (place + 1) spans) after refused
+judged_next u spans place found after earlier refused sp lt is h next =
+    let whole = judged_more u spans place found earlier sp next.found lt is h next.verdict in
+    subst (λ (fs : List (Result Bool Refusal)). AreJudged u (take (place + 1) spans) fs refused) (sym next.more)
+    (subst (λ (r : Option (List ℕ × Refusal)). AreJudged u (take (place + 1) spans) (found ++ next.found ∷ []) r) (sym next.first) whole)
 
 -- there is a verdict on each
 pub as_many : (u : Setup) (spans : List Span) (found : List (Result Bool Refusal)) → AreVerdicts u spans found → length found ≡ length spans

@@ -18,10 +18,10 @@ use verdict_lines::{Refusal, put_verdict};
 /// Writes the line of the verdict on each span of a setup, and then ends with the fault of the first one that isn't provable,
 /// if there is one. All memory is taken before the first piece is put.
 #[tactic(auto, unfolding(crate::specs::Judged::judge))]
-pub fn check<F: Shelf, O: Sink>(
+pub fn check<'a, F: Shelf, O: Sink>(
     alloc: Global,
-    source: &str,
-    config: Option<&str>,
+    source: &'a str,
+    config: Option<&'a str>,
     shelf: &mut F,
     out: &mut O,
 ) -> Result<(), Fault>

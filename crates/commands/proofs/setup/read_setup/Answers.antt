@@ -1,0 +1,6 @@
+use Rattle.commands.proofs.Configured.{default_configured}
+use Rattle.commands.proofs.setup.read_setup.Goals as goal
+
+pub returns-in-Ok-clause-configured : goal.returns-in-Ok-clause-configured
+returns-in-Ok-clause-configured g c =
+    default_configured _ _ (c.the_default_is_not_clipped.ensures c.args.programs.now) c.in-Ok.ensures.value
