@@ -120,6 +120,10 @@ spans_placed machines loads (item d rest) place front all h e =
     let next = goes_on (span_in machines loads place front d) (λ x. gather (span_in machines loads) (place + 1) (front ++ x ∷ []) rest) all e in
     spans_placed machines loads rest (place + 1) (front ++ next.value ∷ []) all (one_more machines front next.value h (element_placed machines loads place (as_table d) next.value next.found)) next.rest
 
+none_placed : (ms : List (Option MachineKeys)) → ArePlaced ms []
+unfolding ArePlaced
+none_placed ms = tt
+
 -- ---- the setup
 
 over_placed : (s : Sections) (loads : List Loaded) (k : BlockKeys) → block_over s loads ≡ Ok k → ArePlaced k.machines k.spans
@@ -128,10 +132,6 @@ over_placed s loads k e =
     let pins = goes_on (pins_in s.pins) (λ pins. and_then (all_spans machines.value loads s.spans) (λ spans. Ok (block_with (memory_of no_words loads) machines.value pins spans))) k machines.rest in
     let spans = goes_on (all_spans machines.value loads s.spans) (λ spans. Ok (block_with (memory_of no_words loads) machines.value pins.value spans)) k pins.rest in
     subst (λ (b : BlockKeys). ArePlaced b.machines b.spans) (ok_same _ k spans.rest) (spans_placed machines.value loads s.spans 0 [] spans.value (none_placed machines.value) spans.found)
-  where
-    none_placed : (ms : List (Option MachineKeys)) → ArePlaced ms []
-    unfolding ArePlaced
-    none_placed ms = tt
 
 config_placed : (bytes : List ℕ) (programs : List Assembled) (k : BlockKeys) → config_block bytes programs ≡ Ok k → ArePlaced k.machines k.spans
 config_placed bytes programs k e =

@@ -1,8 +1,9 @@
 //! The command `check`: the verdict on each span that a configuration asks of the programs of a source.
-ghost use Rattle.std.specs.Prelude.{◌≡◌, length, option_map};
+ghost use Rattle.std.specs.Prelude.{◌≡◌, [], length, option_map};
 ghost use Rattle.command_line.specs.Words.{check as check_asked};
 ghost use Rattle.fault_lines.specs.Output.{output_of};
 ghost use Rattle.pio_edge.specs.Edge.{PutCounts, Takes};
+ghost use Rattle.verdict_lines.specs.Lines.{verdict_line};
 ghost use Rattle.commands.specs.Outside.{call_of};
 ghost use Rattle.commands.specs.Spans.{AreConfigured, AreJudged, verdict_text};
 ghost use Rattle.commands.specs.Stages.{CommandEnds, TellsVerdicts, Writes};
@@ -89,10 +90,22 @@ fn put_verdicts<O: Sink>(
     ensures cause { PutCounts (O.faults out.old) (O.faults out.new) result }
 {
     for place in 0..spans.len() {
-        match put_verdict(out, &spans[place].name, &found[place]) {
+        match put_line(out, &spans[place], &found[place]) {
             Ok(()) => {}
             Err(failed) => return Err(failed),
         }
     }
     Ok(())
+}
+
+/// Puts the line of the verdict on a span.
+fn put_line<O: Sink>(
+    out: &mut O,
+    span: &Span,
+    found: &Result<bool, Refusal>,
+) -> Result<(), SinkFailed>
+    ensures bytes { Takes (O.taken out.old) (verdict_line [] span.now.name found.now) (O.taken out.new) result }
+    ensures cause { PutCounts (O.faults out.old) (O.faults out.new) result }
+{
+    put_verdict(out, &span.name, found)
 }

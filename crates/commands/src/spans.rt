@@ -75,7 +75,7 @@ fn judge_next(
         verdicts.old.refused verdicts.new.refused) }
 {
     let found = judge_span(alloc, setup, span)?;
-    note_refusal(alloc, span, found, &mut verdicts.refused)?;
+    note_refusal(alloc, span, &found, &mut verdicts.refused)?;
     keep(&mut verdicts.found, found)
 }
 
@@ -108,10 +108,10 @@ fn judge_span(
 fn note_refusal(
     alloc: Global,
     span: &Span,
-    found: Result<bool, Refusal>,
+    found: &Result<bool, Refusal>,
     refused: &mut Option<(Name, Refusal)>,
 ) -> Result<(), AllocError>
-    ensures { IfOk result (λ _. refused.new ≡ spec.first_refused refused.old span.now.name found) }
+    ensures { IfOk result (λ _. refused.new ≡ spec.first_refused refused.old span.now.name found.now) }
 {
     if refused.is_some() {
         return Ok(());
@@ -120,7 +120,7 @@ fn note_refusal(
         Ok(_) => Ok(()),
         Err(refusal) => {
             let text = String::from_str(alloc, span.name.as_str())?;
-            *refused = Some((Name::new(text), refusal));
+            *refused = Some((Name::new(text), *refusal));
             Ok(())
         }
     }

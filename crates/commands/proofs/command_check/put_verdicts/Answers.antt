@@ -1,6 +1,6 @@
 use Rattle.std.proofs.Common.{◌∙◌}
-use Rattle.pio_edge.proofs.PutLaws.{going_on, going_stops}
-use Rattle.commands.proofs.Judging.{verdict_text-turn}
+use Rattle.pio_edge.proofs.PutLaws.{going_ends, going_on, going_stops}
+use Rattle.commands.proofs.Judging.{verdict_text-end, verdict_text-turn}
 use Rattle.commands.proofs.command_check.put_verdicts.Goals as goal
 
 pub returns-in-Err-clause-bytes : goal.returns-in-Err-clause-bytes
@@ -14,4 +14,5 @@ loop-place-preserved g c = record {
 }
 
 pub returns-clause-bytes : goal.returns-clause-bytes
-returns-clause-bytes g c = ?
+returns-clause-bytes g c =
+    going_ends _ _ _ (rw (verdict_text-end c.args.spans.now c.args.found.now c.loop-place.place c.loop-place-test.false) at c.loop-place.invariant.going)
