@@ -33,7 +33,7 @@ goes_on : {X Y E : Type 0} (r : Result X E) (next : X → Result Y E) (y : Y) �
 goes_on (Ok x) next y e = record { value = x; found = refl; rest = e }
 goes_on (Err e') next y e = cc
 
-ok_same : {X E : Type 0} (x y : X) → Ok {X} {E} x ≡ Ok y → x ≡ y
+ok_same : {X E : Type 0} (x y : X) → ◌≡◌ {A = Result X E} (Ok x) (Ok y) → x ≡ y
 ok_same x y e = cc
 
 -- ---- one span
@@ -151,7 +151,7 @@ there (None ∷ machines) zero h = absurd (not_there h)
   where
     not_there : false ≡ true → ⊥
     not_there e = cc
-there (Some m ∷ machines) zero h = tt
+there (Some m ∷ machines) zero h = refl
 there (o ∷ machines) (suc id) h = there machines id h
 
 all_there : (machines : List (Option MachineSetup)) (spans : List Span) → ArePlaced (map (option_map keys_of_machine) machines) (map keys_of_span spans) → AllByRecursion (λ sp. IsSome (slice_index_or machines sp.machine None)) spans
