@@ -4,3 +4,4 @@ pub mod Wanting
 pub mod Configured
 pub mod Judging
 pub mod Told
+pub mod Ending
