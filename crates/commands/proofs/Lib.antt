@@ -4,4 +4,3 @@ pub mod Wanting
 pub mod Configured
 pub mod Judging
 pub mod Told
-pub mod Ending
