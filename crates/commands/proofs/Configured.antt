@@ -172,9 +172,11 @@ default_configured programs u says e = none u.spans (no_spans programs (keys_of_
     fits : (k found : BlockKeys) (r : Refusal) (b : Bool) → cond b (Ok found) (Err r) ≡ Ok k → found.spans ≡ [] → k.spans ≡ []
     fits k found r true e n = subst (λ (x : BlockKeys). x.spans ≡ []) (ok_same found k e) n
     fits k found r false e n = cc
+
     no_spans : (ps : List Assembled) (k : BlockKeys) → default_block ps ≡ Ok k → k.spans ≡ []
     no_spans [] k e = cc
     no_spans (p ∷ ps) k e = fits k _ _ _ e refl
+
     none : (spans : List Span) → map keys_of_span spans ≡ [] → AllByRecursion (λ sp. IsSome (slice_index_or u.machines sp.machine None)) spans
     none [] e = tt
     none (sp ∷ spans) e = cc

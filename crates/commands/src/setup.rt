@@ -6,7 +6,8 @@ ghost use Rattle.commands.specs.Stages.{Reads, setup_plan, shelved};
 
 use crate::fetch::fetch_file;
 use block_config::{
-    ConfigFault, a_configuration_is_not_clipped, default_setup, read_config, the_default_is_not_clipped,
+    ConfigFault, a_configuration_is_not_clipped, default_setup, read_config,
+    the_default_is_not_clipped,
 };
 use fault_lines::{Fault, File};
 use pin_matrix::Setup;

@@ -80,7 +80,10 @@ fn judge_next(
 }
 
 /// Adds a verdict to those that are found. The error is want of memory.
-fn keep(verdicts: &mut Vec<Result<bool, Refusal>>, found: Result<bool, Refusal>) -> Result<(), AllocError>
+fn keep(
+    verdicts: &mut Vec<Result<bool, Refusal>>,
+    found: Result<bool, Refusal>,
+) -> Result<(), AllocError>
     ensures { IfOk result (λ _. verdicts.new.items ≡ verdicts.old.items ++ found ∷ []) }
 {
     match verdicts.push(found) {
