@@ -16,4 +16,8 @@ mod rows_refused;
 #[cfg(test)]
 mod rows_sources;
 #[cfg(test)]
+mod rows_spans;
+#[cfg(test)]
+mod span_tests;
+#[cfg(test)]
 mod tests;

@@ -13,8 +13,8 @@ use Rattle.clap.specs.declared.error.kind.ErrorKind.TheVariants as kind
 use Rattle.clap.proofs.OnLiterals.{clap_on_literals}
 use Rattle.clap.proofs.WalkLemmas.{both}
 use Rattle.command_line.specs.Tool.{clock_limit, side_limit, tool}
-use Rattle.command_line.specs.Words.{Asked, IsTaken, asm, run, dis, asked_of, number_in, has_no_room}
-use Rattle.command_line.specs.Laws.{number_of, asm_words, run_words, dis_words, AskWhere, AsmWords, RunWords, DisWords}
+use Rattle.command_line.specs.Words.{Asked, IsTaken, asm, run, check, dis, asked_of, number_in, has_no_room}
+use Rattle.command_line.specs.Laws.{number_of, asm_words, run_words, check_words, dis_words, AskWhere, AsmWords, RunWords, CheckWords, DisWords}
 
 -- ---- a number in range
 
@@ -115,6 +115,18 @@ asm_gives name file = record { asked = refl; takes = refl; passes = refl }
 pub asm_words_law : AsmWords
 asm_words_law name file =
     let g = asm_gives name file in
+    (taken_by _ _ g.takes g.asked refl, record { taken = g.passes; asked = g.asked })
+
+-- ---- check
+
+check_gives : (name source : Text) (config : Option Text) → Gives (check_words name source config) (check source config)
+unfolding clap_on_literals tool asked_of
+check_gives name source None = record { asked = refl; takes = refl; passes = refl }
+check_gives name source (Some config) = record { asked = refl; takes = refl; passes = refl }
+
+pub check_words_law : CheckWords
+check_words_law name source config =
+    let g = check_gives name source config in
     (taken_by _ _ g.takes g.asked refl, record { taken = g.passes; asked = g.asked })
 
 -- ---- dis

@@ -4,7 +4,7 @@ use Rattle.std.specs.Str.Parse.{digits_value, without_leading_plus}
 use Rattle.clap.specs.ValueTests.{is_unsigned_in}
 use Rattle.clap.specs.Walk.{Text}
 use Rattle.command_line.specs.Tool.{clock_limit, side_limit}
-use Rattle.command_line.specs.Words.{Asked, Asks, IsRefused, IsTaken, asm, dis, run}
+use Rattle.command_line.specs.Words.{Asked, Asks, IsRefused, IsTaken, asm, check, dis, run}
 
 -- the number of decimal digits, where a plus may stand first
 abbrev pub number_of : Text → ℕ
@@ -39,6 +39,14 @@ abbrev pub RunWords : Type 0
 RunWords = (name source : Text) (config stimulus : Option Text) (clocks : Text)
     → AskWhere (is_unsigned_in 0 clock_limit clocks) (run_words name source config stimulus clocks)
     (run source config stimulus (number_of clocks))
+
+-- `check --source=S [--config=C]`, of a program of any name
+abbrev pub check_words : Text → Text → Option Text → List Text
+check_words name source config = name ∷ codes "check" ∷ (codes "--source=" ++ source) ∷ given (codes "--config=") config
+
+-- they ask for the verdicts on the spans of C over S, whatever S and C are
+abbrev pub CheckWords : Type 0
+CheckWords = (name source : Text) (config : Option Text) → AskWhere true (check_words name source config) (check source config)
 
 -- the digit `0`; the others follow it
 abbrev pub digit_0 : ℕ

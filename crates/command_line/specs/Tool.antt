@@ -65,6 +65,10 @@ run_app = with_rule (with_rule (with_rule (with_rule (new_app (codes "run")) sou
 unfoldable pub dis_app : App
 dis_app = with_rule (with_rule (with_rule (new_app (codes "dis")) file_rule) side_rule) opt_rule
 
+-- `check --source S [--config C]`
+unfoldable pub check_app : App
+check_app = with_rule (with_rule (new_app (codes "check")) source_rule) config_rule
+
 -- `piotool` with no arguments of its own, which wants a subcommand
 unfoldable pub bare_app : App
 bare_app = record (new_app (codes "piotool")) {
@@ -73,5 +77,6 @@ bare_app = record (new_app (codes "piotool")) {
 
 -- `piotool` with its subcommands; who unfolds it unfolds all that it is made of
 unfoldable pub tool : App
-unfolding bare_app asm_app run_app dis_app file_rule source_rule config_rule stimulus_rule clocks_rule side_rule opt_rule
-tool = with_subcommand (with_subcommand (with_subcommand bare_app asm_app.top) run_app.top) dis_app.top
+unfolding bare_app asm_app run_app dis_app check_app file_rule source_rule config_rule stimulus_rule clocks_rule side_rule opt_rule
+tool =
+    with_subcommand (with_subcommand (with_subcommand (with_subcommand bare_app asm_app.top) run_app.top) dis_app.top) check_app.top

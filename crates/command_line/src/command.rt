@@ -3,7 +3,7 @@ ghost use Rattle.std.specs.Prelude.{◌≡◌, IfOk, false};
 ghost use Rattle.clap.specs.Simple.{app_of, with_rule, with_subcommand};
 ghost use Rattle.clap.specs.Walk.{rule_of};
 ghost use Rattle.clap.specs.declared.builder.command.Command.TheViews.{out-Command as fields_of};
-ghost use Rattle.command_line.specs.Tool.{asm_app, bare_app, dis_app, run_app, tool as tool_app};
+ghost use Rattle.command_line.specs.Tool.{asm_app, bare_app, check_app, dis_app, run_app, tool as tool_app};
 
 use crate::arguments;
 use clap::{Arg, Command};
@@ -12,6 +12,16 @@ use std::alloc::{AllocError, Global};
 /// The command with all its subcommands.
 pub fn tool<'a>(alloc: Global) -> Result<Command<'a>, AllocError>
     ensures app { IfOk result (λ c. app_of c ≡ tool_app) }
+    ensures local { IfOk result (λ c. (fields_of c).has_globals ≡ false) }
+{
+    let command = first_three(alloc)?;
+    let sub = check(alloc)?;
+    add(command, sub)
+}
+
+/// The command with its subcommands `asm`, `run` and `dis`.
+fn first_three<'a>(alloc: Global) -> Result<Command<'a>, AllocError>
+    ensures app { IfOk result (λ c. app_of c ≡ with_subcommand (with_subcommand (with_subcommand bare_app asm_app.top) run_app.top) dis_app.top) }
     ensures local { IfOk result (λ c. (fields_of c).has_globals ≡ false) }
 {
     let command = first_two(alloc)?;
@@ -44,7 +54,7 @@ fn bare<'a>(alloc: Global) -> Command<'a>
     ensures local { (fields_of result).has_globals ≡ false }
 {
     Command::new(alloc, "piotool")
-        .about("Assembles and simulates programs of the RP2040's PIO")
+        .about("Assembles, simulates and checks programs of the RP2040's PIO")
         .subcommand_required(true)
 }
 
@@ -83,6 +93,18 @@ fn dis<'a>(alloc: Global) -> Result<Command<'a>, AllocError>
     let command = with_argument(command, file)?;
     let command = with_argument(command, arguments::side(alloc))?;
     with_argument(command, arguments::opt(alloc))
+}
+
+#[tactic(auto, unfolding(crate::specs::Tool::check_app))]
+fn check<'a>(alloc: Global) -> Result<Command<'a>, AllocError>
+    ensures app { IfOk result (λ c. app_of c ≡ check_app) }
+    ensures local { IfOk result (λ c. (fields_of c).has_globals ≡ false) }
+{
+    let command = Command::new(alloc, "check").about(
+        "Says of each span of the configuration whether its bounds hold in every run",
+    );
+    let command = with_argument(command, arguments::source(alloc))?;
+    with_argument(command, arguments::config(alloc))
 }
 
 /// The command with one argument more.

@@ -1,5 +1,5 @@
 //! Laws above clap's definition of a parse: what words as the usage has them ask for. The functions do nothing.
-ghost use Rattle.command_line.specs.Laws.{AsmWords, DisWords, RunWords};
+ghost use Rattle.command_line.specs.Laws.{AsmWords, CheckWords, DisWords, RunWords};
 
 /// `asm -- FILE` asks for the listing of FILE.
 pub fn asm_words()
@@ -10,6 +10,11 @@ pub fn asm_words()
 /// number in range.
 pub fn run_words()
     ensures { RunWords }
+{}
+
+/// `check --source=S [--config=C]` asks for the verdicts on the spans of C over S.
+pub fn check_words()
+    ensures { CheckWords }
 {}
 
 /// `dis --side=n [--opt] -- FILE` asks for the text of FILE exactly where n leaves room for `--opt`.

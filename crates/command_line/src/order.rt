@@ -21,6 +21,11 @@ pub enum Order<'a> {
         stimulus: Option<&'a str>,
         clocks: u64,
     },
+    /// The verdict on each span of a configuration over the programs in a source; without a configuration there are none.
+    Check {
+        source: &'a str,
+        config: Option<&'a str>,
+    },
     /// The text of each word of a file, under a rule of so many side-set bits (0 to 5, with `opt` 0 to 4): with `opt`
     /// one bit more says whether a word has a side-set value.
     Dis {

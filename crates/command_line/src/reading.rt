@@ -4,7 +4,7 @@ ghost use Rattle.clap.specs.Matches.{found_of, has_subcommand};
 ghost use Rattle.clap.specs.Simple.{subcommand_rows_of};
 ghost use Rattle.clap.specs.Walk.{rows_of};
 ghost use Rattle.std.specs.Option.{option_map};
-ghost use Rattle.command_line.specs.Words.{Asks, HasCause, IsTaken, IsWithinRange, asked_by, asm_asked, dis_asked};
+ghost use Rattle.command_line.specs.Words.{Asks, HasCause, IsTaken, IsWithinRange, asked_by, asm_asked, check_asked, dis_asked};
 ghost use Rattle.command_line.specs.Words.{has_no_room as has_no_room_of, run_asked, subcommand_asked};
 
 use crate::getters::{flag, number, option_text, text};
@@ -33,7 +33,7 @@ fn has_no_room(order: Order<'_>) -> bool
     ensures { result ≡ has_no_room_of (asked_by order.entry) }
 {
     match order {
-        Order::Asm { .. } | Order::Run { .. } => false,
+        Order::Asm { .. } | Order::Run { .. } | Order::Check { .. } => false,
         Order::Dis { side, opt, .. } => u64::from(side) == MOST_SIDE_BITS && opt,
     }
 }
@@ -51,6 +51,8 @@ fn order_of<'a>(matches: &ArgMatches<'a>) -> Order<'a>
         asm_order(found)
     } else if name == "run" {
         run_order(found)
+    } else if name == "check" {
+        check_order(found)
     } else {
         dis_order(found)
     }
@@ -72,6 +74,15 @@ fn run_order<'a>(matches: &ArgMatches<'a>) -> Order<'a>
         config: option_text(matches, "config"),
         stimulus: option_text(matches, "stimulus"),
         clocks: number(matches, "clocks", MOST_CLOCKS),
+    }
+}
+
+fn check_order<'a>(matches: &ArgMatches<'a>) -> Order<'a>
+    ensures { asked_by result ≡ check_asked (rows_of (found_of matches.now)) }
+{
+    Order::Check {
+        source: text(matches, "source"),
+        config: option_text(matches, "config"),
     }
 }
 

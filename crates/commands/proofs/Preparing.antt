@@ -62,6 +62,7 @@ source_fails files before after source config stimulus (fault.Shelf file.Stimulu
 source_fails files before after source config stimulus fault.Memory h = h
 source_fails files before after source config stimulus fault.Usage h = absurd h
 source_fails files before after source config stimulus fault.Out h = absurd h
+source_fails files before after source config stimulus (fault.Unproved name refusal) h = absurd h
 source_fails files before after source config stimulus (fault.TooLong role) h = (h.0, told files _ _ (λ f k. source_wrong f source config stimulus (fault.TooLong role) k) h.1)
 source_fails files before after source config stimulus (fault.Words line kind) h = (h.0, told files _ _ (λ f k. source_wrong f source config stimulus (fault.Words line kind) k) h.1)
 source_fails files before after source config stimulus (fault.Source line kind) h = (h.0, told files _ _ (λ f k. source_wrong f source config stimulus (fault.Source line kind) k) h.1)
@@ -82,6 +83,7 @@ setup_fails_here files before after source config stimulus programs (fault.Shelf
 setup_fails_here files before after source config stimulus programs fault.Memory p h = h
 setup_fails_here files before after source config stimulus programs fault.Usage p h = absurd h
 setup_fails_here files before after source config stimulus programs fault.Out p h = absurd h
+setup_fails_here files before after source config stimulus programs (fault.Unproved name refusal) p h = absurd h
 setup_fails_here files before after source config stimulus programs (fault.TooLong role) p h = (h.0, both_told files _ _ _ (λ f k m. setup_wrong f source config stimulus programs (fault.TooLong role) k m) p h.1)
 setup_fails_here files before after source config stimulus programs (fault.Words line kind) p h = (h.0, both_told files _ _ _ (λ f k m. setup_wrong f source config stimulus programs (fault.Words line kind) k m) p h.1)
 setup_fails_here files before after source config stimulus programs (fault.Source line kind) p h = (h.0, both_told files _ _ _ (λ f k m. setup_wrong f source config stimulus programs (fault.Source line kind) k m) p h.1)
@@ -117,6 +119,7 @@ lines_fail_here files before after source config stimulus programs setup (fault.
 lines_fail_here files before after source config stimulus programs setup fault.Memory p h = h
 lines_fail_here files before after source config stimulus programs setup fault.Usage p h = absurd h
 lines_fail_here files before after source config stimulus programs setup fault.Out p h = absurd h
+lines_fail_here files before after source config stimulus programs setup (fault.Unproved name refusal) p h = absurd h
 lines_fail_here files before after source config stimulus programs setup (fault.TooLong role) p h = (h.0, both_told files _ _ _ (λ f k m. lines_wrong f source config stimulus programs setup (fault.TooLong role) k.0 k.1 m) p h.1)
 lines_fail_here files before after source config stimulus programs setup (fault.Words line kind) p h = (h.0, both_told files _ _ _ (λ f k m. lines_wrong f source config stimulus programs setup (fault.Words line kind) k.0 k.1 m) p h.1)
 lines_fail_here files before after source config stimulus programs setup (fault.Source line kind) p h = (h.0, both_told files _ _ _ (λ f k m. lines_wrong f source config stimulus programs setup (fault.Source line kind) k.0 k.1 m) p h.1)

@@ -5,8 +5,12 @@ use Rattle.fault_lines.specs.declared.fault.Fault.{Fault}
 use Rattle.fault_lines.specs.declared.fault.Fault.TheVariants as fault
 use Rattle.clap.specs.Walk.{Text}
 use Rattle.command_line.specs.Words.{IsTaken}
-use Rattle.commands.specs.Judged.{Judged, right, wrong, judge}
+use Rattle.verdict_lines.specs.declared.refusal.Refusal.{Refusal}
+use Rattle.pin_matrix.specs.declared.setup.Setup.{Setup}
+use Rattle.commands.specs.Judged.{Judged, right, wrong, Task, asked_setup, judge}
 use Rattle.commands.specs.Outside.{HasSuch, Call}
+use Rattle.commands.specs.Promise.{HasText}
+use Rattle.commands.specs.Spans.{AreProvable, IsFirstRefused}
 use Rattle.commands.specs.Wanted.{wanted}
 
 -- `tool` takes the words, the files are told, memory sufficed, and no count rose
@@ -17,9 +21,30 @@ pub record Quiet (words : List Text) (c : Call) (f : Files) (found : Option Faul
   pub shelf : Rose c.shelf_before.count c.shelf_after.count → ⊥
   pub out : Rose c.out_before.faults c.out_after.faults → ⊥
 
--- no fault and the whole text where the files come to one, else exactly their fault
-abbrev pub EndsByFiles : Call → Judged (List ℕ) → Option Fault → Type 0
-EndsByFiles c (right text) found = (found ≡ None) × (c.out_after.taken ≡ with_bytes c.out_before.taken text)
+-- no fault and the whole text
+abbrev pub IsDone : Call → Task → Option Fault → Type 0
+IsDone c task found = (found ≡ None) × HasText task (λ text. c.out_after.taken ≡ with_bytes c.out_before.taken text)
+
+-- the fault of the first span that isn't provable
+pub record IsUndone (u : Setup) (found : Option Fault) : Type 0 where
+  pub name : List ℕ
+  pub refusal : Refusal
+  pub fault : found ≡ Some (fault.Unproved name refusal)
+  pub first : IsFirstRefused u u.spans name refusal
+
+-- where each span of the setup is provable, all is done; where one isn't, the first such one is told
+pub record EndsBySpans (c : Call) (task : Task) (found : Option Fault) (u : Setup) : Type 0 where
+  pub provable : AreProvable u → IsDone c task found
+  pub unprovable : (AreProvable u → ⊥) → IsUndone u found
+
+-- the spans decide where some are asked, and else all is done
+abbrev pub EndsByTask : Call → Task → Option Fault → Option Setup → Type 0
+EndsByTask c task found None = IsDone c task found
+EndsByTask c task found (Some u) = EndsBySpans c task found u
+
+-- the task decides where the files come to one, else exactly their fault ends the call
+abbrev pub EndsByFiles : Call → Judged Task → Option Fault → Type 0
+EndsByFiles c (right task) found = EndsByTask c task found (asked_setup task)
 EndsByFiles c (wrong e) found = found ≡ Some e
 
 -- the words of a quiet call ask for something, and the files decide its end

@@ -1,5 +1,5 @@
--- What a command comes to, from its files alone: its text, or the first fault in the order of reading; and which files it
--- reads in this order.
+-- What a command comes to, from its files alone: what it has to do, or the first fault in the order of reading; and which files
+-- it reads in this order.
 use Rattle.std.specs.Prelude.{ℕ, nat_lt, Bool, true, false, if◌then◌else◌, Option, Some, None, List, [], length, Result, Ok, Err}
 use Rattle.std.specs.FinMap.{get}
 use Rattle.pio_edge.specs.Edge.{Files}
@@ -20,7 +20,7 @@ use Rattle.pin_matrix.specs.declared.setup.Setup.{Setup}
 use Rattle.block_config.specs.Answer as config
 use Rattle.block_config.specs.Config.{config_setup_of}
 use Rattle.block_config.specs.Default.{default_setup_of}
-use Rattle.command_line.specs.Words.{Asked, asm, run, dis}
+use Rattle.command_line.specs.Words.{Asked, asm, run, check, dis}
 use Rattle.program_listing.specs.Listing.{listing_text}
 use Rattle.word_file.specs.declared.fault.WordFault.{WordFault}
 use Rattle.word_file.specs.Reading.{word_file}
@@ -109,12 +109,27 @@ prepared_at files source config stimulus =
 unfoldable pub trace_text : Run → List Line → ℕ → List ℕ
 trace_text start lines clocks = vcd_text (samples start lines clocks)
 
--- what a command comes to
-unfoldable pub judge : Files → Asked → Judged (List ℕ)
-judge files (asm name) = and_then (source_at files name) (λ programs. right (listing_text programs))
+-- What the files have a command do: write a text; write a text where each span of a setup is provable; or write the lines of
+-- the verdicts on the spans of a setup.
+pub data Task : Type 0 where
+  listing : List ℕ → Task
+  trace : Setup → List ℕ → Task
+  verdicts : Setup → Task
+
+-- what a command comes to; `check` reads what a run without a stimulus reads
+unfoldable pub judge : Files → Asked → Judged Task
+judge files (asm name) = and_then (source_at files name) (λ programs. right (listing (listing_text programs)))
 judge files (run source config stimulus clocks) =
-    and_then (prepared_at files source config stimulus) (λ prepared. right (trace_text (first_run prepared.0) prepared.1 clocks))
-judge files (dis name side opt) = and_then (words_at files name) (λ words. right (word_lines (rule_for side opt) words))
+    and_then (prepared_at files source config stimulus)
+    (λ prepared. right (trace prepared.0 (trace_text (first_run prepared.0) prepared.1 clocks)))
+judge files (check source config) = and_then (prepared_at files source config None) (λ prepared. right (verdicts prepared.0))
+judge files (dis name side opt) = and_then (words_at files name) (λ words. right (listing (word_lines (rule_for side opt) words)))
+
+-- the setup whose spans are asked
+abbrev pub asked_setup : Task → Option Setup
+asked_setup (listing text) = None
+asked_setup (trace u text) = Some u
+asked_setup (verdicts u) = Some u
 
 -- ---- which files a command reads, and when it comes to them
 
@@ -143,6 +158,7 @@ run_files source config stimulus file.Stimulus = stimulus
 abbrev pub file_in : Asked → File → Option (List ℕ)
 file_in (asm name) role = source_alone name role
 file_in (run source config stimulus clocks) role = run_files source config stimulus role
+file_in (check source config) role = run_files source config None role
 file_in (dis name side opt) role = words_alone name role
 
 -- it is right
@@ -161,4 +177,5 @@ run_reaches files source config file.Stimulus = is_right (and_then (source_at fi
 abbrev pub reaches : Files → Asked → File → Bool
 reaches files (asm name) role = true
 reaches files (run source config stimulus clocks) role = run_reaches files source config role
+reaches files (check source config) role = run_reaches files source config role
 reaches files (dis name side opt) role = true

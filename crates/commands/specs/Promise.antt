@@ -1,19 +1,50 @@
 -- The promise: which end a command has, what it wrote, and why.
-use Rattle.std.specs.Prelude.{◌≡◌, true, Option, Some, None, IfSome, []}
+use Rattle.std.specs.Prelude.{◌≡◌, ℕ, Bool, true, Option, Some, None, IfSome, List, [], Result}
 use Rattle.pio_edge.specs.Count.{failed_at}
 use Rattle.pio_edge.specs.Edge.{Rose, with_bytes, TakesPrefix}
 use Rattle.fault_lines.specs.declared.fault.File.{File}
 use Rattle.fault_lines.specs.declared.fault.Fault.{Fault}
 use Rattle.fault_lines.specs.declared.fault.Fault.TheVariants as fault
-use Rattle.command_line.specs.Words.{Asked}
+use Rattle.verdict_lines.specs.declared.refusal.Refusal.{Refusal}
+use Rattle.command_line.specs.Words.{Asked, asm, run, check, dis}
 use Rattle.commands.specs.Outside.{HasSuch, Call, Untouched, SameShelf, SameOut}
-use Rattle.commands.specs.Judged.{judge, wrong, IfRight, file_in, reaches}
+use Rattle.commands.specs.Judged.{judge, wrong, IfRight, Task, listing, trace, verdicts, asked_setup, file_in, reaches}
+use Rattle.commands.specs.Spans.{AreProvable, AllHold, AreVerdicts, IsFirstRefused, verdict_text}
 
--- all was done: the output took exactly the text that the told files come to, and handed all of it on; nothing failed
-pub record Passes (c : Call) (a : Asked) : Type 0 where
-  pub text : IfSome c.files (λ f. IfRight (judge f a) (λ text. c.out_after.taken ≡ with_bytes c.out_before.taken text))
+-- the told files come to a task that is such
+abbrev pub ComesTo : Call → Asked → (Task → Type 0) → Type 0
+ComesTo c a P = IfSome c.files (λ f. IfRight (judge f a) P)
+
+-- the text that a task writes is such
+abbrev pub HasText : Task → (List ℕ → Type 0) → Type 0
+HasText (listing text) P = P text
+HasText (trace u text) P = P text
+HasText (verdicts u) P = (found : List (Result Bool Refusal)) × AreVerdicts u u.spans found × P (verdict_text u.spans found)
+
+-- the output took exactly the text, and handed all of it on
+pub record Writes (c : Call) (a : Asked) : Type 0 where
+  pub text : ComesTo c a (λ task. HasText task (λ text. c.out_after.taken ≡ with_bytes c.out_before.taken text))
   pub handed : c.out_after.waiting ≡ []
   pub out : c.out_after.faults ≡ c.out_before.faults
+
+-- all was done: the text was written, each span that was asked is provable, so it holds in every run; nothing failed
+pub record Passes (c : Call) (a : Asked) : Type 0 where
+  pub writes : Writes c a
+  pub spans : ComesTo c a (λ task. IfSome (asked_setup task) AreProvable)
+  pub holds : ComesTo c a (λ task. IfSome (asked_setup task) AllHold)
+  pub shelf : SameShelf c
+
+-- what is written where a span isn't provable: nothing by `run`, and the whole text by `check`
+abbrev pub WritesRefused : Asked → Call → Type 0
+WritesRefused (asm name) c = ⊥
+WritesRefused (run source config stimulus clocks) c = SameOut c
+WritesRefused (check source config) c = Writes c (check source config)
+WritesRefused (dis name side opt) c = ⊥
+
+-- this is the first span that isn't provable, and why; nothing failed
+pub record Refuses (c : Call) (a : Asked) (name : List ℕ) (refusal : Refusal) : Type 0 where
+  pub first : ComesTo c a (λ task. HasSuch (asked_setup task) (λ u. IsFirstRefused u u.spans name refusal))
+  pub out : WritesRefused a c
   pub shelf : SameShelf c
 
 -- one fetch failed, and it was that of the command's file of this role, to which it comes
@@ -22,9 +53,16 @@ pub record ShelfFails (c : Call) (a : Asked) (role : File) : Type 0 where
   pub reached : IfSome c.files (λ f. reaches f a role ≡ true)
   pub out : SameOut c
 
+-- the spans that are asked before anything is written are provable
+abbrev pub AskedBefore : Task → Type 0
+AskedBefore (listing text) = Unit {0}
+AskedBefore (trace u text) = AreProvable u
+AskedBefore (verdicts u) = Unit {0}
+
 -- the output failed, after a first part of the text
 pub record OutFails (c : Call) (a : Asked) : Type 0 where
-  pub part : IfSome c.files (λ f. IfRight (judge f a) (λ text. TakesPrefix c.out_before.taken text c.out_after.taken))
+  pub part : ComesTo c a (λ task. HasText task (λ text. TakesPrefix c.out_before.taken text c.out_after.taken))
+  pub spans : ComesTo c a AskedBefore
   pub rose : Rose c.out_before.faults c.out_after.faults
   pub shelf : SameShelf c
 
@@ -39,6 +77,7 @@ Ends (Some a) c None = Passes c a
 Ends None c (Some fault.Usage) = Untouched c
 Ends asked c (Some fault.Memory) = Untouched c
 Ends (Some a) c (Some (fault.Shelf role)) = ShelfFails c a role
+Ends (Some a) c (Some (fault.Unproved name refusal)) = Refuses c a name refusal
 Ends (Some a) c (Some fault.Out) = OutFails c a
 Ends None c found = ⊥
 Ends (Some a) c (Some fault.Usage) = ⊥

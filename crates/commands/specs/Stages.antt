@@ -19,7 +19,9 @@ use Rattle.fault_lines.specs.declared.fault.Fault.TheVariants as fault
 use Rattle.fault_lines.specs.Output.{Output}
 use Rattle.commands.specs.Outside.{HasSuch, Call}
 use Rattle.commands.specs.Judged.{Judged, right, wrong, read_at, source_at, words_at, setup_at, schedule_at, prepared_at, source_alone, words_alone, run_files, run_reaches}
+use Rattle.verdict_lines.specs.declared.refusal.Refusal.{Refusal}
 use Rattle.commands.specs.Promise.{Ends}
+use Rattle.commands.specs.Spans.{AreAsked, AreVerdicts, verdict_text}
 
 -- the files where they are told, and the faults before and after a stage
 pub record Shelved : Type 0 where
@@ -45,6 +47,7 @@ ReadFails shelf plan (fault.Shelf role) =
 ReadFails shelf plan fault.Memory = shelf.after ≡ shelf.before
 ReadFails shelf plan fault.Usage = ⊥
 ReadFails shelf plan fault.Out = ⊥
+ReadFails shelf plan (fault.Unproved name refusal) = ⊥
 ReadFails shelf plan e = (shelf.after ≡ shelf.before) × IfSome shelf.files (λ files. plan.comes_to files ≡ wrong e)
 
 -- a stage that reads gives what the files come to, seen by a view, without a fault of the shelf; else it ends with its cause
@@ -121,12 +124,23 @@ pub record TakesPart (before : Output) (text : List ℕ) (after : Output) : Type
   pub part : TakesPrefix before.taken text after.taken
   pub rose : Rose before.faults after.faults
 
+-- the lines of right verdicts on the spans of a setup are such
+abbrev pub HasVerdicts : Setup → (List ℕ → Type 0) → Type 0
+HasVerdicts u P = (found : List (Result Bool Refusal)) × AreVerdicts u u.spans found × P (verdict_text u.spans found)
+
 -- a stage that writes took the text and handed it on; or the output failed; or memory ran out before the first piece
 abbrev pub Writes : Output → Output → List ℕ → Result (Unit {0}) Fault → Type 0
 Writes before after text (Ok _) = HasTaken before text after
 Writes before after text (Err fault.Out) = TakesPart before text after
 Writes before after text (Err fault.Memory) = after ≡ before
 Writes before after text (Err e) = ⊥
+
+-- Verdicts were told: the text was taken and handed on, and each span is provable, or the first one that isn't is told; or the
+-- output failed after a first part of it; or memory ran out before the first piece.
+abbrev pub TellsVerdicts : Setup → Output → Output → Result (Unit {0}) Fault → Type 0
+TellsVerdicts u before after (Err fault.Out) = HasVerdicts u (λ text. TakesPart before text after)
+TellsVerdicts u before after (Err fault.Memory) = after ≡ before
+TellsVerdicts u before after result = HasVerdicts u (λ text. HasTaken before text after) × AreAsked u result
 
 -- ---- how a command ends
 

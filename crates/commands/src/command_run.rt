@@ -6,11 +6,10 @@ ghost use Rattle.pio_edge.specs.Edge.{PutCounts, Takes};
 ghost use Rattle.commands.specs.Judged.{trace_text};
 ghost use Rattle.fault_lines.specs.Output.{output_of};
 ghost use Rattle.commands.specs.Outside.{call_of};
-ghost use Rattle.commands.specs.Stages.{CommandEnds, Reads, Writes, run_plan, shelved};
+ghost use Rattle.commands.specs.Stages.{CommandEnds, Writes};
 
-use crate::setup::read_setup;
-use crate::source::read_source;
-use crate::stimulus::read_schedule;
+use crate::preparation::{RunFiles, prepare};
+use crate::spans::ask_spans;
 use block_core::Block;
 use dreq_pacing::Schedule;
 use fault_lines::Fault;
@@ -23,16 +22,9 @@ use std::sync::ledger::Ledger;
 use step_count::Steps;
 use vcd_trace::{TraceFailed, VcdTrace};
 
-/// The names of the files that a run reads.
-#[derive(Clone, Copy)]
-pub struct RunFiles<'a> {
-    pub source: &'a str,
-    pub config: Option<&'a str>,
-    pub stimulus: Option<&'a str>,
-}
-
 /// Writes the trace of so many clocks of the block that a source sets up, by a configuration or by default, beside a
-/// stimulus where one is named. All memory is taken before the first piece is put.
+/// stimulus where one is named. Each span of the block has to be provable; the first one that isn't ends the run, and nothing
+/// is written. All memory is taken before the first piece is put.
 #[tactic(auto, unfolding(crate::specs::Judged::judge))]
 pub fn run<F: Shelf, O: Sink, L: Ledger>(
     alloc: Global,
@@ -53,24 +45,8 @@ pub fn run<F: Shelf, O: Sink, L: Ledger>(
     ensures steps { steps.new ≤ steps.old + clocks }
 {
     let (setup, schedule) = prepare(alloc, shelf, files)?;
+    ask_spans(alloc, &setup)?;
     write_run(alloc, &setup, &schedule, clocks, out, steps)
-}
-
-/// The setup of the source's programs, and then the lines of the stimulus.
-#[tactic(auto, unfolding(crate::specs::Judged::prepared_at))]
-fn prepare<F: Shelf>(
-    alloc: Global,
-    shelf: &mut F,
-    files: RunFiles,
-) -> Result<(Setup, Schedule), Fault>
-    ensures same { F.holds shelf.new ≡ F.holds shelf.old }
-    ensures stage { Reads (λ p. (p.0, p.1)) (shelved (F.holds shelf.old) (F.faults shelf.old) (F.faults shelf.new))
-        (run_plan files.entry.source.now (option_map (λ t. t.now) files.entry.config) (option_map (λ t. t.now) files.entry.stimulus)) result }
-{
-    let programs = read_source(alloc, shelf, files.source)?;
-    let setup = read_setup(alloc, shelf, files.config, &programs)?;
-    let schedule = read_schedule(alloc, shelf, files.stimulus)?;
-    Ok((setup, schedule))
 }
 
 /// Writes the text of so many clocks from a setup, or answers want of memory before it has put anything.

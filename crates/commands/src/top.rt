@@ -10,8 +10,10 @@ ghost use Rattle.fault_lines.specs.Told as told_spec;
 ghost use Rattle.fault_lines.specs.Told.{TellsFault};
 
 use crate::command_asm::asm;
+use crate::command_check::check;
 use crate::command_dis::dis;
-use crate::command_run::{RunFiles, run};
+use crate::command_run::run;
+use crate::preparation::RunFiles;
 use command_line::{Order, WordsFault, read};
 use fault_lines::{Ended, Fault, end_with};
 use pio_edge::{Shelf, Sink};
@@ -107,6 +109,7 @@ fn obey<F: Shelf, O: Sink, L: Ledger>(
             };
             run(alloc, files, clocks, shelf, out, steps)
         }
+        Order::Check { source, config } => check(alloc, source, config, shelf, out),
         Order::Dis { file, side, opt } => dis(alloc, file, side, opt, shelf, out),
     }
 }

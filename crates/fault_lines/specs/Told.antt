@@ -9,6 +9,7 @@ use Rattle.word_file.specs.declared.fault.WordKind.{WordKind}
 use Rattle.word_file.specs.Fault.{code_of as word_code}
 use Rattle.dreq_pacing.specs.declared.fault.StimKind.{StimKind}
 use Rattle.dreq_pacing.specs.Fault.{code_of as stim_code}
+use Rattle.verdict_lines.specs.Lines.{refusal_line}
 use Rattle.fault_lines.specs.Output.{Output}
 use Rattle.fault_lines.specs.declared.fault.File.{File}
 use Rattle.fault_lines.specs.declared.fault.File.TheVariants as file
@@ -25,6 +26,7 @@ status_of (Some (fault.Words line kind)) = 1
 status_of (Some (fault.Source line kind)) = 1
 status_of (Some (fault.Config key kind)) = 1
 status_of (Some (fault.Stim line kind)) = 1
+status_of (Some (fault.Unproved name refusal)) = 3
 status_of (Some fault.Out) = 5
 status_of (Some fault.Memory) = 6
 
@@ -80,6 +82,7 @@ fault_line (fault.Words line kind) = words_line line kind
 fault_line (fault.Source line kind) = source_line line kind
 fault_line (fault.Config key kind) = config_line key kind
 fault_line (fault.Stim line kind) = stimulus_line line kind
+fault_line (fault.Unproved name refusal) = refusal_line (codes "piotool: ") name refusal
 fault_line fault.Out = codes "piotool: out\n"
 fault_line fault.Memory = codes "piotool: memory\n"
 

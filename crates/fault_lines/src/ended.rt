@@ -9,10 +9,10 @@ use crate::told::{put_fault, status_of};
 use pio_edge::{Sink, SinkFailed};
 
 /// How a call ended.
-#[derive(Debug, Drop)]
+#[derive(Drop)]
 pub struct Ended {
-    /// The status with which a program ends: 0 all was done, 1 a file is faulty, 2 usage, 4 the shelf, 5 the output,
-    /// 6 memory.
+    /// The status with which a program ends: 0 all was done, 1 a file is faulty, 2 usage, 3 a span isn't provable, 4 the
+    /// shelf, 5 the output, 6 memory.
     pub status: u8,
     /// Why, where not all was done.
     pub fault: Option<Fault>,

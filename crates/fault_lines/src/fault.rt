@@ -4,6 +4,7 @@ use block_config::ConfigKind;
 use dreq_pacing::StimKind;
 use pio_assemble::SourceKind;
 use pio_encode::Name;
+use verdict_lines::Refusal;
 use word_file::WordKind;
 
 /// A file that a command reads.
@@ -20,7 +21,7 @@ pub enum File {
 }
 
 /// Why a command didn't do all that was asked.
-#[derive(Debug, Drop)]
+#[derive(Drop)]
 pub enum Fault {
     /// The words ask for nothing that there is.
     Usage,
@@ -36,6 +37,8 @@ pub enum Fault {
     Config(Name, ConfigKind),
     /// The first fault of the stimulus: its line, from 1 on, and its kind.
     Stim(usize, StimKind),
+    /// The first span that isn't provable: its name, and why (choice of this profile).
+    Unproved(Name, Refusal),
     /// The output failed.
     Out,
     /// Memory ran out.

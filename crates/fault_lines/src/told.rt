@@ -10,6 +10,7 @@ use dreq_pacing::StimKind;
 use itoa::Buffer;
 use pio_assemble::{Quantity, SourceKind};
 use pio_edge::{Sink, SinkFailed, put_all};
+use verdict_lines::put_refusal;
 use word_file::WordKind;
 
 /// The status with which a program ends.
@@ -21,6 +22,7 @@ pub fn status_of(fault: &Option<Fault>) -> u8
         Some(Fault::TooLong(_) | Fault::Words(..) | Fault::Source(..)) => 1,
         Some(Fault::Config(..) | Fault::Stim(..)) => 1,
         Some(Fault::Usage) => 2,
+        Some(Fault::Unproved(..)) => 3,
         Some(Fault::Shelf(_)) => 4,
         Some(Fault::Out) => 5,
         Some(Fault::Memory) => 6,
@@ -41,6 +43,7 @@ pub fn put_fault<E: Sink>(err: &mut E, fault: &Fault) -> Result<(), SinkFailed>
         Fault::Source(line, kind) => put_source_fault(err, *line, kind),
         Fault::Config(key, kind) => put_config_fault(err, key.as_bytes(), *kind),
         Fault::Stim(line, kind) => put_stimulus_fault(err, *line, *kind),
+        Fault::Unproved(name, refusal) => put_refusal(err, "piotool: ", name, refusal),
         Fault::Out => put_text(err, "piotool: out\n"),
         Fault::Memory => put_text(err, "piotool: memory\n"),
     }

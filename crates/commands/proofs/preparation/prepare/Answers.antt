@@ -2,7 +2,7 @@ use Rattle.std.proofs.Common.{map, option_map}
 use Rattle.std.proofs.lemmas.Result.{err_from_is_err_and}
 use Rattle.pio_assemble.specs.Program.{assembled_of}
 use Rattle.commands.proofs.Preparing.{source_fails, setup_fails, lines_fail}
-use Rattle.commands.proofs.command_run.prepare.Goals as goal
+use Rattle.commands.proofs.preparation.prepare.Goals as goal
 
 pub returns-in_err-programs-clause-stage : goal.returns-in_err-programs-clause-stage
 returns-in_err-programs-clause-stage g c =
