@@ -16,4 +16,6 @@ mod rows_refused;
 #[cfg(test)]
 mod rows_sources;
 #[cfg(test)]
+mod rows_verdicts;
+#[cfg(test)]
 mod tests;

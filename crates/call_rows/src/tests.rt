@@ -72,7 +72,7 @@ fn refuses_keys_of_spans(rt: HostRuntime) -> Result<(), Fail> {
     each_is_refused(&rt, alloc, head.as_str(), &SPANS)
 }
 
-fn each_ends_as_worked_out(rt: &impl Abort, alloc: Global, rows: &[Row]) -> Result<(), Fail> {
+pub fn each_ends_as_worked_out(rt: &impl Abort, alloc: Global, rows: &[Row]) -> Result<(), Fail> {
     for row in rows {
         ends_as(rt, alloc, row)?;
     }
