@@ -16,6 +16,10 @@ mod rows_refused;
 #[cfg(test)]
 mod rows_sources;
 #[cfg(test)]
+mod rows_spans;
+#[cfg(test)]
 mod rows_verdicts;
+#[cfg(test)]
+mod span_tests;
 #[cfg(test)]
 mod tests;

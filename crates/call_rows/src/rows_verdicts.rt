@@ -1,7 +1,6 @@
 //! The worked verdicts of `docs/VERDICTS.md`, over the programs of `examples/`: a span that is refused for each cause, the listing by
 //! which its line is read, and what is proved after a change. The verdicts follow from the rules of the checker, which are a choice
 //! of this profile.
-ghost use Rattle.std.specs.Prelude.{◌≡◌};
 
 use crate::rows::{Row, Text};
 use crate::tests::each_ends_as_worked_out;

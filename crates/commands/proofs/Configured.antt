@@ -33,7 +33,7 @@ goes_on : {X Y E : Type 0} (r : Result X E) (next : X → Result Y E) (y : Y) �
 goes_on (Ok x) next y e = record { value = x; found = refl; rest = e }
 goes_on (Err e') next y e = cc
 
-ok_same : {X E : Type 0} (x y : X) → Ok {X} {E} x ≡ Ok y → x ≡ y
+ok_same : {X E : Type 0} (x y : X) → ◌≡◌ {A = Result X E} (Ok x) (Ok y) → x ≡ y
 ok_same x y e = cc
 
 -- ---- one span
@@ -120,6 +120,10 @@ spans_placed machines loads (item d rest) place front all h e =
     let next = goes_on (span_in machines loads place front d) (λ x. gather (span_in machines loads) (place + 1) (front ++ x ∷ []) rest) all e in
     spans_placed machines loads rest (place + 1) (front ++ next.value ∷ []) all (one_more machines front next.value h (element_placed machines loads place (as_table d) next.value next.found)) next.rest
 
+none_placed : (ms : List (Option MachineKeys)) → ArePlaced ms []
+unfolding ArePlaced
+none_placed ms = tt
+
 -- ---- the setup
 
 over_placed : (s : Sections) (loads : List Loaded) (k : BlockKeys) → block_over s loads ≡ Ok k → ArePlaced k.machines k.spans
@@ -128,10 +132,6 @@ over_placed s loads k e =
     let pins = goes_on (pins_in s.pins) (λ pins. and_then (all_spans machines.value loads s.spans) (λ spans. Ok (block_with (memory_of no_words loads) machines.value pins spans))) k machines.rest in
     let spans = goes_on (all_spans machines.value loads s.spans) (λ spans. Ok (block_with (memory_of no_words loads) machines.value pins.value spans)) k pins.rest in
     subst (λ (b : BlockKeys). ArePlaced b.machines b.spans) (ok_same _ k spans.rest) (spans_placed machines.value loads s.spans 0 [] spans.value (none_placed machines.value) spans.found)
-  where
-    none_placed : (ms : List (Option MachineKeys)) → ArePlaced ms []
-    unfolding ArePlaced
-    none_placed ms = tt
 
 config_placed : (bytes : List ℕ) (programs : List Assembled) (k : BlockKeys) → config_block bytes programs ≡ Ok k → ArePlaced k.machines k.spans
 config_placed bytes programs k e =
@@ -151,7 +151,7 @@ there (None ∷ machines) zero h = absurd (not_there h)
   where
     not_there : false ≡ true → ⊥
     not_there e = cc
-there (Some m ∷ machines) zero h = tt
+there (Some m ∷ machines) zero h = refl
 there (o ∷ machines) (suc id) h = there machines id h
 
 all_there : (machines : List (Option MachineSetup)) (spans : List Span) → ArePlaced (map (option_map keys_of_machine) machines) (map keys_of_span spans) → AllByRecursion (λ sp. IsSome (slice_index_or machines sp.machine None)) spans
@@ -172,9 +172,11 @@ default_configured programs u says e = none u.spans (no_spans programs (keys_of_
     fits : (k found : BlockKeys) (r : Refusal) (b : Bool) → cond b (Ok found) (Err r) ≡ Ok k → found.spans ≡ [] → k.spans ≡ []
     fits k found r true e n = subst (λ (x : BlockKeys). x.spans ≡ []) (ok_same found k e) n
     fits k found r false e n = cc
+
     no_spans : (ps : List Assembled) (k : BlockKeys) → default_block ps ≡ Ok k → k.spans ≡ []
     no_spans [] k e = cc
     no_spans (p ∷ ps) k e = fits k _ _ _ e refl
+
     none : (spans : List Span) → map keys_of_span spans ≡ [] → AllByRecursion (λ sp. IsSome (slice_index_or u.machines sp.machine None)) spans
     none [] e = tt
     none (sp ∷ spans) e = cc

@@ -1,5 +1,5 @@
 -- Spans that are judged one after the other.
-use Rattle.std.proofs.Common.{◌≡◌, ◌≢◌, ◌∙◌, ℕ, zero, suc, ◌+◌, ◌++◌, ◌<◌, arith, Bool, true, false, inl, inr, Option, Some, None, Result, Ok, Err, List, [], ◌∷◌, IsSome, length, take, drop, get_or, slice_index_or, refl, sym, ap, subst}
+use Rattle.std.proofs.Common.{◌≡◌, ◌≢◌, ◌∙◌, ℕ, zero, suc, ◌+◌, ◌++◌, ◌<◌, ◌≤◌, arith, Bool, true, false, inl, inr, Option, Some, None, Result, Ok, Err, List, [], ◌∷◌, IsSome, length, take, drop, get_or, slice_index_or, refl, sym, ap, subst}
 use Rattle.std.proofs.Math.Seq.{take-suc}
 use Rattle.std.specs.List.{AllByRecursion}
 use Rattle.pin_matrix.specs.declared.setup.Setup.{Setup}
@@ -14,7 +14,7 @@ use Rattle.verdict_lines.specs.declared.refusal.Refusal.{Refusal}
 use Rattle.verdict_lines.specs.declared.refusal.Refusal.TheVariants.{Unproved, Shared}
 use Rattle.verdict_lines.specs.Lines.{verdict_line}
 use Rattle.verdict_lines.specs.Refusals.{found_by}
-use Rattle.commands.specs.Spans.{AreConfigured, IsProvableAlone, AreProvable, AllHold, IsRefused, IsFirstRefused, IsVerdictOn, AreVerdicts, verdict_text, first_refused, IsFirstOf, AreJudged}
+use Rattle.commands.specs.Spans.{AreConfigured, IsProvableAlone, AreProvable, AllHold, IsRefused, IsFirstRefused, IsVerdictOn, AreVerdicts, verdict_text, first_refused, IsFirstOf, AreJudged, IsNext}
 
 -- what holds of each holds of the one at a place
 pub all_at : {X : Type 0} (P : X → Type 0) (xs : List X) (i : ℕ) (d : X) → AllByRecursion P xs → i < length xs → P (get_or xs i d)
@@ -54,17 +54,38 @@ first_more u spans None sp (Ok opens) h here = provable_more u spans sp h (recor
 first_more u spans None sp (Err r) h here = refused_last u spans sp r h here
 first_more u spans (Some earlier) sp f h here = refused_before u spans sp earlier.0 earlier.1 h
 
+plus_one : (n : ℕ) → n + 1 ≡ suc n
+plus_one n = omega arith
+
 -- one verdict more
 pub judged_more : (u : Setup) (spans : List Span) (place : ℕ) (found : List (Result Bool Refusal)) (refused : Option (List ℕ × Refusal)) (sp : Span) (f : Result Bool Refusal)
     → place < length spans → sp ≡ get_or spans place sp → AreJudged u (take place spans) found refused → IsVerdictOn u sp f
     → AreJudged u (take (place + 1) spans) (found ++ f ∷ []) (first_refused refused sp.name f)
 judged_more u spans place found refused sp f lt is h here =
-    let e : take (place + 1) spans ≡ take place spans ++ sp ∷ [] = take-suc spans place sp lt ∙ ap (λ x. take place spans ++ x ∷ []) (sym is) in
+    let e : take (place + 1) spans ≡ take place spans ++ sp ∷ [] = ap (λ n. take n spans) (plus_one place) ∙ take-suc spans place sp lt ∙ ap (λ x. take place spans ++ x ∷ []) (sym is) in
     let whole : AreJudged u (take place spans ++ sp ∷ []) (found ++ f ∷ []) (first_refused refused sp.name f) = record {
       verdicts = verdicts_more u (take place spans) found sp f h.verdicts here;
       first = first_more u (take place spans) refused sp f h.first here;
     } in
     subst (λ (l : List Span). AreJudged u l (found ++ f ∷ []) (first_refused refused sp.name f)) (sym e) whole
+
+-- the same by what the next verdict gives
+pub judged_next : (u : Setup) (spans : List Span) (place : ℕ) (found after : List (Result Bool Refusal)) (earlier refused : Option (List ℕ × Refusal)) (sp : Span)
+    → place < length spans → sp ≡ get_or spans place sp → AreJudged u (take place spans) found earlier → IsNext u sp found after earlier refused → AreJudged u (take (place + 1) spans) after refused
+judged_next u spans place found after earlier refused sp lt is h next =
+    let whole = judged_more u spans place found earlier sp next.found lt is h next.verdict in
+    subst (λ (fs : List (Result Bool Refusal)). AreJudged u (take (place + 1) spans) fs refused) (sym next.more)
+    (subst (λ (r : Option (List ℕ × Refusal)). AreJudged u (take (place + 1) spans) (found ++ next.found ∷ []) r) (sym next.first) whole)
+
+-- when all are judged
+pub judged_all : (u : Setup) (spans : List Span) (place : ℕ) (found : List (Result Bool Refusal)) (refused : Option (List ℕ × Refusal)) → length spans ≤ place → AreJudged u (take place spans) found refused → AreJudged u spans found refused
+judged_all u spans place found refused le h = subst (λ (l : List Span). AreJudged u l found refused) (take_whole spans place le) h
+  where
+    take_whole : (l : List Span) (n : ℕ) → length l ≤ n → take n l ≡ l
+    take_whole [] zero le = refl
+    take_whole [] (suc n) le = refl
+    take_whole (s ∷ l) zero le = absurd (omega arith)
+    take_whole (s ∷ l) (suc n) le = ap (λ r. s ∷ r) (take_whole l n (omega arith))
 
 -- there is a verdict on each
 pub as_many : (u : Setup) (spans : List Span) (found : List (Result Bool Refusal)) → AreVerdicts u spans found → length found ≡ length spans
@@ -92,6 +113,19 @@ never_both u [] name r p h = h
 never_both u (sp ∷ spans) name r p (inl h) = not_both u sp r p.0 h.1
 never_both u (sp ∷ spans) name r p (inr h) = never_both u spans name r p.1 h.1
 
+-- after the last span no line is left
+pub verdict_text-end : (spans : List Span) (found : List (Result Bool Refusal)) (place : ℕ) → length spans ≤ place → verdict_text (drop place spans) (drop place found) ≡ []
+unfolding verdict_text
+verdict_text-end [] found zero le = refl
+verdict_text-end [] found (suc place) le = refl
+verdict_text-end (s ∷ spans) found zero le = absurd (omega arith)
+verdict_text-end (s ∷ spans) [] (suc place) le = none_left (drop place spans)
+  where
+    none_left : (l : List Span) → verdict_text l [] ≡ []
+    none_left [] = refl
+    none_left (x ∷ l) = refl
+verdict_text-end (s ∷ spans) (g ∷ found) (suc place) le = verdict_text-end spans found place (omega arith)
+
 -- the lines from a place on are its own and those after it
 pub verdict_text-turn : (spans : List Span) (found : List (Result Bool Refusal)) (place : ℕ) (sp : Span) (f : Result Bool Refusal) → place < length spans → length found ≡ length spans
     → sp ≡ get_or spans place sp → f ≡ get_or found place f → verdict_text (drop place spans) (drop place found) ≡ verdict_line [] sp.name f ++ verdict_text (drop (place + 1) spans) (drop (place + 1) found)
@@ -99,4 +133,7 @@ unfolding verdict_text
 verdict_text-turn [] found place sp f lt same is has = absurd (omega arith)
 verdict_text-turn (s ∷ spans) [] place sp f lt same is has = absurd (omega (arith, same))
 verdict_text-turn (s ∷ spans) (g ∷ found) zero sp f lt same is has = ap (λ (x : Span). verdict_line [] x.name g ++ verdict_text spans found) (sym is) ∙ ap (λ (x : Result Bool Refusal). verdict_line [] sp.name x ++ verdict_text spans found) (sym has)
-verdict_text-turn (s ∷ spans) (g ∷ found) (suc place) sp f lt same is has = verdict_text-turn spans found place sp f (omega arith) (omega (arith, same)) is has
+verdict_text-turn (s ∷ spans) (g ∷ found) (suc place) sp f lt same is has =
+    let e : suc (place + 1) ≡ suc place + 1 = omega arith in
+    verdict_text-turn spans found place sp f (omega arith) (omega (arith, same)) is has
+    ∙ ap (λ n. verdict_line [] sp.name f ++ verdict_text (drop n (s ∷ spans)) (drop n (g ∷ found))) e

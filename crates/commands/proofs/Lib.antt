@@ -3,3 +3,4 @@ pub mod Preparing
 pub mod Wanting
 pub mod Configured
 pub mod Judging
+pub mod Told

@@ -84,6 +84,13 @@ pub record AreJudged (u : Setup) (spans : List Span) (found : List (Result Bool 
   pub verdicts : AreVerdicts u spans found
   pub first : IsFirstOf u spans refused
 
+-- a verdict on this span came after the others
+pub record IsNext (u : Setup) (sp : Span) (before after : List (Result Bool Refusal)) (earlier refused : Option (List ℕ × Refusal)) : Type 0 where
+  pub found : Result Bool Refusal
+  pub verdict : IsVerdictOn u sp found
+  pub more : after ≡ before ++ found ∷ []
+  pub first : refused ≡ first_refused earlier sp.name found
+
 -- how a command ends that asks the spans: each is provable and holds in every run, or the first one that isn't is told
 abbrev pub AreAsked : Setup → Result (Unit {0}) Fault → Type 0
 AreAsked u (Ok done) = AreProvable u × AllHold u

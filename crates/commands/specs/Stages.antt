@@ -136,10 +136,10 @@ Writes before after text (Err fault.Memory) = after ≡ before
 Writes before after text (Err e) = ⊥
 
 -- Verdicts were told: the text was taken and handed on, and each span is provable, or the first one that isn't is told; or the
--- output failed after a first part of it.
+-- output failed after a first part of it; or memory ran out before the first piece.
 abbrev pub TellsVerdicts : Setup → Output → Output → Result (Unit {0}) Fault → Type 0
 TellsVerdicts u before after (Err fault.Out) = HasVerdicts u (λ text. TakesPart before text after)
-TellsVerdicts u before after (Err fault.Memory) = ⊥
+TellsVerdicts u before after (Err fault.Memory) = after ≡ before
 TellsVerdicts u before after result = HasVerdicts u (λ text. HasTaken before text after) × AreAsked u result
 
 -- ---- how a command ends

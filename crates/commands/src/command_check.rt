@@ -1,8 +1,9 @@
 //! The command `check`: the verdict on each span that a configuration asks of the programs of a source.
-ghost use Rattle.std.specs.Prelude.{◌≡◌, length, option_map};
+ghost use Rattle.std.specs.Prelude.{◌≡◌, [], length, option_map};
 ghost use Rattle.command_line.specs.Words.{check as check_asked};
 ghost use Rattle.fault_lines.specs.Output.{output_of};
 ghost use Rattle.pio_edge.specs.Edge.{PutCounts, Takes};
+ghost use Rattle.verdict_lines.specs.Lines.{verdict_line};
 ghost use Rattle.commands.specs.Outside.{call_of};
 ghost use Rattle.commands.specs.Spans.{AreConfigured, AreJudged, verdict_text};
 ghost use Rattle.commands.specs.Stages.{CommandEnds, TellsVerdicts, Writes};
@@ -18,10 +19,10 @@ use verdict_lines::{Refusal, put_verdict};
 /// Writes the line of the verdict on each span of a setup, and then ends with the fault of the first one that isn't provable,
 /// if there is one. All memory is taken before the first piece is put.
 #[tactic(auto, unfolding(crate::specs::Judged::judge))]
-pub fn check<F: Shelf, O: Sink>(
+pub fn check<'a, F: Shelf, O: Sink>(
     alloc: Global,
-    source: &str,
-    config: Option<&str>,
+    source: &'a str,
+    config: Option<&'a str>,
     shelf: &mut F,
     out: &mut O,
 ) -> Result<(), Fault>
@@ -89,10 +90,22 @@ fn put_verdicts<O: Sink>(
     ensures cause { PutCounts (O.faults out.old) (O.faults out.new) result }
 {
     for place in 0..spans.len() {
-        match put_verdict(out, &spans[place].name, &found[place]) {
+        match put_line(out, &spans[place], &found[place]) {
             Ok(()) => {}
             Err(failed) => return Err(failed),
         }
     }
     Ok(())
+}
+
+/// Puts the line of the verdict on a span.
+fn put_line<O: Sink>(
+    out: &mut O,
+    span: &Span,
+    found: &Result<bool, Refusal>,
+) -> Result<(), SinkFailed>
+    ensures bytes { Takes (O.taken out.old) (verdict_line [] span.now.name found.now) (O.taken out.new) result }
+    ensures cause { PutCounts (O.faults out.old) (O.faults out.new) result }
+{
+    put_verdict(out, &span.name, found)
 }

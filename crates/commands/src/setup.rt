@@ -5,7 +5,10 @@ ghost use Rattle.commands.specs.Spans.{AreConfigured};
 ghost use Rattle.commands.specs.Stages.{Reads, setup_plan, shelved};
 
 use crate::fetch::fetch_file;
-use block_config::{ConfigFault, a_configuration_is_not_clipped, default_setup, read_config};
+use block_config::{
+    ConfigFault, a_configuration_is_not_clipped, default_setup, read_config,
+    the_default_is_not_clipped,
+};
 use fault_lines::{Fault, File};
 use pin_matrix::Setup;
 use pio_assemble::Program;
@@ -24,6 +27,7 @@ pub fn read_setup<F: Shelf>(
     ensures stage { Reads (λ setup. setup) (shelved (F.holds shelf.old) (F.faults shelf.old) (F.faults shelf.new))
         (setup_plan (option_map (λ t. t.now) name.entry) (map assembled_of programs.now)) result }
 {
+    the_default_is_not_clipped();
     match name {
         Some(name) => read_named(alloc, shelf, name, programs),
         None => match default_setup(alloc, programs) {

@@ -1,6 +1,6 @@
 //! The verdicts on the spans of a setup.
-ghost use Rattle.std.specs.Prelude.{◌≡◌, ◌≢◌, IfOk, IsSome, None, Err, slice_index_or};
-ghost use Rattle.commands.specs.Spans.{AreAsked, AreConfigured, AreJudged, IsFirstOf, IsVerdictOn};
+ghost use Rattle.std.specs.Prelude.{◌≡◌, ◌≢◌, ◌++◌, ◌∷◌, [], IfOk, IsSome, None, Err, slice_index_or};
+ghost use Rattle.commands.specs.Spans.{AreAsked, AreConfigured, AreJudged, IsFirstOf, IsNext, IsVerdictOn};
 ghost use Rattle.commands.specs.Spans as spec;
 
 use fault_lines::Fault;
@@ -33,7 +33,7 @@ pub fn ask_spans(alloc: Global, setup: &Setup) -> Result<(), Fault>
 pub fn refuse(setup: &Setup, refused: Option<(Name, Refusal)>) -> Result<(), Fault>
     requires configured { AreConfigured setup.now }
     requires first { IsFirstOf setup.now setup.now.spans refused }
-    ensures { AreAsked setup.now result }
+    ensures asked { AreAsked setup.now result }
     ensures memory { result ≢ Err Fault.Memory }
 {
     a_provable_span_holds_in_every_run();
@@ -50,14 +50,46 @@ pub fn judge_spans(alloc: Global, setup: &Setup) -> Result<Verdicts, AllocError>
     ensures { IfOk result (λ verdicts. AreJudged setup.now setup.now.spans verdicts.found.items verdicts.refused) }
 {
     let spans = setup.spans.as_slice();
-    let mut found = Vec::with_capacity(alloc, spans.len())?;
-    let mut refused = None;
+    let mut verdicts = Verdicts {
+        found: Vec::with_capacity(alloc, spans.len())?,
+        refused: None,
+    };
     for place in 0..spans.len() {
-        let verdict = judge_span(alloc, setup, &spans[place])?;
-        refused = first_of(alloc, refused, &spans[place], verdict)?;
-        found.push(verdict)?;
+        match judge_next(alloc, setup, &spans[place], &mut verdicts) {
+            Ok(()) => {}
+            Err(error) => return Err(error),
+        }
     }
-    Ok(Verdicts { found, refused })
+    Ok(verdicts)
+}
+
+/// Adds the verdict on a span, whose machine is configured. The error is want of memory.
+fn judge_next(
+    alloc: Global,
+    setup: &Setup,
+    span: &Span,
+    verdicts: &mut Verdicts,
+) -> Result<(), AllocError>
+    requires { IsSome (slice_index_or setup.now.machines span.now.machine None) }
+    ensures { IfOk result (λ _. IsNext setup.now span.now verdicts.old.found.items verdicts.new.found.items
+        verdicts.old.refused verdicts.new.refused) }
+{
+    let found = judge_span(alloc, setup, span)?;
+    note_refusal(alloc, span, &found, &mut verdicts.refused)?;
+    keep(&mut verdicts.found, found)
+}
+
+/// Adds a verdict to those that are found. The error is want of memory.
+fn keep(
+    verdicts: &mut Vec<Result<bool, Refusal>>,
+    found: Result<bool, Refusal>,
+) -> Result<(), AllocError>
+    ensures { IfOk result (λ _. verdicts.new.items ≡ verdicts.old.items ++ found ∷ []) }
+{
+    match verdicts.push(found) {
+        Ok(()) => Ok(()),
+        Err(_) => Err(AllocError),
+    }
 }
 
 /// The verdict on a span, whose machine is configured, without its table. The error is want of memory.
@@ -75,23 +107,24 @@ fn judge_span(
     }
 }
 
-/// The refusal that came before, else that of this span, if it isn't proved. The error is want of memory.
-fn first_of(
+/// Keeps the refusal that came before, else takes that of this span, if it isn't proved. The error is want of memory.
+fn note_refusal(
     alloc: Global,
-    refused: Option<(Name, Refusal)>,
     span: &Span,
-    found: Result<bool, Refusal>,
-) -> Result<Option<(Name, Refusal)>, AllocError>
-    ensures { IfOk result (λ first. first ≡ spec.first_refused refused.entry span.now.name found) }
+    found: &Result<bool, Refusal>,
+    refused: &mut Option<(Name, Refusal)>,
+) -> Result<(), AllocError>
+    ensures { IfOk result (λ _. refused.new ≡ spec.first_refused refused.old span.now.name found.now) }
 {
-    match refused {
-        Some(earlier) => Ok(Some(earlier)),
-        None => match found {
-            Ok(_) => Ok(None),
-            Err(refusal) => {
-                let text = String::from_str(alloc, span.name.as_str())?;
-                Ok(Some((Name::new(text), refusal)))
-            }
-        },
+    if refused.is_some() {
+        return Ok(());
+    }
+    match found {
+        Ok(_) => Ok(()),
+        Err(refusal) => {
+            let text = String::from_str(alloc, span.name.as_str())?;
+            *refused = Some((Name::new(text), *refusal));
+            Ok(())
+        }
     }
 }

@@ -4,4 +4,4 @@ use Rattle.commands.proofs.spans.judge_spans.Given as goal
 
 -- the spans before this place are judged
 abbrev pub invariant-loop-place : goal.invariant-loop-place
-invariant-loop-place l = AreJudged l.setup.now (take l.place l.spans.now) l.found.items l.refused
+invariant-loop-place l = AreJudged l.setup (take l.place l.spans) l.verdicts.found.items l.verdicts.refused

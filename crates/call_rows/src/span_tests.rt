@@ -1,0 +1,10 @@
+//! Calls that ask spans, over a shelf and sinks in memory.
+
+use crate::rows_spans::SPANS_ASKED;
+use crate::tests::each_ends_as_worked_out;
+use std::test::Fail;
+
+#[test]
+fn asks_spans_as_worked_out(rt: HostRuntime) -> Result<(), Fail> {
+    each_ends_as_worked_out(&rt, rt.alloc(), &SPANS_ASKED)
+}
