@@ -18,6 +18,8 @@ mod rows_sources;
 #[cfg(test)]
 mod rows_spans;
 #[cfg(test)]
+mod rows_verdicts;
+#[cfg(test)]
 mod span_tests;
 #[cfg(test)]
 mod tests;
