@@ -8,6 +8,8 @@ mod listing_tests;
 #[cfg(test)]
 mod rows;
 #[cfg(test)]
+mod rows_bounds;
+#[cfg(test)]
 mod rows_config;
 #[cfg(test)]
 mod rows_machine;

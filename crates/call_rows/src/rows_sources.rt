@@ -3,7 +3,7 @@
 
 use crate::rows::{Row, Text};
 
-const WS2812: &str =
+pub const WS2812: &str =
     "; WS2812: a bit is T1 + T2 + T3 ticks long, and high for T1 + T2 of them where it is 1.\n.program ws2812\n.side_set 1\n\n.define public T1 2\n.define public T2 5\n.define public T3 3\n\n.wrap_target\nbitloop:\n    out x, 1       side 0 [T3 - 1]\n    jmp !x do_zero side 1 [T1 - 1]\ndo_one:\n    jmp  bitloop   side 1 [T2 - 1]\ndo_zero:\n    nop            side 0 [T2 - 1]\n.wrap\n";
 
 const WS2812_LISTING: &str =

@@ -1,5 +1,6 @@
 //! Calls that ask spans, over a shelf and sinks in memory.
 
+use crate::rows_bounds::BOUNDS;
 use crate::rows_spans::SPANS_ASKED;
 use crate::tests::each_ends_as_worked_out;
 use std::test::Fail;
@@ -7,4 +8,9 @@ use std::test::Fail;
 #[test]
 fn asks_spans_as_worked_out(rt: HostRuntime) -> Result<(), Fail> {
     each_ends_as_worked_out(&rt, rt.alloc(), &SPANS_ASKED)
+}
+
+#[test]
+fn judges_bounds_as_worked_out(rt: HostRuntime) -> Result<(), Fail> {
+    each_ends_as_worked_out(&rt, rt.alloc(), &BOUNDS)
 }
