@@ -72,6 +72,7 @@ impl Divider {
     pub fn clocks_to_tick(&self, n: u64) -> u64
         requires { n ≤ 2 ^ 40 }
         ensures tick { IsTickClock self.now.restarted self.now.period (self.now.clock + result) }
+        ensures test { IsTrue (is_tick self.now.restarted self.now.period (self.now.clock + result)) }
         ensures count { tick_count self.now.restarted self.now.period self.now.clock result ≡ n }
         ensures bound { result ≤ 2 ^ 16 * (n + 1) }
     {

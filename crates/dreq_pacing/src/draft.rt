@@ -6,7 +6,7 @@ ghost use Rattle.dreq_pacing.specs.Drafts.{first_draft, objection, with_line, ta
 
 use crate::fault::StimKind;
 use crate::line::{Act, Line};
-use crate::schedule::{Schedule, schedule_of};
+use crate::schedule::Schedule;
 use std::alloc::{AllocFailed, Global};
 use std::marker::Model;
 
@@ -65,7 +65,7 @@ impl Draft {
     pub fn finish(self) -> Schedule
         ensures { result ≡ self.lines }
     {
-        schedule_of(self.lines)
+        Schedule::of(self.lines)
     }
 
     /// Whether the line is a second transfer in the file, or a second access in its clock.

@@ -35,6 +35,14 @@ impl Schedule {
         }
     }
 
+    /// These lines. It takes no memory.
+    pub fn of(lines: Vec<Line>) -> Schedule
+        requires { IsSchedule lines.items }
+        ensures { result ≡ lines.items }
+    {
+        Schedule { lines }
+    }
+
     /// The lines in their order.
     pub fn lines(&self) -> &[Line]
         ensures value { result.now ≡ self.now }
@@ -42,12 +50,4 @@ impl Schedule {
     {
         self.lines.as_slice()
     }
-}
-
-/// These lines.
-pub(crate) fn schedule_of(lines: Vec<Line>) -> Schedule
-    requires { IsSchedule lines.items }
-    ensures { result ≡ lines.items }
-{
-    Schedule { lines }
 }

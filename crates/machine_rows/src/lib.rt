@@ -16,6 +16,8 @@ mod fifo_tests;
 #[cfg(test)]
 mod flag_tests;
 #[cfg(test)]
+mod idle_tests;
+#[cfg(test)]
 mod machine_fifos;
 #[cfg(test)]
 mod machine_flow;

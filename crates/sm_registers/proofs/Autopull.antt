@@ -38,7 +38,7 @@ below_if false b front r threshold h k some below = cc
 not_reached : (threshold count : ℕ) → nat_le threshold count ≡ false → count < threshold
 not_reached threshold count h = grind (arith, nat_tests)
 
-below_refilled : (s : MachineSetup) (q : Queues) (r : Registers) → s.autopull ≡ true → is_some q.front ≡ true → (refilled s q r).out_count < s.pull_threshold
+pub below_refilled : (s : MachineSetup) (q : Queues) (r : Registers) → s.autopull ≡ true → is_some q.front ≡ true → (refilled s q r).out_count < s.pull_threshold
 below_refilled s q r h k =
     below_if s.autopull (nat_le s.pull_threshold r.out_count) q.front r s.pull_threshold h k s.pulls_some (not_reached s.pull_threshold r.out_count)
 

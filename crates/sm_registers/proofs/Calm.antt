@@ -165,8 +165,8 @@ tick_alike s v w q r h =
     ∙ ap (λ u. cond (nat_lt 0 r.delay) (tick_delay s q r) (tick_word (reading_of u s.side_rule) s w q r)) h.word
 
 -- an effect that stalls does nothing but to raise sticky flags
-record IsStill (r : Registers) (e : Effect) : Type 0 where
-  same : e.stalled ≡ true → e ≡ record (stall r) { sticky = e.sticky }
+pub record IsStill (r : Registers) (e : Effect) : Type 0 where
+  pub same : e.stalled ≡ true → e ≡ record (stall r) { sticky = e.sticky }
 
 still_if :
     (r : Registers) (b : Bool) (x y : Effect) → (b ≡ true → IsStill r x) → (b ≡ false → IsStill r y) → IsStill r (cond b x y)
@@ -228,7 +228,7 @@ still_irq false true false up r a b c h k t = cc
 still_irq false true true true r a b c h k t = still_stall r 0
 still_irq false true true false r a b c h k t = still_done r _ refl
 
-still_effect : (a : Act) (s : MachineSetup) (v : View) (q : Queues) (r : Registers) → r.begun ≡ true → IsStill r (effect_of a s v q r)
+pub still_effect : (a : Act) (s : MachineSetup) (v : View) (q : Queues) (r : Registers) → r.begun ≡ true → IsStill r (effect_of a s v q r)
 unfolding effect_of jmp_effect wait_effect in_effect out_effect push_effect pull_effect mov_effect irq_effect
 still_effect (Jmp c a) s v q r h = still_done r _ refl
 still_effect (Wait polarity source index) s v q r h = search (rules, still_if, still_done, still_stall)

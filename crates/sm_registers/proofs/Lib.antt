@@ -9,3 +9,5 @@ pub mod Flow
 pub mod Waits
 pub mod Autopull
 pub mod OwnPins
+pub mod Stirs
+pub mod Told

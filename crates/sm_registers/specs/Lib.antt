@@ -7,3 +7,5 @@ pub mod Ranges
 pub mod State
 pub mod Laws
 pub mod Rules
+pub mod Idling
+pub mod Told

@@ -57,6 +57,20 @@ impl Decoded {
         }
     }
 
+    /// What a word at an address means. It is decoded only where another one was last read there.
+    pub fn meaning(&self, address: u8, word: u16) -> Op
+        requires { address < 32 }
+        ensures value { result ≡ reading_of word self.now.rule }
+        ensures act { IsInRange result.act }
+    {
+        let reading = &self.readings[usize::from(address)];
+        if reading.word == word {
+            reading.op
+        } else {
+            decode(word, &self.rule)
+        }
+    }
+
     /// Decodes a word at an address.
     #[cold]
     #[inline(never)]

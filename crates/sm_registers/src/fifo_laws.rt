@@ -1,15 +1,17 @@
 //! Laws of the shift registers and the FIFOs in a tick. Each is on a function that does nothing.
-ghost use Rattle.std.specs.Prelude.{◌≡◌, ℕ, ◌+◌, ◌<◌, ◌≤◌, true, false, [], is_some, min};
+ghost use Rattle.std.specs.Prelude.{◌≡◌, ℕ, ◌+◌, ◌<◌, ◌≤◌, true, false, [], is_some, min, bit_or};
 ghost use Rattle.fifo_pair.specs.Fifos as fifos;
 ghost use Rattle.pin_matrix.specs.declared.machine.MachineSetup as setup;
 ghost use Rattle.pio_encode.specs.declared.act.Act.TheVariants.{In};
 ghost use Rattle.pio_encode.specs.declared.act.InSource as in_source;
 ghost use Rattle.shift_engine.specs.Shift.{shifted_in};
 ghost use Rattle.sm_registers.specs.Effects.{effect_of, in_word};
+ghost use Rattle.sm_registers.specs.Idling.{stirs};
 ghost use Rattle.sm_registers.specs.Queues as queues;
 ghost use Rattle.sm_registers.specs.Rules.{HoldsOrGives, bits_out, current_act, fills_osr, is_pull, raises, waits_for_tx};
 ghost use Rattle.sm_registers.specs.State.{queues_of};
 ghost use Rattle.sm_registers.specs.Tick.{after_effect, refills, tick_of};
+ghost use Rattle.sm_registers.specs.Told.{AreUp, IsKnown};
 ghost use Rattle.sm_registers.specs.declared.intent.TheConstants.{TX_STALL};
 ghost use Rattle.sm_registers.specs.declared.registers.Registers as registers;
 ghost use Rattle.sm_registers.specs.declared.view.View as view;
@@ -56,4 +58,18 @@ pub fn txstall_tells_an_empty_tx()
     ensures rises { (s : setup.MachineSetup) (v : view.View) (f : fifos.Fifos) (r : registers.Registers)
         → waits_for_tx (current_act v r) ≡ true → r.delay ≡ 0 → (tick_of s v (queues_of f) r).1.stalled ≡ true
         → f.tx ≡ [] → raises TX_STALL (tick_of s v (queues_of f) r).1.sticky ≡ true }
+{}
+
+/// A late tick that stalls raises again the flags of its stall. Where these are up from the ticks before, it tells nothing
+/// new, and may be left out: `IsKnown` says that they are. Every tick keeps it, by the flags that this one raises (`after`),
+/// and so do flags that come to them (`more`). A tick that doesn't stir then changes no flag (`calm`). A machine that hasn't
+/// begun an instruction has it for any flags (section 3.7, FDEBUG).
+pub fn a_calm_tick_tells_nothing_new()
+    ensures after { (s : setup.MachineSetup) (v : view.View) (f : fifos.Fifos) (r : registers.Registers) (sticky : ℕ)
+        → IsKnown v s r sticky
+        → IsKnown v s (tick_of s v (queues_of f) r).0 (bit_or (tick_of s v (queues_of f) r).1.sticky sticky) }
+    ensures more { (s : setup.MachineSetup) (v : view.View) (r : registers.Registers) (more sticky : ℕ)
+        → IsKnown v s r sticky → IsKnown v s r (bit_or more sticky) }
+    ensures calm { (s : setup.MachineSetup) (v : view.View) (q : queues.Queues) (r : registers.Registers) (sticky : ℕ)
+        → IsKnown v s r sticky → stirs (tick_of s v q r).1 ≡ false → AreUp (tick_of s v q r).1.sticky sticky }
 {}

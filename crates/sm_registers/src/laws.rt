@@ -8,6 +8,7 @@ ghost use Rattle.sm_registers.specs.declared.view.View as view;
 ghost use Rattle.sm_registers.specs.Queues as queues;
 ghost use Rattle.sm_registers.specs.declared.intent.Kind.TheVariants as kind;
 ghost use Rattle.sm_registers.specs.Effects.{no_intent};
+ghost use Rattle.sm_registers.specs.Idling.{IsIdle, after_ticks, idle_of, only_counts, only_waits, stirs, stirs_at};
 ghost use Rattle.sm_registers.specs.Laws.{AreWords, AreWordsSeen, IsAlike, IsFair, TakesInto, GivesAll, WritesPins};
 ghost use Rattle.sm_registers.specs.Ranges.{IsPlaced};
 ghost use Rattle.sm_registers.specs.Rules.{holds};
@@ -77,6 +78,23 @@ pub fn a_late_stall_only_waits()
             stalled = true;
           },
         ) }
+{}
+
+/// A tick that doesn't stir only counts the delay. Outside it does nothing but to raise again the sticky flags of a stall
+/// (`once`). So do many in a row, which see the same (`often`).
+pub fn a_calm_tick_only_counts()
+    ensures once { (s : setup.MachineSetup) (v : view.View) (q : queues.Queues) (r : registers.Registers)
+        → stirs (tick_of s v q r).1 ≡ false
+        → tick_of s v q r ≡ (only_counts r, only_waits (tick_of s v q r).1) }
+    ensures often { (s : setup.MachineSetup) (v : view.View) (q : queues.Queues) (r : registers.Registers) (n : ℕ)
+        → ((k : ℕ) → k < n → stirs_at s v q r k ≡ false)
+        → after_ticks s v q n r ≡ record r { delay = r.delay - n } }
+{}
+
+/// While nothing outside a machine changes, `idle_of` is exactly how many ticks pass before the next one that stirs.
+pub fn a_machine_idles_until_it_stirs()
+    ensures { (s : setup.MachineSetup) (v : view.View) (q : queues.Queues) (r : registers.Registers)
+        → IsIdle s v q r (idle_of s v q r) }
 {}
 
 /// A tick is the same in two views that agree on what it reads. A delay reads nothing.

@@ -4,6 +4,8 @@
 mod decoded;
 mod fifo_laws;
 mod fifo_moves;
+mod idle;
+mod idling;
 mod instruction;
 mod intent;
 mod jump;
@@ -19,12 +21,16 @@ mod tick;
 mod view;
 mod waiting;
 
-pub use fifo_laws::{autopull_takes_what_it_can, in_shifts_once, txstall_tells_an_empty_tx};
+pub use fifo_laws::{
+    a_calm_tick_tells_nothing_new, autopull_takes_what_it_can, in_shifts_once,
+    txstall_tells_an_empty_tx,
+};
+pub use idle::Idle;
 pub use intent::{Intent, Kind, RX_STALL, RX_UNDER, TX_OVER, TX_STALL};
 pub use laws::{
-    a_delay_only_counts, a_late_stall_only_waits, a_tick_sees_what_it_reads,
-    a_tick_writes_its_own_pins, moves_are_fair, no_word_is_lost, ranges_are_kept,
-    writes_are_of_pins,
+    a_calm_tick_only_counts, a_delay_only_counts, a_late_stall_only_waits,
+    a_machine_idles_until_it_stirs, a_tick_sees_what_it_reads, a_tick_writes_its_own_pins,
+    moves_are_fair, no_word_is_lost, ranges_are_kept, writes_are_of_pins,
 };
 pub use machine::Machine;
 pub use order_laws::{

@@ -1,13 +1,16 @@
 //! A state machine with its FIFOs. In a clock it ticks or doesn't, and then settles what it and the system want.
-ghost use Rattle.std.specs.Prelude.{◌≡◌, ◌<◌, length, IsTrue, IsSome, IfOk};
+ghost use Rattle.std.specs.Prelude.{◌≡◌, ℕ, ◌-◌, ◌<◌, false, length, IsTrue, IsSome, IfOk};
 ghost use Rattle.std.specs.List.{AllByRecursion};
 ghost use Rattle.pin_matrix.specs.Pins.{IsWrite};
 ghost use Rattle.sm_registers.specs.Effects.{no_intent};
+ghost use Rattle.sm_registers.specs.Idling.{IsIdle, IsSoon, after_ticks, idle_of, stirs_at};
 ghost use Rattle.sm_registers.specs.State.{IsKept, first_machine, queues_of, settled_ports, shown_of, uses_fifos};
 ghost use Rattle.sm_registers.specs.State as spec;
 ghost use Rattle.sm_registers.specs.Tick as spec_tick;
 
 use crate::decoded::Decoded;
+use crate::idle::Idle;
+use crate::idling;
 use crate::intent::{Intent, RX_UNDER, TX_OVER};
 use crate::registers::Registers;
 use crate::shown::Shown;
@@ -106,6 +109,41 @@ impl<F: Fifo> Machine<F> {
             &mut self.registers,
             intent,
         );
+    }
+
+    /// When it next has a tick that stirs, if nothing outside it changes: in each tick it sees the same view, and its FIFOs
+    /// hold the same. A refill is at once; a stall lasts; a delay of 0 to 31 ticks ends with the tick after it. It costs the
+    /// same however far this is.
+    #[tactic(auto, using(crate::proofs::Stirs::is_idle, crate::proofs::Stirs::is_soon))]
+    pub fn idle_until(&self, view: &View) -> Idle
+        ensures value { result ≡ idle_of self.now.setup view.now (queues_of self.now.ports.fifos) self.now.registers }
+        ensures first { IsIdle self.now.setup view.now (queues_of self.now.ports.fifos) self.now.registers result }
+        ensures below { IsSoon result }
+    {
+        idling::idle_of(
+            &self.setup,
+            view,
+            &self.fifos,
+            &self.decoded,
+            &self.registers,
+        )
+    }
+
+    /// So many ticks at once, none of which stirs while it sees the same view. Only the delay counts. Their sticky flags are
+    /// not raised again, and all else that they want is nothing.
+    #[tactic(auto, using(crate::proofs::Stirs::passes))]
+    pub fn pass(&mut self, view: &View, ticks: u64)
+        requires { (k : ℕ) → k < ticks → stirs_at self.old.setup view.now (queues_of self.old.ports.fifos) self.old.registers k ≡ false }
+        ensures ticks { self.new ≡ record self.old {
+          registers =
+              after_ticks self.old.setup view.now (queues_of self.old.ports.fifos) ticks self.old.registers;
+        } }
+        ensures delay { self.new ≡ record self.old {
+          registers = record self.old.registers { delay = self.old.registers.delay - ticks };
+        } }
+    {
+        let left = u64::from(self.registers.delay).saturating_sub(ticks);
+        self.registers.delay = left as u8;
     }
 
     /// How many words are in TX.

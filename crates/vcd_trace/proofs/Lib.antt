@@ -7,3 +7,4 @@ pub mod Puts
 pub mod SilenceLaws
 pub mod TextLaws
 pub mod ToldLaws
+mod EdgeLaws

@@ -5,3 +5,4 @@ pub mod Standing
 pub mod Listing
 pub mod Shows
 pub mod Groups
+pub mod Edges

@@ -4,6 +4,7 @@
 
 mod changes;
 mod dump;
+mod edges;
 mod header;
 mod laws;
 mod line;
@@ -12,6 +13,7 @@ mod trace;
 mod variable;
 mod vcd;
 
+pub use edges::EdgeTrace;
 pub use laws::{
     different_samples_have_lines, failing_early_leaves_a_first_part, repeated_samples_add_nothing,
     same_values_have_no_lines, text_only_grows, the_text_ends_with_its_length,

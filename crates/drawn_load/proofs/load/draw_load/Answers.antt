@@ -1,0 +1,13 @@
+use Rattle.std.proofs.Common.{ap, sym, subst, ◌∙◌}
+use Rattle.dreq_pacing.specs.Lines.{IsSchedule}
+use Rattle.drawn_load.specs.Draws.{letters_of, state_at}
+use Rattle.drawn_load.proofs.Schedules.{are_stimulus}
+use Rattle.drawn_load.proofs.load.draw_load.Goals as goal
+
+pub of-requires : goal.of-requires
+of-requires c =
+    let seed = c.args.seed in
+    let from = c.new-draws.ensures in
+    let letters = c.draw_letters-letters.ensures.letters ∙ ap letters_of from in
+    let state = c.draw_letters-letters.ensures.state ∙ ap (λ s. state_at s 7) from in
+    subst IsSchedule (sym (c.in_ok-lines.ensures seed letters state)) (are_stimulus seed)

@@ -1,0 +1,4 @@
+pub mod Draws
+pub mod Loads
+pub mod NoSide
+pub mod Machines

@@ -1,0 +1,92 @@
+//! Rows of a machine's next tick that stirs, worked by hand from the rules of the datasheet and of this profile. The machine
+//! sees the same in each tick, and ticks in each clock.
+use crate::machine_row::{PLAIN, setup_of};
+use fifo_pair::{Fifo, PlainFifo, RingFifo};
+use irq_flags::Flags;
+use sm_registers::{Idle, Intent, Machine, View};
+use std::alloc::{AllocError, Global};
+use std::test::Fail;
+
+/// Memory with a word at each address, and no pin or flag up.
+fn quiet_view(word: u16) -> View {
+    View {
+        memory: [word; 32],
+        seen: 0,
+        flags: Flags { up: 0 },
+    }
+}
+
+/// How long a machine idles after so many ticks of a word, beside a TX that then holds a word or is empty.
+fn idle_after<F: Fifo>(
+    alloc: Global,
+    word: u16,
+    ticks: u8,
+    tx: Option<u32>,
+) -> Result<Idle, AllocError> {
+    let view = quiet_view(word);
+    let mut machine = Machine::<F>::new(alloc, &setup_of(&PLAIN, 1))?;
+    for _ in 0..ticks {
+        let intent = machine.tick(&view);
+        machine.settle(&intent, None, false);
+    }
+    let intent = Intent::none();
+    machine.settle(&intent, tx, false);
+    Ok(machine.idle_until(&view))
+}
+
+#[test]
+fn stirs_next(rt: HostRuntime) -> Result<(), Fail> {
+    // The word, the ticks before, the word in TX, the ticks before the next one that stirs.
+    static ROWS: [(u16, u8, Option<u32>, Idle); 9] = [
+        // `set x, 31 [31]`: the first tick begins it, 31 are of its delay, and then the next one begins.
+        (0xff3f, 0, None, Idle::Ticks(0)),
+        (0xff3f, 1, None, Idle::Ticks(31)),
+        (0xff3f, 5, None, Idle::Ticks(27)),
+        (0xff3f, 32, None, Idle::Ticks(0)),
+        // `wait 1 gpio 0` stalls while the pin is low, which its first tick doesn't know.
+        (0x2080, 0, None, Idle::Ticks(0)),
+        (0x2080, 1, None, Idle::Never),
+        // `pull block` waits for a word.
+        (0x80a0, 1, None, Idle::Never),
+        (0x80a0, 3, None, Idle::Never),
+        (0x80a0, 3, Some(7), Idle::Ticks(0)),
+    ];
+    for &(word, ticks, tx, want) in &ROWS {
+        assert!(rt;
+            idle_after::<PlainFifo>(rt.alloc(), word, ticks, tx)? == want,
+            "{word:04x} after {ticks}"
+        );
+        assert!(rt;
+            idle_after::<RingFifo>(rt.alloc(), word, ticks, tx)? == want,
+            "{word:04x} after {ticks}"
+        );
+    }
+    Ok(())
+}
+
+/// Passes the ticks before the next one that stirs, or a million million where there is none.
+fn pass_idle<F: Fifo>(machine: &mut Machine<F>, view: &View) {
+    match machine.idle_until(view) {
+        Idle::Ticks(ticks) => machine.pass(view, u64::from(ticks)),
+        Idle::Never => machine.pass(view, 1_000_000_000_000),
+    }
+}
+
+#[test]
+fn passes_at_once(rt: HostRuntime) -> Result<(), Fail> {
+    for word in [0xff3f, 0x2080] {
+        let view = quiet_view(word);
+        let mut machine = Machine::<RingFifo>::new(rt.alloc(), &setup_of(&PLAIN, 1))?;
+        let before = machine.idle_until(&view);
+        assert!(rt; before == Idle::Ticks(0), "{word:04x}");
+        machine.tick(&view);
+        pass_idle(&mut machine, &view);
+        let want = if word == 0xff3f {
+            Idle::Ticks(0)
+        } else {
+            Idle::Never
+        };
+        assert!(rt; machine.idle_until(&view) == want, "{word:04x}");
+    }
+    Ok(())
+}
