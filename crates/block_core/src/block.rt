@@ -17,12 +17,12 @@ use crate::merging::{Wanted, outside_after};
 use crate::resting::{rest, sooner};
 use crate::slot::Slot;
 use dreq_pacing::{Due, Requests};
-use fifo_pair::Fifo;
+use fifo_pair::{Fifo, a_quiet_clock_changes_nothing};
 use irq_flags::Flags;
 use pin_matrix::{
     MachineSetup, Setup, Sync, no_write_changes_nothing, pad_of, the_last_write_stands,
 };
-use sm_registers::{Intent, Shown, View};
+use sm_registers::{Intent, Shown, View, a_calm_tick_only_counts, a_calm_tick_tells_nothing_new};
 use std::alloc::{AllocError, Global};
 use std::marker::Model;
 
@@ -133,6 +133,7 @@ impl<F: Fifo> Block<F> {
     {
         the_last_write_stands();
         no_write_changes_nothing();
+        a_calm_tick_tells_nothing_new();
         let outside = outside_after(self.outside, due);
         let pad = pad_of(self.levels, self.directions, outside);
         self.outside = outside;
@@ -157,6 +158,9 @@ impl<F: Fifo> Block<F> {
     pub fn next_stir(&self) -> Option<u64>
         ensures first { IsFirst (λ n. moves_on quiet (run_from self.now.run (λ c. quiet) n)) 0 result }
     {
+        a_calm_tick_only_counts();
+        a_calm_tick_tells_nothing_new();
+        a_quiet_clock_changes_nothing();
         let pad = pad_of(self.levels, self.directions, self.outside);
         if !self.sync.settled(pad) {
             return Some(0);
@@ -182,6 +186,9 @@ impl<F: Fifo> Block<F> {
             run_from self.old.run (λ c. quiet) k ≡ rested k self.old.run }
         ensures calls { self.new.calls ≡ self.old.calls }
     {
+        a_calm_tick_only_counts();
+        a_calm_tick_tells_nothing_new();
+        a_quiet_clock_changes_nothing();
         let pad = pad_of(self.levels, self.directions, self.outside);
         self.view.seen = self.sync.seen(pad);
         rest(&mut self.first, &self.view, clocks);

@@ -14,7 +14,7 @@ use clock_divider::Divider;
 use dreq_pacing::Due;
 use fifo_pair::Fifo;
 use pin_matrix::MachineSetup;
-use sm_registers::{Idle, Intent, Machine, Shown, View};
+use sm_registers::{Idle, Intent, Machine, Shown, View, a_calm_tick_only_counts};
 use std::alloc::{AllocError, Global};
 use std::marker::Model;
 
@@ -148,6 +148,7 @@ impl<F: Fifo> Slot<F> {
     pub fn next_stir(&self, view: &View) -> Option<u64>
         ensures { IsFirst (stirs_after view.now (Some self.now)) 0 result }
     {
+        a_calm_tick_only_counts();
         if !self.enabled {
             return None;
         }
@@ -163,6 +164,7 @@ impl<F: Fifo> Slot<F> {
         requires calm { (k : ℕ) → k < clocks → stirs_after view.now (Some self.old) k ≡ false }
         ensures { self.new ≡ rested_slot clocks self.old }
     {
+        a_calm_tick_only_counts();
         if self.enabled {
             let ticks = self.divider.ticks_within(clocks);
             self.machine.pass(view, ticks);
