@@ -18,6 +18,8 @@ mod flag_tests;
 #[cfg(test)]
 mod idle_tests;
 #[cfg(test)]
+mod leap_tests;
+#[cfg(test)]
 mod machine_fifos;
 #[cfg(test)]
 mod machine_flow;
@@ -37,3 +39,5 @@ mod port_rows;
 mod run_tests;
 #[cfg(test)]
 mod shift_tests;
+#[cfg(test)]
+mod stir_rows;
