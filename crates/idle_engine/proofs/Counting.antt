@@ -6,20 +6,7 @@ use Rattle.block_core.specs.Block.{Run}
 use Rattle.block_core.specs.Hosted.{hosted_at}
 use Rattle.block_core.specs.Stirring.{stirring, stirs_in}
 
-at_most_one : (b : Bool) → cond b 1 0 ≤ 1
-at_most_one true = omega arith
-at_most_one false = omega arith
-
--- they are no more than there are clocks
-pub stirring-le : (start : Run) (lines : List Line) (n : ℕ) → stirring start lines n ≤ n
-unfolding stirring
-stirring-le start lines zero = omega arith
-stirring-le start lines (suc n) =
-    let before = stirring-le start lines n in
-    let one = at_most_one (stirs_in lines (hosted_at start lines n)) in
-    omega arith
-
--- they grow with the clocks
+-- those that stir grow with the clocks
 grows : (start : Run) (lines : List Line) (c n : ℕ) → stirring start lines c ≤ stirring start lines (c + n)
 unfolding stirring
 grows start lines c zero = subst (λ (k : ℕ). stirring start lines c ≤ stirring start lines k) (sym (add-zero c)) (let e : stirring start lines c ≤ stirring start lines c = omega arith in e)
