@@ -21,6 +21,64 @@ pub(crate) fn square_wave(spans: Spans) -> Setup {
     setup
 }
 
+/// Side-set on one pin, where an instruction says so.
+const OPTIONAL_SIDE_SET: SideRule = SideRule {
+    bits: 1,
+    opt: true,
+    pindirs: false,
+};
+
+/// `pull side 1 [7]`, `set x, 7 side 0 [7]`, `out pins, 1`, `jmp x--, 2 [6]`.
+const UART: [u16; 4] = [0x9fa0, 0xf727, 0x6001, 0x0642];
+
+/// A serial transmitter on pin 0, of 115,200 bits a second at 125 MHz: eight ticks a bit.
+pub(crate) fn uart(spans: Spans) -> Setup {
+    let mut setup = Setup::of(memory_of(&UART), spans);
+    setup.level = 1;
+    setup.out = 1;
+    let mut machine = MachineSetup::of(0, OPTIONAL_SIDE_SET);
+    machine.wrap_top = 3;
+    machine.out = Mapping { base: 0, count: 1 };
+    machine.side = Mapping { base: 0, count: 1 };
+    setup.place(divided(machine, 135, 162));
+    setup
+}
+
+/// `pull side 0`, `set x, 8`, `out pins, 1 [7]`, `nop side 1 [2]`, `wait 1 pin 1 [4]`, `in pins, 1 [7]`,
+/// `jmp x--, 2 side 0 [7]`, `push`.
+const I2C: [u16; 8] = [
+    0x90a0, 0xe028, 0x6701, 0xba42, 0x24a1, 0x4701, 0x1742, 0x8020,
+];
+
+/// The bytes of an I2C controller on pins 0 and 1, of 400,000 bits a second at 125 MHz: 32 ticks a bit. The lines are the pins 2
+/// and 3, which stay high.
+pub(crate) fn i2c(spans: Spans) -> Setup {
+    let mut setup = Setup::of(memory_of(&I2C), spans);
+    setup.level = 0b01;
+    setup.high = 0b1100;
+    setup.out = 0b11;
+    let mut machine = setting(MachineSetup::of(0, OPTIONAL_SIDE_SET), 0, 0);
+    machine.wrap_top = 7;
+    machine.in_base = 2;
+    machine.in_right = false;
+    machine.out_right = false;
+    machine.out = Mapping { base: 0, count: 1 };
+    machine.side = Mapping { base: 1, count: 1 };
+    setup.place(divided(machine, 9, 196));
+    setup
+}
+
+/// `set pins, 1 [31]`, `set pins, 0 [31]`.
+const DELAYS: [u16; 2] = [0xff01, 0xff00];
+
+/// Long delays under a tick of a microsecond at 125 MHz.
+pub(crate) fn delays(spans: Spans) -> Setup {
+    let mut setup = Setup::of(memory_of(&DELAYS), spans);
+    setup.out = 1;
+    setup.place(divided(setting(looped(0, 0, 1), 0, 1), 125, 0));
+    setup
+}
+
 /// `wait 1 pin 0`.
 const WAITS: [u16; 1] = [0x20a0];
 

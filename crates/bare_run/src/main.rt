@@ -1,5 +1,5 @@
 //! Runs a block whose trace is thrown away, so that the stepping alone can be timed, and prints what it shows at the end.
-//! Words: `square`, `waiting` or `four`, how many clocks, and the path of a stimulus, if any.
+//! Words: the name of a load, how many clocks, and the path of a stimulus, if any.
 #![tactic(auto)]
 
 mod loads;
@@ -13,7 +13,7 @@ use block_core::Block;
 use dreq_pacing::{Schedule, read_stimulus};
 use fifo_pair::RingFifo;
 use idle_engine::simulate;
-use loads::{four_machines, square_wave, waiting};
+use loads::{delays, four_machines, i2c, square_wave, uart, waiting};
 use no_trace::NoTrace;
 use pin_matrix::{Setup, Spans};
 use pio_edge::{FileShelf, Shelf};
@@ -78,6 +78,9 @@ fn setup_of(alloc: Global, name: &str) -> Option<Setup> {
         "square" => Some(square_wave(spans)),
         "waiting" => Some(waiting(spans)),
         "four" => Some(four_machines(spans)),
+        "uart" => Some(uart(spans)),
+        "i2c" => Some(i2c(spans)),
+        "delays" => Some(delays(spans)),
         _ => None,
     }
 }

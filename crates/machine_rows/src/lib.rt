@@ -18,6 +18,8 @@ mod flag_tests;
 #[cfg(test)]
 mod idle_tests;
 #[cfg(test)]
+mod leap_rows;
+#[cfg(test)]
 mod leap_tests;
 #[cfg(test)]
 mod machine_fifos;
@@ -41,3 +43,5 @@ mod run_tests;
 mod shift_tests;
 #[cfg(test)]
 mod stir_rows;
+#[cfg(test)]
+mod stir_tests;
