@@ -2,3 +2,4 @@ pub mod Draws
 pub mod Loads
 pub mod NoSide
 pub mod Machines
+pub mod Setups
