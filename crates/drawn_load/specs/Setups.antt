@@ -2,7 +2,8 @@
 --   Fits        that a row's numbers are in the ranges of a machine's setup
 --   machine_of  the setup of a machine by its row, with all else at its default
 --   setup_of    the setup of the block
-use Rattle.std.proofs.Common.{◌≡◌, ℕ, ◌+◌, ◌<◌, ◌≤◌, ◌==◌, ◌||◌, not, true, false, Some, [], ◌∷◌, refl, lit<, lit≤}
+use Rattle.std.proofs.Common.{◌≡◌, ℕ, ◌+◌, ◌<◌, ◌≤◌, ◌==◌, ◌||◌, not, true, false, Some, [], ◌∷◌, refl, lit<, lit≤, arith}
+use Rattle.std.proofs.lemmas.Bool.Decides.{nat_tests}
 use Rattle.std.proofs.Math.Nat.{le_trans}
 use Rattle.pin_matrix.specs.declared.machine.MachineSetup.{MachineSetup}
 use Rattle.pin_matrix.specs.declared.setup.Setup.{Setup}
@@ -82,7 +83,7 @@ pulse_fits = record {
 
 -- a divider of 1 or more may have a fraction
 divides_at : (n f : ℕ) → (not (1 + n == 0) || f == 0) ≡ true
-divides_at n f = refl
+divides_at n f = grind (arith, nat_tests)
 
 -- the row of machine 1 fits, whatever the seed is
 pub bits_fit : (seed : ℕ) → Fits (bits_row (letters_of seed))

@@ -1,35 +1,55 @@
 -- What the run of a load comes to (choice of this profile).
---   summary_of_run  the summary of a run beside a stimulus
---   summary_of      the summary of the load of a seed
---   summary_text    its text: six lines
-use Rattle.std.specs.Prelude.{ℕ, List, ◌++◌, codes, decimal}
-use Rattle.dreq_pacing.specs.declared.line.Line.{Line}
+--   start_of      the block of a load at the start of its run
+--   edges_of      how often a pin's output level changes in its first clocks
+--   times         in how many clocks something is so
+--   summary_of    the summary of the load of a seed
+--   summary_text  its text: six lines
+use Rattle.std.specs.Prelude.{ℕ, zero, suc, Bool, false, List, ◌++◌, codes, decimal, slice_index_or}
+use Rattle.dreq_pacing.specs.declared.due.Due.{Due}
+use Rattle.block_core.specs.Slots.{counted}
 use Rattle.block_core.specs.Block.{Run, first_run}
-use Rattle.block_core.specs.Hosted.{hosted_at, samples}
-use Rattle.block_core.specs.Shown.{moved_of}
+use Rattle.block_core.specs.Hosted.{samples, host_of}
 use Rattle.vcd_trace.specs.Edges.{edges_in}
 use Rattle.drawn_load.specs.Setups.{setup_of}
 use Rattle.drawn_load.specs.Loads.{lines_of}
 use Rattle.load_summary.specs.declared.summary.Summary.{Summary}
 
--- how often the output level of a pin changes in the clocks of a run before this one, with the levels of its start before clock 0
-abbrev pub edges_of : ℕ → Run → List Line → ℕ → ℕ
-edges_of pin start lines clocks = edges_in pin start.state.levels (samples start lines clocks)
+-- the block of a load at the start of its run
+abbrev pub start_of : ℕ → Run
+start_of seed = first_run (setup_of seed)
 
--- The summary of a run: its edges in the clocks before this one, and what its transfers moved in them.
-unfoldable pub summary_of_run : Run → List Line → ℕ → Summary
-summary_of_run start lines clocks = record {
+-- how often the output level of a pin changes in so many clocks, with the levels of the start before clock 0
+abbrev pub edges_of : (pin seed clocks : ℕ) → ℕ
+edges_of pin seed clocks = edges_in pin (start_of seed).state.levels (samples (start_of seed) (lines_of seed) clocks)
+
+-- what the system does in a clock of the run
+abbrev pub host_in : (seed clock : ℕ) → Due
+host_in seed clock = host_of (start_of seed) (lines_of seed) clock
+
+-- in how many of the first clocks something is so
+unfoldable pub times : (ℕ → Bool) → ℕ → ℕ
+times so zero = 0
+times so (suc clock) = counted (so clock) (times so clock)
+
+-- how many words transfers moved into a machine's TX in so many clocks: one in each clock in which they move any
+abbrev pub sent_to : (machine seed clocks : ℕ) → ℕ
+sent_to machine seed clocks = times (λ clock. slice_index_or (host_in seed clock).word_paced machine false) clocks
+
+-- the same out of its RX
+abbrev pub got_from : (machine seed clocks : ℕ) → ℕ
+got_from machine seed clocks = times (λ clock. slice_index_or (host_in seed clock).read_paced machine false) clocks
+
+-- The summary of the load of a seed over so many clocks: the edges of the pins 0, 1 and 3, the words that the feed moved and those
+-- that the drain moved.
+unfoldable pub summary_of : (seed clocks : ℕ) → Summary
+summary_of seed clocks = record {
   clocks = clocks;
-  edges_0 = edges_of 0 start lines clocks;
-  edges_1 = edges_of 1 start lines clocks;
-  edges_3 = edges_of 3 start lines clocks;
-  sent = (moved_of 1 (hosted_at start lines clocks).run.state).0;
-  got = (moved_of 2 (hosted_at start lines clocks).run.state).1;
+  edges_0 = edges_of 0 seed clocks;
+  edges_1 = edges_of 1 seed clocks;
+  edges_3 = edges_of 3 seed clocks;
+  sent = sent_to 1 seed clocks;
+  got = got_from 2 seed clocks;
 }
-
--- The summary of the load of a seed over so many clocks.
-abbrev pub summary_of : (seed clocks : ℕ) → Summary
-summary_of seed clocks = summary_of_run (first_run (setup_of seed)) (lines_of seed) clocks
 
 -- the line of a number
 unfoldable pub line : List ℕ → ℕ → List ℕ

@@ -36,10 +36,6 @@ fn put_line<S: Sink>(sink: &mut S, name: &str, number: u64) -> Result<(), SinkFa
     let mut digits = Buffer::new();
     put_all(
         sink,
-        &[
-            name.as_bytes(),
-            digits.format(number).as_bytes(),
-            b"\n",
-        ],
+        &[name.as_bytes(), digits.format(number).as_bytes(), b"\n"],
     )
 }

@@ -1,11 +1,12 @@
 //! The run of a load, clock by clock, and what is counted in it.
 ghost use Rattle.std.specs.Prelude.{◌≡◌, ◌+◌, ◌≤◌, ◌^◌, IfOk};
-ghost use Rattle.load_summary.specs.Summaries.{summary_of, summary_of_run};
+ghost use Rattle.load_summary.specs.Counted.{counted_run};
+ghost use Rattle.load_summary.specs.Summaries.{summary_of};
 
 use crate::summary::Summary;
 use block_core::Block;
-use dreq_pacing::Schedule;
 use drawn_load::draw_load;
+use dreq_pacing::Schedule;
 use fifo_pair::{Fifo, RingFifo};
 use idle_engine::simulate;
 use std::alloc::{AllocError, Global};
@@ -39,7 +40,7 @@ fn counted<F: Fifo, L: Ledger>(
 ) -> Summary
     requires fresh { block.old.run.clock ≡ 0 }
     requires within { clocks ≤ 10 ^ 12 }
-    ensures summary { result ≡ summary_of_run block.old.run schedule.now clocks }
+    ensures summary { result ≡ counted_run block.old.run schedule.now clocks }
     ensures steps { steps.new ≤ steps.old + clocks }
 {
     let mut trace = EdgeTrace::new(block.view().level);

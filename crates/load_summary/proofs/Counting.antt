@@ -1,0 +1,34 @@
+-- No count of edges reaches the most that a trace can keep: a clock has one edge of a pin at most.
+use Rattle.std.proofs.Common.{◌≡◌, ℕ, zero, suc, ◌+◌, ◌≤◌, ◌^◌, ◌-◌, ◌==◌, Bool, true, false, List, [], ◌∷◌, ◌++◌, length, min, cond, refl, arith, length-append}
+use Rattle.dreq_pacing.specs.declared.line.Line.{Line}
+use Rattle.block_core.specs.declared.sample.Sample.{Sample}
+use Rattle.block_core.specs.Block.{Run}
+use Rattle.block_core.specs.Hosted.{samples, sample_at}
+use Rattle.vcd_trace.specs.Edges.{edge_of, edges_in, most}
+
+one_at_most : (same : Bool) → cond same 0 1 ≤ 1
+one_at_most true = omega arith
+one_at_most false = omega arith
+
+edges_few : (pin before : ℕ) (l : List Sample) → edges_in pin before l ≤ length l
+unfolding edges_in
+edges_few pin before [] = omega arith
+edges_few pin before (s ∷ rest) =
+    let one : edge_of pin before s.level ≤ 1 = one_at_most _ in
+    let few = edges_few pin s.level rest in
+    omega arith
+
+-- one sample a clock
+samples_many : (start : Run) (lines : List Line) (n : ℕ) → length (samples start lines n) ≡ n
+unfolding samples
+samples_many start lines zero = refl
+samples_many start lines (suc n) =
+    let before = samples_many start lines n in
+    omega (arith, length-append (samples start lines n) (sample_at start lines n ∷ []))
+
+pub all_counted : (pin levels : ℕ) (start : Run) (lines : List Line) (n : ℕ) → n ≤ 10 ^ 12
+    → min (edges_in pin levels (samples start lines n)) most ≡ edges_in pin levels (samples start lines n)
+all_counted pin levels start lines n within =
+    let few = edges_few pin levels (samples start lines n) in
+    let many = samples_many start lines n in
+    omega arith
