@@ -1,10 +1,11 @@
 -- No count of edges reaches the most that a trace can keep: a clock has one edge of a pin at most.
-use Rattle.std.proofs.Common.{◌≡◌, ℕ, zero, suc, ◌+◌, ◌≤◌, ◌^◌, ◌-◌, ◌==◌, Bool, true, false, List, [], ◌∷◌, ◌++◌, length, min, cond, refl, arith, length-append}
+use Rattle.std.proofs.Common.{◌≡◌, ℕ, zero, suc, ◌+◌, ◌≤◌, ◌^◌, ◌-◌, ◌==◌, Bool, true, false, List, [], ◌∷◌, ◌++◌, length, min, cond, ap, refl, ◌∙◌, arith, length-append}
 use Rattle.dreq_pacing.specs.declared.line.Line.{Line}
 use Rattle.block_core.specs.declared.sample.Sample.{Sample}
 use Rattle.block_core.specs.Block.{Run}
 use Rattle.block_core.specs.Hosted.{samples, sample_at}
 use Rattle.vcd_trace.specs.Edges.{edge_of, edges_in, most}
+use Rattle.load_summary.specs.declared.summary.Summary.{Summary}
 
 one_at_most : (same : Bool) → cond same 0 1 ≤ 1
 one_at_most true = omega arith
@@ -32,3 +33,12 @@ all_counted pin levels start lines n within =
     let few = edges_few pin levels (samples start lines n) in
     let many = samples_many start lines n in
     omega arith
+
+abbrev summary : (clocks a b c sent got : ℕ) → Summary
+summary clocks a b c sent got = record { clocks = clocks; edges_0 = a; edges_1 = b; edges_3 = c; sent = sent; got = got }
+
+-- summaries of the same clocks with equal numbers are one
+pub same_summary : (n : ℕ) {a b c d e u v w x y : ℕ} → a ≡ u → b ≡ v → c ≡ w → d ≡ x → e ≡ y → summary n a b c d e ≡ summary n u v w x y
+same_summary n {a} {b} {c} {d} {e} {u} {v} {w} {x} {y} p q r s t =
+    ap (λ i. summary n i b c d e) p ∙ ap (λ i. summary n u i c d e) q ∙ ap (λ i. summary n u v i d e) r
+    ∙ ap (λ i. summary n u v w i e) s ∙ ap (λ i. summary n u v w x i) t

@@ -4,7 +4,6 @@ use Rattle.std.specs.Prelude.{slice_index_or}
 use Rattle.std.proofs.Math.ListN.{get_or-map}
 use Rattle.dreq_pacing.specs.declared.line.Line.{Line}
 use Rattle.dreq_pacing.specs.declared.due.Due.{Due}
-use Rattle.sm_registers.specs.declared.view.View.{View}
 use Rattle.block_core.specs.Slots.{Slot, counted, place_after, slot_after, settled_slot}
 use Rattle.block_core.specs.Block.{Run, next, stepped, view_of, seen_in}
 use Rattle.block_core.specs.Hosted.{hosted_at, hosted_next, host_of}
@@ -22,23 +21,26 @@ record Has (id sent received : ℕ) (place : Option Slot) : Type 0 where
   into : slot.sent ≡ sent
   out_of : slot.received ≡ received
 
+-- what becomes of a place in a clock of a run
+abbrev place_in : Due → Run → Option Slot → Option Slot
+place_in d r place = place_after (view_of r.memory (seen_in d r) r.state) d place
+
 -- a clock more
-after : (v : View) (d : Due) (id a b : ℕ) (place : Option Slot) → Has id a b place
-    → Has id (counted (slice_index_or d.word_paced id false) a) (counted (slice_index_or d.read_paced id false) b) (place_after v d place)
+after : (r : Run) (d : Due) (id a b : ℕ) (place : Option Slot) → Has id a b place
+    → Has id (counted (slice_index_or d.word_paced id false) a) (counted (slice_index_or d.read_paced id false) b) (place_in d r place)
 unfolding settled_slot
-after v d id a b place h = record {
-  slot = slot_after v d h.slot;
-  is = ap (place_after v d) h.is;
+after r d id a b place h = record {
+  slot = slot_after (view_of r.memory (seen_in d r) r.state) d h.slot;
+  is = ap (place_in d r) h.is;
   number = h.number;
   into = ap₂ (λ k n. counted (slice_index_or d.word_paced k false) n) h.number h.into;
   out_of = ap₂ (λ k n. counted (slice_index_or d.read_paced k false) n) h.number h.out_of;
 }
 
 -- a place goes its own way
-place_next : (id : ℕ) (d : Due) (r : Run)
-    → slice_index_or (next d r).state.machines id None ≡ place_after (view_of r.memory (seen_in d r) r.state) d (slice_index_or r.state.machines id None)
+place_next : (id : ℕ) (d : Due) (r : Run) → slice_index_or (next d r).state.machines id None ≡ place_in d r (slice_index_or r.state.machines id None)
 unfolding next stepped
-place_next id d r = get_or-map (place_after (view_of r.memory (seen_in d r) r.state) d) r.state.machines id None
+place_next id d r = get_or-map (place_in d r) r.state.machines id None
 
 -- a machine that begins with none
 all_moved : (start : Run) (lines : List Line) (id n : ℕ) → Has id 0 0 (slice_index_or start.state.machines id None)
@@ -49,7 +51,7 @@ all_moved start lines id zero h = h
 all_moved start lines id (suc n) h =
     let r = (hosted_at start lines n).run in
     let d = host_of start lines n in
-    subst (Has id _ _) (sym (place_next id d r)) (after (view_of r.memory (seen_in d r) r.state) d id _ _ (slice_index_or r.state.machines id None) (all_moved start lines id n h))
+    subst (Has id _ _) (sym (place_next id d r)) (after r d id _ _ (slice_index_or r.state.machines id None) (all_moved start lines id n h))
 
 -- the machine that is fed, and the one that is drained, begin with none
 fed : (seed : ℕ) → Has 1 0 0 (slice_index_or (start_of seed).state.machines 1 None)

@@ -52,13 +52,15 @@ summary_of seed clocks = record {
 }
 
 -- the line of a number
-unfoldable pub line : List ℕ → ℕ → List ℕ
+abbrev pub line : (name : List ℕ) → ℕ → List ℕ
 line name n = name ++ decimal n ++ codes "\n"
-
--- the lines of the three pins
-abbrev pub edge_lines : Summary → List ℕ
-edge_lines s = line (codes "edges 0 ") s.edges_0 ++ line (codes "edges 1 ") s.edges_1 ++ line (codes "edges 3 ") s.edges_3
 
 -- The text of a summary.
 unfoldable pub summary_text : Summary → List ℕ
-summary_text s = line (codes "clocks ") s.clocks ++ edge_lines s ++ line (codes "sent ") s.sent ++ line (codes "got ") s.got
+summary_text s =
+    line (codes "clocks ") s.clocks
+    ++ line (codes "edges 0 ") s.edges_0
+    ++ line (codes "edges 1 ") s.edges_1
+    ++ line (codes "edges 3 ") s.edges_3
+    ++ line (codes "sent ") s.sent
+    ++ line (codes "got ") s.got
