@@ -1,5 +1,5 @@
 -- The text of a summary, from the pieces that are put.
-use Rattle.std.proofs.Common.{◌≡◌, ◌∙◌, ℕ, List, [], ◌∷◌, ◌++◌, codes, decimal, append_assoc, append-nil, ap, sym}
+use Rattle.std.proofs.Common.{◌≡◌, ◌∙◌, ℕ, List, [], ◌∷◌, ◌++◌, codes, decimal, append_assoc, append-nil, ap}
 use Rattle.std.specs.List.{concat}
 use Rattle.load_summary.specs.declared.summary.Summary.{Summary}
 use Rattle.load_summary.specs.Summaries.{summary_text}

@@ -1,7 +1,7 @@
 //! What the run of a load comes to, in numbers.
 
 /// The summary of a load's run.
-#[derive(Clone, Copy, Debug, PartialEq, Eq)]
+#[derive(Clone, Copy)]
 pub struct Summary {
     /// How many clocks the run has.
     pub clocks: u64,

@@ -1,5 +1,5 @@
-use Rattle.std.proofs.Common.{◌≡◌, ℕ, ◌<◌, min, [], ◌∷◌, Some, ap, ◌∙◌, refl, arith, lit<}
-use Rattle.block_core.specs.Hosted.{hosted_at, samples}
+use Rattle.std.proofs.Common.{◌≡◌, ℕ, min, [], ◌∷◌, Some, ap, ◌∙◌, refl, lit<}
+use Rattle.block_core.specs.Hosted.{samples}
 use Rattle.block_core.specs.Shown.{sample_of, moved_of}
 use Rattle.vcd_trace.specs.Edges.{edges_in, HasCounted}
 use Rattle.load_summary.specs.Counted.{counted_run}
