@@ -1,2 +1,3 @@
 mod DrawLaws
 mod Schedules
+mod OneSetup

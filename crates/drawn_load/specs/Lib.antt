@@ -2,3 +2,5 @@ pub mod Draws
 pub mod Loads
 pub mod NoSide
 pub mod Machines
+pub mod Setups
+pub mod Follows

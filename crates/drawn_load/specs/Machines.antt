@@ -1,9 +1,7 @@
--- The four machines of a load (choice of this profile): their programs, and their setups.
+-- The four machines of a load (choice of this profile): their programs, and a row of numbers for each.
 --   memory_of  the instruction memory
---   rows_of    a row for each machine
---   Follows    that a machine's setup is what its row says, with all else at its default
---   IsLoad     the setup of the block
-use Rattle.std.specs.Prelude.{◌≡◌, ℕ, ◌++◌, Bool, true, false, Option, Some, None, List, [], ◌∷◌, replicate}
+--   pulse_row, bits_row, reader_row, answer_row   the rows of machines 0 to 3
+use Rattle.std.specs.Prelude.{ℕ, ◌++◌, Bool, true, false, None, List, [], ◌∷◌, replicate}
 use Rattle.pio_encode.specs.declared.act.Act.{Act}
 use Rattle.pio_encode.specs.declared.act.Act.TheVariants.{Wait, In, Out, Irq, Set}
 use Rattle.pio_encode.specs.declared.act.WaitSource.TheVariants as wait_source
@@ -11,9 +9,6 @@ use Rattle.pio_encode.specs.declared.act.InSource.TheVariants as in_source
 use Rattle.pio_encode.specs.declared.act.OutDestination.TheVariants as out_destination
 use Rattle.pio_encode.specs.declared.act.SetDestination.TheVariants as set_destination
 use Rattle.pio_encode.specs.Word.{word_of}
-use Rattle.pin_matrix.specs.Setups.{IsRow}
-use Rattle.pin_matrix.specs.declared.machine.MachineSetup.{MachineSetup}
-use Rattle.pin_matrix.specs.declared.setup.Setup.{Setup}
 use Rattle.drawn_load.specs.Draws.{Letters}
 use Rattle.drawn_load.specs.NoSide.{no_side_set}
 
@@ -89,53 +84,3 @@ reader_row = record (looped_row 2 4 6) { in_base = 2; autopush = true }
 -- machine 3: an answer to the flag on pin 3
 abbrev pub answer_row : Row
 answer_row = record (looped_row 3 7 9) { set_base = 3; set_count = 1 }
-
--- the rows of the four machines
-abbrev pub rows_of : Letters → List Row
-rows_of l = pulse_row ∷ bits_row l ∷ reader_row ∷ answer_row ∷ []
-
--- A machine's setup is what its row says: it starts at its program's first word and wraps from the last one to it, without
--- side-set. All else is at its default.
-pub record Follows (r : Row) (m : MachineSetup) : Type 0 where
-  pub id : m.id ≡ r.id
-  pub start : m.start ≡ r.first
-  pub x : m.x ≡ 0
-  pub y : m.y ≡ 0
-  pub int : m.int ≡ r.int
-  pub frac : m.frac ≡ r.frac
-  pub side_rule : m.side_rule ≡ no_side_set
-  pub wrap_bottom : m.wrap_bottom ≡ r.first
-  pub wrap_top : m.wrap_top ≡ r.last
-  pub in_base : m.in_base ≡ r.in_base
-  pub jmp_pin : m.jmp_pin ≡ 0
-  pub out : IsRow m.out r.out_base r.out_count
-  pub set : IsRow m.set r.set_base r.set_count
-  pub side : IsRow m.side 0 0
-  pub in_right : m.in_right ≡ true
-  pub out_right : m.out_right ≡ true
-  pub autopush : m.autopush ≡ r.autopush
-  pub autopull : m.autopull ≡ r.autopull
-  pub push_threshold : m.push_threshold ≡ 32
-  pub pull_threshold : m.pull_threshold ≡ 32
-  pub join_tx : m.join_tx ≡ false
-  pub join_rx : m.join_rx ≡ false
-  pub status_rx : m.status_rx ≡ false
-  pub status_n : m.status_n ≡ 0
-
--- each machine is configured, and follows its row
-abbrev pub AllFollow : List Row → List (Option MachineSetup) → Type 0
-AllFollow [] [] = Unit {0}
-AllFollow [] (m ∷ ms) = ⊥
-AllFollow (r ∷ rs) [] = ⊥
-AllFollow (r ∷ rs) (None ∷ ms) = ⊥
-AllFollow (r ∷ rs) (Some m ∷ ms) = Follows r m × AllFollow rs ms
-
--- The setup of the block: pins 0, 1 and 3 are outputs, all pins are low and synchronised, and no span is asked of it.
-pub record IsLoad (l : Letters) (s : Setup) : Type 0 where
-  pub memory : s.memory ≡ memory_of l
-  pub machines : AllFollow (rows_of l) s.machines
-  pub high : s.high ≡ 0
-  pub level : s.level ≡ 0
-  pub out : s.out ≡ 11
-  pub bypass : s.bypass ≡ 0
-  pub spans : s.spans ≡ []

@@ -2,7 +2,8 @@
 ghost use Rattle.std.specs.Prelude.{◌≡◌, ℕ, IfOk};
 ghost use Rattle.drawn_load.specs.Draws.{letters_of, numbers_of, state_at};
 ghost use Rattle.drawn_load.specs.Loads.{lines_of, feed_line, drain_line};
-ghost use Rattle.drawn_load.specs.Machines.{IsLoad};
+ghost use Rattle.drawn_load.specs.Follows.{IsLoad};
+ghost use Rattle.drawn_load.specs.Setups.{setup_of};
 
 use crate::draws::Draws;
 use crate::first::draw_letters;
@@ -24,7 +25,7 @@ pub struct Load {
 
 /// The load of a seed, whatever the seed is. The error is want of memory, and no other end is free.
 pub fn draw_load(alloc: Global, seed: u64) -> Result<Load, AllocError>
-    ensures setup { IfOk result (λ load. IsLoad (letters_of seed) load.setup) }
+    ensures setup { IfOk result (λ load. load.setup ≡ setup_of seed) }
     ensures schedule { IfOk result (λ load. load.schedule ≡ lines_of seed) }
 {
     let mut draws = Draws::new(seed);

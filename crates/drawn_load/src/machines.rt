@@ -1,7 +1,8 @@
 //! The setups of the four machines.
 ghost use Rattle.std.specs.Prelude.{◌≡◌, ◌<◌, ◌≤◌};
 ghost use Rattle.drawn_load.specs.Draws.{numbers_of};
-ghost use Rattle.drawn_load.specs.Machines.{Follows, looped_row, pulse_row, bits_row, reader_row, answer_row};
+ghost use Rattle.drawn_load.specs.Follows.{Follows};
+ghost use Rattle.drawn_load.specs.Machines.{looped_row, pulse_row, bits_row, reader_row, answer_row};
 
 use crate::letters::Letters;
 use crate::no_side::no_side_set;

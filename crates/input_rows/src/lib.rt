@@ -1,4 +1,4 @@
-//! The worked rows of stimuli and of the words of a call, run over the public calls of their readers.
+//! The worked rows of stimuli, of loads and of the words of a call, run over the public calls of their readers.
 #![tactic(auto)]
 
 #[cfg(test)]
@@ -7,5 +7,7 @@ mod load_tests;
 mod port_tests;
 #[cfg(test)]
 mod stimulus_tests;
+#[cfg(test)]
+mod summary_tests;
 #[cfg(test)]
 mod word_tests;

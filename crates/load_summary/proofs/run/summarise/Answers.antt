@@ -1,0 +1,14 @@
+use Rattle.std.proofs.Common.{◌≡◌, ap, ap₂, ◌∙◌}
+use Rattle.block_core.specs.Block.{first_run}
+use Rattle.load_summary.specs.Summaries.{start_of}
+use Rattle.load_summary.specs.Counted.{counted_run}
+use Rattle.load_summary.proofs.Moves.{run_is}
+use Rattle.load_summary.proofs.run.summarise.Goals as goal
+
+pub returns-clause-summary : goal.returns-clause-summary
+returns-clause-summary g c =
+    let seed = c.args.seed in
+    let start : c.in_ok-block.block.run ≡ start_of seed = ap (λ b. b.run) c.in_ok-block.ensures ∙ ap first_run c.in_ok-load.ensures.setup in
+    c.counted.ensures.summary
+    ∙ ap₂ (λ run lines. counted_run run lines c.args.clocks) start c.in_ok-load.ensures.schedule
+    ∙ run_is seed c.args.clocks
