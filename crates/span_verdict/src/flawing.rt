@@ -28,7 +28,7 @@ pub fn flaw(table: &Table, setup: &Setup, span: &Span) -> Option<Flaw>
 /// What is wrong first with these rows of the table.
 fn rows_flaw(table: &Table, setup: &Setup, span: &Span, rows: Rows<'_>) -> Option<Flaw>
     requires { IsSome (slice_index_or setup.now.machines span.now.machine None) }
-    ensures { result ≡ spec.rows_flaw setup.now span.now table.now rows }
+    ensures { result ≡ spec.rows_flaw setup.now span.now table.now rows.entry }
 {
     let mut rest = rows;
     while let Some(row) = rest.next() {
