@@ -66,9 +66,9 @@ fn put_start<S: Sink>(sink: &mut S, front: &str, name: &[u8]) -> Result<(), Sink
         sink,
         &[
             front.as_bytes(),
-            "span ".as_bytes(),
+            b"span ",
             name,
-            " table: start\n".as_bytes(),
+            b" table: start\n",
         ],
     )
 }

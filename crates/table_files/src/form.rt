@@ -1,5 +1,5 @@
 //! The row of a line.
-ghost use Rattle.std.specs.Prelude.{◌≡◌, ◌<◌, IfSome, IsTrue, option_map};
+ghost use Rattle.std.specs.Prelude.{◌≡◌, ◌<◌, ◌∷◌, IfSome, IsTrue, option_map};
 ghost use Rattle.span_step.specs.Contexts.{is_small};
 ghost use Rattle.table_files.specs.Capped.{capped_ages, capped_said};
 ghost use Rattle.table_files.specs.Lines as spec;
@@ -49,14 +49,13 @@ fn said_in(line: &[u8]) -> Option<Said>
     let y = fields.next()?;
     let from = fields.next()?;
     let to = fields.next()?;
-    said_by(
-        number_in(address),
-        known_in(x),
-        known_in(y),
-        number_in(from),
-        number_in(to),
-        ages_in(fields),
-    )
+    let address = number_in(address);
+    let x = known_in(x);
+    let y = known_in(y);
+    let from = number_in(from);
+    let to = number_in(to);
+    let ages = ages_in(fields);
+    said_by(address, x, y, from, to, ages)
 }
 
 /// What a line says whose fields say this, if each says something.
@@ -96,18 +95,27 @@ fn known_in(field: &[u8]) -> Option<Option<u32>>
 
 /// What is said of ages by the fields that are left: none, or two numbers.
 fn ages_in(fields: Fields<'_>) -> Option<Ages>
-    ensures { result ≡ option_map capped_ages (spec.ages_in fields) }
+    ensures { result ≡ option_map capped_ages (spec.ages_in fields.entry) }
 {
     let mut rest = fields;
     let first = rest.next()?;
     match rest.next() {
         None => empty_in(first),
-        Some(second) => {
-            if rest.next().is_some() {
-                None
-            } else {
-                between(number_in(first), number_in(second))
-            }
+        Some(second) => open_in(first, second, rest),
+    }
+}
+
+/// Open ages by the fields of the least and the greatest, where no more are left.
+fn open_in(lo: &[u8], hi: &[u8], fields: Fields<'_>) -> Option<Ages>
+    ensures { result ≡ option_map capped_ages (spec.ages_in (lo.now ∷ hi.now ∷ fields.entry)) }
+{
+    let mut rest = fields;
+    match rest.next() {
+        Some(_) => None,
+        None => {
+            let least = number_in(lo);
+            let greatest = number_in(hi);
+            between(least, greatest)
         }
     }
 }

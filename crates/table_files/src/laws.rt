@@ -8,6 +8,8 @@ ghost use Rattle.table_files.specs.Reading.{table_of};
 ghost use Rattle.table_files.specs.Rows.{table_text};
 ghost use Rattle.table_files.specs.Told.{AreTold};
 
+use span_step::{a_step_is_monotone, ages_grow_up_to_the_cap};
+
 /// The text of a table is read back as that table, where its ages can be told.
 pub fn a_table_is_read_back()
     ensures { (rows : List row.Row) → IsTable rows → AreTold rows → table_of (table_text rows) ≡ Ok rows }
@@ -23,4 +25,7 @@ pub fn a_table_has_one_text()
 /// The ages of a least closed table can be told.
 pub fn a_least_table_is_told()
     ensures { (u : setup.Setup) (sp : span.Span) (rows : List row.Row) → IsLeast u sp rows → AreTold rows }
-{}
+{
+    a_step_is_monotone();
+    ages_grow_up_to_the_cap();
+}

@@ -5,7 +5,7 @@ ghost use Rattle.table_files.specs.Numbers as spec;
 use byte_lines::digit_of;
 
 /// Past every range: a number from here on counts as this.
-const PAST: u32 = 16_777_217;
+const PAST: u64 = 16_777_217;
 
 /// The number of a field, or `PAST` where it is more.
 pub(crate) fn number_in(field: &[u8]) -> Option<u32>
@@ -24,7 +24,7 @@ fn value_of(digits: &[u8]) -> Option<u32>
 {
     let mut value = 0;
     for byte in digits {
-        value = (value * 10 + digit_of(10, *byte)? as u32).min(PAST);
+        value = (value * 10 + digit_of(10, *byte)?).min(PAST);
     }
-    Some(value)
+    Some(value as u32)
 }

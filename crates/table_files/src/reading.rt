@@ -58,7 +58,8 @@ fn add_rows(table: &mut Table, text: &[u8]) -> Result<(), TableFault>
             return Err(left_open(number, line));
         };
         if line == b"end".as_slice() {
-            return ended(number + 1, next);
+            ended(number + 1, next)?;
+            return Ok(());
         }
         match read_row(line, least) {
             Err(kind) => return Err(wrong_at(number, kind)),
