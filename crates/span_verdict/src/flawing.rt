@@ -1,6 +1,6 @@
 //! What is wrong with a table first.
 ghost use Rattle.std.specs.Prelude.{◌≡◌, ◌↔◌, IsSome, None, slice_index_or};
-ghost use Rattle.span_bounds.specs.Tables.{IsClosed, IsGood};
+ghost use Rattle.span_bounds.specs.Tables.{IsTable, IsClosed, IsGood};
 ghost use Rattle.span_verdict.specs.Flaws as spec;
 
 use crate::rechecking::{all_lie_in, has_start};
@@ -17,9 +17,11 @@ pub fn flaw(table: &Table, setup: &Setup, span: &Span) -> Option<Flaw>
     requires { IsSome (slice_index_or setup.now.machines span.now.machine None) }
     ensures first { result ≡ spec.first_flaw setup.now span.now table.now }
     ensures none { (result ≡ None) ↔ (IsClosed setup.now span.now table.now × IsGood setup.now span.now table.now) }
+    ensures table { IsTable table.now }
 {
+    let rows = table.rows();
     if has_start(table, setup, span) {
-        rows_flaw(table, setup, span, table.rows())
+        rows_flaw(table, setup, span, rows)
     } else {
         Some(Flaw::Start)
     }

@@ -1,8 +1,7 @@
-use Rattle.std.proofs.Common.{◌≡◌, true, false, Option, Some, None, List, sym, ap, ◌∙◌}
+use Rattle.std.proofs.Common.{◌≡◌, true, false, Some, None, List, sym, ap, ◌∙◌}
 use Rattle.span_step.specs.declared.ages.Ages.TheVariants.{Empty}
 use Rattle.span_bounds.specs.declared.row.Row.{Row}
 use Rattle.span_bounds.specs.Tables.{start_context}
-use Rattle.span_verdict.specs.declared.table_flaw.Flaw.TheVariants.{Start}
 use Rattle.span_verdict.specs.Flaws.{rows_flaw}
 use Rattle.span_verdict.specs.Tables.{lies_in}
 use Rattle.span_verdict.proofs.Flawless.{flawless, no_flaw, unstarted}
@@ -15,7 +14,7 @@ returns-then-has_start-clause-none c =
     let t = c.args.table.now in
     let start : lies_in t (start_context u sp) Empty ≡ true = sym c.has_start.ensures ∙ c.if-has_start.true in
     let flaw : c.rows_flaw.result ≡ rows_flaw u sp t t =
-    c.rows_flaw.ensures ∙ ap (λ (rs : List Row). rows_flaw u sp t rs) c.rows.ensures.rows in
+    c.rows_flaw.ensures ∙ ap (λ (rs : List Row). rows_flaw u sp t rs) c.rows-rows.ensures.rows in
     (λ h. flawless u sp t start (sym flaw ∙ h), λ h. flaw ∙ no_flaw u sp t h)
 
 pub returns-else-has_start-clause-none : goal.returns-else-has_start-clause-none
