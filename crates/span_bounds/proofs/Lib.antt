@@ -11,4 +11,5 @@ pub mod Filled
 pub mod Firsts
 pub mod Members
 pub mod Prefix
+pub mod Pushed
 pub mod Marked

@@ -8,8 +8,8 @@ use span_step::Context;
 /// How many contexts there are: an address, X and Y with any, two levels.
 pub(crate) const CONTEXTS: usize = 139_392;
 
-/// A context's place in the order.
-pub(crate) fn number_of(context: &Context) -> usize
+/// A context's place in the order, below 139,392: by address, X and Y, where any comes after 31, and then the levels.
+pub fn number_of(context: &Context) -> usize
     ensures value { result ≡ spec.number_of context.now }
     ensures below { result < CONTEXTS }
     ensures placed { IsTrue (is_placed context.now.address context.now.x context.now.y) }

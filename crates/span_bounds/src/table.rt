@@ -1,14 +1,16 @@
 //! A table of the checker.
-ghost use Rattle.std.specs.Prelude.{◌≡◌};
+ghost use Rattle.std.specs.Prelude.{◌≡◌, ◌<◌, ◌∷◌, ◌++◌, [], IfOk};
 ghost use Rattle.span_bounds.specs.Numbers.{number_of};
 ghost use Rattle.span_bounds.specs.Tables as spec;
-ghost use Rattle.span_bounds.specs.Tables.{IsTable};
+ghost use Rattle.span_bounds.specs.Tables.{EachRow, IsTable};
 
 use crate::entry::Entry;
 use crate::grid::Grid;
 use crate::number;
+use crate::row::Row;
 use crate::rows::Rows;
 use span_step::{Ages, Context};
+use std::alloc::{AllocError, Global};
 use std::marker::Model;
 
 /// Contexts with their ages, each context once. It keeps an entry for each of the 139,392 contexts, and is seen as the list
@@ -35,6 +37,23 @@ impl Table {
         ensures { result ≡ spec.rows_from 0 grid }
     {
         Table { grid }
+    }
+
+    /// The table without rows, with room for any. The error is want of memory.
+    pub fn new(alloc: Global) -> Result<Table, AllocError>
+        ensures { IfOk result (λ table. table ≡ []) }
+    {
+        let grid = Grid::new(alloc)?;
+        Ok(Table { grid })
+    }
+
+    /// Adds a row whose context comes after those of all rows. It takes no memory.
+    pub fn push(&mut self, row: Row)
+        requires { EachRow (λ r. number_of r.context < number_of row.context) self.old }
+        ensures { self.new ≡ self.old ++ row ∷ [] }
+    {
+        let number = number::number_of(&row.context);
+        self.grid.put(number, Entry::Present(row.ages));
     }
 
     /// Its rows, in context order.

@@ -2,4 +2,6 @@
 #![tactic(auto)]
 
 #[cfg(test)]
+mod table_tests;
+#[cfg(test)]
 mod verdict_tests;

@@ -1,3 +1,4 @@
 pub mod Checks
+pub mod Flawless
 pub mod Sharers
 pub mod Unprovable

@@ -1,14 +1,18 @@
 //! The timing checker's verdict on a span: proved, unproved, or shared with another machine.
 #![tactic(auto)]
 
+mod flawing;
 mod judging;
 mod opening;
 mod rechecking;
 mod sharing;
+mod table_flaw;
 mod verdict;
 
+pub use flawing::flaw;
 pub use judging::judge;
 pub use opening::opens;
 pub use rechecking::recheck;
 pub use sharing::shared_by;
+pub use table_flaw::Flaw;
 pub use verdict::Verdict;

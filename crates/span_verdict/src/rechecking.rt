@@ -20,7 +20,7 @@ pub fn recheck(table: &Table, setup: &Setup, span: &Span) -> bool
 }
 
 /// Whether there is a row where tables start.
-fn has_start(table: &Table, setup: &Setup, span: &Span) -> bool
+pub(crate) fn has_start(table: &Table, setup: &Setup, span: &Span) -> bool
     requires { IsSome (slice_index_or setup.now.machines span.now.machine None) }
     ensures { result ≡ spec.lies_in table.now (tables.start_context setup.now span.now) Empty }
 {
@@ -38,7 +38,7 @@ fn is_right(table: &Table, setup: &Setup, span: &Span, row: &Row) -> bool
 }
 
 /// Whether each next lies within a row.
-fn all_lie_in(table: &Table, nexts: &[Next]) -> bool
+pub(crate) fn all_lie_in(table: &Table, nexts: &[Next]) -> bool
     ensures { result ≡ spec.all_lie_in table.now nexts.now }
 {
     nexts

@@ -1,0 +1,58 @@
+//! What is wrong with a table first.
+ghost use Rattle.std.specs.Prelude.{◌≡◌, ◌↔◌, IsSome, None, slice_index_or};
+ghost use Rattle.span_bounds.specs.Tables.{IsTable, IsClosed, IsGood};
+ghost use Rattle.span_verdict.specs.Flaws as spec;
+
+use crate::rechecking::{all_lie_in, has_start};
+use crate::table_flaw::Flaw;
+use pin_matrix::{Setup, Span};
+use span_bounds::{Row, Rows, Table};
+use span_step::step;
+
+/// What is wrong with the table first: no row for the start, or else the flaw of its least row in context order that has one,
+/// where an open row comes before a bad one. `None` exactly where the table is closed and good. The span's machine is
+/// configured. It takes no memory.
+#[tactic(auto, unfolding(crate::specs::Flaws::first_flaw))]
+pub fn flaw(table: &Table, setup: &Setup, span: &Span) -> Option<Flaw>
+    requires { IsSome (slice_index_or setup.now.machines span.now.machine None) }
+    ensures first { result ≡ spec.first_flaw setup.now span.now table.now }
+    ensures none { (result ≡ None) ↔ (IsClosed setup.now span.now table.now × IsGood setup.now span.now table.now) }
+    ensures table { IsTable table.now }
+{
+    let rows = table.rows();
+    if has_start(table, setup, span) {
+        rows_flaw(table, setup, span, rows)
+    } else {
+        Some(Flaw::Start)
+    }
+}
+
+/// What is wrong first with these rows of the table.
+fn rows_flaw(table: &Table, setup: &Setup, span: &Span, rows: Rows<'_>) -> Option<Flaw>
+    requires { IsSome (slice_index_or setup.now.machines span.now.machine None) }
+    ensures { result ≡ spec.rows_flaw setup.now span.now table.now rows.entry }
+{
+    let mut rest = rows;
+    while let Some(row) = rest.next() {
+        if let Some(flaw) = row_flaw(table, setup, span, &row) {
+            return Some(flaw);
+        }
+    }
+    None
+}
+
+/// What is wrong with a row of the table.
+#[tactic(auto, unfolding(crate::specs::Flaws::row_flaw))]
+fn row_flaw(table: &Table, setup: &Setup, span: &Span, row: &Row) -> Option<Flaw>
+    requires { IsSome (slice_index_or setup.now.machines span.now.machine None) }
+    ensures { result ≡ spec.row_flaw setup.now span.now table.now row.now }
+{
+    let stepped = step(setup, span, &row.context, &row.ages);
+    if !all_lie_in(table, stepped.nexts.as_slice()) {
+        return Some(Flaw::Open(row.context));
+    }
+    match stepped.causes.first() {
+        Some(cause) => Some(Flaw::Bad(row.context, cause)),
+        None => None,
+    }
+}

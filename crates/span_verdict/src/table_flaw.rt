@@ -1,0 +1,13 @@
+//! A flaw of a table.
+use span_step::{Cause, Context};
+
+/// What is wrong with a table.
+#[derive(Clone, Copy, Debug, PartialEq, Eq)]
+pub enum Flaw {
+    /// There is no row where tables start.
+    Start,
+    /// A next of the row of this context doesn't lie within a row.
+    Open(Context),
+    /// The row of this context is bad, and this is the first cause of it.
+    Bad(Context, Cause),
+}

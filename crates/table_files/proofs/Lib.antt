@@ -1,0 +1,11 @@
+pub mod Parted
+pub mod Pieces
+pub mod Digits
+pub mod Forms
+pub mod Goings
+pub mod Texts
+pub mod Numerals
+pub mod Readback
+pub mod OneText
+pub mod Rights
+pub mod LeastTold

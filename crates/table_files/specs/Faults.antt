@@ -1,0 +1,26 @@
+-- Why bytes aren't the text of a table.
+--   code_of          the code of a kind
+--   Refusal          a fault with its line
+--   told             the fault that a call tells
+use Rattle.std.specs.Prelude.{ℕ, Option, Some, None, List, codes}
+use Rattle.table_files.specs.declared.fault.TableKind.{TableKind}
+use Rattle.table_files.specs.declared.fault.TableKind.TheVariants.{BadLine, Range, Order, NoEnd}
+use Rattle.table_files.specs.declared.fault.TableFault.{TableFault}
+use Rattle.table_files.specs.declared.fault.TableFault.TheVariants.{Memory, At}
+
+-- the code of a kind (choice of this profile)
+abbrev pub code_of : TableKind → List ℕ
+code_of BadLine = codes "B1"
+code_of Range = codes "B2"
+code_of Order = codes "B3"
+code_of NoEnd = codes "B4"
+
+-- where a file is faulty, and why
+pub record Refusal : Type 0 where
+  pub line : ℕ
+  pub kind : TableKind
+
+-- the fault that is told, nothing where memory ran out
+abbrev pub told : TableFault → Option Refusal
+told Memory = None
+told (At line kind) = Some (record { line = line; kind = kind })

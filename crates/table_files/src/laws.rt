@@ -1,0 +1,31 @@
+//! Laws of table files, each on a function that does nothing.
+ghost use Rattle.std.specs.Prelude.{◌≡◌, ℕ, List, Ok};
+ghost use Rattle.pin_matrix.specs.declared.setup.Setup as setup;
+ghost use Rattle.pin_matrix.specs.declared.span.Span as span;
+ghost use Rattle.span_bounds.specs.declared.row.Row as row;
+ghost use Rattle.span_bounds.specs.Tables.{IsTable, IsLeast};
+ghost use Rattle.table_files.specs.Reading.{table_of};
+ghost use Rattle.table_files.specs.Rows.{table_text};
+ghost use Rattle.table_files.specs.Told.{AreTold};
+
+use span_step::{a_step_is_monotone, ages_grow_up_to_the_cap};
+
+/// The text of a table is read back as that table, where its ages can be told.
+pub fn a_table_is_read_back()
+    ensures { (rows : List row.Row) → IsTable rows → AreTold rows → table_of (table_text rows) ≡ Ok rows }
+{}
+
+/// A text that is read as a table is that table's text, so a table has one text; and its ages can be told.
+pub fn a_table_has_one_text()
+    ensures text { (bytes : List ℕ) (rows : List row.Row) → table_of bytes ≡ Ok rows → table_text rows ≡ bytes }
+    ensures table { (bytes : List ℕ) (rows : List row.Row) → table_of bytes ≡ Ok rows → IsTable rows }
+    ensures ages { (bytes : List ℕ) (rows : List row.Row) → table_of bytes ≡ Ok rows → AreTold rows }
+{}
+
+/// The ages of a least closed table can be told.
+pub fn a_least_table_is_told()
+    ensures { (u : setup.Setup) (sp : span.Span) (rows : List row.Row) → IsLeast u sp rows → AreTold rows }
+{
+    a_step_is_monotone();
+    ages_grow_up_to_the_cap();
+}

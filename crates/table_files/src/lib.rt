@@ -1,0 +1,18 @@
+//! Table files of the timing checker: a table as a text that anyone can recheck.
+#![tactic(auto)]
+
+mod fault;
+mod fields;
+mod flaw_line;
+mod form;
+mod laws;
+mod number;
+mod reading;
+mod said;
+mod writing;
+
+pub use fault::{TableFault, TableKind};
+pub use flaw_line::{put_flaw, put_rechecked};
+pub use laws::{a_least_table_is_told, a_table_has_one_text, a_table_is_read_back};
+pub use reading::read_table;
+pub use writing::put_table;
