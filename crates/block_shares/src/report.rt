@@ -4,6 +4,7 @@ ghost use Rattle.pio_edge.specs.Edge.{Takes, PutCounts};
 ghost use Rattle.block_shares.specs.Report as spec;
 
 use crate::sharing::{feels, feels_any, shares};
+use crate::touching::is_configured;
 use itoa::Buffer;
 use pin_matrix::Setup;
 use pio_edge::{Sink, SinkFailed, put_all};
@@ -26,7 +27,7 @@ fn put_machine<S: Sink>(sink: &mut S, setup: &Setup, m: u8) -> Result<(), SinkFa
     ensures bytes { Takes (S.taken sink.old) (spec.machine_text setup.now m) (S.taken sink.new) result }
     ensures cause { PutCounts (S.faults sink.old) (S.faults sink.new) result }
 {
-    if setup.machines[usize::from(m)].is_none() {
+    if !is_configured(&setup.machines, m) {
         return Ok(());
     }
     if feels_any(setup, m) {
