@@ -1,0 +1,10 @@
+pub mod Bits
+pub mod Counting
+pub mod Reaching
+pub mod Touching
+pub mod Ranged
+pub mod Going
+pub mod Changing
+pub mod Premises
+pub mod Seeing
+pub mod Homes
