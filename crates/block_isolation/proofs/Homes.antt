@@ -45,7 +45,7 @@ wild_reach memory s pc wild inside = ap (λ (t : Touches). has t.reach pc) wild 
 pub record Runs (memory : List ℕ) (v : View) (r : Registers) : Type 0 where
   pub word : current_word v r ≡ slice_index memory r.pc
 
-runs_memory : (memory : List ℕ) (v : View) (r : Registers) → v.memory ≡ memory → r.pending ≡ None → Runs memory v r
+pub runs_memory : (memory : List ℕ) (v : View) (r : Registers) → v.memory ≡ memory → r.pending ≡ None → Runs memory v r
 runs_memory memory v r same none = record {
   word = ap (λ (p : Option ℕ). word_at p v r.pc) none ∙ ap (λ (m : List ℕ). slice_index m r.pc) same;
 }

@@ -8,3 +8,5 @@ pub mod Changing
 pub mod Premises
 pub mod Seeing
 pub mod Homes
+pub mod Feeling
+pub mod Lining
