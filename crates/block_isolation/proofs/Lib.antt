@@ -10,3 +10,4 @@ pub mod Seeing
 pub mod Homes
 pub mod Feeling
 pub mod Lining
+pub mod Dues
