@@ -11,3 +11,4 @@ pub mod Homes
 pub mod Feeling
 pub mod Lining
 pub mod Dues
+pub mod Places
