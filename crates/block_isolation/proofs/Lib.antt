@@ -12,3 +12,4 @@ pub mod Feeling
 pub mod Lining
 pub mod Dues
 pub mod Places
+pub mod Running
