@@ -13,3 +13,4 @@ pub mod Lining
 pub mod Dues
 pub mod Places
 pub mod Running
+pub mod Others
