@@ -14,3 +14,4 @@ pub mod Dues
 pub mod Places
 pub mod Running
 pub mod Others
+pub mod Isolating
