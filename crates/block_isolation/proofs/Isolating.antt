@@ -53,11 +53,11 @@ acted_same ticks pins memory v w x same home seems =
     ap (λ (t : Registers × Intent). cond (has_tick x) t (x.machine.registers, no_intent))
     (tick_same ticks pins memory x.machine.setup v w (queues_of x.machine.ports.fifos) x.machine.registers same home seems)
 
-record SlotSame (v w : View) (d e : Due) (o : Option Slot) : Type 0 where
-  after : place_after v d o ≡ place_after w e o
-  intent : place_intent v d o ≡ place_intent w e o
+pub record SlotSame (v w : View) (d e : Due) (o : Option Slot) : Type 0 where
+  pub after : place_after v d o ≡ place_after w e o
+  pub intent : place_intent v d o ≡ place_intent w e o
 
-slot_same : TickLaws → PinLaws → (memory : List ℕ) (v w : View) (d e : Due) (x : Slot) → v.memory ≡ memory → HomeSlot memory x → SeemsSame (touched_by memory x.machine.setup) v w → SameDue x.machine.setup.id d e → SlotSame v w d e (Some x)
+pub slot_same : TickLaws → PinLaws → (memory : List ℕ) (v w : View) (d e : Due) (x : Slot) → v.memory ≡ memory → HomeSlot memory x → SeemsSame (touched_by memory x.machine.setup) v w → SameDue x.machine.setup.id d e → SlotSame v w d e (Some x)
 slot_same ticks pins memory v w d e x same home seems due =
     let act : acted v (lined d x) ≡ acted w (lined d x) = acted_same ticks pins memory v w (lined d x) same home.home seems in
     let line : lined d x ≡ lined e x = enabled_same d e x due in
@@ -81,7 +81,7 @@ pub record IsSameIn (m : ℕ) (t : Touches) (h k : Hosted) : Type 0 where
 read_is_own : (t : Touches) (p : ℕ) → has t.reads p ≡ true → has (own_pins t) p ≡ true
 read_is_own t p h = has_or_left t.reads t.writes p h
 
-seen_is_own : (t : Touches) (f : ℕ) → has t.sees f ≡ true → has (own_flags t) f ≡ true
+pub seen_is_own : (t : Touches) (f : ℕ) → has t.sees f ≡ true → has (own_flags t) f ≡ true
 seen_is_own t f h = has_or_left t.sees t.changes f h
 
 -- one write, pin by pin
@@ -103,16 +103,16 @@ values_bit laws lines fine h p inside =
     ∙ laws.level (lines_in h.run.clock lines) p (clock_lines h.run.clock lines fine) inside
 
 -- two schedules with the same own lines
-record AreLines (m reads : ℕ) (lines others : List Line) : Type 0 where
-  fine : IsSchedule lines
-  other : IsSchedule others
-  own : own_lines m reads lines ≡ own_lines m reads others
+pub record AreLines (m reads : ℕ) (lines others : List Line) : Type 0 where
+  pub fine : IsSchedule lines
+  pub other : IsSchedule others
+  pub own : own_lines m reads lines ≡ own_lines m reads others
 
 level_same : (m reads p : ℕ) (lines others : List Line) (h k : Hosted) → AreLines m reads lines others → h.run.clock ≡ k.run.clock → has reads p ≡ true → last_level p (lines_in h.run.clock lines) ≡ last_level p (lines_in k.run.clock others)
 level_same m reads p lines others h k are clock own =
     both_levels m reads p h.run.clock lines others own are.own ∙ ap (λ (c : ℕ). last_level p (lines_in c others)) clock
 
-outside_same : PinLaws → LineLaws → (m : ℕ) (t : Touches) (lines others : List Line) (h k : Hosted) → AreLines m t.reads lines others → h.run.clock ≡ k.run.clock → AgreeOn 32 t.reads h.run.state.outside k.run.state.outside → AgreeOn 32 t.reads (outside_after (due_of lines h) h.run.state.outside) (outside_after (due_of others k) k.run.state.outside)
+pub outside_same : PinLaws → LineLaws → (m : ℕ) (t : Touches) (lines others : List Line) (h k : Hosted) → AreLines m t.reads lines others → h.run.clock ≡ k.run.clock → AgreeOn 32 t.reads h.run.state.outside k.run.state.outside → AgreeOn 32 t.reads (outside_after (due_of lines h) h.run.state.outside) (outside_after (due_of others k) k.run.state.outside)
 outside_same pins laws m t lines others h k are clock same p inside own =
     let d = due_of lines h in
     let e = due_of others k in
@@ -125,7 +125,7 @@ outside_same pins laws m t lines others h k are clock same p inside own =
     ∙ (three (bit_at d.pins p) (bit_at d.values p) (bit_at h.run.state.outside p) (bit_at e.pins p) (bit_at e.values p) (bit_at k.run.state.outside p) set value old
     ∙ sym (written_bit pins k.run.state.outside p (e.pins, e.values) inside (due_write laws others are.other k))))
 
-pads_same : PinLaws → (m : ℕ) (t : Touches) (d e : Due) (a b : BlockState) → a.directions < 2 ^ 32 → b.directions < 2 ^ 32 → IsSameTo m t a b → AgreeOn 32 t.reads (outside_after d a.outside) (outside_after e b.outside) → AgreeOn 32 t.reads (pads_in d a) (pads_in e b)
+pub pads_same : PinLaws → (m : ℕ) (t : Touches) (d e : Due) (a b : BlockState) → a.directions < 2 ^ 32 → b.directions < 2 ^ 32 → IsSameTo m t a b → AgreeOn 32 t.reads (outside_after d a.outside) (outside_after e b.outside) → AgreeOn 32 t.reads (pads_in d a) (pads_in e b)
 pads_same pins m t d e a b word other same outside p inside own =
     let mine = read_is_own t p own in
     has_same _ _ p
@@ -133,7 +133,7 @@ pads_same pins m t d e a b word other same outside p inside own =
     ∙ (three _ _ _ _ _ _ (bits_same _ _ p (same.directions p inside mine)) (bits_same _ _ p (same.levels p inside mine)) (bits_same _ _ p (outside p inside own))
     ∙ sym (pins.pad b.levels b.directions (outside_after e b.outside) p other inside)))
 
-seen_same : PinLaws → (reads bypass other pad pad_2 x x_2 : ℕ) → bypass < 2 ^ 32 → other < 2 ^ 32 → AgreeOn 32 reads bypass other → AgreeOn 32 reads pad x → AgreeOn 32 reads pad_2 x_2 → AgreeOn 32 reads (seen_of bypass pad pad_2) (seen_of other x x_2)
+pub seen_same : PinLaws → (reads bypass other pad pad_2 x x_2 : ℕ) → bypass < 2 ^ 32 → other < 2 ^ 32 → AgreeOn 32 reads bypass other → AgreeOn 32 reads pad x → AgreeOn 32 reads pad_2 x_2 → AgreeOn 32 reads (seen_of bypass pad pad_2) (seen_of other x x_2)
 seen_same pins reads bypass other pad pad_2 x x_2 word words by now late p inside own =
     has_same _ _ p
     (pins.seen bypass pad pad_2 p word inside

@@ -15,3 +15,4 @@ pub mod Places
 pub mod Running
 pub mod Others
 pub mod Isolating
+pub mod Isolated

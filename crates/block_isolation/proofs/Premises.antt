@@ -25,7 +25,6 @@ pub record TickLaws : Type 0 where
   pub levels : (s : MachineSetup) (v : View) (q : Queues) (r : Registers) (p : ℕ) → p < 32 → holds s.out p ≡ false → holds s.set p ≡ false → (s.side_rule.pindirs || not (holds s.side p)) ≡ true → AllByRecursion (IsFree p) (tick_of s v q r).1.level
   pub directions : (s : MachineSetup) (v : View) (q : Queues) (r : Registers) (p : ℕ) → p < 32 → holds s.out p ≡ false → holds s.set p ≡ false → (not s.side_rule.pindirs || not (holds s.side p)) ≡ true → AllByRecursion (IsFree p) (tick_of s v q r).1.direction
   pub sees : (s : MachineSetup) (v w : View) (q : Queues) (r : Registers) → IsAlike s r v w → tick_of s v q r ≡ tick_of s w q r
-  pub waits : (s : MachineSetup) (v w : View) (q : Queues) (r : Registers) → 0 < r.delay → tick_of s v q r ≡ tick_of s w q r
 
 -- those of pins
 pub record PinLaws : Type 0 where
