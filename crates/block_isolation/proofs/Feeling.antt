@@ -1,35 +1,34 @@
 -- A machine that is among its words reads only its pins and flags, changes only its flags, and writes only its pins.
-use Rattle.std.proofs.Common.{◌≡◌, ◌∙◌, ℕ, ◌^◌, ◌<◌, nat_lt, bit_or, Bool, true, false, not, ◌||◌, cond, ◌⊎◌, Option, Some, None, List, slice_index, refl, sym, ap, subst, inl, inr, arith}
-use Rattle.std.proofs.lemmas.Bool.{cases_Bool, ltb-true}
+use Rattle.std.proofs.Common.{◌≡◌, ◌∙◌, ℕ, ◌^◌, ◌<◌, nat_lt, bit_or, Bool, true, false, not, ◌||◌, cond, Option, Some, None, List, slice_index, refl, sym, ap, inl, inr, arith}
+use Rattle.std.proofs.lemmas.Bool.{cases_Bool}
 use Rattle.std.specs.Int.{bit_at}
 use Rattle.std.specs.List.{AllByRecursion}
 use Rattle.pio_encode.specs.declared.act.Act.{Act}
 use Rattle.pio_encode.specs.declared.op.Op.{Op}
 use Rattle.pio_encode.specs.Word.{act_of, reading_of}
-use Rattle.pin_matrix.specs.Pins.{IsFree, writes_of, place_of}
+use Rattle.pin_matrix.specs.Pins.{IsFree}
 use Rattle.pin_matrix.specs.declared.machine.MachineSetup.{MachineSetup}
 use Rattle.pin_matrix.specs.declared.mapping.Mapping.{Mapping}
 use Rattle.sm_registers.specs.declared.registers.Registers.{Registers}
 use Rattle.sm_registers.specs.declared.view.View.{View}
 use Rattle.sm_registers.specs.declared.intent.Intent.{Intent}
-use Rattle.sm_registers.specs.Effects.{Effect, effect_of}
-use Rattle.sm_registers.specs.Laws.{IsAlike, read_of}
+use Rattle.sm_registers.specs.Effects.{effect_of}
+use Rattle.sm_registers.specs.Laws.{read_of}
 use Rattle.sm_registers.specs.Queues.{Queues}
 use Rattle.sm_registers.specs.Rules.{holds}
-use Rattle.sm_registers.specs.Tick.{word_at, current_word, after_effect, refilled, tick_delay, tick_by, tick_word, tick_of}
+use Rattle.sm_registers.specs.Tick.{word_at, current_word, tick_delay, tick_by, tick_word, tick_of}
 use Rattle.block_shares.specs.declared.touched.Touches.{Touches}
-use Rattle.block_shares.specs.Acts.{has, all_32, all_flags, pins_in, reads_of, sees_of, changes_of}
+use Rattle.block_shares.specs.Acts.{has, reads_of, sees_of, changes_of}
 use Rattle.block_shares.specs.Reach.{act_at, reach_of}
 use Rattle.block_shares.specs.Shares.{pins_of, writes_by, touched_wildly, touched_by}
-use Rattle.block_isolation.specs.Isolation.{AgreeOn}
 use Rattle.block_isolation.proofs.Bits.{bit_down, has_ones, has_or, or_none, has_zero}
-use Rattle.block_isolation.proofs.Changing.{IsAmong, ChangesAmong, changes_among}
+use Rattle.block_isolation.proofs.Changing.{IsAmong, changes_among}
 use Rattle.block_isolation.proofs.Homes.{IsHome, Runs, runs_memory}
 use Rattle.block_isolation.proofs.Premises.{TickLaws, PinLaws}
 use Rattle.block_isolation.proofs.Ranged.{ranged_word}
 use Rattle.block_isolation.proofs.Reaching.{gathered_has}
 use Rattle.block_isolation.proofs.Seeing.{SeesSame, reads_same}
-use Rattle.block_isolation.proofs.Touching.{IsTame, wild_or_tame, writes_same}
+use Rattle.block_isolation.proofs.Touching.{IsTame, wild_or_tame}
 
 -- two views are the same to a machine that touches this
 pub record SeemsSame (t : Touches) (v w : View) : Type 0 where
@@ -67,9 +66,9 @@ reads_alike laws memory s r v w same home sees =
     let range = (ranged_word (current_word v r)).range in
     let t = touched_by memory s in
     let wildly : t ≡ touched_wildly s → read_of act s r v ≡ read_of act s r w = λ wild.
-        reads_same laws act s r v w range (narrowed t (reads_of act s) (sees_of act s) v w sees
-        (λ i inside k. ap (λ (u : Touches). has u.reads i) wild ∙ has_ones 32 i inside)
-        (λ i inside k. ap (λ (u : Touches). has u.sees i) wild ∙ has_ones 8 i inside)) in
+    reads_same laws act s r v w range (narrowed t (reads_of act s) (sees_of act s) v w sees
+    (λ i inside k. ap (λ (u : Touches). has u.reads i) wild ∙ has_ones 32 i inside)
+    (λ i inside k. ap (λ (u : Touches). has u.sees i) wild ∙ has_ones 8 i inside)) in
     elim (wild_or_tame memory s) [
       | inl wild ↦ wildly wild
       | inr tame ↦ elim home.pending [
@@ -113,7 +112,6 @@ within_not some own f h k = elim (cases_Bool (has some f)) [
   | inr down ↦ down
 ]
 
-
 changes_tick : (t : Touches) (s : MachineSetup) (v : View) (q : Queues) (r : Registers) → ((f : ℕ) → f < 8 → has t.changes f ≡ false → has (changes_of (reading_of (current_word v r) s.side_rule).act s) f ≡ false) → ChangesOwn t (tick_of s v q r).1
 unfolding tick_of tick_delay tick_word tick_by
 changes_tick t s v q r h =
@@ -136,7 +134,7 @@ pub changes_own : (memory : List ℕ) (s : MachineSetup) (v : View) (q : Queues)
 changes_own memory s v q r same home =
     let t = touched_by memory s in
     let wildly : t ≡ touched_wildly s → ChangesOwn t (tick_of s v q r).1 = λ wild.
-        changes_tick t s v q r (λ f inside k. absurd (let up : has t.changes f ≡ true = ap (λ (u : Touches). has u.changes f) wild ∙ has_ones 8 f inside in cc)) in
+    changes_tick t s v q r (λ f inside k. absurd (let up : has t.changes f ≡ true = ap (λ (u : Touches). has u.changes f) wild ∙ has_ones 8 f inside in cc)) in
     elim (wild_or_tame memory s) [
       | inl wild ↦ wildly wild
       | inr tame ↦ elim home.pending [

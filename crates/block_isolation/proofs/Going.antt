@@ -14,7 +14,7 @@ use Rattle.pin_matrix.specs.declared.machine.MachineSetup.{MachineSetup}
 use Rattle.sm_registers.specs.declared.registers.Registers.{Registers}
 use Rattle.sm_registers.specs.declared.view.View.{View}
 use Rattle.sm_registers.specs.Queues.{Queues}
-use Rattle.sm_registers.specs.Effects.{Effect, quiet, stall, jumps, counted_down, autopushed, with_bits_in, with_bits_out, out_to, pulled, mov_to, jmp_effect, wait_effect, in_effect, out_effect, push_effect, pull_effect, mov_effect, irq_effect, set_effect, effect_of, in_word}
+use Rattle.sm_registers.specs.Effects.{Effect, jumps, counted_down, autopushed, with_bits_in, with_bits_out, out_to, pulled, mov_to, jmp_effect, wait_effect, in_effect, out_effect, push_effect, pull_effect, mov_effect, irq_effect, set_effect, effect_of, in_word}
 use Rattle.block_shares.specs.Acts.{has, leads_to, jump_leads_to, is_wild, is_wild_out, is_wild_mov}
 use Rattle.block_isolation.proofs.Bits.{has_own, has_or_left, has_or_right}
 
@@ -39,7 +39,6 @@ place_if false r x y h k = k
 
 plain : (r : Registers) (e : Effect) → e.jump ≡ None → e.pending ≡ None → e.registers.pc ≡ r.pc → e.registers.pending ≡ r.pending → IsPlain r e
 plain r e h k l m = record { jump = h; pending = k; registers = record { pc = l; pending = m } }
-
 
 plain_autopushed : (s : MachineSetup) (q : Queues) (r x : Registers) → HasPlaceOf r x → IsPlain r (autopushed s q x)
 plain_autopushed s q r x h = search (rules, plain_if)

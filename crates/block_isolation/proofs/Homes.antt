@@ -1,35 +1,25 @@
 -- A tick keeps a machine among the words that it reaches, reads only what those words read, and changes only what they change.
-use Rattle.std.proofs.Common.{◌≡◌, ◌∙◌, ℕ, ◌+◌, ◌-◌, ◌%◌, ◌^◌, ◌<◌, ◌==◌, nat_lt, nat_le, Bool, true, false, not, ◌&&◌, ◌||◌, cond, ◌⊎◌, Option, Some, None, is_some, List, slice_index, refl, sym, ap, subst, inl, inr, arith}
-use Rattle.std.proofs.lemmas.Bool.{cases_Bool, ltb-true}
-use Rattle.std.specs.List.{AllByRecursion}
+use Rattle.std.proofs.Common.{◌≡◌, ◌∙◌, ℕ, ◌+◌, ◌-◌, ◌%◌, ◌<◌, ◌==◌, nat_lt, nat_le, true, false, ◌&&◌, cond, ◌⊎◌, Option, Some, None, is_some, List, slice_index, refl, sym, ap, subst, inl, inr, arith}
+use Rattle.std.proofs.lemmas.Bool.{cases_Bool}
 use Rattle.pio_encode.specs.declared.act.Act.{Act}
 use Rattle.pio_encode.specs.declared.op.Op.{Op}
 use Rattle.pio_encode.specs.Word.{act_of, reading_of}
-use Rattle.pin_matrix.specs.Pins.{IsFree, writes_of}
 use Rattle.pin_matrix.specs.declared.machine.MachineSetup.{MachineSetup}
-use Rattle.pin_matrix.specs.declared.mapping.Mapping.{Mapping}
 use Rattle.sm_registers.specs.declared.registers.Registers.{Registers}
 use Rattle.sm_registers.specs.declared.view.View.{View}
-use Rattle.sm_registers.specs.declared.intent.Intent.{Intent}
 use Rattle.sm_registers.specs.Effects.{Effect, effect_of}
-use Rattle.sm_registers.specs.Laws.{IsAlike, read_of}
 use Rattle.sm_registers.specs.Queues.{Queues}
 use Rattle.sm_registers.specs.Ranges.{IsPlaced}
-use Rattle.sm_registers.specs.Rules.{holds}
 use Rattle.sm_registers.specs.Tick.{word_at, current_word, next_pc, pc_after, after_effect, osr_filled_from, refilled, tick_delay, tick_by, tick_word, tick_of}
 use Rattle.block_shares.specs.declared.touched.Touches.{Touches}
-use Rattle.block_shares.specs.Acts.{has, all_32, all_flags, leads_to, is_wild, pins_in, reads_of, sees_of, changes_of}
+use Rattle.block_shares.specs.Acts.{has, is_wild}
 use Rattle.block_shares.specs.Reach.{act_at, next_after, reach_of}
-use Rattle.block_shares.specs.Shares.{pins_of, writes_by, touched_wildly, touched_by}
-use Rattle.block_isolation.specs.Isolation.{AgreeOn}
-use Rattle.block_isolation.proofs.Bits.{has_ones, has_or, or_none}
-use Rattle.block_isolation.proofs.Changing.{IsAmong, ChangesAmong, changes_among}
+use Rattle.block_shares.specs.Shares.{touched_wildly, touched_by}
+use Rattle.block_isolation.proofs.Bits.{has_ones}
 use Rattle.block_isolation.proofs.Going.{HasPlaceOf, IsTameEffect, target, tame_effect}
-use Rattle.block_isolation.proofs.Premises.{TickLaws, PinLaws}
-use Rattle.block_isolation.proofs.Ranged.{ranged_word}
-use Rattle.block_isolation.proofs.Reaching.{gathered_has, reach_goes, reach_starts}
-use Rattle.block_isolation.proofs.Seeing.{SeesSame, reads_same}
-use Rattle.block_isolation.proofs.Touching.{IsTame, wild_or_tame, writes_same}
+use Rattle.block_isolation.proofs.Premises.{TickLaws}
+use Rattle.block_isolation.proofs.Reaching.{reach_goes}
+use Rattle.block_isolation.proofs.Touching.{IsTame, wild_or_tame}
 
 -- A machine is among the words that it reaches, and a word is pending only where it is wild.
 pub record IsHome (memory : List ℕ) (s : MachineSetup) (r : Registers) : Type 0 where
@@ -79,7 +69,6 @@ pc_target (Some a) s r = refl
 
 next-lt : (s : MachineSetup) (a : ℕ) → next_after s a < 32
 next-lt s a = elim (a == s.wrap_top) as (λ b. cond b s.wrap_bottom ((a + 1) % 32) < 32) [ true ↦ s.wrap_bottom_in_memory | false ↦ omega arith ]
-
 
 after_there : (memory : List ℕ) (s : MachineSetup) (delay : ℕ) (r : Registers) (e : Effect) → IsTameEffect (act_at memory r.pc) (next_pc s r) r e → r.pc < 32 → has (reach_of memory s) r.pc ≡ true → r.pending ≡ None → (after_effect delay s r e).pc < 32 → IsThere memory s (after_effect delay s r e)
 unfolding after_effect

@@ -1,7 +1,6 @@
 -- A machine that is alone in two setups which agree on what is its own is the same in both runs, in each clock.
-use Rattle.std.proofs.Common.{◌≡◌, ◌∙◌, ℕ, zero, suc, ◌+◌, ◌^◌, ◌<◌, not, ◌&&◌, ◌||◌, Bool, true, false, Option, Some, None, option_map, IfSome, List, slice_index, slice_index_or, refl, sym, ap, subst, arith}
+use Rattle.std.proofs.Common.{◌≡◌, ◌∙◌, ℕ, zero, suc, ◌^◌, ◌<◌, not, ◌&&◌, ◌||◌, Bool, true, Option, Some, None, option_map, IfSome, List, slice_index, slice_index_or, refl, sym, ap, subst, arith}
 use Rattle.std.proofs.Math.ListN.{get_or-map}
-use Rattle.std.specs.Int.{bit_at}
 use Rattle.pin_matrix.specs.Pins.{last_of}
 use Rattle.pin_matrix.specs.declared.machine.MachineSetup.{MachineSetup}
 use Rattle.pin_matrix.specs.declared.setup.Setup.{Setup}
@@ -21,7 +20,7 @@ use Rattle.block_shares.specs.declared.touched.Touches.{Touches}
 use Rattle.block_shares.specs.Acts.{has}
 use Rattle.block_shares.specs.Shares.{touched_by, touched_at, touches_of, own_pins, own_flags, IsAlone}
 use Rattle.block_isolation.specs.Isolation.{AgreeOn, AreAlikeTo, HasWords, IsSameTo, own_lines}
-use Rattle.block_isolation.proofs.Bits.{bits_same, has_same, has_or_left}
+use Rattle.block_isolation.proofs.Bits.{bits_same, has_same}
 use Rattle.block_isolation.proofs.Dues.{SameDue, paced_at, same_request, due_same, paced_on}
 use Rattle.block_isolation.proofs.Feeling.{SeemsSame}
 use Rattle.block_isolation.proofs.Isolating.{AreLines, IsSameIn, SlotSame, outside_same, pads_same, seen_same, slot_same, seen_is_own}
@@ -29,7 +28,6 @@ use Rattle.block_isolation.proofs.Others.{IsStateOf, home_at, level_after, direc
 use Rattle.block_isolation.proofs.Places.{HomeSlot}
 use Rattle.block_isolation.proofs.Premises.{TickLaws, PinLaws, LineLaws}
 use Rattle.block_isolation.proofs.Running.{IsRunning, IsPlaceOf, running_first, running_on, place_setup, place_id}
-use Rattle.block_isolation.proofs.Seeing.{SeesSame}
 use Rattle.block_isolation.proofs.Touching.{touched_same}
 
 -- two setups and two schedules that are the same to a machine which is alone in both

@@ -1,42 +1,33 @@
 -- Two runs that are the same to a machine which is alone in both stay so, clock by clock.
-use Rattle.std.proofs.Common.{◌≡◌, ◌≢◌, ◌∙◌, ℕ, zero, suc, ◌+◌, ◌^◌, ◌<◌, ◌==◌, not, ◌&&◌, ◌||◌, Bool, true, false, cond, Option, Some, None, IfSome, List, [], ◌∷◌, map, slice_index, slice_index_or, bit_or, refl, sym, ap, subst, arith}
-use Rattle.std.proofs.Math.ListN.{get_or-map}
+use Rattle.std.proofs.Common.{◌≡◌, ◌∙◌, ℕ, ◌^◌, ◌<◌, ◌==◌, true, cond, Option, Some, List, [], ◌∷◌, sym, ap}
 use Rattle.std.specs.Int.{bit_at}
-use Rattle.std.specs.List.{AllByRecursion}
-use Rattle.pin_matrix.specs.Pads as pads
-use Rattle.pin_matrix.specs.Pads.{pads_of, seen_of}
+use Rattle.pin_matrix.specs.Pads.{seen_of}
 use Rattle.pin_matrix.specs.Pins.{IsWrite, written, merged, last_of}
-use Rattle.pin_matrix.specs.declared.machine.MachineSetup.{MachineSetup}
-use Rattle.pin_matrix.specs.declared.setup.Setup.{Setup}
 use Rattle.sm_registers.specs.declared.registers.Registers.{Registers}
 use Rattle.sm_registers.specs.declared.intent.Intent.{Intent}
 use Rattle.sm_registers.specs.declared.view.View.{View}
 use Rattle.sm_registers.specs.Effects.{no_intent}
 use Rattle.sm_registers.specs.State.{queues_of}
-use Rattle.sm_registers.specs.Tick.{tick_of}
 use Rattle.dreq_pacing.specs.declared.due.Due.{Due}
 use Rattle.dreq_pacing.specs.declared.line.Line.{Line}
-use Rattle.dreq_pacing.specs.Due.{quiet, with_lines}
 use Rattle.dreq_pacing.specs.Lines.{IsSchedule, lines_in}
 use Rattle.dreq_pacing.specs.Runs.{last_level, is_set, level_bit}
-use Rattle.block_core.specs.Slots.{Slot, lined, has_tick, acted, settled_slot, slot_after, slot_intent, place_after, place_intent}
-use Rattle.block_core.specs.Block.{BlockState, Run, next, stepped, outside_after, pads_in, seen_in, view_of, two_writes, first_state, first_run}
-use Rattle.block_core.specs.Following.{place_at}
-use Rattle.block_core.specs.Hosted.{Hosted, due_of, hosted_next, hosted_at}
+use Rattle.block_core.specs.Slots.{Slot, lined, has_tick, acted, settled_slot, place_after, place_intent}
+use Rattle.block_core.specs.Block.{BlockState, outside_after, pads_in}
+use Rattle.block_core.specs.Hosted.{Hosted, due_of}
 use Rattle.block_core.specs.Shown.{requests_of}
 use Rattle.block_shares.specs.declared.touched.Touches.{Touches}
 use Rattle.block_shares.specs.Acts.{has}
-use Rattle.block_shares.specs.Shares.{touched_by, touches_of, own_pins, own_flags, IsAlone}
-use Rattle.block_isolation.specs.Isolation.{AgreeOn, AreAlikeTo, IsSameTo, own_lines}
+use Rattle.block_shares.specs.Shares.{touched_by, own_pins, own_flags}
+use Rattle.block_isolation.specs.Isolation.{AgreeOn, IsSameTo, own_lines}
 use Rattle.block_isolation.proofs.Bits.{bits_same, has_same, has_or_left}
-use Rattle.block_isolation.proofs.Dues.{SameDue, SaysLines, paced_at, says_lines, same_request, due_same, paced_on}
+use Rattle.block_isolation.proofs.Dues.{SameDue, paced_at, says_lines}
 use Rattle.block_isolation.proofs.Feeling.{SeemsSame, tick_same}
 use Rattle.block_isolation.proofs.Homes.{IsHome}
 use Rattle.block_isolation.proofs.Lining.{both_levels, clock_lines}
-use Rattle.block_isolation.proofs.Others.{IsStateOf, home_at, level_after, direction_after, flag_after}
 use Rattle.block_isolation.proofs.Places.{HomeSlot}
 use Rattle.block_isolation.proofs.Premises.{TickLaws, PinLaws, LineLaws}
-use Rattle.block_isolation.proofs.Running.{IsRunning, IsPlaceOf, due_write, place_setup, place_id}
+use Rattle.block_isolation.proofs.Running.{due_write}
 
 -- One clock of the machine itself.
 

@@ -1,19 +1,18 @@
 -- What the lines of a clock do to a machine, and to the pins that it reads, is what its own lines do.
-use Rattle.std.proofs.Common.{◌≡◌, ◌≢◌, ◌∙◌, ℕ, zero, suc, ◌+◌, ◌-◌, ◌^◌, ◌<◌, ◌≤◌, ◌==◌, Bool, true, false, cond, Option, Some, None, List, [], ◌∷◌, slice_set, slice_index_or, bit_and, bit_or, refl, sym, ap, subst, inl, inr, arith, w32}
+use Rattle.std.proofs.Common.{◌≡◌, ◌≢◌, ◌∙◌, ℕ, zero, suc, ◌-◌, ◌^◌, ◌<◌, ◌≤◌, ◌==◌, Bool, true, false, cond, Option, Some, None, List, [], ◌∷◌, slice_set, slice_index_or, bit_and, bit_or, refl, sym, ap, subst, inl, inr, arith}
 use Rattle.std.proofs.lemmas.Bool.{cases_lt, cases_Bool}
 use Rattle.std.proofs.lemmas.Bool.Decides.{nat_tests}
 use Rattle.std.proofs.lemmas.Nat.{or_lt, and_le_l}
 use Rattle.std.proofs.lemmas.Nat.Bits.{bit_at_above}
 use Rattle.std.proofs.Math.Pow.{pow-lt}
-use Rattle.std.specs.Int.{bit_at}
-use Rattle.std.specs.List.{AllByRecursion, filter, slice_get}
+use Rattle.std.specs.List.{AllByRecursion, slice_get}
 use Rattle.pin_matrix.specs.Pins.{IsWrite}
 use Rattle.dreq_pacing.specs.declared.due.Due.{Due}
 use Rattle.dreq_pacing.specs.declared.line.Act.{Act}
 use Rattle.dreq_pacing.specs.declared.line.Act.TheVariants.{Pin, Tx, Rx, Feed, Drain, Enable, Disable, Restart}
 use Rattle.dreq_pacing.specs.declared.line.Line.{Line}
-use Rattle.dreq_pacing.specs.Due.{quiet, with_act, with_lines, with_pin}
-use Rattle.dreq_pacing.specs.Lines.{IsAct, IsLine, IsSchedule, MayPrecede, lines_in}
+use Rattle.dreq_pacing.specs.Due.{quiet, with_act, with_lines}
+use Rattle.dreq_pacing.specs.Lines.{IsAct, IsLine, IsSchedule, lines_in}
 use Rattle.dreq_pacing.specs.Runs.{level_by, later_level, last_level, is_set, level_bit}
 use Rattle.dreq_pacing.specs.Transfers.{Paced, begun_by, begun}
 use Rattle.block_shares.specs.Acts.{has}

@@ -1,10 +1,7 @@
 -- What the others leave to a machine that is alone: its pins get what it writes, and its flags what it does to them.
-use Rattle.std.proofs.Common.{◌≡◌, ◌≢◌, ◌∙◌, ℕ, zero, suc, ◌^◌, ◌<◌, ◌==◌, not, ◌&&◌, ◌||◌, Bool, true, false, Option, Some, None, IfSome, List, map, slice_index_or, bit_and, bit_or, refl, sym, ap, arith}
-use Rattle.std.proofs.lemmas.Nat.Bits.{bit_at-zero}
+use Rattle.std.proofs.Common.{◌≡◌, ◌≢◌, ◌∙◌, ℕ, ◌^◌, ◌<◌, not, ◌&&◌, ◌||◌, Bool, true, false, Option, Some, None, IfSome, List, map, slice_index_or, bit_and, refl, sym, ap, arith}
 use Rattle.std.specs.Int.{bit_at}
-use Rattle.std.specs.List.{AllByRecursion}
-use Rattle.irq_flags.specs.Flags.{merged_flags}
-use Rattle.pin_matrix.specs.Pins.{IsFree, last_of}
+use Rattle.pin_matrix.specs.Pins.{last_of}
 use Rattle.pin_matrix.specs.declared.machine.MachineSetup.{MachineSetup}
 use Rattle.pin_matrix.specs.declared.setup.Setup.{Setup}
 use Rattle.sm_registers.specs.declared.intent.Intent.{Intent}
@@ -18,9 +15,9 @@ use Rattle.block_core.specs.History.{OfEach}
 use Rattle.block_core.specs.Block.{first_state}
 use Rattle.block_shares.specs.declared.touched.Touches.{Touches}
 use Rattle.block_shares.specs.Acts.{has}
-use Rattle.block_shares.specs.Shares.{writes_by, touched_by, touched_at, touches_of, own_pins, own_flags, shares_of, IsAlone}
+use Rattle.block_shares.specs.Shares.{writes_by, touched_by, touched_at, touches_of, own_pins, own_flags, IsAlone}
 use Rattle.block_isolation.proofs.Bits.{has_apart, has_zero, has_merged}
-use Rattle.block_isolation.proofs.Feeling.{ChangesOwn, LeavesPin}
+use Rattle.block_isolation.proofs.Feeling.{LeavesPin}
 use Rattle.block_isolation.proofs.Places.{HomeSlot, setups_of, of_place, all_writes, levels_write, directions_write, free_two, leaves_none, leaves_slot, changes_slot, last_own, flags_own, flags_below, clears_below}
 use Rattle.block_isolation.proofs.Premises.{TickLaws, PinLaws}
 use Rattle.block_isolation.proofs.Running.{IsPlaceOf, place_setup}

@@ -1,12 +1,11 @@
 -- The places of a block in a clock: what holds of each, and what the others leave to one machine.
-use Rattle.std.proofs.Common.{◌≡◌, ◌≢◌, ◌∙◌, ℕ, zero, suc, ◌+◌, ◌^◌, ◌<◌, ◌==◌, Bool, true, false, not, ◌&&◌, ◌||◌, cond, Option, Some, None, option_map, IfSome, List, [], ◌∷◌, ◌++◌, map, flat_map, slice_index_or, bit_or, refl, sym, ap, arith}
+use Rattle.std.proofs.Common.{◌≡◌, ◌≢◌, ◌∙◌, ℕ, zero, suc, ◌^◌, ◌<◌, ◌==◌, Bool, true, false, ◌||◌, cond, Option, Some, None, option_map, List, [], ◌∷◌, ◌++◌, map, flat_map, slice_index_or, bit_or, refl, sym, ap, arith}
 use Rattle.std.proofs.lemmas.Nat.{or_lt}
 use Rattle.std.proofs.lemmas.Nat.Bits.{bit_at-zero}
 use Rattle.std.specs.Int.{bit_at}
 use Rattle.std.specs.List.{AllByRecursion}
-use Rattle.pin_matrix.specs.Pins.{IsWrite, IsFree, merged, last_of}
+use Rattle.pin_matrix.specs.Pins.{IsWrite, IsFree, last_of}
 use Rattle.pin_matrix.specs.declared.machine.MachineSetup.{MachineSetup}
-use Rattle.sm_registers.specs.declared.registers.Registers.{Registers}
 use Rattle.sm_registers.specs.declared.view.View.{View}
 use Rattle.sm_registers.specs.declared.intent.Intent.{Intent}
 use Rattle.sm_registers.specs.Effects.{no_intent}
@@ -52,10 +51,12 @@ unfolding settled_slot acted
 home_after laws memory v d same m h =
     let s = m.machine.setup in
     let r = m.machine.registers in
-    record { home = elim (has_tick (lined d m)) as (λ b. IsHome memory s (cond b (tick_of s v (queues_of m.machine.ports.fifos) r) (r, no_intent)).0) [
-      | true ↦ home_tick laws memory s v (queues_of m.machine.ports.fifos) r same h.home
-      | false ↦ h.home
-    ] }
+    record {
+      home = elim (has_tick (lined d m)) as (λ b. IsHome memory s (cond b (tick_of s v (queues_of m.machine.ports.fifos) r) (r, no_intent)).0) [
+        | true ↦ home_tick laws memory s v (queues_of m.machine.ports.fifos) r same h.home
+        | false ↦ h.home
+      ];
+    }
 
 -- a clock leaves the setups
 pub setups_after : (v : View) (d : Due) (places : List (Option Slot)) → setups_of (map (place_after v d) places) ≡ setups_of places

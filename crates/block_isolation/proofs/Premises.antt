@@ -1,5 +1,5 @@
 -- What the laws of the crates below say, as premises here.
-use Rattle.std.proofs.Common.{◌≡◌, ℕ, suc, ◌+◌, ◌%◌, ◌^◌, ◌<◌, ◌==◌, not, ◌||◌, true, false, cond, nat_lt, List, if◌then◌else◌}
+use Rattle.std.proofs.Common.{◌≡◌, ℕ, ◌+◌, ◌%◌, ◌^◌, ◌<◌, ◌==◌, not, ◌||◌, true, false, nat_lt, List, if◌then◌else◌}
 use Rattle.std.specs.Int.{bit_at}
 use Rattle.std.specs.List.{AllByRecursion}
 use Rattle.pin_matrix.specs.Pads.{pads_of, seen_of}

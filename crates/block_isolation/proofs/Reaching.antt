@@ -7,7 +7,7 @@ use Rattle.pin_matrix.specs.declared.machine.MachineSetup.{MachineSetup}
 use Rattle.block_shares.specs.Acts.{has, leads_to, is_wild}
 use Rattle.block_shares.specs.Reach.{next_after, act_at, gathered, leads_from, after_these, one_round, reach_in, reach_of, any_wild}
 use Rattle.block_isolation.proofs.Bits.{has_or, has_or_left, has_or_right, or_none, has_own}
-use Rattle.block_isolation.proofs.Counting.{count, Within, count-le, count_more, count_same, count_some}
+use Rattle.block_isolation.proofs.Counting.{count, Within, count-le, count_same, count_some}
 
 or_same : (a b : Bool) → (b ≡ true → a ≡ true) → a ≡ (a || b)
 or_same true b h = refl

@@ -1,39 +1,30 @@
 -- What is true in each clock of one run: its numbers are words, its setups stay, and each machine is among its words.
-use Rattle.std.proofs.Common.{◌≡◌, ◌≢◌, ◌∙◌, ℕ, zero, suc, ◌+◌, ◌^◌, ◌<◌, ◌==◌, ◌&&◌, Bool, true, false, cond, Option, Some, None, option_map, IfSome, List, [], ◌∷◌, map, slice_index_or, refl, sym, ap, subst, inl, arith}
+use Rattle.std.proofs.Common.{◌≡◌, ◌∙◌, ℕ, zero, suc, ◌+◌, ◌^◌, ◌<◌, ◌==◌, true, Option, Some, None, option_map, IfSome, List, [], ◌∷◌, slice_index_or, refl, sym, ap, subst, inl, arith}
 use Rattle.std.proofs.lemmas.Bool.{and_parts}
 use Rattle.std.proofs.lemmas.Bool.Decides.{nat_tests}
 use Rattle.std.proofs.Math.ListN.{get_or-map}
-use Rattle.std.specs.List.{AllByRecursion}
-use Rattle.pin_matrix.specs.Pads as pads
-use Rattle.pin_matrix.specs.Pads.{pads_of, seen_of}
-use Rattle.pin_matrix.specs.Pins.{IsWrite, written, merged}
+use Rattle.pin_matrix.specs.Pins.{IsWrite, merged}
 use Rattle.pin_matrix.specs.Setups.{ids_are_places}
 use Rattle.pin_matrix.specs.declared.machine.MachineSetup.{MachineSetup}
 use Rattle.pin_matrix.specs.declared.setup.Setup.{Setup}
 use Rattle.sm_registers.specs.declared.intent.Intent.{Intent}
-use Rattle.sm_registers.specs.declared.view.View.{View}
 use Rattle.dreq_pacing.specs.declared.due.Due.{Due}
 use Rattle.dreq_pacing.specs.declared.line.Line.{Line}
 use Rattle.dreq_pacing.specs.Due.{quiet, with_lines}
 use Rattle.dreq_pacing.specs.Lines.{IsSchedule, lines_in}
-use Rattle.block_core.specs.Slots.{Slot, first_slot, place_after, place_intent}
-use Rattle.block_core.specs.Block as block
-use Rattle.block_core.specs.Block.{BlockState, Run, next, stepped, outside_after, pads_in, seen_in, view_of, first_place, first_state, first_run, level_writes, direction_writes, intents_of}
+use Rattle.block_core.specs.Slots.{Slot, first_slot}
+use Rattle.block_core.specs.Block.{BlockState, next, stepped, outside_after, seen_in, view_of, first_state, first_run, level_writes, direction_writes, intents_of}
 use Rattle.block_core.specs.Following.{place_at}
 use Rattle.block_core.specs.History.{OfEach}
 use Rattle.block_core.specs.Hosted.{Hosted, due_of, hosted_next, hosted_at}
 use Rattle.block_core.specs.Shown.{requests_of}
 use Rattle.block_isolation.specs.Isolation.{HasWords}
-use Rattle.block_isolation.proofs.Dues.{SaysLines, says_lines}
-use Rattle.block_isolation.proofs.Homes.{IsHome}
+use Rattle.block_isolation.proofs.Dues.{says_lines}
 use Rattle.block_isolation.proofs.Lining.{clock_lines, lines_write}
 use Rattle.block_isolation.proofs.Places.{HomeSlot, setups_of, each_after, home_after, setups_after, all_writes, levels_write, directions_write}
 use Rattle.block_isolation.proofs.Premises.{TickLaws, PinLaws, LineLaws}
 use Rattle.block_isolation.proofs.Reaching.{reach_starts}
 use Rattle.block_isolation.proofs.Touching.{reach_within}
-use Rattle.block_shares.specs.Acts.{has}
-use Rattle.block_shares.specs.Reach.{reach_in}
-use Rattle.block_shares.specs.Shares.{touched_by}
 
 -- one run in a clock
 pub record IsRunning (s : Setup) (clock : ℕ) (h : Hosted) : Type 0 where
@@ -82,11 +73,13 @@ running_on ticks pins laws s lines fine clock h k =
 -- at the start
 home_first : (memory : List ℕ) (s : Option MachineSetup) → IfSome (option_map first_slot s) (HomeSlot memory)
 home_first memory None = tt
-home_first memory (Some s) = record { home = record {
-  placed = record { pc = s.start_in_memory; in_count = omega arith; out_count = omega arith; delay = omega arith };
-  reached = reach_within memory s 32 (omega arith) s.start s.start_in_memory (reach_starts memory s);
-  pending = inl refl;
-} }
+home_first memory (Some s) = record {
+  home = record {
+    placed = record { pc = s.start_in_memory; in_count = omega arith; out_count = omega arith; delay = omega arith };
+    reached = reach_within memory s 32 (omega arith) s.start s.start_in_memory (reach_starts memory s);
+    pending = inl refl;
+  };
+}
 
 pub running_first : PinLaws → (s : Setup) → HasWords s → (lines : List Line) → IsRunning s 0 (hosted_at (first_run s) lines 0)
 unfolding hosted_at

@@ -89,10 +89,10 @@ pin_counted laws s n i few inside =
 ins_same : (laws : PinLaws) (n flags : ℕ) (s : MachineSetup) (v w : View) → n ≤ 32 → SeesSame (pins_in s.in_base n) flags v w → rotated_right v.seen s.in_base % 2 ^ n ≡ rotated_right w.seen s.in_base % 2 ^ n
 ins_same laws n flags s v w few h =
     low_same (rotated_right v.seen s.in_base) (rotated_right w.seen s.in_base) n (λ i inside.
-      let p = (s.in_base + i) % 32 in
-      laws.counted v.seen s.in_base i h.one s.in_base_is_a_pin (omega arith)
-      ∙ (pin_same (pins_in s.in_base n) flags p v w h (mod_below (s.in_base + i) 32 (omega arith)) (pin_counted laws s n i few inside)
-      ∙ sym (laws.counted w.seen s.in_base i h.other s.in_base_is_a_pin (omega arith))))
+    let p = (s.in_base + i) % 32 in
+    laws.counted v.seen s.in_base i h.one s.in_base_is_a_pin (omega arith)
+    ∙ (pin_same (pins_in s.in_base n) flags p v w h (mod_below (s.in_base + i) 32 (omega arith)) (pin_counted laws s n i few inside)
+    ∙ sym (laws.counted w.seen s.in_base i h.other s.in_base_is_a_pin (omega arith))))
 
 under_begun : (b : Bool) (x y : ℕ) → x ≡ y → cond b 0 x ≡ cond b 0 y
 under_begun b x y h = ap (cond b 0) h

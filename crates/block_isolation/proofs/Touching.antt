@@ -1,15 +1,14 @@
 -- What a machine touches: all, where it is wild; else what the words have that it reaches.
-use Rattle.std.proofs.Common.{◌≡◌, ◌∙◌, ℕ, zero, suc, ◌+◌, ◌-◌, ◌^◌, ◌<◌, ◌≤◌, Bool, true, false, cond, ◌⊎◌, List, slice_index, refl, sym, ap, inl, inr, arith, bit_or}
+use Rattle.std.proofs.Common.{◌≡◌, ◌∙◌, ℕ, zero, suc, ◌+◌, ◌-◌, ◌<◌, ◌≤◌, Bool, true, false, cond, ◌⊎◌, List, slice_index, refl, sym, ap, inl, inr, arith, bit_or}
 use Rattle.std.proofs.lemmas.Bool.{cases_Bool}
-use Rattle.pio_encode.specs.declared.act.Act.{Act}
 use Rattle.pin_matrix.specs.declared.machine.MachineSetup.{MachineSetup}
 use Rattle.block_shares.specs.declared.touched.Touches.{Touches}
-use Rattle.block_shares.specs.Acts.{has, leads_to, is_wild, reads_of, sees_of, changes_of}
-use Rattle.block_shares.specs.Reach.{next_after, act_at, gathered, leads_from, reach_in, reach_of, any_wild}
+use Rattle.block_shares.specs.Acts.{has, is_wild, reads_of, sees_of, changes_of}
+use Rattle.block_shares.specs.Reach.{act_at, gathered, leads_from, reach_in, reach_of, any_wild}
 use Rattle.block_shares.specs.Shares.{writes_by, reads_in, sees_in, changes_in, touched_wildly, touched_within, touched_from, touched_by}
 use Rattle.block_isolation.proofs.Bits.{has_ones}
 use Rattle.block_isolation.proofs.Counting.{Within}
-use Rattle.block_isolation.proofs.Reaching.{gathered_has, gathered_same, reach_goes, reach_grows, reach_starts, wild_none, wild_same}
+use Rattle.block_isolation.proofs.Reaching.{gathered_same, reach_grows, wild_none, wild_same}
 
 -- no reached instruction is wild
 pub record IsTame (memory : List ℕ) (s : MachineSetup) : Type 0 where

@@ -4,7 +4,7 @@
 --   own_lines     the lines that do
 --   AreAlikeTo    two setups agree on what is a machine's own
 --   IsSameTo      two states do
-use Rattle.std.specs.Prelude.{◌≡◌, ℕ, ◌^◌, ◌<◌, ◌==◌, Bool, true, Option, Some, None, List, slice_index, slice_index_or}
+use Rattle.std.specs.Prelude.{◌≡◌, ℕ, ◌^◌, ◌<◌, ◌==◌, Bool, true, Some, None, List, slice_index, slice_index_or}
 use Rattle.std.specs.List.{filter}
 use Rattle.pin_matrix.specs.declared.machine.MachineSetup.{MachineSetup}
 use Rattle.pin_matrix.specs.declared.setup.Setup.{Setup}

@@ -1,7 +1,7 @@
 -- The line of a share, from the pieces that are put.
-use Rattle.std.proofs.Common.{◌≡◌, ◌∙◌, ap, ℕ, List, [], ◌∷◌, ◌++◌, codes, decimal, append_assoc, append-nil}
+use Rattle.std.proofs.Common.{◌≡◌, ℕ, List, [], ◌∷◌, ◌++◌, codes, decimal, append_assoc, append-nil}
 use Rattle.std.specs.List.{concat}
-use Rattle.block_shares.specs.Report.{digit_at, pins_text, flags_text, share_line}
+use Rattle.block_shares.specs.Report.{digit_at, share_line}
 
 -- the pieces, one after the other
 unfoldable pub joined : (m k a b c d e f g h y z : List ℕ) → List ℕ

@@ -3,7 +3,7 @@
 --   gathered      what some of the words have, joined
 --   reach_in      the addresses got in some rounds
 --   any_wild      some reached word is wild
-use Rattle.std.specs.Prelude.{ℕ, zero, suc, ◌+◌, ◌%◌, ◌^◌, ◌==◌, Bool, true, false, ◌&&◌, ◌||◌, if◌then◌else◌, List, slice_index, bit_or}
+use Rattle.std.specs.Prelude.{ℕ, zero, suc, ◌+◌, ◌%◌, ◌^◌, ◌==◌, Bool, false, ◌&&◌, ◌||◌, if◌then◌else◌, List, slice_index, bit_or}
 use Rattle.pio_encode.specs.declared.act.Act.{Act}
 use Rattle.pio_encode.specs.Word.{act_of}
 use Rattle.pin_matrix.specs.declared.machine.MachineSetup.{MachineSetup}

@@ -4,7 +4,7 @@
 --   alone_line     that it can feel nothing of any other
 --   machine_text   the lines of a machine
 --   shares_text    those of all machines
-use Rattle.std.specs.Prelude.{ℕ, ◌/◌, ◌%◌, ◌^◌, ◌==◌, ◌&&◌, ◌||◌, Bool, true, false, if◌then◌else◌, Option, Some, None, List, [], ◌∷◌, ◌++◌, codes, decimal, slice_index_or, is_some, not}
+use Rattle.std.specs.Prelude.{ℕ, ◌/◌, ◌%◌, ◌^◌, ◌==◌, ◌&&◌, ◌||◌, Bool, if◌then◌else◌, None, List, [], ◌++◌, codes, decimal, slice_index_or, is_some, not}
 use Rattle.pin_matrix.specs.declared.setup.Setup.{Setup}
 use Rattle.block_shares.specs.Shares.{shares_of}
 

@@ -4,8 +4,7 @@
 --   touches_of    the same of the machine with a number
 --   shares_of     what one machine can feel of another
 --   IsAlone       a machine can feel nothing of any other
-use Rattle.std.specs.Prelude.{◌≡◌, ◌≢◌, ℕ, ◌<◌, Bool, if◌then◌else◌, Option, Some, None, List, slice_index_or, bit_and, bit_or}
-use Rattle.pin_matrix.specs.Pins.{writes_of}
+use Rattle.std.specs.Prelude.{◌≡◌, ◌≢◌, ℕ, ◌<◌, if◌then◌else◌, Option, Some, None, List, slice_index_or, bit_and, bit_or}
 use Rattle.pin_matrix.specs.declared.machine.MachineSetup.{MachineSetup}
 use Rattle.pin_matrix.specs.declared.mapping.Mapping.{Mapping}
 use Rattle.pin_matrix.specs.declared.setup.Setup.{Setup}

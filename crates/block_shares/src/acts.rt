@@ -6,9 +6,7 @@ ghost use Rattle.block_shares.specs.Acts as spec;
 
 use irq_flags::resolve;
 use pin_matrix::{MachineSetup, Mapping, writes_of};
-use pio_encode::{
-    Act, Condition, InSource, MovDestination, MovSource, OutDestination, WaitSource,
-};
+use pio_encode::{Act, Condition, InSource, MovDestination, MovSource, OutDestination, WaitSource};
 
 /// The number whose bits are this place alone.
 pub(crate) fn bit(place: u8) -> u32
@@ -161,11 +159,22 @@ pub(crate) fn changes_of(act: &Act, setup: &MachineSetup) -> u8
 {
     match act {
         Act::Wait {
-            polarity: true,
-            source: WaitSource::Irq,
+            polarity,
+            source,
             index,
-        } => flag_of(*index, setup),
+        } => wait_changes(*polarity, *source, *index, setup),
         Act::Irq { index, .. } => flag_of(*index, setup),
+        _ => 0,
+    }
+}
+
+/// The flag that a WAIT lowers.
+fn wait_changes(polarity: bool, source: WaitSource, index: u8, setup: &MachineSetup) -> u8
+    requires { index < 32 }
+    ensures { result ≡ spec.wait_changes polarity source index setup.now }
+{
+    match source {
+        WaitSource::Irq if polarity => flag_of(index, setup),
         _ => 0,
     }
 }

@@ -36,10 +36,7 @@ fn leads_from(memory: &[u16; 32], setup: &MachineSetup, set: u32, address: u8) -
     ensures { result ≡ (if acts.has set address then spec.leads_from setup.now address (spec.act_at memory.now address) else 0) }
 {
     if has(set, address) {
-        leads_to(
-            &act_at(memory, setup, address),
-            next_after(setup, address),
-        )
+        leads_to(&act_at(memory, setup, address), next_after(setup, address))
     } else {
         0
     }

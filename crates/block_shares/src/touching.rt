@@ -18,11 +18,7 @@ pub fn touches(setup: &Setup, machine: u8) -> Touches
 }
 
 /// The same of these machines.
-fn touched_at(
-    memory: &[u16; 32],
-    machines: &[Option<MachineSetup>; 4],
-    machine: u8,
-) -> Touches
+fn touched_at(memory: &[u16; 32], machines: &[Option<MachineSetup>; 4], machine: u8) -> Touches
     requires { machine < 4 }
     ensures { result ≡ spec.touched_at memory.now (slice_index_or machines.now machine None) }
 {

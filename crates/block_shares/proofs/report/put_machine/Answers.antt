@@ -1,7 +1,7 @@
-use Rattle.std.proofs.Common.{◌≡◌, ◌∙◌, ℕ, List, [], Bool, None, cond, is_some, slice_index_or, sym, ap, subst}
-use Rattle.pio_edge.specs.Edge.{Takes, with_bytes}
+use Rattle.std.proofs.Common.{◌∙◌, [], None, cond, is_some, slice_index_or, sym, ap}
+use Rattle.pio_edge.specs.Edge.{with_bytes}
 use Rattle.block_shares.specs.Report.{share_texts, alone_line, feels_any}
-use Rattle.block_shares.proofs.Puts.{with_bytes-none, chosen, unchosen}
+use Rattle.block_shares.proofs.Puts.{with_bytes-none, unchosen}
 use Rattle.block_shares.proofs.report.put_machine.Goals as goal
 
 pub returns-then-not-is_configured-clause-bytes : goal.returns-then-not-is_configured-clause-bytes

@@ -1,4 +1,4 @@
-use Rattle.std.proofs.Common.{◌≡◌, ◌∙◌, ℕ, List, [], Bool, true, false, cond, refl, sym, ap, subst}
+use Rattle.std.proofs.Common.{◌≡◌, ◌∙◌, ℕ, List, [], cond, sym, ap, subst}
 use Rattle.pio_edge.specs.Edge.{Takes, with_bytes}
 use Rattle.block_shares.specs.Shares.{shares_of}
 use Rattle.block_shares.specs.Report.{share_line, feels}

@@ -1,4 +1,4 @@
-use Rattle.std.proofs.Common.{◌≡◌, Bool, true, not, ◌↔◌, sym, ap, subst}
+use Rattle.std.proofs.Common.{◌≡◌, Bool, true, not, ◌↔◌, sym, subst}
 use Rattle.block_shares.specs.Shares.{IsAlone}
 use Rattle.block_shares.proofs.Feeling.{alone_says}
 use Rattle.block_shares.proofs.sharing.alone.Goals as goal
