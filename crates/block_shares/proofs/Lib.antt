@@ -1,0 +1,4 @@
+pub mod Pieces
+pub mod Puts
+pub mod Feeling
+pub mod WorkedRows

@@ -1,0 +1,4 @@
+pub mod Acts
+pub mod Reach
+pub mod Shares
+pub mod Report
