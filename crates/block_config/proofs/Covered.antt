@@ -14,10 +14,6 @@ use Rattle.block_config.specs.Loads.{covers, is_covered, find_program, memory_of
 use Rattle.block_config.specs.Memory.{loaded}
 use Rattle.block_config.proofs.Found.{find_map}
 
-pub any_seen : (ls : List Load) (address : ℕ) → list_any (λ l. covers (loaded_of l) address) ls ≡ is_covered (map loaded_of ls) address
-any_seen [] address = refl
-any_seen (l ∷ ls) address = ap (λ b. covers (loaded_of l) address || b) (any_seen ls address)
-
 range_more : (p : ℕ → Bool) (i n : ℕ) → p i ≡ false → find p (range_with_len i (suc n)) ≡ find p (range_with_len (i + 1) n)
 range_more p i n fails = rw fails refl
 

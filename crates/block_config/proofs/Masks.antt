@@ -8,11 +8,7 @@ use Rattle.toml.specs.View.{view, items_view}
 use Rattle.toml.proofs.Views.{items_view-drop}
 use Rattle.block_config.specs.declared.fault.ConfigKind.{ConfigKind}
 use Rattle.block_config.specs.Values.{number_in}
-use Rattle.block_config.specs.Pins.{all_numbers, mask_from}
-
-pub numbers_seen : (vs : List Value) → list_all (λ v. is_some (as_integer (view v))) vs ≡ all_numbers (items_view vs)
-numbers_seen [] = refl
-numbers_seen (v ∷ vs) = ap (λ b. is_some (as_integer (view v)) && b) (numbers_seen vs)
+use Rattle.block_config.specs.Pins.{mask_from}
 
 pub mask_more : (vs : List Value) (i : ℕ) (d : Value) (mask after pin : ℕ) (all : Result ℕ ConfigKind)
     → all ≡ mask_from mask (items_view (drop i vs)) → i < length vs → number_in 0 31 (view (get_or vs i d)) ≡ Ok pin → after ≡ bit_or mask (2 ^ pin)

@@ -3,18 +3,18 @@
 --   mask_from     the pins of a list, beside those of a number
 --   mask_at       the pins of a key; an element of another type comes before one out of range
 --   PinTable      the four lists
-use Rattle.std.specs.Prelude.{ℕ, ◌^◌, ◌&&◌, bit_or, Bool, true, if◌then◌else◌, is_some, Option, Some, None, List, Result, Ok, Err, codes}
+use Rattle.std.specs.Prelude.{ℕ, ◌^◌, bit_or, Bool, if◌then◌else◌, is_some, Option, Some, None, List, Result, Ok, Err, codes}
 use Rattle.toml.specs.Data.{Data, Items, no_items, item, Members, get_member, as_array, as_integer}
 use Rattle.block_config.specs.declared.fault.ConfigKind.{ConfigKind}
 use Rattle.block_config.specs.declared.fault.ConfigKind.TheVariants.{WrongType}
 use Rattle.block_config.specs.Answer.{Refusal}
+use Rattle.block_config.specs.Arrays.{all_items}
 use Rattle.block_config.specs.Values.{number_in}
 use Rattle.block_config.specs.Tables.{and_then, on_key}
 
 -- each element is a number
 abbrev pub all_numbers : Items → Bool
-all_numbers no_items = true
-all_numbers (item d ds) = is_some (as_integer d) && all_numbers ds
+all_numbers ds = all_items (λ d. is_some (as_integer d)) ds
 
 -- the pins of a list, beside those of a number
 unfoldable pub mask_from : ℕ → Items → Result ℕ ConfigKind

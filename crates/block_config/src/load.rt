@@ -19,7 +19,15 @@ fn jumps_fit(address: u8, words: &[u16]) -> bool
     requires { address ≤ 31 }
     ensures { result ≡ list_all (λ word. is_some (relocated word address)) words.now }
 {
-    words.iter().all(|word| relocate(*word, address).is_some())
+    words.iter().all(|word| jump_fits(address, *word))
+}
+
+/// Whether a word is no jump past address 31.
+fn jump_fits(address: u8, word: u16) -> bool
+    requires { address ≤ 31 }
+    ensures { result ≡ is_some (relocated word address) }
+{
+    relocate(word, address).is_some()
 }
 
 /// The word at an address of a program whose first word is loaded at another.

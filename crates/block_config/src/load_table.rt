@@ -1,12 +1,11 @@
 //! The table of a load: a program of the source and its address.
 ghost use Rattle.std.specs.Prelude.{◌≡◌, ◌≤◌, map, option_copied, option_map};
-ghost use Rattle.std.specs.List.{find, list_any};
+ghost use Rattle.std.specs.List.{find};
 ghost use Rattle.std.specs.Str.{bytes_eq};
 ghost use Rattle.pio_assemble.specs.Program.{assembled_of};
 ghost use Rattle.toml.specs.View.{table_view};
 ghost use Rattle.block_config.specs.LoadView.{loaded_of};
 ghost use Rattle.block_config.specs.Loads as spec;
-ghost use Rattle.block_config.specs.Loads.{covers};
 ghost use Rattle.block_config.specs.Tables.{seen};
 ghost use Rattle.block_config.specs.Values.{map_ok};
 
@@ -89,9 +88,14 @@ fn find_program<'a>(programs: &'a [Program], name: &[u8]) -> Option<&'a Program>
 fn first_named<'a>(programs: &'a [Program], name: &[u8]) -> Option<&'a Program>
     ensures { option_copied result ≡ find (λ p. bytes_eq p.name name.now) programs.entry.now }
 {
-    programs
-        .iter()
-        .find(|program| program.name.as_bytes() == name)
+    programs.iter().find(|program| is_named(program, name))
+}
+
+/// Whether a program has this name.
+fn is_named(program: &Program, name: &[u8]) -> bool
+    ensures { result ≡ bytes_eq program.now.name name.now }
+{
+    program.name.as_bytes() == name
 }
 
 /// The load of a program by its table.
@@ -160,12 +164,5 @@ fn first_shared(loads: &[Load], load: &Load) -> Option<u8>
 fn is_covered(loads: &[Load], address: u8) -> bool
     ensures { result ≡ spec.is_covered (map loaded_of loads.now) address }
 {
-    any_covers(loads, address)
-}
-
-/// Whether one of the loads covers an address.
-fn any_covers(loads: &[Load], address: u8) -> bool
-    ensures { result ≡ list_any (λ l. covers (loaded_of l) address) loads.now }
-{
-    loads.iter().any(|load| load.covers(address))
+    Load::at(loads, address).is_some()
 }

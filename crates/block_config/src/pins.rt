@@ -1,12 +1,11 @@
 //! The table of pins: lists of pins as numbers in which bit i stands for pin i.
-ghost use Rattle.std.specs.Prelude.{◌≡◌, Some, is_some, option_map};
-ghost use Rattle.std.specs.List.{list_all};
-ghost use Rattle.toml.specs.Data.{as_integer};
+ghost use Rattle.std.specs.Prelude.{◌≡◌, Some, option_map};
 ghost use Rattle.toml.specs.View.{items_view, table_view, view};
 ghost use Rattle.block_config.specs.PinView.{pin_view};
 ghost use Rattle.block_config.specs.Pins as spec;
 ghost use Rattle.block_config.specs.Tables.{seen};
 
+use crate::arrays::{Element, are_all};
 use crate::fault::ConfigKind;
 use crate::table::{Lack, value_at};
 use crate::value::number_in;
@@ -64,25 +63,11 @@ fn mask_of(value: Option<&Value>) -> Result<u32, ConfigKind>
 fn mask_in(values: &[Value]) -> Result<u32, ConfigKind>
     ensures { result ≡ spec.mask_in (Some (items_view values.now)) }
 {
-    if all_numbers(values) {
+    if are_all(values, Element::Number) {
         mask_from(values)
     } else {
         Err(ConfigKind::WrongType)
     }
-}
-
-/// Whether each element is a number.
-fn all_numbers(values: &[Value]) -> bool
-    ensures { result ≡ spec.all_numbers (items_view values.now) }
-{
-    are_numbers(values)
-}
-
-/// Whether each element is a number.
-fn are_numbers(values: &[Value]) -> bool
-    ensures { result ≡ list_all (λ v. is_some (as_integer (view v))) values.now }
-{
-    values.iter().all(|value| value.is_integer())
 }
 
 /// The pins of a list of numbers.

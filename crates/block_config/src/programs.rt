@@ -31,9 +31,14 @@ impl<'a> Load<'a> {
         ensures { option_copied result
             ≡ find (λ l. bytes_eq l.program.now.name name.now) loads.now }
     {
-        loads
-            .iter()
-            .find(|load| load.program.name.as_bytes() == name)
+        loads.iter().find(|load| load.is_named(name))
+    }
+
+    /// Whether its program has this name.
+    fn is_named(&self, name: &[u8]) -> bool
+        ensures { result ≡ bytes_eq self.now.program.now.name name.now }
+    {
+        self.program.name.as_bytes() == name
     }
 
     /// Whether one of its words has an address.

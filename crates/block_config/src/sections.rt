@@ -1,17 +1,14 @@
 //! The sections of a configuration: its arrays of tables and its table of pins.
-ghost use Rattle.std.specs.Prelude.{◌≡◌, Some, is_some, option_map};
-ghost use Rattle.std.specs.List.{list_all};
-ghost use Rattle.toml.specs.Data.{as_table};
+ghost use Rattle.std.specs.Prelude.{◌≡◌, Some, option_map};
 ghost use Rattle.toml.specs.View.{items_view, table_view, view};
 ghost use Rattle.answers.specs.Answers.{Gives};
 ghost use Rattle.block_config.specs.Answer.{told};
-ghost use Rattle.block_config.specs.Arrays.{all_items};
 ghost use Rattle.block_config.specs.Config as spec;
 ghost use Rattle.block_config.specs.SectionView.{sections_view};
 ghost use Rattle.block_config.specs.Tables.{seen};
 ghost use Rattle.block_config.specs.Values.{map_ok};
 
-use crate::arrays::count_of;
+use crate::arrays::{Element, are_all, count_of};
 use crate::fault::{ConfigFault, ConfigKind};
 use crate::path::fault_at;
 use crate::table::{Lack, are_known, value_at};
@@ -119,23 +116,9 @@ fn tables_in<'t>(values: &'t [Value]) -> Result<&'t [Value], ConfigKind>
     ensures { map_ok (λ vs. items_view vs.now) result
         ≡ spec.tables_in (Some (items_view values.entry.now)) }
 {
-    if all_tables(values) {
+    if are_all(values, Element::Table) {
         Ok(values)
     } else {
         Err(ConfigKind::WrongType)
     }
-}
-
-/// Whether each element is a table.
-fn all_tables(values: &[Value]) -> bool
-    ensures { result ≡ all_items (λ d. is_some (as_table d)) (items_view values.now) }
-{
-    are_tables(values)
-}
-
-/// Whether each element is a table.
-fn are_tables(values: &[Value]) -> bool
-    ensures { result ≡ list_all (λ v. is_some (as_table (view v))) values.now }
-{
-    values.iter().all(|value| value.is_table())
 }

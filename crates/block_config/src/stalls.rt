@@ -1,16 +1,15 @@
 //! The labels at which a span's stalls don't count, as addresses.
-ghost use Rattle.std.specs.Prelude.{◌≡◌, ◌≤◌, ◌<◌, ◌==◌, ◌||◌, Some, is_some, length, option_map, IfOk, IsTrue};
-ghost use Rattle.std.specs.List.{list_all};
+ghost use Rattle.std.specs.Prelude.{◌≡◌, ◌≤◌, ◌<◌, ◌==◌, ◌||◌, Some, length, option_map, IfOk, IsTrue};
 ghost use Rattle.pin_matrix.specs.Spans.{are_addresses, is_in_ticks};
 ghost use Rattle.toml.specs.Data.{as_str};
 ghost use Rattle.toml.specs.View.{items_view, table_view, view};
-ghost use Rattle.block_config.specs.Arrays.{all_items, count_items};
+ghost use Rattle.block_config.specs.Arrays.{count_items};
 ghost use Rattle.block_config.specs.LoadView.{loaded_of};
 ghost use Rattle.block_config.specs.SpanTable as spec;
 ghost use Rattle.block_config.specs.Tables.{seen};
 ghost use Rattle.block_config.specs.Values.{map_ok};
 
-use crate::arrays::count_of;
+use crate::arrays::{Element, are_all, count_of};
 use crate::fault::ConfigKind;
 use crate::label::label_of;
 use crate::programs::Load;
@@ -71,7 +70,7 @@ fn stalls_in(
     ensures in_memory { IfOk result (λ v. IsTrue (are_addresses v.items)) }
     ensures in_ticks { IfOk result (λ v. IsTrue (is_in_ticks unit || length v.items == 0)) }
 {
-    if !all_texts(values) {
+    if !are_all(values, Element::Text) {
         return Err(ConfigKind::WrongType);
     }
     let count = count_of(values);
@@ -92,20 +91,6 @@ fn in_ticks(unit: SpanUnit) -> bool
         SpanUnit::Ticks => true,
         SpanUnit::Clocks => false,
     }
-}
-
-/// Whether each element is a text.
-fn all_texts(values: &[Value]) -> bool
-    ensures { result ≡ all_items (λ d. is_some (as_str d)) (items_view values.now) }
-{
-    are_texts(values)
-}
-
-/// Whether each element is a text.
-fn are_texts(values: &[Value]) -> bool
-    ensures { result ≡ list_all (λ v. is_some (as_str (view v))) values.now }
-{
-    values.iter().all(|value| value.is_str())
 }
 
 /// The addresses of all elements.

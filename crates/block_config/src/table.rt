@@ -114,5 +114,12 @@ fn all_among(table: &Table, names: &[&str]) -> bool
 fn is_among(names: &[&str], key: &str) -> bool
     ensures { result ≡ list_any (λ n. bytes_eq key.now n.now) names.now }
 {
-    names.iter().any(|name| key == *name)
+    names.iter().any(|name| is_same(key, name))
+}
+
+/// Whether two keys are the same.
+fn is_same(key: &str, name: &str) -> bool
+    ensures { result ≡ bytes_eq key.now name.now }
+{
+    key == name
 }

@@ -52,7 +52,10 @@ pub fn flag_of(key: &FlagKey, value: Option<&Value>) -> Result<bool, ConfigKind>
         ≡ spec.flag_of (flag_described key.now) (option_map (λ v. view v.now) value.entry) }
 {
     match value {
-        Some(value) => value.as_bool().ok_or(ConfigKind::WrongType),
+        Some(value) => match value.as_bool() {
+            Some(flag) => Ok(flag),
+            None => Err(ConfigKind::WrongType),
+        },
         None => Ok(key.default),
     }
 }
