@@ -107,7 +107,7 @@ enum Put {
 }
 
 /// A call of the output that fails after no byte leaves status 5 and a first part of the whole text; after one byte, one byte more
-/// of it, or the same where the call was `finish`.
+/// of it, or the same where the call was `finish` or its piece was empty.
 fn put_fails(alloc: Global, whole: &Whole, call: u64) -> Option<Put> {
     let none = failing_put(alloc, whole, call, 0)?;
     if none.out.faults() == 0 {
@@ -116,10 +116,10 @@ fn put_fails(alloc: Global, whole: &Whole, call: u64) -> Option<Put> {
     let one = failing_put(alloc, whole, call, 1)?;
     let text = whole.seen.out.bytes();
     let taken = none.out.bytes().len();
-    let more = text.len().min(taken.saturating_add(1));
     let right = is_stopped(&none) && is_stopped(&one)
         && text.starts_with(none.out.bytes())
-        && text.get(..more) == Some(one.out.bytes());
+        && text.starts_with(one.out.bytes())
+        && one.out.bytes().len().saturating_sub(taken) <= 1;
     Some(if right { Put::Fails } else { Put::Wrong })
 }
 
@@ -133,7 +133,7 @@ fn failing_put(alloc: Global, whole: &Whole, call: u64, taken: usize) -> Option<
 
 /// The call ended since the output failed.
 fn is_stopped(seen: &Seen) -> bool {
-    seen.status == 5 && seen.err.bytes() == b"piotool: out\n"
+    seen.status == 5 && seen.err.bytes() == "piotool: out\n".as_bytes()
 }
 
 /// Whether each fetch that fails ends the call, and the output is empty.
@@ -157,8 +157,7 @@ fn fetches_fail(alloc: Global, line: &str) -> Option<bool> {
     Some(true)
 }
 
-/// Whether the status stays where the error output fails, and it has a first part of the line: of a put that fails within the first
-/// eight bytes exactly those that it took.
+/// Whether the status stays wherever the error output fails within its line, and it has a first part of it.
 fn line_fails(alloc: Global, line: &str) -> Option<bool> {
     let mut fields = line.split(" ~ ");
     let whole = whole_of(alloc, &mut fields)?;
@@ -167,18 +166,23 @@ fn line_fails(alloc: Global, line: &str) -> Option<bool> {
         return Some(false);
     }
     for taken in 0..told.len() {
-        for call in 1..=8 {
-            let failing = Failing {
-                err: &[(call, taken)],
-                ..QUIET
-            };
-            let found = seen(alloc, whole.words, &whole.held, failing).ok()?;
-            let has = found.err.bytes();
-            let first = call > 1 || taken > 8 || has.len() == taken;
-            if found.status != whole.seen.status || !told.starts_with(has) || !first {
-                return Some(false);
-            }
+        if !is_cut(alloc, &whole, 1, taken)? {
+            return Some(false);
         }
     }
-    Some(true)
+    Some(is_cut(alloc, &whole, 2, 0)? && is_cut(alloc, &whole, 3, 0)? && is_cut(alloc, &whole, 4, 0)?)
+}
+
+/// Where this call of the error output fails after so many bytes, the status stays and a first part of the line is told; of the
+/// first call, which begins with the program's name, just these bytes up to the name's end.
+fn is_cut(alloc: Global, whole: &Whole, call: u64, taken: usize) -> Option<bool> {
+    let failing = Failing {
+        err: &[(call, taken)],
+        ..QUIET
+    };
+    let found = seen(alloc, whole.words, &whole.held, failing).ok()?;
+    let told = whole.seen.err.bytes();
+    let has = found.err.bytes();
+    let first = call > 1 || taken > 8 || has.len() == taken;
+    Some(found.status == whole.seen.status && told.starts_with(has) && first)
 }

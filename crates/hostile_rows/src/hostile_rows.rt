@@ -46,7 +46,7 @@ dis s ~ `262144 0` ~ - ~ - ~ 1 ~ - ~ piotool: words line 1: H1|
 /// Configurations, beside a program of one word but in the last row: there each of 64 spans has 16 stalls, and a table of nearly
 /// all contexts.
 pub const CONFIGS: &str = "
-run --source s --config c --clocks 0 ~ .program p|nop ~ `262144 #` ~ - ~ 0 ~ |#0| ~ -
+run --source s --config c --clocks 0 ~ .program p|nop ~ `262144 #` ~ - ~ 0 ~ |^230| ~ -
 run --source s --config c --clocks 0 ~ .program p|nop ~ `262145 #` ~ - ~ 1 ~ - ~ piotool: long config|
 run --source s --config c --clocks 0 ~ .program p|nop ~ x = ~ - ~ 1 ~ - ~ piotool: config file: C1|
 run --source s --config c --clocks 0 ~ .program p|nop ~ x = `262140 [` ~ - ~ 1 ~ - ~ piotool: config file: C1|
@@ -62,19 +62,19 @@ check --source s --config c ~ .program p|jmp pin 2|jmp x-- 2|jmp pin 4|jmp y-- 4
 
 /// Stimuli, beside a program of one word.
 pub const STIMULI: &str = "
-run --source s --stimulus t --clocks 0 ~ .program p|nop ~ - ~ `1000000 0 pin 0 1|` ~ 0 ~ |#0| ~ -
+run --source s --stimulus t --clocks 0 ~ .program p|nop ~ - ~ `1000000 0 pin 0 1|` ~ 0 ~ |^230| ~ -
 run --source s --stimulus t --clocks 0 ~ .program p|nop ~ - ~ `1000001 0 pin 0 1|` ~ 1 ~ - ~ piotool: stimulus line 1000001: T5|
-run --source s --stimulus t --clocks 0 ~ .program p|nop ~ - ~ `33554432 #` ~ 0 ~ |#0| ~ -
+run --source s --stimulus t --clocks 0 ~ .program p|nop ~ - ~ `33554432 #` ~ 0 ~ |^230| ~ -
 run --source s --stimulus t --clocks 0 ~ .program p|nop ~ - ~ `33554433 #` ~ 1 ~ - ~ piotool: long stimulus|
 run --source s --stimulus t --clocks 0 ~ .program p|nop ~ - ~ `33554400 9` rx 0 ~ 1 ~ - ~ piotool: stimulus line 1: T2|
-run --source s --stimulus t --clocks 0 ~ .program p|nop ~ - ~ `33554400 0` rx 0 ~ 0 ~ |#0| ~ -
-run --source s --stimulus t --clocks 0 ~ .program p|nop ~ - ~ 0 feed 0 1`2000000  1` ~ 0 ~ |#0| ~ -
+run --source s --stimulus t --clocks 0 ~ .program p|nop ~ - ~ `33554400 0` rx 0 ~ 0 ~ |^230| ~ -
+run --source s --stimulus t --clocks 0 ~ .program p|nop ~ - ~ 0 feed 0 1`2000000  1` ~ 0 ~ |^230| ~ -
 run --source s --stimulus t --clocks 0 ~ .program p|nop ~ - ~ 0 tx 0 ~ 1 ~ - ~ piotool: stimulus line 1: T1|
-run --source s --stimulus t --clocks 0 ~ .program p|nop ~ - ~ 0 tx 0 1 ~ 0 ~ |#0| ~ -
+run --source s --stimulus t --clocks 0 ~ .program p|nop ~ - ~ 0 tx 0 1 ~ 0 ~ |^230| ~ -
 run --source s --stimulus t --clocks 0 ~ .program p|nop ~ - ~ 99999999999999999999 rx 0 ~ 1 ~ - ~ piotool: stimulus line 1: T2|
-run --source s --stimulus t --clocks 0 ~ .program p|nop ~ - ~ 1000000000000 rx 0 ~ 0 ~ |#0| ~ -
+run --source s --stimulus t --clocks 0 ~ .program p|nop ~ - ~ 1000000000000 rx 0 ~ 0 ~ |^230| ~ -
 run --source s --stimulus t --clocks 0 ~ .program p|nop ~ - ~ 1000000000001 rx 0 ~ 1 ~ - ~ piotool: stimulus line 1: T2|
 run --source s --stimulus t --clocks 0 ~ .program p|nop ~ - ~ 1 rx 0|0 rx 0 ~ 1 ~ - ~ piotool: stimulus line 2: T3|
 run --source s --stimulus t --clocks 0 ~ .program p|nop ~ - ~ 1 rx 0|1 rx 0 ~ 1 ~ - ~ piotool: stimulus line 2: T4|
-run --source s --stimulus t --clocks 0 ~ .program p|nop ~ - ~ 1 rx 0|1 rx 1 ~ 0 ~ |#0| ~ -
+run --source s --stimulus t --clocks 0 ~ .program p|nop ~ - ~ 1 rx 0|1 rx 1 ~ 0 ~ |^230| ~ -
 ";
