@@ -3,8 +3,8 @@ use Rattle.std.specs.Prelude.{◌++◌, ◌+◌, ◌≤◌, ◌==◌, ◌&&◌, 
 use Rattle.std.specs.Str.Parse.{digits_value, without_leading_plus}
 use Rattle.clap.specs.ValueTests.{is_unsigned_in}
 use Rattle.clap.specs.Walk.{Text}
-use Rattle.command_line.specs.Tool.{clock_limit, side_limit}
-use Rattle.command_line.specs.Words.{Asked, Asks, IsRefused, IsTaken, asm, check, dis, run}
+use Rattle.command_line.specs.Tool.{clock_limit, seed_limit, side_limit}
+use Rattle.command_line.specs.Words.{Asked, Asks, IsRefused, IsTaken, asm, check, dis, gen, run}
 
 -- the number of decimal digits, where a plus may stand first
 abbrev pub number_of : Text → ℕ
@@ -47,6 +47,16 @@ check_words name source config = name ∷ codes "check" ∷ (codes "--source=" +
 -- they ask for the verdicts on the spans of C over S, whatever S and C are
 abbrev pub CheckWords : Type 0
 CheckWords = (name source : Text) (config : Option Text) → AskWhere true (check_words name source config) (check source config)
+
+-- `gen --seed=K --clocks=N`, of a program of any name
+abbrev pub gen_words : Text → Text → Text → List Text
+gen_words name seed clocks = name ∷ codes "gen" ∷ (codes "--seed=" ++ seed) ∷ (codes "--clocks=" ++ clocks) ∷ []
+
+-- they ask for N clocks of the load that K draws exactly where both are whole numbers in range, whatever K and N are
+abbrev pub GenWords : Type 0
+GenWords = (name seed clocks : Text)
+    → AskWhere (is_unsigned_in 0 seed_limit seed && is_unsigned_in 0 clock_limit clocks) (gen_words name seed clocks)
+    (gen (number_of seed) (number_of clocks))
 
 -- the digit `0`; the others follow it
 abbrev pub digit_0 : ℕ

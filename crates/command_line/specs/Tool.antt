@@ -1,5 +1,5 @@
 -- What the command `piotool` takes, in clap's own words: arguments, subcommands, and the command over them.
-use Rattle.std.specs.Prelude.{ℕ, ◌^◌, true, Some, [], ◌∷◌, codes}
+use Rattle.std.specs.Prelude.{ℕ, ◌^◌, ◌-◌, true, Some, [], ◌∷◌, codes}
 use Rattle.clap.specs.Walk.{Rule, Text}
 use Rattle.clap.specs.Simple.{App, new_app, new_rule, with_rule, with_subcommand}
 use Rattle.clap.specs.declared.builder.action.ArgAction.TheVariants.{Set, SetTrue}
@@ -8,6 +8,10 @@ use Rattle.clap.specs.declared.builder.value_parser.ValueParser.TheVariants.{Uns
 -- the most clocks of a run
 abbrev pub clock_limit : ℕ
 clock_limit = 10 ^ 12
+
+-- the most of a seed (choice of this profile)
+abbrev pub seed_limit : ℕ
+seed_limit = 2 ^ 64 - 1
 
 -- the most side-set bits (RP2040 Datasheet, section 3.5.1)
 abbrev pub side_limit : ℕ
@@ -41,6 +45,10 @@ stimulus_rule = option_rule (codes "stimulus")
 unfoldable pub clocks_rule : Rule
 clocks_rule = up_to clock_limit (required (option_rule (codes "clocks")))
 
+-- `--seed K`: a number of 64 bits
+unfoldable pub seed_rule : Rule
+seed_rule = up_to seed_limit (required (option_rule (codes "seed")))
+
 -- `FILE`, a name that stands alone
 unfoldable pub file_rule : Rule
 file_rule = required (record (new_rule (codes "file")) { action = Some Set })
@@ -69,6 +77,10 @@ dis_app = with_rule (with_rule (with_rule (new_app (codes "dis")) file_rule) sid
 unfoldable pub check_app : App
 check_app = with_rule (with_rule (new_app (codes "check")) source_rule) config_rule
 
+-- `gen --seed K --clocks N`
+unfoldable pub gen_app : App
+gen_app = with_rule (with_rule (new_app (codes "gen")) seed_rule) clocks_rule
+
 -- `piotool` with no arguments of its own, which wants a subcommand
 unfoldable pub bare_app : App
 bare_app = record (new_app (codes "piotool")) {
@@ -77,6 +89,6 @@ bare_app = record (new_app (codes "piotool")) {
 
 -- `piotool` with its subcommands; who unfolds it unfolds all that it is made of
 unfoldable pub tool : App
-unfolding bare_app asm_app run_app dis_app check_app file_rule source_rule config_rule stimulus_rule clocks_rule side_rule opt_rule
+unfolding bare_app asm_app run_app dis_app check_app gen_app file_rule source_rule config_rule stimulus_rule clocks_rule seed_rule side_rule opt_rule
 tool =
-    with_subcommand (with_subcommand (with_subcommand (with_subcommand bare_app asm_app.top) run_app.top) dis_app.top) check_app.top
+    with_subcommand (with_subcommand (with_subcommand (with_subcommand (with_subcommand bare_app asm_app.top) run_app.top) dis_app.top) check_app.top) gen_app.top

@@ -1,9 +1,9 @@
 //! The arguments of the subcommands, one function each.
 ghost use Rattle.std.specs.Prelude.{◌≡◌, false};
 ghost use Rattle.clap.specs.Walk.{rule_of};
-ghost use Rattle.command_line.specs.Tool.{clocks_rule, config_rule, file_rule, opt_rule, option_rule, side_rule, source_rule, stimulus_rule};
+ghost use Rattle.command_line.specs.Tool.{clocks_rule, config_rule, file_rule, opt_rule, option_rule, seed_rule, side_rule, source_rule, stimulus_rule};
 
-use crate::order::{MOST_CLOCKS, MOST_SIDE_BITS};
+use crate::order::{MOST_CLOCKS, MOST_SEED, MOST_SIDE_BITS};
 use clap::builder::ValueParser;
 use clap::{Arg, ArgAction};
 use std::alloc::Global;
@@ -54,7 +54,19 @@ pub fn clocks<'a>(alloc: Global) -> Arg<'a>
     option(alloc, "clocks")
         .required(true)
         .value_parser(ValueParser::Unsigned(0, MOST_CLOCKS))
-        .help("How many clocks to trace, up to 10^12")
+        .help("How many clocks to work out, up to 10^12")
+}
+
+/// `--seed K`: 0 to 2^64 - 1, which load is drawn.
+#[tactic(auto, unfolding(crate::specs::Tool::seed_rule))]
+pub fn seed<'a>(alloc: Global) -> Arg<'a>
+    ensures rule { rule_of result ≡ seed_rule }
+    ensures local { result.global ≡ false }
+{
+    option(alloc, "seed")
+        .required(true)
+        .value_parser(ValueParser::Unsigned(0, MOST_SEED))
+        .help("Which load is drawn: any number below 2^64")
 }
 
 /// `FILE`: the name of a file, any text.

@@ -3,7 +3,7 @@ ghost use Rattle.std.specs.Prelude.{◌≡◌, IfOk, false};
 ghost use Rattle.clap.specs.Simple.{app_of, with_rule, with_subcommand};
 ghost use Rattle.clap.specs.Walk.{rule_of};
 ghost use Rattle.clap.specs.declared.builder.command.Command.TheViews.{out-Command as fields_of};
-ghost use Rattle.command_line.specs.Tool.{asm_app, bare_app, check_app, dis_app, run_app, tool as tool_app};
+ghost use Rattle.command_line.specs.Tool.{asm_app, bare_app, check_app, dis_app, gen_app, run_app, tool as tool_app};
 
 use crate::arguments;
 use clap::{Arg, Command};
@@ -12,6 +12,16 @@ use std::alloc::{AllocError, Global};
 /// The command with all its subcommands.
 pub fn tool<'a>(alloc: Global) -> Result<Command<'a>, AllocError>
     ensures app { IfOk result (λ c. app_of c ≡ tool_app) }
+    ensures local { IfOk result (λ c. (fields_of c).has_globals ≡ false) }
+{
+    let command = first_four(alloc)?;
+    let sub = generate(alloc)?;
+    add(command, sub)
+}
+
+/// The command with its subcommands `asm`, `run`, `dis` and `check`.
+fn first_four<'a>(alloc: Global) -> Result<Command<'a>, AllocError>
+    ensures app { IfOk result (λ c. app_of c ≡ with_subcommand (with_subcommand (with_subcommand (with_subcommand bare_app asm_app.top) run_app.top) dis_app.top) check_app.top) }
     ensures local { IfOk result (λ c. (fields_of c).has_globals ≡ false) }
 {
     let command = first_three(alloc)?;
@@ -105,6 +115,18 @@ fn check<'a>(alloc: Global) -> Result<Command<'a>, AllocError>
     );
     let command = with_argument(command, arguments::source(alloc))?;
     with_argument(command, arguments::config(alloc))
+}
+
+#[tactic(auto, unfolding(crate::specs::Tool::gen_app))]
+fn generate<'a>(alloc: Global) -> Result<Command<'a>, AllocError>
+    ensures app { IfOk result (λ c. app_of c ≡ gen_app) }
+    ensures local { IfOk result (λ c. (fields_of c).has_globals ≡ false) }
+{
+    let command = Command::new(alloc, "gen").about(
+        "Runs the load that a seed draws, and writes how many edges and words it had",
+    );
+    let command = with_argument(command, arguments::seed(alloc))?;
+    with_argument(command, arguments::clocks(alloc))
 }
 
 /// The command with one argument more.

@@ -1,5 +1,5 @@
 //! Laws above clap's definition of a parse: what words as the usage has them ask for. The functions do nothing.
-ghost use Rattle.command_line.specs.Laws.{AsmWords, CheckWords, DisWords, RunWords};
+ghost use Rattle.command_line.specs.Laws.{AsmWords, CheckWords, DisWords, GenWords, RunWords};
 
 /// `asm -- FILE` asks for the listing of FILE.
 pub fn asm_words()
@@ -15,6 +15,11 @@ pub fn run_words()
 /// `check --source=S [--config=C]` asks for the verdicts on the spans of C over S.
 pub fn check_words()
     ensures { CheckWords }
+{}
+
+/// `gen --seed=K --clocks=N` asks for N clocks of the load that K draws exactly where both are whole numbers in range.
+pub fn gen_words()
+    ensures { GenWords }
 {}
 
 /// `dis --side=n [--opt] -- FILE` asks for the text of FILE exactly where n leaves room for `--opt`.

@@ -3,6 +3,9 @@
 /// The most clocks of a run.
 pub const MOST_CLOCKS: u64 = 1_000_000_000_000;
 
+/// The most of a seed: any number of 64 bits is one.
+pub const MOST_SEED: u64 = u64::MAX;
+
 /// The most side-set bits: the side-set values of a program's words take at most five pins.
 pub const MOST_SIDE_BITS: u64 = 5;
 
@@ -25,6 +28,11 @@ pub enum Order<'a> {
     Check {
         source: &'a str,
         config: Option<&'a str>,
+    },
+    /// The summary of so many clocks (0 to 10^12) of the load that a seed (0 to 2^64 - 1) draws.
+    Gen {
+        seed: u64,
+        clocks: u64,
     },
     /// The text of each word of a file, under a rule of so many side-set bits (0 to 5, with `opt` 0 to 4): with `opt`
     /// one bit more says whether a word has a side-set value.
