@@ -37,6 +37,14 @@ source_rule = required (option_rule (codes "source"))
 unfoldable pub config_rule : Rule
 config_rule = option_rule (codes "config")
 
+-- `--span NAME`: the name of a span
+unfoldable pub span_rule : Rule
+span_rule = required (option_rule (codes "span"))
+
+-- `--table F`: the name of a file with a table
+unfoldable pub table_rule : Rule
+table_rule = required (option_rule (codes "table"))
+
 -- `--stimulus T`: the name of a stimulus, which need not be given
 unfoldable pub stimulus_rule : Rule
 stimulus_rule = option_rule (codes "stimulus")
@@ -81,6 +89,14 @@ check_app = with_rule (with_rule (new_app (codes "check")) source_rule) config_r
 unfoldable pub gen_app : App
 gen_app = with_rule (with_rule (new_app (codes "gen")) seed_rule) clocks_rule
 
+-- `table --source S [--config C] --span NAME`
+unfoldable pub table_app : App
+table_app = with_rule (with_rule (with_rule (new_app (codes "table")) source_rule) config_rule) span_rule
+
+-- `recheck --source S [--config C] --span NAME --table F`
+unfoldable pub recheck_app : App
+recheck_app = with_rule (with_rule (with_rule (with_rule (new_app (codes "recheck")) source_rule) config_rule) span_rule) table_rule
+
 -- `piotool` with no arguments of its own, which wants a subcommand
 unfoldable pub bare_app : App
 bare_app = record (new_app (codes "piotool")) {
@@ -89,6 +105,6 @@ bare_app = record (new_app (codes "piotool")) {
 
 -- `piotool` with its subcommands; who unfolds it unfolds all that it is made of
 unfoldable pub tool : App
-unfolding bare_app asm_app run_app dis_app check_app gen_app file_rule source_rule config_rule stimulus_rule clocks_rule seed_rule side_rule opt_rule
+unfolding bare_app asm_app run_app dis_app check_app gen_app table_app recheck_app file_rule source_rule config_rule stimulus_rule clocks_rule seed_rule span_rule table_rule side_rule opt_rule
 tool =
-    with_subcommand (with_subcommand (with_subcommand (with_subcommand (with_subcommand bare_app asm_app.top) run_app.top) dis_app.top) check_app.top) gen_app.top
+    with_subcommand (with_subcommand (with_subcommand (with_subcommand (with_subcommand (with_subcommand (with_subcommand bare_app asm_app.top) run_app.top) dis_app.top) check_app.top) gen_app.top) table_app.top) recheck_app.top

@@ -3,7 +3,7 @@ ghost use Rattle.std.specs.Prelude.{◌≡◌, IfOk, false};
 ghost use Rattle.clap.specs.Simple.{app_of, with_rule, with_subcommand};
 ghost use Rattle.clap.specs.Walk.{rule_of};
 ghost use Rattle.clap.specs.declared.builder.command.Command.TheViews.{out-Command as fields_of};
-ghost use Rattle.command_line.specs.Tool.{asm_app, bare_app, check_app, dis_app, gen_app, run_app, tool as tool_app};
+ghost use Rattle.command_line.specs.Tool.{asm_app, bare_app, check_app, dis_app, gen_app, recheck_app, run_app, table_app, tool as tool_app};
 
 use crate::arguments;
 use clap::{Arg, Command};
@@ -12,6 +12,26 @@ use std::alloc::{AllocError, Global};
 /// The command with all its subcommands.
 pub fn tool<'a>(alloc: Global) -> Result<Command<'a>, AllocError>
     ensures app { IfOk result (λ c. app_of c ≡ tool_app) }
+    ensures local { IfOk result (λ c. (fields_of c).has_globals ≡ false) }
+{
+    let command = first_six(alloc)?;
+    let sub = recheck(alloc)?;
+    add(command, sub)
+}
+
+/// The command with its subcommands up to `table`.
+fn first_six<'a>(alloc: Global) -> Result<Command<'a>, AllocError>
+    ensures app { IfOk result (λ c. app_of c ≡ with_subcommand (with_subcommand (with_subcommand (with_subcommand (with_subcommand (with_subcommand bare_app asm_app.top) run_app.top) dis_app.top) check_app.top) gen_app.top) table_app.top) }
+    ensures local { IfOk result (λ c. (fields_of c).has_globals ≡ false) }
+{
+    let command = first_five(alloc)?;
+    let sub = table(alloc)?;
+    add(command, sub)
+}
+
+/// The command with its subcommands up to `gen`.
+fn first_five<'a>(alloc: Global) -> Result<Command<'a>, AllocError>
+    ensures app { IfOk result (λ c. app_of c ≡ with_subcommand (with_subcommand (with_subcommand (with_subcommand (with_subcommand bare_app asm_app.top) run_app.top) dis_app.top) check_app.top) gen_app.top) }
     ensures local { IfOk result (λ c. (fields_of c).has_globals ≡ false) }
 {
     let command = first_four(alloc)?;
@@ -127,6 +147,33 @@ fn generate<'a>(alloc: Global) -> Result<Command<'a>, AllocError>
     );
     let command = with_argument(command, arguments::seed(alloc))?;
     with_argument(command, arguments::clocks(alloc))
+}
+
+#[tactic(auto, unfolding(crate::specs::Tool::table_app))]
+fn table<'a>(alloc: Global) -> Result<Command<'a>, AllocError>
+    ensures app { IfOk result (λ c. app_of c ≡ table_app) }
+    ensures local { IfOk result (λ c. (fields_of c).has_globals ≡ false) }
+{
+    let command = Command::new(alloc, "table").about(
+        "Writes the table that proves a span: what its machine may come to, and how old an open edge is there",
+    );
+    let command = with_argument(command, arguments::source(alloc))?;
+    let command = with_argument(command, arguments::config(alloc))?;
+    with_argument(command, arguments::span(alloc))
+}
+
+#[tactic(auto, unfolding(crate::specs::Tool::recheck_app))]
+fn recheck<'a>(alloc: Global) -> Result<Command<'a>, AllocError>
+    ensures app { IfOk result (λ c. app_of c ≡ recheck_app) }
+    ensures local { IfOk result (λ c. (fields_of c).has_globals ≡ false) }
+{
+    let command = Command::new(alloc, "recheck").about(
+        "Says whether the table in a file proves a span, without working one out",
+    );
+    let command = with_argument(command, arguments::source(alloc))?;
+    let command = with_argument(command, arguments::config(alloc))?;
+    let command = with_argument(command, arguments::span(alloc))?;
+    with_argument(command, arguments::table(alloc))
 }
 
 /// The command with one argument more.
