@@ -1,5 +1,6 @@
 -- What the command `piotool` takes, in clap's own words: arguments, subcommands, and the command over them.
-use Rattle.std.specs.Prelude.{ℕ, ◌^◌, ◌-◌, true, Some, [], ◌∷◌, codes}
+use Rattle.std.specs.Prelude.{ℕ, ◌^◌, ◌-◌, true, Some, List, [], ◌∷◌, codes}
+use Rattle.std.specs.List.{fold}
 use Rattle.clap.specs.Walk.{Rule, Text}
 use Rattle.clap.specs.Simple.{App, new_app, new_rule, with_rule, with_subcommand}
 use Rattle.clap.specs.declared.builder.action.ArgAction.TheVariants.{Set, SetTrue}
@@ -69,33 +70,45 @@ side_rule = record (up_to side_limit (option_rule (codes "side"))) { defaults = 
 unfoldable pub opt_rule : Rule
 opt_rule = record (new_rule (codes "opt")) { long = Some (codes "opt"); action = Some SetTrue }
 
+-- a command that takes one argument more
+unfoldable pub taking : App → Rule → App
+taking command rule = with_rule command rule
+
+-- a command that has one subcommand more
+unfoldable pub offering : App → App → App
+offering command sub = with_subcommand command sub.top
+
+-- the subcommand of a name with its arguments
+abbrev pub subcommand : Text → List Rule → App
+subcommand name rules = fold taking (new_app name) rules
+
 -- `asm FILE`
 unfoldable pub asm_app : App
-asm_app = with_rule (new_app (codes "asm")) file_rule
+asm_app = subcommand (codes "asm") (file_rule ∷ [])
 
 -- `run --source S [--config C] [--stimulus T] --clocks N`
 unfoldable pub run_app : App
-run_app = with_rule (with_rule (with_rule (with_rule (new_app (codes "run")) source_rule) config_rule) stimulus_rule) clocks_rule
+run_app = subcommand (codes "run") (source_rule ∷ config_rule ∷ stimulus_rule ∷ clocks_rule ∷ [])
 
 -- `dis FILE [--side n] [--opt]`
 unfoldable pub dis_app : App
-dis_app = with_rule (with_rule (with_rule (new_app (codes "dis")) file_rule) side_rule) opt_rule
+dis_app = subcommand (codes "dis") (file_rule ∷ side_rule ∷ opt_rule ∷ [])
 
 -- `check --source S [--config C]`
 unfoldable pub check_app : App
-check_app = with_rule (with_rule (new_app (codes "check")) source_rule) config_rule
+check_app = subcommand (codes "check") (source_rule ∷ config_rule ∷ [])
 
 -- `gen --seed K --clocks N`
 unfoldable pub gen_app : App
-gen_app = with_rule (with_rule (new_app (codes "gen")) seed_rule) clocks_rule
+gen_app = subcommand (codes "gen") (seed_rule ∷ clocks_rule ∷ [])
 
 -- `table --source S [--config C] --span NAME`
 unfoldable pub table_app : App
-table_app = with_rule (with_rule (with_rule (new_app (codes "table")) source_rule) config_rule) span_rule
+table_app = subcommand (codes "table") (source_rule ∷ config_rule ∷ span_rule ∷ [])
 
 -- `recheck --source S [--config C] --span NAME --table F`
 unfoldable pub recheck_app : App
-recheck_app = with_rule (with_rule (with_rule (with_rule (new_app (codes "recheck")) source_rule) config_rule) span_rule) table_rule
+recheck_app = subcommand (codes "recheck") (source_rule ∷ config_rule ∷ span_rule ∷ table_rule ∷ [])
 
 -- `piotool` with no arguments of its own, which wants a subcommand
 unfoldable pub bare_app : App
@@ -105,6 +118,5 @@ bare_app = record (new_app (codes "piotool")) {
 
 -- `piotool` with its subcommands; who unfolds it unfolds all that it is made of
 unfoldable pub tool : App
-unfolding bare_app asm_app run_app dis_app check_app gen_app table_app recheck_app file_rule source_rule config_rule stimulus_rule clocks_rule seed_rule span_rule table_rule side_rule opt_rule
-tool =
-    with_subcommand (with_subcommand (with_subcommand (with_subcommand (with_subcommand (with_subcommand (with_subcommand bare_app asm_app.top) run_app.top) dis_app.top) check_app.top) gen_app.top) table_app.top) recheck_app.top
+unfolding taking offering bare_app asm_app run_app dis_app check_app gen_app table_app recheck_app file_rule source_rule config_rule stimulus_rule clocks_rule seed_rule span_rule table_rule side_rule opt_rule
+tool = fold offering bare_app (asm_app ∷ run_app ∷ dis_app ∷ check_app ∷ gen_app ∷ table_app ∷ recheck_app ∷ [])

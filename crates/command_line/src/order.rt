@@ -10,7 +10,7 @@ pub const MOST_SEED: u64 = u64::MAX;
 pub const MOST_SIDE_BITS: u64 = 5;
 
 /// What the words of a call ask for.
-#[derive(Clone, Copy, Debug, PartialEq)]
+#[derive(Clone, Copy, PartialEq)]
 pub enum Order<'a> {
     /// The listing of the programs in a source.
     Asm {
@@ -57,7 +57,7 @@ pub enum Order<'a> {
 }
 
 /// Why words give no order.
-#[derive(Clone, Copy, Debug, PartialEq)]
+#[derive(Clone, Copy, PartialEq)]
 pub enum WordsFault {
     /// The words ask for nothing that there is, or for help, or for `--opt` beside `--side 5`.
     Usage,
