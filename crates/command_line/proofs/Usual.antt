@@ -13,8 +13,8 @@ use Rattle.clap.specs.declared.error.kind.ErrorKind.TheVariants as kind
 use Rattle.clap.proofs.OnLiterals.{clap_on_literals}
 use Rattle.clap.proofs.WalkLemmas.{both}
 use Rattle.command_line.specs.Tool.{clock_limit, seed_limit, side_limit, tool}
-use Rattle.command_line.specs.Words.{Asked, IsTaken, asm, run, check, table, recheck, gen, dis, asked_of, number_in, has_no_room}
-use Rattle.command_line.specs.Laws.{number_of, asm_words, run_words, check_words, table_words, recheck_words, gen_words, dis_words, AskWhere, AsmWords, RunWords, CheckWords, TableWords, RecheckWords, GenWords, DisWords}
+use Rattle.command_line.specs.Words.{Asked, IsTaken, asm, run, check, table, recheck, shares, gen, dis, asked_of, number_in, has_no_room}
+use Rattle.command_line.specs.Laws.{number_of, asm_words, run_words, check_words, table_words, recheck_words, shares_words, gen_words, dis_words, AskWhere, AsmWords, RunWords, CheckWords, TableWords, RecheckWords, SharesWords, GenWords, DisWords}
 
 -- ---- a number in range
 
@@ -203,6 +203,18 @@ recheck_gives name source (Some config) span file = record { asked = refl; takes
 pub recheck_words_law : RecheckWords
 recheck_words_law name source config span file =
     let g = recheck_gives name source config span file in
+    (taken_by _ _ g.takes g.asked refl, record { taken = g.passes; asked = g.asked })
+
+-- ---- shares
+
+shares_gives : (name source : Text) (config : Option Text) → Gives (shares_words name source config) (shares source config)
+unfolding clap_on_literals tool asked_of
+shares_gives name source None = record { asked = refl; takes = refl; passes = refl }
+shares_gives name source (Some config) = record { asked = refl; takes = refl; passes = refl }
+
+pub shares_words_law : SharesWords
+shares_words_law name source config =
+    let g = shares_gives name source config in
     (taken_by _ _ g.takes g.asked refl, record { taken = g.passes; asked = g.asked })
 
 -- ---- dis

@@ -4,7 +4,7 @@ use Rattle.std.specs.Str.Parse.{digits_value, without_leading_plus}
 use Rattle.clap.specs.ValueTests.{is_unsigned_in}
 use Rattle.clap.specs.Walk.{Text}
 use Rattle.command_line.specs.Tool.{clock_limit, seed_limit, side_limit}
-use Rattle.command_line.specs.Words.{Asked, Asks, IsRefused, IsTaken, asm, check, dis, gen, recheck, run, table}
+use Rattle.command_line.specs.Words.{Asked, Asks, IsRefused, IsTaken, asm, check, dis, gen, recheck, run, shares, table}
 
 -- the number of decimal digits, where a plus may stand first
 abbrev pub number_of : Text → ℕ
@@ -68,6 +68,14 @@ recheck_words name source config span file =
 abbrev pub RecheckWords : Type 0
 RecheckWords = (name source : Text) (config : Option Text) (span file : Text)
     → AskWhere true (recheck_words name source config span file) (recheck source config span file)
+
+-- `shares --source=S [--config=C]`, of a program of any name
+abbrev pub shares_words : Text → Text → Option Text → List Text
+shares_words name source config = name ∷ codes "shares" ∷ (codes "--source=" ++ source) ∷ given (codes "--config=") config
+
+-- they ask what the machines of C over S share, whatever S and C are
+abbrev pub SharesWords : Type 0
+SharesWords = (name source : Text) (config : Option Text) → AskWhere true (shares_words name source config) (shares source config)
 
 -- `gen --seed=K --clocks=N`, of a program of any name
 abbrev pub gen_words : Text → Text → Text → List Text

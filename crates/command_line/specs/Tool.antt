@@ -110,6 +110,10 @@ table_app = subcommand (codes "table") (source_rule ∷ config_rule ∷ span_rul
 unfoldable pub recheck_app : App
 recheck_app = subcommand (codes "recheck") (source_rule ∷ config_rule ∷ span_rule ∷ table_rule ∷ [])
 
+-- `shares --source S [--config C]`
+unfoldable pub shares_app : App
+shares_app = subcommand (codes "shares") (source_rule ∷ config_rule ∷ [])
+
 -- `piotool` with no arguments of its own, which wants a subcommand
 unfoldable pub bare_app : App
 bare_app = record (new_app (codes "piotool")) {
@@ -118,5 +122,5 @@ bare_app = record (new_app (codes "piotool")) {
 
 -- `piotool` with its subcommands; who unfolds it unfolds all that it is made of
 unfoldable pub tool : App
-unfolding taking offering bare_app asm_app run_app dis_app check_app gen_app table_app recheck_app file_rule source_rule config_rule stimulus_rule clocks_rule seed_rule span_rule table_rule side_rule opt_rule
-tool = fold offering bare_app (asm_app ∷ run_app ∷ dis_app ∷ check_app ∷ gen_app ∷ table_app ∷ recheck_app ∷ [])
+unfolding taking offering bare_app asm_app run_app dis_app check_app gen_app table_app recheck_app shares_app file_rule source_rule config_rule stimulus_rule clocks_rule seed_rule span_rule table_rule side_rule opt_rule
+tool = fold offering bare_app (asm_app ∷ run_app ∷ dis_app ∷ check_app ∷ gen_app ∷ table_app ∷ recheck_app ∷ shares_app ∷ [])

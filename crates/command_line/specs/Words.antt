@@ -11,7 +11,7 @@ use Rattle.clap.specs.Takes.{takes}
 use Rattle.clap.specs.Faults.{fault_of}
 use Rattle.command_line.specs.Tool.{clock_limit, seed_limit, side_limit, tool}
 use Rattle.command_line.specs.declared.order.Order.{Order}
-use Rattle.command_line.specs.declared.order.Order.TheVariants.{Asm, Run, Check, Table, Recheck, Gen, Dis}
+use Rattle.command_line.specs.declared.order.Order.TheVariants.{Asm, Run, Check, Table, Recheck, Shares, Gen, Dis}
 use Rattle.command_line.specs.declared.order.WordsFault.{WordsFault}
 use Rattle.command_line.specs.declared.order.WordsFault.TheVariants.{Usage, Memory}
 
@@ -23,6 +23,7 @@ pub data Asked : Type 0 where
   check : Text → Option Text → Asked
   table : Text → Option Text → Text → Asked
   recheck : Text → Option Text → Text → Text → Asked
+  shares : Text → Option Text → Asked
   gen : ℕ → ℕ → Asked
   dis : Text → ℕ → Bool → Asked
 
@@ -33,6 +34,7 @@ asked_by (Run source config stimulus clocks) = run source.now (option_map (λ t.
 asked_by (Check source config) = check source.now (option_map (λ t. t.now) config)
 asked_by (Table source config span) = table source.now (option_map (λ t. t.now) config) span.now
 asked_by (Recheck source config span file) = recheck source.now (option_map (λ t. t.now) config) span.now file.now
+asked_by (Shares source config) = shares source.now (option_map (λ t. t.now) config)
 asked_by (Gen seed clocks) = gen seed clocks
 asked_by (Dis file side opt) = dis file.now side opt
 
@@ -81,6 +83,10 @@ recheck_asked rows =
     recheck (text_at (codes "source") rows) (first_of (codes "config") rows) (text_at (codes "span") rows)
     (text_at (codes "table") rows)
 
+-- the arguments of `shares`
+abbrev pub shares_asked : List Row → Asked
+shares_asked rows = shares (text_at (codes "source") rows) (first_of (codes "config") rows)
+
 -- the arguments of `gen`
 abbrev pub gen_asked : List Row → Asked
 gen_asked rows = gen (number_at seed_limit (codes "seed") rows) (number_at clock_limit (codes "clocks") rows)
@@ -95,7 +101,7 @@ subcommand_asked name rows =
     if bytes_eq name (codes "asm") then asm_asked rows else if bytes_eq name (codes "run") then run_asked rows
     else if bytes_eq name (codes "check") then check_asked rows else if bytes_eq name (codes "table") then table_asked rows
     else if bytes_eq name (codes "recheck") then recheck_asked rows
-    else if bytes_eq name (codes "gen") then gen_asked rows else dis_asked rows
+    else if bytes_eq name (codes "shares") then shares_asked rows else if bytes_eq name (codes "gen") then gen_asked rows else dis_asked rows
 
 -- what the matches that clap's definition gives for `tool` and the words ask for
 unfoldable pub asked_of : List Text → Option Asked

@@ -2,7 +2,7 @@
 ghost use Rattle.std.specs.Prelude.{IfOk};
 ghost use Rattle.clap.specs.Simple.{new_app};
 ghost use Rattle.command_line.specs.Making.{IsApp, Offers, Takes};
-ghost use Rattle.command_line.specs.Tool.{asm_app, check_app, dis_app, gen_app, recheck_app, run_app, table_app, bare_app, tool as tool_app};
+ghost use Rattle.command_line.specs.Tool.{asm_app, check_app, dis_app, gen_app, recheck_app, run_app, shares_app, table_app, bare_app, tool as tool_app};
 
 use crate::arguments;
 use clap::{Arg, Command};
@@ -18,7 +18,8 @@ pub fn tool<'a>(alloc: Global) -> Result<Command<'a>, AllocError>
     let command = add(command, check(alloc));
     let command = add(command, generate(alloc));
     let command = add(command, table(alloc));
-    add(command, recheck(alloc))
+    let command = add(command, recheck(alloc));
+    add(command, shares(alloc))
 }
 
 #[tactic(auto, unfolding(crate::specs::Tool::bare_app))]
@@ -125,6 +126,19 @@ fn recheck<'a>(alloc: Global) -> Result<Command<'a>, AllocError>
     let command = with_argument(command, arguments::config(alloc));
     let command = with_argument(command, arguments::span(alloc));
     with_argument(command, arguments::table(alloc))
+}
+
+#[tactic(auto, unfolding(crate::specs::Tool::shares_app))]
+fn shares<'a>(alloc: Global) -> Result<Command<'a>, AllocError>
+    ensures { IfOk result (IsApp shares_app) }
+{
+    let command = named(
+        alloc,
+        "shares",
+        "Writes for each machine which pins and IRQ flags another may change that it uses itself",
+    );
+    let command = with_argument(command, arguments::source(alloc));
+    with_argument(command, arguments::config(alloc))
 }
 
 /// A subcommand that takes no arguments yet.

@@ -10,7 +10,8 @@ mod order;
 mod reading;
 
 pub use laws::{
-    asm_words, check_words, dis_words, gen_words, recheck_words, run_words, table_words,
+    asm_words, check_words, dis_words, gen_words, recheck_words, run_words, shares_words,
+    table_words,
 };
 pub use order::{Order, WordsFault};
 pub use reading::read;

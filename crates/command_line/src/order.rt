@@ -42,6 +42,11 @@ pub enum Order<'a> {
         span: &'a str,
         table: &'a str,
     },
+    /// What each machine shares with each other machine, in a configuration over the programs in a source.
+    Shares {
+        source: &'a str,
+        config: Option<&'a str>,
+    },
     /// The summary of so many clocks (0 to 10^12) of the load that a seed (0 to 2^64 - 1) draws.
     Gen {
         seed: u64,

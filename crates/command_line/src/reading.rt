@@ -5,7 +5,7 @@ ghost use Rattle.clap.specs.Simple.{subcommand_rows_of};
 ghost use Rattle.clap.specs.Walk.{rows_of};
 ghost use Rattle.std.specs.Option.{option_map};
 ghost use Rattle.command_line.specs.Words.{Asks, HasCause, IsTaken, IsWithinRange, asked_by, asm_asked, check_asked, dis_asked, gen_asked};
-ghost use Rattle.command_line.specs.Words.{has_no_room as has_no_room_of, recheck_asked, run_asked, subcommand_asked, table_asked};
+ghost use Rattle.command_line.specs.Words.{has_no_room as has_no_room_of, recheck_asked, run_asked, shares_asked, subcommand_asked, table_asked};
 
 use crate::getters::{flag, number, option_text, text};
 use crate::matching::matched;
@@ -38,6 +38,7 @@ fn has_no_room(order: Order<'_>) -> bool
         | Order::Check { .. }
         | Order::Table { .. }
         | Order::Recheck { .. }
+        | Order::Shares { .. }
         | Order::Gen { .. } => false,
         Order::Dis { side, opt, .. } => u64::from(side) == MOST_SIDE_BITS && opt,
     }
@@ -62,6 +63,8 @@ fn order_of<'a>(matches: &ArgMatches<'a>) -> Order<'a>
         table_order(found)
     } else if name == "recheck" {
         recheck_order(found)
+    } else if name == "shares" {
+        shares_order(found)
     } else if name == "gen" {
         gen_order(found)
     } else {
@@ -115,6 +118,15 @@ fn recheck_order<'a>(matches: &ArgMatches<'a>) -> Order<'a>
         config: option_text(matches, "config"),
         span: text(matches, "span"),
         table: text(matches, "table"),
+    }
+}
+
+fn shares_order<'a>(matches: &ArgMatches<'a>) -> Order<'a>
+    ensures { asked_by result ≡ shares_asked (rows_of (found_of matches.now)) }
+{
+    Order::Shares {
+        source: text(matches, "source"),
+        config: option_text(matches, "config"),
     }
 }
 
