@@ -1,11 +1,12 @@
 -- What clap's definition of `tool` gives: the matches and the order, or why there are none.
-use Rattle.std.proofs.Common.{◌≡◌, ◌≢◌, ◌↔◌, ◌∙◌, true, List, [], ◌∷◌, Option, Some, inl, inr, refl, subst, ap, sym}
+use Rattle.std.proofs.Common.{◌≡◌, ◌≢◌, ◌↔◌, ◌∙◌, true, List, [], ◌∷◌, Option, Some, inl, inr, refl, subst, ap, sym, Result, Err}
 use Rattle.std.specs.Option.{option_map}
 use Rattle.clap.specs.Walk.{Row, Text}
 use Rattle.clap.specs.Values.{kind_of}
 use Rattle.clap.specs.Kinds.{HasKind, Kinds}
 use Rattle.clap.specs.Simple.{App, is_simple, subcommand_of}
 use Rattle.clap.specs.Faults.{fault_of, is_simple_and_free}
+use Rattle.clap.specs.Takes.{takes}
 use Rattle.clap.specs.declared.error.Error.{Error}
 use Rattle.clap.specs.declared.error.kind.ErrorKind.TheVariants as kind
 use Rattle.clap.proofs.OnLiterals.{clap_on_literals}
@@ -45,6 +46,14 @@ pub cause_of_error : (words : List Text) (fault : WordsFault) (e : Error)
     → (fault ≡ Usage) ↔ (kind_of e ≢ kind.OutOfMemory) → HasKind (fault_of tool words) e → HasCause words fault
 cause_of_error words Usage e made has = inl (some_kind _ e has (made.0 refl))
 cause_of_error words Memory e made has = tt
+
+-- words that `tool` takes are no usage fault
+pub not_usage : {T : Type 0} (words : List Text) (r : Result T WordsFault) (fault : WordsFault) (e : Error) (a : App) → r ≡ Err fault
+    → a ≡ tool → (fault ≡ Usage) ↔ (kind_of e ≢ kind.OutOfMemory) → (takes a words ≡ true → kind_of e ≡ kind.OutOfMemory)
+    → takes tool words ≡ true → r ≢ Err Usage
+not_usage words r Usage e a told is made memory taken same =
+    made.0 refl (memory (subst (λ x. takes x words ≡ true) (sym is) taken))
+not_usage words r Memory e a told is made memory taken same = cc
 
 -- what the subcommand asks for is what the words ask for
 pub asks : (words : List Text) (a : Asked) (met : Option (Text × List Row)) → fault_of tool words ≡ []

@@ -12,9 +12,9 @@ use Rattle.clap.specs.ValueTests.{is_unsigned_in, is_numeral}
 use Rattle.clap.specs.declared.error.kind.ErrorKind.TheVariants as kind
 use Rattle.clap.proofs.OnLiterals.{clap_on_literals}
 use Rattle.clap.proofs.WalkLemmas.{both}
-use Rattle.command_line.specs.Tool.{clock_limit, side_limit, tool}
-use Rattle.command_line.specs.Words.{Asked, IsTaken, asm, run, check, dis, asked_of, number_in, has_no_room}
-use Rattle.command_line.specs.Laws.{number_of, asm_words, run_words, check_words, dis_words, AskWhere, AsmWords, RunWords, CheckWords, DisWords}
+use Rattle.command_line.specs.Tool.{clock_limit, seed_limit, side_limit, tool}
+use Rattle.command_line.specs.Words.{Asked, IsTaken, asm, run, check, table, recheck, shares, gen, dis, asked_of, number_in, has_no_room}
+use Rattle.command_line.specs.Laws.{number_of, asm_words, run_words, check_words, table_words, recheck_words, shares_words, gen_words, dis_words, AskWhere, AsmWords, RunWords, CheckWords, TableWords, RecheckWords, SharesWords, GenWords, DisWords}
 
 -- ---- a number in range
 
@@ -100,6 +100,56 @@ run_words_law name source config stimulus clocks = go (is_unsigned_in 0 clock_li
         (taken_by _ _ takes asked refl, record { taken = run_fault name source config stimulus clocks true e; asked = asked })
     go false e = inl (not_empty _ (run_fault name source config stimulus clocks false e))
 
+-- ---- gen
+
+gen_asks : (name seed clocks : Text)
+    → asked_of (gen_words name seed clocks) ≡ Some (gen (min (number_in seed) seed_limit) (min (number_in clocks) clock_limit))
+unfolding clap_on_literals tool asked_of
+gen_asks name seed clocks = refl
+
+-- the tests of two numbers, among tests that pass
+both_tests : (s t : Bool) → s ≡ true → t ≡ true → ((((s && true) && true) && (((t && true) && true) && true)) && true && true) ≡ true
+both_tests true true e f = refl
+both_tests true false e f = f
+both_tests false t e f = e
+
+gen_takes : (name seed clocks : Text) → is_unsigned_in 0 seed_limit seed ≡ true → is_unsigned_in 0 clock_limit clocks ≡ true
+    → takes tool (gen_words name seed clocks) ≡ true
+unfolding clap_on_literals tool
+gen_takes name seed clocks e f = both_tests _ _ e f
+
+-- the first fault of the two numbers, where clap's definition meets it
+first_of_both : Bool → Bool → Kinds
+first_of_both s t = within 2 (or_else (within 2 (fault_where s)) (within 3 (fault_where t)))
+
+gen_computes : (name seed clocks : Text) → fault_of tool (gen_words name seed clocks)
+    ≡ first_of_both (is_unsigned_in 0 seed_limit seed) (is_unsigned_in 0 clock_limit clocks)
+unfolding clap_on_literals tool within first_of_both
+gen_computes name seed clocks = refl
+
+first_is : (s t : Bool) → first_of_both s t ≡ fault_where (s && t)
+unfolding within first_of_both
+first_is true true = refl
+first_is true false = refl
+first_is false t = refl
+
+gen_fault : (name seed clocks : Text) (s t : Bool) → is_unsigned_in 0 seed_limit seed ≡ s → is_unsigned_in 0 clock_limit clocks ≡ t
+    → fault_of tool (gen_words name seed clocks) ≡ fault_where (s && t)
+gen_fault name seed clocks s t e f =
+    gen_computes name seed clocks ∙ ap (λ b. first_of_both b (is_unsigned_in 0 clock_limit clocks)) e ∙ ap (first_of_both s) f ∙ first_is s t
+
+pub gen_words_law : GenWords
+gen_words_law name seed clocks = go (is_unsigned_in 0 seed_limit seed) (is_unsigned_in 0 clock_limit clocks) refl refl
+  where
+    go : (s t : Bool) → is_unsigned_in 0 seed_limit seed ≡ s → is_unsigned_in 0 clock_limit clocks ≡ t
+        → AskWhere (s && t) (gen_words name seed clocks) (gen (number_of seed) (number_of clocks))
+    go true true e f =
+        let asked = gen_asks name seed clocks ∙ ap (λ k. Some (gen k (min (number_in clocks) clock_limit))) (range_read seed_limit seed e)
+        ∙ ap (λ n. Some (gen (number_of seed) n)) (range_read clock_limit clocks f) in
+        (taken_by _ _ (gen_takes name seed clocks e f) asked refl, record { taken = gen_fault name seed clocks true true e f; asked = asked })
+    go true false e f = inl (not_empty _ (gen_fault name seed clocks true false e f))
+    go false t e f = inl (not_empty _ (gen_fault name seed clocks false t e f))
+
 -- what clap's definition gives for words
 record Gives (words : List Text) (a : Asked) : Type 0 where
   asked : asked_of words ≡ Some a
@@ -127,6 +177,44 @@ check_gives name source (Some config) = record { asked = refl; takes = refl; pas
 pub check_words_law : CheckWords
 check_words_law name source config =
     let g = check_gives name source config in
+    (taken_by _ _ g.takes g.asked refl, record { taken = g.passes; asked = g.asked })
+
+-- ---- table
+
+table_gives : (name source : Text) (config : Option Text) (span : Text)
+    → Gives (table_words name source config span) (table source config span)
+unfolding clap_on_literals tool asked_of
+table_gives name source None span = record { asked = refl; takes = refl; passes = refl }
+table_gives name source (Some config) span = record { asked = refl; takes = refl; passes = refl }
+
+pub table_words_law : TableWords
+table_words_law name source config span =
+    let g = table_gives name source config span in
+    (taken_by _ _ g.takes g.asked refl, record { taken = g.passes; asked = g.asked })
+
+-- ---- recheck
+
+recheck_gives : (name source : Text) (config : Option Text) (span file : Text)
+    → Gives (recheck_words name source config span file) (recheck source config span file)
+unfolding clap_on_literals tool asked_of
+recheck_gives name source None span file = record { asked = refl; takes = refl; passes = refl }
+recheck_gives name source (Some config) span file = record { asked = refl; takes = refl; passes = refl }
+
+pub recheck_words_law : RecheckWords
+recheck_words_law name source config span file =
+    let g = recheck_gives name source config span file in
+    (taken_by _ _ g.takes g.asked refl, record { taken = g.passes; asked = g.asked })
+
+-- ---- shares
+
+shares_gives : (name source : Text) (config : Option Text) → Gives (shares_words name source config) (shares source config)
+unfolding clap_on_literals tool asked_of
+shares_gives name source None = record { asked = refl; takes = refl; passes = refl }
+shares_gives name source (Some config) = record { asked = refl; takes = refl; passes = refl }
+
+pub shares_words_law : SharesWords
+shares_words_law name source config =
+    let g = shares_gives name source config in
     (taken_by _ _ g.takes g.asked refl, record { taken = g.passes; asked = g.asked })
 
 -- ---- dis

@@ -1,3 +1,4 @@
 pub mod Tool
 pub mod Words
 pub mod Laws
+pub mod Making

@@ -1,5 +1,6 @@
 -- What the command `piotool` takes, in clap's own words: arguments, subcommands, and the command over them.
-use Rattle.std.specs.Prelude.{ℕ, ◌^◌, true, Some, [], ◌∷◌, codes}
+use Rattle.std.specs.Prelude.{ℕ, ◌^◌, ◌-◌, true, Some, List, [], ◌∷◌, codes}
+use Rattle.std.specs.List.{fold}
 use Rattle.clap.specs.Walk.{Rule, Text}
 use Rattle.clap.specs.Simple.{App, new_app, new_rule, with_rule, with_subcommand}
 use Rattle.clap.specs.declared.builder.action.ArgAction.TheVariants.{Set, SetTrue}
@@ -8,6 +9,10 @@ use Rattle.clap.specs.declared.builder.value_parser.ValueParser.TheVariants.{Uns
 -- the most clocks of a run
 abbrev pub clock_limit : ℕ
 clock_limit = 10 ^ 12
+
+-- the most of a seed (choice of this profile)
+abbrev pub seed_limit : ℕ
+seed_limit = 2 ^ 64 - 1
 
 -- the most side-set bits (RP2040 Datasheet, section 3.5.1)
 abbrev pub side_limit : ℕ
@@ -33,6 +38,14 @@ source_rule = required (option_rule (codes "source"))
 unfoldable pub config_rule : Rule
 config_rule = option_rule (codes "config")
 
+-- `--span NAME`: the name of a span
+unfoldable pub span_rule : Rule
+span_rule = required (option_rule (codes "span"))
+
+-- `--table F`: the name of a file with a table
+unfoldable pub table_rule : Rule
+table_rule = required (option_rule (codes "table"))
+
 -- `--stimulus T`: the name of a stimulus, which need not be given
 unfoldable pub stimulus_rule : Rule
 stimulus_rule = option_rule (codes "stimulus")
@@ -40,6 +53,10 @@ stimulus_rule = option_rule (codes "stimulus")
 -- `--clocks N`: a number of clocks
 unfoldable pub clocks_rule : Rule
 clocks_rule = up_to clock_limit (required (option_rule (codes "clocks")))
+
+-- `--seed K`: a number of 64 bits
+unfoldable pub seed_rule : Rule
+seed_rule = up_to seed_limit (required (option_rule (codes "seed")))
 
 -- `FILE`, a name that stands alone
 unfoldable pub file_rule : Rule
@@ -53,21 +70,49 @@ side_rule = record (up_to side_limit (option_rule (codes "side"))) { defaults = 
 unfoldable pub opt_rule : Rule
 opt_rule = record (new_rule (codes "opt")) { long = Some (codes "opt"); action = Some SetTrue }
 
+-- a command that takes one argument more
+unfoldable pub taking : App → Rule → App
+taking command rule = with_rule command rule
+
+-- a command that has one subcommand more
+unfoldable pub offering : App → App → App
+offering command sub = with_subcommand command sub.top
+
+-- the subcommand of a name with its arguments
+abbrev pub subcommand : Text → List Rule → App
+subcommand name rules = fold taking (new_app name) rules
+
 -- `asm FILE`
 unfoldable pub asm_app : App
-asm_app = with_rule (new_app (codes "asm")) file_rule
+asm_app = subcommand (codes "asm") (file_rule ∷ [])
 
 -- `run --source S [--config C] [--stimulus T] --clocks N`
 unfoldable pub run_app : App
-run_app = with_rule (with_rule (with_rule (with_rule (new_app (codes "run")) source_rule) config_rule) stimulus_rule) clocks_rule
+run_app = subcommand (codes "run") (source_rule ∷ config_rule ∷ stimulus_rule ∷ clocks_rule ∷ [])
 
 -- `dis FILE [--side n] [--opt]`
 unfoldable pub dis_app : App
-dis_app = with_rule (with_rule (with_rule (new_app (codes "dis")) file_rule) side_rule) opt_rule
+dis_app = subcommand (codes "dis") (file_rule ∷ side_rule ∷ opt_rule ∷ [])
 
 -- `check --source S [--config C]`
 unfoldable pub check_app : App
-check_app = with_rule (with_rule (new_app (codes "check")) source_rule) config_rule
+check_app = subcommand (codes "check") (source_rule ∷ config_rule ∷ [])
+
+-- `gen --seed K --clocks N`
+unfoldable pub gen_app : App
+gen_app = subcommand (codes "gen") (seed_rule ∷ clocks_rule ∷ [])
+
+-- `table --source S [--config C] --span NAME`
+unfoldable pub table_app : App
+table_app = subcommand (codes "table") (source_rule ∷ config_rule ∷ span_rule ∷ [])
+
+-- `recheck --source S [--config C] --span NAME --table F`
+unfoldable pub recheck_app : App
+recheck_app = subcommand (codes "recheck") (source_rule ∷ config_rule ∷ span_rule ∷ table_rule ∷ [])
+
+-- `shares --source S [--config C]`
+unfoldable pub shares_app : App
+shares_app = subcommand (codes "shares") (source_rule ∷ config_rule ∷ [])
 
 -- `piotool` with no arguments of its own, which wants a subcommand
 unfoldable pub bare_app : App
@@ -77,6 +122,5 @@ bare_app = record (new_app (codes "piotool")) {
 
 -- `piotool` with its subcommands; who unfolds it unfolds all that it is made of
 unfoldable pub tool : App
-unfolding bare_app asm_app run_app dis_app check_app file_rule source_rule config_rule stimulus_rule clocks_rule side_rule opt_rule
-tool =
-    with_subcommand (with_subcommand (with_subcommand (with_subcommand bare_app asm_app.top) run_app.top) dis_app.top) check_app.top
+unfolding taking offering bare_app asm_app run_app dis_app check_app gen_app table_app recheck_app shares_app file_rule source_rule config_rule stimulus_rule clocks_rule seed_rule span_rule table_rule side_rule opt_rule
+tool = fold offering bare_app (asm_app ∷ run_app ∷ dis_app ∷ check_app ∷ gen_app ∷ table_app ∷ recheck_app ∷ shares_app ∷ [])

@@ -9,18 +9,22 @@ use Rattle.clap.specs.Walk.{Row, Text, first_of, one_of}
 use Rattle.clap.specs.Simple.{subcommand_of}
 use Rattle.clap.specs.Takes.{takes}
 use Rattle.clap.specs.Faults.{fault_of}
-use Rattle.command_line.specs.Tool.{clock_limit, side_limit, tool}
+use Rattle.command_line.specs.Tool.{clock_limit, seed_limit, side_limit, tool}
 use Rattle.command_line.specs.declared.order.Order.{Order}
-use Rattle.command_line.specs.declared.order.Order.TheVariants.{Asm, Run, Check, Dis}
+use Rattle.command_line.specs.declared.order.Order.TheVariants.{Asm, Run, Check, Table, Recheck, Shares, Gen, Dis}
 use Rattle.command_line.specs.declared.order.WordsFault.{WordsFault}
 use Rattle.command_line.specs.declared.order.WordsFault.TheVariants.{Usage, Memory}
 
 -- a subcommand with its arguments: file; source, configuration and stimulus if there are some, and clocks; source, and
--- configuration if there is one; or file, side-set bits and whether their value is optional
+-- configuration if there is one; the same with a span's name, and then with a table; seed and clocks; or file, side-set bits and whether their value is optional
 pub data Asked : Type 0 where
   asm : Text → Asked
   run : Text → Option Text → Option Text → ℕ → Asked
   check : Text → Option Text → Asked
+  table : Text → Option Text → Text → Asked
+  recheck : Text → Option Text → Text → Text → Asked
+  shares : Text → Option Text → Asked
+  gen : ℕ → ℕ → Asked
   dis : Text → ℕ → Bool → Asked
 
 -- what an order asks for
@@ -28,6 +32,10 @@ abbrev pub asked_by : Order → Asked
 asked_by (Asm file) = asm file.now
 asked_by (Run source config stimulus clocks) = run source.now (option_map (λ t. t.now) config) (option_map (λ t. t.now) stimulus) clocks
 asked_by (Check source config) = check source.now (option_map (λ t. t.now) config)
+asked_by (Table source config span) = table source.now (option_map (λ t. t.now) config) span.now
+asked_by (Recheck source config span file) = recheck source.now (option_map (λ t. t.now) config) span.now file.now
+asked_by (Shares source config) = shares source.now (option_map (λ t. t.now) config)
+asked_by (Gen seed clocks) = gen seed clocks
 asked_by (Dis file side opt) = dis file.now side opt
 
 -- ---- what clap's matches of a subcommand ask for
@@ -65,6 +73,24 @@ run_asked rows =
 abbrev pub check_asked : List Row → Asked
 check_asked rows = check (text_at (codes "source") rows) (first_of (codes "config") rows)
 
+-- the arguments of `table`
+abbrev pub table_asked : List Row → Asked
+table_asked rows = table (text_at (codes "source") rows) (first_of (codes "config") rows) (text_at (codes "span") rows)
+
+-- the arguments of `recheck`
+abbrev pub recheck_asked : List Row → Asked
+recheck_asked rows =
+    recheck (text_at (codes "source") rows) (first_of (codes "config") rows) (text_at (codes "span") rows)
+    (text_at (codes "table") rows)
+
+-- the arguments of `shares`
+abbrev pub shares_asked : List Row → Asked
+shares_asked rows = shares (text_at (codes "source") rows) (first_of (codes "config") rows)
+
+-- the arguments of `gen`
+abbrev pub gen_asked : List Row → Asked
+gen_asked rows = gen (number_at seed_limit (codes "seed") rows) (number_at clock_limit (codes "clocks") rows)
+
 -- the arguments of `dis`
 abbrev pub dis_asked : List Row → Asked
 dis_asked rows = dis (text_at (codes "file") rows) (number_at side_limit (codes "side") rows) (flag_at (codes "opt") rows)
@@ -73,27 +99,27 @@ dis_asked rows = dis (text_at (codes "file") rows) (number_at side_limit (codes 
 abbrev pub subcommand_asked : Text → List Row → Asked
 subcommand_asked name rows =
     if bytes_eq name (codes "asm") then asm_asked rows else if bytes_eq name (codes "run") then run_asked rows
-    else if bytes_eq name (codes "check") then check_asked rows else dis_asked rows
+    else if bytes_eq name (codes "check") then check_asked rows else if bytes_eq name (codes "table") then table_asked rows
+    else if bytes_eq name (codes "recheck") then recheck_asked rows
+    else if bytes_eq name (codes "shares") then shares_asked rows else if bytes_eq name (codes "gen") then gen_asked rows else dis_asked rows
 
 -- what the matches that clap's definition gives for `tool` and the words ask for
 unfoldable pub asked_of : List Text → Option Asked
 asked_of words = option_map (λ met. subcommand_asked met.0 met.1) (subcommand_of tool words)
 
--- the clocks are in range, and so are the side-set bits with the one of `--opt`
+-- the seed and the clocks are in range, and so are the side-set bits with the one of `--opt`
 abbrev pub IsWithinRange : Asked → Type 0
-IsWithinRange (asm file) = ⊤
 IsWithinRange (run source config stimulus clocks) = clocks ≤ clock_limit
-IsWithinRange (check source config) = ⊤
+IsWithinRange (gen seed clocks) = (seed ≤ seed_limit) × (clocks ≤ clock_limit)
 IsWithinRange (dis file side opt) = side + (if opt then 1 else 0) ≤ side_limit
+IsWithinRange _ = ⊤
 
 -- ---- when there are matches, and when not
 
 -- `--opt` takes one of the five side-set bits, so not beside `--side 5` (RP2040 Datasheet, section 3.5.1)
 abbrev pub has_no_room : Asked → Bool
-has_no_room (asm file) = false
-has_no_room (run source config stimulus clocks) = false
-has_no_room (check source config) = false
 has_no_room (dis file side opt) = side == side_limit && opt
+has_no_room _ = false
 
 -- clap gives matches of `tool` for the words, and they ask for this
 pub record Asks (words : List Text) (a : Asked) : Type 0 where
@@ -116,10 +142,9 @@ HasCause words Memory = ⊤
 
 -- how many clocks a command works out at most
 abbrev pub clocks_asked : Asked → ℕ
-clocks_asked (asm file) = 0
 clocks_asked (run source config stimulus clocks) = clocks
-clocks_asked (check source config) = 0
-clocks_asked (dis file side opt) = 0
+clocks_asked (gen seed clocks) = clocks
+clocks_asked _ = 0
 
 -- how many clocks words ask for at most
 abbrev pub most_clocks : List Text → ℕ

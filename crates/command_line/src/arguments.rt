@@ -1,17 +1,15 @@
 //! The arguments of the subcommands, one function each.
-ghost use Rattle.std.specs.Prelude.{◌≡◌, false};
-ghost use Rattle.clap.specs.Walk.{rule_of};
-ghost use Rattle.command_line.specs.Tool.{clocks_rule, config_rule, file_rule, opt_rule, option_rule, side_rule, source_rule, stimulus_rule};
+ghost use Rattle.command_line.specs.Making.{IsRule};
+ghost use Rattle.command_line.specs.Tool.{clocks_rule, config_rule, file_rule, opt_rule, option_rule, seed_rule, side_rule, source_rule, span_rule, stimulus_rule, table_rule};
 
-use crate::order::{MOST_CLOCKS, MOST_SIDE_BITS};
+use crate::order::{MOST_CLOCKS, MOST_SEED, MOST_SIDE_BITS};
 use clap::builder::ValueParser;
 use clap::{Arg, ArgAction};
 use std::alloc::Global;
 
 /// A long option with one value.
 fn option<'a>(alloc: Global, name: &'a str) -> Arg<'a>
-    ensures rule { rule_of result ≡ option_rule name.entry.now }
-    ensures local { result.global ≡ false }
+    ensures { IsRule (option_rule name.entry.now) result }
 {
     Arg::new(alloc, name).long(name).action(ArgAction::Set)
 }
@@ -19,8 +17,7 @@ fn option<'a>(alloc: Global, name: &'a str) -> Arg<'a>
 /// `--source S`: the source's name, any text.
 #[tactic(auto, unfolding(crate::specs::Tool::source_rule))]
 pub fn source<'a>(alloc: Global) -> Arg<'a>
-    ensures rule { rule_of result ≡ source_rule }
-    ensures local { result.global ≡ false }
+    ensures { IsRule source_rule result }
 {
     option(alloc, "source")
         .required(true)
@@ -30,17 +27,35 @@ pub fn source<'a>(alloc: Global) -> Arg<'a>
 /// `--config C`: the configuration's name, any text, where one is given.
 #[tactic(auto, unfolding(crate::specs::Tool::config_rule))]
 pub fn config<'a>(alloc: Global) -> Arg<'a>
-    ensures rule { rule_of result ≡ config_rule }
-    ensures local { result.global ≡ false }
+    ensures { IsRule config_rule result }
 {
     option(alloc, "config").help("What the block starts from, in TOML")
+}
+
+/// `--span NAME`: the name of a span, any text.
+#[tactic(auto, unfolding(crate::specs::Tool::span_rule))]
+pub fn span<'a>(alloc: Global) -> Arg<'a>
+    ensures { IsRule span_rule result }
+{
+    option(alloc, "span")
+        .required(true)
+        .help("The name of a span of the configuration")
+}
+
+/// `--table F`: the name of a file with a table, any text.
+#[tactic(auto, unfolding(crate::specs::Tool::table_rule))]
+pub fn table<'a>(alloc: Global) -> Arg<'a>
+    ensures { IsRule table_rule result }
+{
+    option(alloc, "table").required(true).help(
+        "The table, in the form in which the command table writes it",
+    )
 }
 
 /// `--stimulus T`: the stimulus's name, any text, where one is given.
 #[tactic(auto, unfolding(crate::specs::Tool::stimulus_rule))]
 pub fn stimulus<'a>(alloc: Global) -> Arg<'a>
-    ensures rule { rule_of result ≡ stimulus_rule }
-    ensures local { result.global ≡ false }
+    ensures { IsRule stimulus_rule result }
 {
     option(alloc, "stimulus").help("What the system and the outside do, clock by clock")
 }
@@ -48,20 +63,29 @@ pub fn stimulus<'a>(alloc: Global) -> Arg<'a>
 /// `--clocks N`: 0 to 10^12 clocks.
 #[tactic(auto, unfolding(crate::specs::Tool::clocks_rule))]
 pub fn clocks<'a>(alloc: Global) -> Arg<'a>
-    ensures rule { rule_of result ≡ clocks_rule }
-    ensures local { result.global ≡ false }
+    ensures { IsRule clocks_rule result }
 {
     option(alloc, "clocks")
         .required(true)
         .value_parser(ValueParser::Unsigned(0, MOST_CLOCKS))
-        .help("How many clocks to trace, up to 10^12")
+        .help("How many clocks to work out, up to 10^12")
+}
+
+/// `--seed K`: 0 to 2^64 - 1, which load is drawn.
+#[tactic(auto, unfolding(crate::specs::Tool::seed_rule))]
+pub fn seed<'a>(alloc: Global) -> Arg<'a>
+    ensures { IsRule seed_rule result }
+{
+    option(alloc, "seed")
+        .required(true)
+        .value_parser(ValueParser::Unsigned(0, MOST_SEED))
+        .help("Which load is drawn: any number below 2^64")
 }
 
 /// `FILE`: the name of a file, any text.
 #[tactic(auto, unfolding(crate::specs::Tool::file_rule))]
 pub fn file<'a>(alloc: Global, help: &'a str) -> Arg<'a>
-    ensures rule { rule_of result ≡ file_rule }
-    ensures local { result.global ≡ false }
+    ensures { IsRule file_rule result }
 {
     Arg::new(alloc, "file")
         .required(true)
@@ -72,8 +96,7 @@ pub fn file<'a>(alloc: Global, help: &'a str) -> Arg<'a>
 /// `--side n`: 0 to 5 side-set bits, 0 where it isn't given.
 #[tactic(auto, unfolding(crate::specs::Tool::side_rule))]
 pub fn side<'a>(alloc: Global) -> Arg<'a>
-    ensures rule { rule_of result ≡ side_rule }
-    ensures local { result.global ≡ false }
+    ensures { IsRule side_rule result }
 {
     option(alloc, "side")
         .value_parser(ValueParser::Unsigned(0, MOST_SIDE_BITS))
@@ -84,8 +107,7 @@ pub fn side<'a>(alloc: Global) -> Arg<'a>
 /// `--opt`: one side-set bit says whether a word has a side-set value.
 #[tactic(auto, unfolding(crate::specs::Tool::opt_rule))]
 pub fn opt<'a>(alloc: Global) -> Arg<'a>
-    ensures rule { rule_of result ≡ opt_rule }
-    ensures local { result.global ≡ false }
+    ensures { IsRule opt_rule result }
 {
     Arg::new(alloc, "opt")
         .long("opt")

@@ -3,11 +3,14 @@
 /// The most clocks of a run.
 pub const MOST_CLOCKS: u64 = 1_000_000_000_000;
 
+/// The most of a seed: any number of 64 bits is one.
+pub const MOST_SEED: u64 = u64::MAX;
+
 /// The most side-set bits: the side-set values of a program's words take at most five pins.
 pub const MOST_SIDE_BITS: u64 = 5;
 
 /// What the words of a call ask for.
-#[derive(Clone, Copy, Debug, PartialEq)]
+#[derive(Clone, Copy, PartialEq)]
 pub enum Order<'a> {
     /// The listing of the programs in a source.
     Asm {
@@ -26,6 +29,29 @@ pub enum Order<'a> {
         source: &'a str,
         config: Option<&'a str>,
     },
+    /// The table of the span of this name, in a configuration over the programs in a source.
+    Table {
+        source: &'a str,
+        config: Option<&'a str>,
+        span: &'a str,
+    },
+    /// Whether the table in a file proves the span of this name, in a configuration over the programs in a source.
+    Recheck {
+        source: &'a str,
+        config: Option<&'a str>,
+        span: &'a str,
+        table: &'a str,
+    },
+    /// What each machine shares with each other machine, in a configuration over the programs in a source.
+    Shares {
+        source: &'a str,
+        config: Option<&'a str>,
+    },
+    /// The summary of so many clocks (0 to 10^12) of the load that a seed (0 to 2^64 - 1) draws.
+    Gen {
+        seed: u64,
+        clocks: u64,
+    },
     /// The text of each word of a file, under a rule of so many side-set bits (0 to 5, with `opt` 0 to 4): with `opt`
     /// one bit more says whether a word has a side-set value.
     Dis {
@@ -36,7 +62,7 @@ pub enum Order<'a> {
 }
 
 /// Why words give no order.
-#[derive(Clone, Copy, Debug, PartialEq)]
+#[derive(Clone, Copy, PartialEq)]
 pub enum WordsFault {
     /// The words ask for nothing that there is, or for help, or for `--opt` beside `--side 5`.
     Usage,

@@ -4,12 +4,12 @@ ghost use Rattle.clap.specs.Matches.{found_of, has_subcommand};
 ghost use Rattle.clap.specs.Simple.{subcommand_rows_of};
 ghost use Rattle.clap.specs.Walk.{rows_of};
 ghost use Rattle.std.specs.Option.{option_map};
-ghost use Rattle.command_line.specs.Words.{Asks, HasCause, IsTaken, IsWithinRange, asked_by, asm_asked, check_asked, dis_asked};
-ghost use Rattle.command_line.specs.Words.{has_no_room as has_no_room_of, run_asked, subcommand_asked};
+ghost use Rattle.command_line.specs.Words.{Asks, HasCause, IsTaken, IsWithinRange, asked_by, asm_asked, check_asked, dis_asked, gen_asked};
+ghost use Rattle.command_line.specs.Words.{has_no_room as has_no_room_of, recheck_asked, run_asked, shares_asked, subcommand_asked, table_asked};
 
 use crate::getters::{flag, number, option_text, text};
 use crate::matching::matched;
-use crate::order::{MOST_CLOCKS, MOST_SIDE_BITS, Order, WordsFault};
+use crate::order::{MOST_CLOCKS, MOST_SEED, MOST_SIDE_BITS, Order, WordsFault};
 use clap::ArgMatches;
 use std::alloc::Global;
 
@@ -33,7 +33,13 @@ fn has_no_room(order: Order<'_>) -> bool
     ensures { result ≡ has_no_room_of (asked_by order.entry) }
 {
     match order {
-        Order::Asm { .. } | Order::Run { .. } | Order::Check { .. } => false,
+        Order::Asm { .. }
+        | Order::Run { .. }
+        | Order::Check { .. }
+        | Order::Table { .. }
+        | Order::Recheck { .. }
+        | Order::Shares { .. }
+        | Order::Gen { .. } => false,
         Order::Dis { side, opt, .. } => u64::from(side) == MOST_SIDE_BITS && opt,
     }
 }
@@ -53,6 +59,14 @@ fn order_of<'a>(matches: &ArgMatches<'a>) -> Order<'a>
         run_order(found)
     } else if name == "check" {
         check_order(found)
+    } else if name == "table" {
+        table_order(found)
+    } else if name == "recheck" {
+        recheck_order(found)
+    } else if name == "shares" {
+        shares_order(found)
+    } else if name == "gen" {
+        gen_order(found)
     } else {
         dis_order(found)
     }
@@ -83,6 +97,45 @@ fn check_order<'a>(matches: &ArgMatches<'a>) -> Order<'a>
     Order::Check {
         source: text(matches, "source"),
         config: option_text(matches, "config"),
+    }
+}
+
+fn table_order<'a>(matches: &ArgMatches<'a>) -> Order<'a>
+    ensures { asked_by result ≡ table_asked (rows_of (found_of matches.now)) }
+{
+    Order::Table {
+        source: text(matches, "source"),
+        config: option_text(matches, "config"),
+        span: text(matches, "span"),
+    }
+}
+
+fn recheck_order<'a>(matches: &ArgMatches<'a>) -> Order<'a>
+    ensures { asked_by result ≡ recheck_asked (rows_of (found_of matches.now)) }
+{
+    Order::Recheck {
+        source: text(matches, "source"),
+        config: option_text(matches, "config"),
+        span: text(matches, "span"),
+        table: text(matches, "table"),
+    }
+}
+
+fn shares_order<'a>(matches: &ArgMatches<'a>) -> Order<'a>
+    ensures { asked_by result ≡ shares_asked (rows_of (found_of matches.now)) }
+{
+    Order::Shares {
+        source: text(matches, "source"),
+        config: option_text(matches, "config"),
+    }
+}
+
+fn gen_order<'a>(matches: &ArgMatches<'a>) -> Order<'a>
+    ensures { asked_by result ≡ gen_asked (rows_of (found_of matches.now)) }
+{
+    Order::Gen {
+        seed: number(matches, "seed", MOST_SEED),
+        clocks: number(matches, "clocks", MOST_CLOCKS),
     }
 }
 

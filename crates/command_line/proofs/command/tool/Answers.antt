@@ -1,7 +1,10 @@
-use Rattle.clap.specs.Simple.{app_of}
-use Rattle.command_line.proofs.Made.{tool_of}
+use Rattle.command_line.specs.Tool.{tool}
 use Rattle.command_line.proofs.command.tool.Goals as goal
 
-pub returns-clause-app : goal.returns-clause-app
-returns-clause-app c =
-    tool_of app_of c.add.result _ _ c.in_ok-command.ensures.app c.in_ok-sub.ensures.app c.add.ensures.app
+pub returns : goal.returns
+unfolding tool
+returns c =
+    let run = c.add-command-2.ensures _ _ (c.add-command.ensures _ _ c.bare.ensures c.asm.ensures) c.run.ensures in
+    let check = c.add-command-4.ensures _ _ (c.add-command-3.ensures _ _ run c.dis.ensures) c.check.ensures in
+    let table = c.add-command-6.ensures _ _ (c.add-command-5.ensures _ _ check c.generate.ensures) c.table.ensures in
+    c.add.ensures _ _ (c.add-command-7.ensures _ _ table c.recheck.ensures) c.shares.ensures
