@@ -12,7 +12,7 @@ ghost use Rattle.block_config.specs.Values.{map_ok};
 use crate::fault::ConfigKind;
 use crate::keys::NumberKey;
 use crate::load::fits_at;
-use crate::programs::Load;
+use crate::programs::{Load, is_named};
 use crate::table::{Lack, number_at, value_at};
 use crate::value::text_of;
 use pio_assemble::Program;
@@ -89,13 +89,6 @@ fn first_named<'a>(programs: &'a [Program], name: &[u8]) -> Option<&'a Program>
     ensures { option_copied result ≡ find (λ p. bytes_eq p.name name.now) programs.entry.now }
 {
     programs.iter().find(|program| is_named(program, name))
-}
-
-/// Whether a program has this name.
-fn is_named(program: &Program, name: &[u8]) -> bool
-    ensures { result ≡ bytes_eq program.now.name name.now }
-{
-    program.name.as_bytes() == name
 }
 
 /// The load of a program by its table.

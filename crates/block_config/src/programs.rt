@@ -1,5 +1,6 @@
 //! The programs that a configuration names.
-ghost use Rattle.std.specs.Prelude.{◌+◌, ◌≤◌, length};
+ghost use Rattle.std.specs.Prelude.{◌≡◌, ◌+◌, ◌≤◌, length};
+ghost use Rattle.std.specs.Str.{bytes_eq};
 
 use pio_assemble::Program;
 
@@ -31,14 +32,7 @@ impl<'a> Load<'a> {
         ensures { option_copied result
             ≡ find (λ l. bytes_eq l.program.now.name name.now) loads.now }
     {
-        loads.iter().find(|load| load.is_named(name))
-    }
-
-    /// Whether its program has this name.
-    fn is_named(&self, name: &[u8]) -> bool
-        ensures { result ≡ bytes_eq self.now.program.now.name name.now }
-    {
-        self.program.name.as_bytes() == name
+        loads.iter().find(|load| is_named(load.program, name))
     }
 
     /// Whether one of its words has an address.
@@ -62,4 +56,11 @@ impl<'a> Load<'a> {
     {
         loads.iter().find(|load| load.covers(address))
     }
+}
+
+/// Whether a program has this name.
+pub fn is_named(program: &Program, name: &[u8]) -> bool
+    ensures { result ≡ bytes_eq program.now.name name.now }
+{
+    program.name.as_bytes() == name
 }
