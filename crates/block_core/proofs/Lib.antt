@@ -5,3 +5,8 @@ pub mod Writes
 pub mod Wanting
 pub mod OwnPlace
 pub mod Unused
+pub mod Told
+pub mod Rests
+pub mod Firsts
+pub mod SlotRests
+pub mod Leaping

@@ -5,7 +5,6 @@ use Rattle.fifo_pair.specs.Fifos.{Fifos, settled, is_full}
 use Rattle.sm_registers.specs.State.{settled_ports}
 use Rattle.sm_registers.specs.declared.view.View.{View}
 use Rattle.dreq_pacing.specs.declared.due.Due.{Due}
-use Rattle.dreq_pacing.specs.declared.due.Requests.{Requests}
 use Rattle.block_core.specs.Slots.{Slot, settled_slot, slot_after, slot_intent, slot_uses_fifos, place_after, place_uses_fifos}
 use Rattle.block_core.specs.Block.{Run, next, stepped, uses_fifos_in, view_of, seen_in}
 use Rattle.block_core.specs.Shown.{shown_in, requests_of}

@@ -13,7 +13,7 @@ use Rattle.sm_registers.specs.Effects.{no_intent}
 use Rattle.dreq_pacing.specs.declared.due.Due.{Due}
 use Rattle.block_core.specs.declared.merging.Wanted.{Wanted}
 use Rattle.block_core.specs.Slots.{Slot, place_after, place_intent, place_uses_fifos}
-use Rattle.block_core.specs.Block.{Run, next, stepped, outside_after, intents_of, wanted_in, uses_fifos_in, TakesLastWrites, level_writes, direction_writes, any_of}
+use Rattle.block_core.specs.Block.{Run, next, stepped, outside_after, wanted_in, uses_fifos_in, TakesLastWrites, level_writes, direction_writes, any_of}
 use Rattle.block_core.specs.Merging.{nothing_wanted, with_intent}
 use Rattle.block_core.proofs.Writes.{levels_are_writes, directions_are_writes}
 
@@ -23,11 +23,11 @@ unfolding with_intent merged
 nothing_added w = rw (or_zero_r w.clears, or_zero_r w.sets) refl
 
 -- what is seen of a block
-abbrev view : (memory : List ℕ) → (seen flags : ℕ) → View
+abbrev pub view : (memory : List ℕ) → (seen flags : ℕ) → View
 view memory seen flags = record { memory = memory; seen = seen; flags = record { up = flags } }
 
 -- a run of four places
-abbrev run : (memory : List ℕ) → (clock levels directions flags outside : ℕ) → Synchroniser → (a b c e : Option Slot) → Run
+abbrev pub run : (memory : List ℕ) → (clock levels directions flags outside : ℕ) → Synchroniser → (a b c e : Option Slot) → Run
 run memory clock levels directions flags outside sync a b c e = record {
   memory = memory;
   clock = clock;

@@ -1,5 +1,8 @@
 -- What a block keeps true of its fields, which no contract names.
-use Rattle.std.specs.Prelude.{◌≡◌, ℕ, ◌^◌, ◌<◌, ◌≤◌, Option, Some, None}
+use Rattle.std.specs.Prelude.{◌≡◌, ℕ, ◌+◌, ◌^◌, ◌<◌, ◌≤◌, Option, Some, None, List, [], ◌∷◌}
+use Rattle.std.specs.List.{AllByRecursion}
+use Rattle.sm_registers.specs.Told.{IsKnown}
+use Rattle.sm_registers.specs.declared.view.View.{View}
 use Rattle.block_core.specs.Slots.{Slot}
 
 -- a place's divider stands in this clock, and its transfers moved at most a word in each
@@ -12,9 +15,28 @@ abbrev pub IsInTime : Option Slot → Type 0
 IsInTime None = Unit {0}
 IsInTime (Some s) = (s.timing.clock < 2 ^ 40) × (s.sent < 2 ^ 40) × (s.received < 2 ^ 40)
 
--- all four are in step, and no more clocks were worked out singly than went by
-pub record AreInStep (clock worked : ℕ) (a b c d : Option Slot) : Type 0 where
+-- so many clocks more can be counted
+abbrev pub HasTime : ℕ → Option Slot → Type 0
+HasTime clocks None = Unit {0}
+HasTime clocks (Some s) = s.timing.clock + clocks ≤ 2 ^ 40
+
+-- the memory as a machine sees it; which pins and flags are up doesn't matter here
+abbrev pub memory_alone : List ℕ → View
+memory_alone memory = record { memory = memory; seen = 0; flags = record { up = 0 } }
+
+-- where a machine's instruction stalled before, the flags of that stall are up
+abbrev pub IsTold : List ℕ → Option Slot → Type 0
+IsTold memory None = Unit {0}
+IsTold memory (Some s) = IsKnown (memory_alone memory) s.machine.setup s.machine.registers s.machine.ports.sticky
+
+-- the same of all places
+abbrev pub AreTold : List ℕ → List (Option Slot) → Type 0
+AreTold memory places = AllByRecursion (IsTold memory) places
+
+-- All four are in step, no more clocks were worked out singly than went by, and the flags of stalls are up.
+pub record AreInStep (memory : List ℕ) (clock worked : ℕ) (a b c d : Option Slot) : Type 0 where
   pub calls : worked ≤ clock
+  pub told : AreTold memory (a ∷ b ∷ c ∷ d ∷ [])
   pub first : IsInStep clock a
   pub second : IsInStep clock b
   pub third : IsInStep clock c

@@ -7,3 +7,5 @@ pub mod History
 pub mod Kept
 pub mod Merging
 pub mod Following
+pub mod Stirring
+pub mod Resting

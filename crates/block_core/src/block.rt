@@ -1,24 +1,28 @@
 //! The block: four machines that share instruction memory, pins and IRQ flags.
-ghost use Rattle.std.specs.Prelude.{◌≡◌, ◌<◌, ◌≤◌, ◌^◌, ◌+◌, option_map, IfOk};
+ghost use Rattle.std.specs.Prelude.{◌≡◌, ℕ, ◌<◌, ◌≤◌, ◌^◌, ◌+◌, false, option_map, IfOk};
 ghost use Rattle.std.specs.List.{AllByRecursion};
 ghost use Rattle.pin_matrix.specs.Pins.{IsWrite};
 ghost use Rattle.dreq_pacing.specs.Due.{quiet};
-ghost use Rattle.block_core.specs.Block.{first_run, next, wanted_in, uses_fifos_in, level_writes, direction_writes, TakesLastWrites};
+ghost use Rattle.dreq_pacing.specs.Ports.{IsFirst};
+ghost use Rattle.block_core.specs.Block.{first_run, next, run_from, wanted_in, uses_fifos_in, level_writes, direction_writes, TakesLastWrites};
 ghost use Rattle.block_core.specs.Kept.{IsInTime};
 ghost use Rattle.block_core.specs.Shown.{sample_of, requests_of, moved_of, shown_in, moved_in};
 ghost use Rattle.block_core.specs.Slots.{doing, first_slot, place_after, place_intent, place_uses_fifos};
 ghost use Rattle.block_core.specs.Merging.{with_intent};
+ghost use Rattle.block_core.specs.Resting.{rested};
+ghost use Rattle.block_core.specs.Stirring.{moves_on};
 
 use crate::Sample;
 use crate::merging::{Wanted, outside_after};
+use crate::resting::{rest, sooner};
 use crate::slot::Slot;
 use dreq_pacing::{Due, Requests};
-use fifo_pair::Fifo;
+use fifo_pair::{Fifo, a_quiet_clock_changes_nothing};
 use irq_flags::Flags;
 use pin_matrix::{
     MachineSetup, Setup, Sync, no_write_changes_nothing, pad_of, the_last_write_stands,
 };
-use sm_registers::{Intent, Shown, View};
+use sm_registers::{Intent, Shown, View, a_calm_tick_only_counts, a_calm_tick_tells_nothing_new};
 use std::alloc::{AllocError, Global};
 use std::marker::Model;
 
@@ -62,7 +66,7 @@ impl<F: Fifo> Model for Block<F> {
       calls = b.calls;
     } };
 
-    ghost invariant = { λ b. AreInStep b.clock b.calls b.first b.second b.third b.fourth };
+    ghost invariant = { λ b. AreInStep b.view.memory b.clock b.calls b.first b.second b.third b.fourth };
 }
 
 impl<F: Fifo> Block<F> {
@@ -129,6 +133,7 @@ impl<F: Fifo> Block<F> {
     {
         the_last_write_stands();
         no_write_changes_nothing();
+        a_calm_tick_tells_nothing_new();
         let outside = outside_after(self.outside, due);
         let pad = pad_of(self.levels, self.directions, outside);
         self.outside = outside;
@@ -145,6 +150,52 @@ impl<F: Fifo> Block<F> {
         self.clock += 1;
         self.calls += 1;
         first | (second | (third | fourth))
+    }
+
+    /// How many clocks go by before the next one that stirs, if the system does nothing; none where no clock ever does. In a
+    /// clock that stirs some machine begins or finishes an instruction or refills its OSR, or the pads aren't those of both
+    /// clocks before. It takes no longer for many clocks, and no machine is asked after one that stirs at once.
+    pub fn next_stir(&self) -> Option<u64>
+        ensures first { IsFirst (λ n. moves_on quiet (run_from self.now.run (λ c. quiet) n)) 0 result }
+    {
+        a_calm_tick_only_counts();
+        a_calm_tick_tells_nothing_new();
+        a_quiet_clock_changes_nothing();
+        let pad = pad_of(self.levels, self.directions, self.outside);
+        if !self.sync.settled(pad) {
+            return Some(0);
+        }
+        let view = View {
+            seen: self.sync.seen(pad),
+            ..self.view
+        };
+        let first = sooner(None, &self.first, &view);
+        let second = sooner(first, &self.second, &view);
+        let third = sooner(second, &self.third, &view);
+        sooner(third, &self.fourth, &view)
+    }
+
+    /// So many clocks at once, none of which stirs, and in which the system does nothing. After each of them the block is what
+    /// it was, but for its clock and what is left of delays (`rests`). It takes no longer for many clocks.
+    pub fn leap(&mut self, clocks: u64)
+        requires clock { self.old.run.clock + clocks ≤ 2 ^ 40 }
+        requires calm { (k : ℕ) → k < clocks →
+            moves_on quiet (run_from self.old.run (λ c. quiet) k) ≡ false }
+        ensures run { self.new.run ≡ run_from self.old.run (λ c. quiet) clocks }
+        ensures rests { (k : ℕ) → k ≤ clocks →
+            run_from self.old.run (λ c. quiet) k ≡ rested k self.old.run }
+        ensures calls { self.new.calls ≡ self.old.calls }
+    {
+        a_calm_tick_only_counts();
+        a_calm_tick_tells_nothing_new();
+        a_quiet_clock_changes_nothing();
+        let pad = pad_of(self.levels, self.directions, self.outside);
+        self.view.seen = self.sync.seen(pad);
+        rest(&mut self.first, &self.view, clocks);
+        rest(&mut self.second, &self.view, clocks);
+        rest(&mut self.third, &self.view, clocks);
+        rest(&mut self.fourth, &self.view, clocks);
+        self.clock += clocks;
     }
 
     /// What the machines ask of the system, as at the start of the present clock.

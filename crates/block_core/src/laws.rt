@@ -14,7 +14,8 @@ ghost use Rattle.block_core.specs.Block.{BlockState, Run, next, run_at, run_from
 ghost use Rattle.block_core.specs.History.{pad_at, pad_before, Ticks, OfEach};
 ghost use Rattle.block_core.specs.Slots.{Slot, lined, has_tick, slot_after, slot_intent};
 ghost use Rattle.block_core.specs.Hosted.{hosted_at, host_of, asked_at};
-ghost use Rattle.block_core.specs.Shown.{requests_of};
+ghost use Rattle.block_core.specs.Resting.{rested};
+ghost use Rattle.block_core.specs.Shown.{requests_of, sample_of};
 
 use clock_divider::tick_test;
 use fifo_pair::{a_quiet_clock_changes_nothing, rx_loses_nothing, tx_loses_only_overruns};
@@ -100,3 +101,10 @@ pub fn unused_fifos_ask_as_before()
 {
     a_quiet_clock_changes_nothing();
 }
+
+/// After clocks in which nothing stirs and the system does nothing, a run shows what it showed, and the machines ask for the
+/// same.
+pub fn a_rest_shows_nothing_new()
+    ensures requests { (r : Run) (n : ℕ) → requests_of (rested n r).state ≡ requests_of r.state }
+    ensures sample { (r : Run) (n : ℕ) → sample_of (rested n r).state ≡ sample_of r.state }
+{}

@@ -5,6 +5,7 @@ mod block;
 mod following;
 mod laws;
 mod merging;
+mod resting;
 mod sample;
 mod slot;
 
@@ -14,8 +15,8 @@ pub use following::{
     ticks_follow_the_divider_over_any_pads,
 };
 pub use laws::{
-    a_stimulus_is_a_system, clocks_are_counted, each_pin_gets_the_last_write,
-    pads_are_seen_two_clocks_late, ticks_follow_the_divider, unused_fifos_ask_as_before,
-    words_go_through_in_order,
+    a_rest_shows_nothing_new, a_stimulus_is_a_system, clocks_are_counted,
+    each_pin_gets_the_last_write, pads_are_seen_two_clocks_late, ticks_follow_the_divider,
+    unused_fifos_ask_as_before, words_go_through_in_order,
 };
 pub use sample::Sample;

@@ -1,10 +1,12 @@
 //! One machine in a run of its block, with its divider.
-ghost use Rattle.std.specs.Prelude.{◌≡◌, ◌<◌, ◌^◌, ◌+◌, length, IsTrue, IsSome, IfOk, if◌then◌else◌, slice_index_or, false};
+ghost use Rattle.std.specs.Prelude.{◌≡◌, ℕ, ◌<◌, ◌≤◌, ◌^◌, ◌+◌, Some, length, IsTrue, IsSome, IfOk, if◌then◌else◌, slice_index_or, false};
 ghost use Rattle.std.specs.List.{AllByRecursion};
 ghost use Rattle.clock_divider.specs.Timing as timing;
 ghost use Rattle.pin_matrix.specs.Pins.{IsWrite};
 ghost use Rattle.sm_registers.specs.Effects.{no_intent};
 ghost use Rattle.sm_registers.specs.State as spec_shown;
+ghost use Rattle.dreq_pacing.specs.Ports.{IsFirst};
+ghost use Rattle.block_core.specs.Resting.{rested_slot, stirs_after};
 ghost use Rattle.block_core.specs.Slots as spec;
 ghost use Rattle.block_core.specs.Slots.{doing, lined, acted, settled_slot, slot_after, slot_intent, slot_uses_fifos, used_by};
 
@@ -12,7 +14,7 @@ use clock_divider::Divider;
 use dreq_pacing::Due;
 use fifo_pair::Fifo;
 use pin_matrix::MachineSetup;
-use sm_registers::{Intent, Machine, Shown, View};
+use sm_registers::{Idle, Intent, Machine, Shown, View, a_calm_tick_only_counts};
 use std::alloc::{AllocError, Global};
 use std::marker::Model;
 
@@ -140,6 +142,34 @@ impl<F: Fifo> Slot<F> {
         self.received = counted(due.read_paced[place], self.received);
         self.machine
             .settle(intent, due.word[place], due.read[place])
+    }
+
+    /// How many clocks go by before the next one in which it stirs, where it sees the same and the system does nothing.
+    pub fn next_stir(&self, view: &View) -> Option<u64>
+        ensures { IsFirst (stirs_after view.now (Some self.now)) 0 result }
+    {
+        a_calm_tick_only_counts();
+        if !self.enabled {
+            return None;
+        }
+        match self.machine.idle_until(view) {
+            Idle::Ticks(ticks) => Some(self.divider.clocks_to_tick(u64::from(ticks))),
+            Idle::Never => None,
+        }
+    }
+
+    /// So many clocks at once, in none of which it stirs.
+    pub fn rest(&mut self, view: &View, clocks: u64)
+        requires clock { self.old.timing.clock + clocks ≤ 2 ^ 40 }
+        requires calm { (k : ℕ) → k < clocks → stirs_after view.now (Some self.old) k ≡ false }
+        ensures { self.new ≡ rested_slot clocks self.old }
+    {
+        a_calm_tick_only_counts();
+        if self.enabled {
+            let ticks = self.divider.ticks_within(clocks);
+            self.machine.pass(view, ticks);
+        }
+        self.divider.leap(clocks);
     }
 
     /// What is seen of it.

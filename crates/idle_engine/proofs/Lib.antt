@@ -2,3 +2,7 @@ mod SampleLists
 mod Steps
 mod Stopping
 mod Resting
+mod Calm
+mod Held
+mod Counting
+mod AfterRest

@@ -1,12 +1,13 @@
--- A clock in which the ports rest has no line.
-use Rattle.std.proofs.Common.{◌≡◌, ℕ, ◌+◌, ◌<◌, ◌≤◌, ◌||◌, ◌⊎◌, inl, inr, Bool, true, false, List, refl, arith, sym, subst}
+-- Clocks in which the ports rest have no line, and the clock that is due stays while nothing acts.
+use Rattle.std.proofs.Common.{◌≡◌, ℕ, ◌+◌, ◌<◌, ◌≤◌, ◌^◌, ◌||◌, ◌⊎◌, inl, inr, Bool, true, false, Option, Some, None, List, refl, arith, sym, subst, ap, ◌∙◌}
 use Rattle.std.proofs.Math.Nat.{eq-or-lt_of_le}
+use Rattle.std.proofs.lemmas.Bool.{cases_lt}
 use Rattle.dreq_pacing.specs.declared.line.Line.{Line}
 use Rattle.dreq_pacing.specs.declared.due.Requests.{Requests}
 use Rattle.dreq_pacing.specs.Transfers.{Transfers}
 use Rattle.dreq_pacing.specs.Lines.{NoneBetween, has_line}
 use Rattle.dreq_pacing.specs.Ports.{acts_in, moves_in}
-use Rattle.idle_engine.specs.Resting.{Rests}
+use Rattle.idle_engine.specs.Resting.{Rests, IsDue}
 
 first_false : (a b : Bool) → (a || b) ≡ false → a ≡ false
 first_false false b h = refl
@@ -26,3 +27,17 @@ pub none_up_to : (lines : List Line) (requests : Requests) (t : Transfers) (next
 none_up_to lines requests t next clock until none rests lt c from below =
     let le : c ≤ clock = omega arith in
     by_order lines requests t next clock until c none rests lt from (eq-or-lt_of_le le)
+
+-- nor of any clock up to the one that is due
+pub none_before : (lines : List Line) (requests : Requests) (t : Transfers) (next clock until : ℕ) → NoneBetween lines next clock → Rests lines requests t clock until → NoneBetween lines next until
+none_before lines requests t next clock until none rests c from below =
+    elim (cases_lt c clock) [
+      | inl lt ↦ none c from lt
+      | inr ge ↦ no_line lines c requests t (rests c ge below)
+    ]
+
+-- the clock that is due, seen from a later one, while the machines ask for the same
+pub due_later : (lines : List Line) (before after : Requests) (t : Transfers) (from later due : ℕ) → IsDue lines before t from due → after ≡ before → from ≤ later → later ≤ due → IsDue lines after t later due
+due_later lines before after t from later due d same le within =
+    subst (λ (q : Requests). IsDue lines q t later due) (sym same)
+    (record { ahead = within; rests = λ c low below. d.rests c (omega arith) below; acts = d.acts })

@@ -1,6 +1,7 @@
 //! A run of a block beside a stimulus, told to a trace.
 #![tactic(auto)]
 
+mod clocks;
 mod laws;
 mod simulation;
 

@@ -18,6 +18,10 @@ mod flag_tests;
 #[cfg(test)]
 mod idle_tests;
 #[cfg(test)]
+mod leap_rows;
+#[cfg(test)]
+mod leap_tests;
+#[cfg(test)]
 mod machine_fifos;
 #[cfg(test)]
 mod machine_flow;

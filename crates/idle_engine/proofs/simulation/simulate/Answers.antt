@@ -1,9 +1,16 @@
-use Rattle.std.proofs.Common.{rules, arith, ◌≡◌, ℕ, ◌+◌, false, true, List, Result, Ok, Err, OnErr, OnOk, subst, refl, ap, ◌∙◌}
+use Rattle.std.proofs.Common.{rules, arith, ◌≡◌, ℕ, ◌+◌, ◌≤◌, false, true, List, Result, Ok, Err, OnErr, OnOk, subst, refl, sym, ap, ◌∙◌}
 use Rattle.block_core.specs.declared.sample.Sample.{Sample}
+use Rattle.dreq_pacing.specs.declared.due.Requests.{Requests}
 use Rattle.dreq_pacing.specs.Ports.{Ports}
 use Rattle.block_core.specs.Block.{Run}
 use Rattle.block_core.specs.Hosted.{hosted_at, samples}
-use Rattle.idle_engine.proofs.SampleLists.{next-samples, held_to-samples, told_at-samples}
+use Rattle.block_core.specs.Stirring.{stirring}
+use Rattle.vcd_trace.specs.Told.{IsNext, held_to}
+use Rattle.idle_engine.specs.Resting.{IsDue}
+use Rattle.idle_engine.proofs.Held.{next-held, told_at-held}
+use Rattle.idle_engine.proofs.Counting.{counted, stirring-grows}
+use Rattle.idle_engine.proofs.Resting.{none_before}
+use Rattle.idle_engine.proofs.AfterRest.{after_rest}
 use Rattle.idle_engine.proofs.Steps.{clock-next, run-next, transfers-next, shown-run}
 use Rattle.idle_engine.proofs.simulation.simulate.Goals as goal
 
@@ -34,33 +41,40 @@ returns-in_err-begin-clause-err g c =
       breaks = c.in_err-begin.ensures.err;
     })
 
-pub loop-clock-init : goal.loop-clock-init
+pub clocks-init : goal.clocks-init
 unfolding hosted_at samples
-loop-clock-init g c =
+clocks-init g c =
     record {
       run = refl;
       in_clock = search rules;
+      within = omega arith;
       lines = ap (λ (p : Ports). p.lines) c.new-ports.ensures;
       transfers = ap (λ (p : Ports). p.transfers) c.new-ports.ensures;
       next = search rules;
       between = λ k from to. search rules;
-      rests = λ k from to. search rules;
+      due = subst (λ (q : Requests). IsDue c.new-ports.result.lines q c.new-ports.result.transfers 0 c.next_due-due.result) c.requests.ensures c.next_due-due.ensures;
+      stirs = λ some. absurd (omega arith);
+      last = 0;
+      before = omega arith;
+      first = λ e. refl;
+      held = refl;
       working = search rules;
       told = c.in_ok-begin.ensures.ok;
       count = search rules;
       name = search rules;
       steps = search rules;
-      calls = search rules;
+      most = omega arith;
+      few = omega arith;
     }
 
 pub returns-in_err-sample-clause-err : goal.returns-in_err-sample-clause-err
 returns-in_err-sample-clause-err g c =
-    let inv = c.loop-clock.invariant in
+    let inv = c.clocks.invariant in
     let start = c.args.block.now.run in
     let lines = c.args.schedule.now in
-    let n = c.loop-clock.clock in
-    let run = run-next start lines c.loop-clock.ports.lines n c.loop-clock.block.run c.step-rests_until.new.block.run c.loop-clock.ports.transfers inv.run inv.in_clock inv.lines inv.transfers c.step-rests_until.ensures.run in
-    let s = shown-run start lines n c.step-rests_until.new.block.run c.view.result run c.view.ensures in
+    let n = c.clocks.clock in
+    let run = run-next start lines c.clocks.ports.lines n c.clocks.block.run c.step-due.new.block.run c.clocks.ports.transfers inv.run inv.in_clock inv.lines inv.transfers c.step-due.ensures.run in
+    let s = shown-run start lines n c.step-due.new.block.run c.view.result run c.view.ensures in
     on_err c.from_residual-in_err-sample.result (record {
       count = n + 1;
       within = omega arith;
@@ -69,57 +83,91 @@ returns-in_err-sample-clause-err g c =
       run = run;
       breaks = λ b r.
           subst (λ (l : List Sample). g.T.Trace.broken c.sample.new.self b l false)
-          (told_at-samples start lines n c.view.result s)
-          (c.in_err-sample.ensures.err b (samples start lines n) (inv.told b r) (next-samples start lines n));
+          (told_at-held start lines inv.last n c.view.result inv.held s)
+          (c.in_err-sample.ensures.err b (samples start lines inv.last) (inv.told b r) (next-held start lines inv.last n inv.before inv.first));
     })
 
-pub loop-clock-preserved : goal.loop-clock-preserved
-loop-clock-preserved g c =
-    let inv = c.loop-clock.invariant in
+-- the clock after the one that was worked out
+pub rest-clock-requires-clause-clock : goal.rest-clock-requires-clause-clock
+rest-clock-requires-clause-clock g c =
+    ap (λ (r : Run). r.clock) c.step-due.ensures.run ∙ clock-next _ c.clocks.block.run ∙ ap (λ (k : ℕ). k + 1) c.clocks.invariant.in_clock
+
+pub clocks-preserved : goal.clocks-preserved
+clocks-preserved g c =
+    let inv = c.clocks.invariant in
     let start = c.args.block.now.run in
     let lines = c.args.schedule.now in
-    let n = c.loop-clock.clock in
-    let run = run-next start lines c.loop-clock.ports.lines n c.loop-clock.block.run c.step-rests_until.new.block.run c.loop-clock.ports.transfers inv.run inv.in_clock inv.lines inv.transfers c.step-rests_until.ensures.run in
-    let s = shown-run start lines n c.step-rests_until.new.block.run c.view.result run c.view.ensures in
+    let n = c.clocks.clock in
+    let later = c.rest-clock.result in
+    let worked = c.step-due.new.block.run in
+    let quiet_due = c.a_quiet_clock_changes_nothing.ensures.due in
+    let quiet_transfers = c.a_quiet_clock_changes_nothing.ensures.transfers in
+    let run = run-next start lines c.clocks.ports.lines n c.clocks.block.run worked c.clocks.ports.transfers inv.run inv.in_clock inv.lines inv.transfers c.step-due.ensures.run in
+    let s = shown-run start lines n worked c.view.result run c.view.ensures in
+    let in_clock = ap (λ (r : Run). r.clock) c.step-due.ensures.run ∙ clock-next _ c.clocks.block.run ∙ ap (λ (k : ℕ). k + 1) inv.in_clock in
+    let transfers = transfers-next start lines c.clocks.ports.lines n c.clocks.block.run c.clocks.ports.transfers c.step-due.new.ports.transfers inv.run inv.in_clock inv.lines inv.transfers c.step-due.ensures.transfers in
+    let own = c.step-due.ensures.lines ∙ inv.lines in
+    let due = c.step-due.ensures.due in
+    let after = after_rest quiet_due quiet_transfers start lines c.step-due.new.ports.lines n later c.step-due.result c.args.clocks worked c.rest-clock.new.block.run c.step-due.new.ports.transfers run in_clock transfers own due c.rest-clock.ensures.from c.rest-clock.ensures.due c.requires.within c.rest-clock.ensures.run c.rest-clock.ensures.calm c.rest-clock.ensures.stirs in
     record {
-      run = run;
-      in_clock = ap (λ (r : Run). r.clock) c.step-rests_until.ensures.run ∙ clock-next _ c.loop-clock.block.run ∙ ap (λ (k : ℕ). k + 1) inv.in_clock;
-      lines = c.step-rests_until.ensures.lines ∙ inv.lines;
-      transfers = transfers-next start lines c.loop-clock.ports.lines n c.loop-clock.block.run c.loop-clock.ports.transfers c.step-rests_until.new.ports.transfers inv.run inv.in_clock inv.lines inv.transfers c.step-rests_until.ensures.transfers;
-      next = c.step-rests_until.ensures.next;
-      between = c.step-rests_until.ensures.between;
-      rests = c.step-rests_until.ensures.rests;
+      run = after.run;
+      in_clock = after.in_clock;
+      within = c.rest-clock.ensures.end;
+      lines = own;
+      transfers = after.transfers;
+      next = omega (arith, c.step-due.ensures.next, c.rest-clock.ensures.from);
+      between = λ k from below. none_before c.step-due.new.ports.lines _ c.step-due.new.ports.transfers c.step-due.new.ports.next (n + 1) c.step-due.result c.step-due.ensures.between due.rests k from (omega (arith, c.rest-clock.ensures.due));
+      due = after.due;
+      stirs = λ some. after.stirs;
+      last = n + 1;
+      before = c.rest-clock.ensures.from;
+      first = λ e. absurd (omega arith);
+      held = after.held;
       working = search rules;
-      told = λ b r. subst (λ (l : List Sample). g.T.Trace.stands c.sample.new.self b l false) (told_at-samples start lines n c.view.result s) (c.in_ok-sample.ensures.ok b (samples start lines n) (inv.told b r) (next-samples start lines n));
+      told = λ b r. subst (λ (l : List Sample). g.T.Trace.stands c.sample.new.self b l false) (told_at-held start lines inv.last n c.view.result inv.held s) (c.in_ok-sample.ensures.ok b (samples start lines inv.last) (inv.told b r) (next-held start lines inv.last n inv.before inv.first));
       count = search rules;
       name = search rules;
       steps = search rules;
-      calls = search rules;
+      most = omega (arith, inv.most, c.tick.ensures, c.rest-clock.ensures.from);
+      few = subst (λ (k : ℕ). k ≤ c.args.steps.now + stirring start lines later + 1) (sym c.tick.ensures)
+          (counted start lines c.args.steps.now c.clocks.steps n later c.rest-clock.ensures.from inv.most inv.few (λ some. inv.stirs some c.clocks-test.true));
     }
+
+pub returns-in_err-sample-clause-stirring : goal.returns-in_err-sample-clause-stirring
+returns-in_err-sample-clause-stirring g c =
+    let inv = c.clocks.invariant in
+    let start = c.args.block.now.run in
+    let lines = c.args.schedule.now in
+    subst (λ (k : ℕ). k ≤ c.args.steps.now + stirring start lines c.args.clocks + 1) (sym c.tick.ensures)
+    (counted start lines c.args.steps.now c.clocks.steps c.clocks.clock c.args.clocks (omega arith) inv.most inv.few (λ some. inv.stirs some c.clocks-test.true))
 
 pub returns-clause-ok : goal.returns-clause-ok
 returns-clause-ok g c =
+    let inv = c.clocks.invariant in
     let start = c.args.block.now.run in
     let lines = c.args.schedule.now in
     let n = c.args.clocks in
-    let at_end : c.loop-clock.clock ≡ n = omega arith in
+    let at_end : c.clocks.clock ≡ n = omega arith in
+    let next = subst (λ (k : ℕ). IsNext (samples start lines inv.last) k) at_end (next-held start lines inv.last c.clocks.clock inv.before inv.first) in
+    let held = subst (λ (k : ℕ). held_to k (samples start lines inv.last) ≡ samples start lines k) at_end inv.held in
     ok_then c.end.result c.end.ensures.ok (λ end b r.
-    let told = subst (λ (k : ℕ). g.T.Trace.stands c.loop-clock.trace b (samples start lines k) false) at_end (c.loop-clock.invariant.told b r) in
-    subst (λ (l : List Sample). g.T.Trace.stands c.end.new.self b l true) (held_to-samples start lines n) (end b (samples start lines n) told (next-samples start lines n)))
+    subst (λ (l : List Sample). g.T.Trace.stands c.end.new.self b l true) held (end b (samples start lines inv.last) (inv.told b r) next))
 
 pub returns-clause-err : goal.returns-clause-err
 returns-clause-err g c =
+    let inv = c.clocks.invariant in
     let start = c.args.block.now.run in
     let lines = c.args.schedule.now in
     let n = c.args.clocks in
-    let at_end : c.loop-clock.clock ≡ n = omega arith in
+    let at_end : c.clocks.clock ≡ n = omega arith in
+    let next = subst (λ (k : ℕ). IsNext (samples start lines inv.last) k) at_end (next-held start lines inv.last c.clocks.clock inv.before inv.first) in
+    let held = subst (λ (k : ℕ). held_to k (samples start lines inv.last) ≡ samples start lines k) at_end inv.held in
     err_then c.end.result c.end.ensures.err (λ end. record {
       count = n;
       within = omega arith;
       ended = true;
       whole = λ e. refl;
-      run = c.loop-clock.invariant.run ∙ ap (λ (k : ℕ). (hosted_at start lines k).run) at_end;
+      run = inv.run ∙ ap (λ (k : ℕ). (hosted_at start lines k).run) at_end;
       breaks = λ b r.
-          let told = subst (λ (k : ℕ). g.T.Trace.stands c.loop-clock.trace b (samples start lines k) false) at_end (c.loop-clock.invariant.told b r) in
-          subst (λ (l : List Sample). g.T.Trace.broken c.end.new.self b l true) (held_to-samples start lines n) (end b (samples start lines n) told (next-samples start lines n));
+          subst (λ (l : List Sample). g.T.Trace.broken c.end.new.self b l true) held (end b (samples start lines inv.last) (inv.told b r) next);
     })

@@ -1,25 +1,38 @@
-use Rattle.std.proofs.Common.{◌≡◌, ℕ, ◌+◌, ◌≤◌, false, Option, List}
+use Rattle.std.proofs.Common.{◌≡◌, ℕ, ◌+◌, ◌<◌, ◌≤◌, ◌-◌, false, true, Option, List}
 use Rattle.dreq_pacing.specs.Lines.{NoneBetween}
 use Rattle.block_core.specs.Hosted.{hosted_at, samples}
 use Rattle.block_core.specs.Shown.{requests_of}
-use Rattle.idle_engine.specs.Resting.{Rests}
+use Rattle.block_core.specs.Stirring.{stirring, stirs_in}
+use Rattle.vcd_trace.specs.Told.{held_to}
+use Rattle.idle_engine.specs.Resting.{IsDue}
 use Rattle.idle_engine.proofs.simulation.simulate.Given as goal
 
--- the block and the transfers are at this clock, the ports rest until one, and the trace was told of the clocks before it
-abbrev pub invariant-loop-clock : goal.invariant-loop-clock
-invariant-loop-clock g l =
+-- The block and the transfers are at this clock, which stirs unless it is the first or the end. The trace was told of the clocks
+-- up to the last one that was worked out, and those since show the same.
+abbrev pub invariant-clocks : goal.invariant-clocks
+invariant-clocks g l =
     record {
       run : l.block.run ≡ (hosted_at l.fn.block.run l.fn.schedule l.clock).run;
       in_clock : l.block.run.clock ≡ l.clock;
+      within : l.clock ≤ l.clocks;
       lines : l.ports.lines ≡ l.fn.schedule;
       transfers : l.ports.transfers ≡ (hosted_at l.fn.block.run l.fn.schedule l.clock).transfers;
       next : l.ports.next ≤ l.clock;
       between : NoneBetween l.ports.lines l.ports.next l.clock;
-      rests : Rests l.ports.lines (requests_of l.block.run.state) l.ports.transfers l.clock l.rests_until;
+      due : IsDue l.ports.lines (requests_of l.block.run.state) l.ports.transfers l.clock l.due;
+      stirs : 0 < l.clock → l.clock < l.clocks → stirs_in l.fn.schedule (hosted_at l.fn.block.run l.fn.schedule l.clock) ≡ true;
+      last : ℕ;
+      before : last ≤ l.clock;
+      first : last ≡ 0 → l.clock ≡ 0;
+      held : held_to l.clock (samples l.fn.block.run l.fn.schedule last) ≡ samples l.fn.block.run l.fn.schedule l.clock;
       working : g.T.Trace.has_failed l.trace ≡ false;
-      told : (b : Option (List ℕ)) → g.T.Trace.ready l.fn.trace b → g.T.Trace.stands l.trace b (samples l.fn.block.run l.fn.schedule l.clock) false;
+      told : (b : Option (List ℕ)) → g.T.Trace.ready l.fn.trace b → g.T.Trace.stands l.trace b (samples l.fn.block.run l.fn.schedule last) false;
       count : g.T.Trace.faults l.trace ≡ g.T.Trace.faults l.fn.trace;
       name : g.T.Trace.name l.trace ≡ g.T.Trace.name l.fn.trace;
-      steps : l.steps ≡ l.fn.steps + l.clock;
-      calls : l.block.calls ≡ l.fn.block.calls + l.clock;
+      steps : l.steps + l.fn.block.calls ≡ l.fn.steps + l.block.calls;
+      most : l.steps ≤ l.fn.steps + l.clock;
+      few : l.steps ≤ l.fn.steps + stirring l.fn.block.run l.fn.schedule l.clock + 1;
     }
+
+abbrev pub decreases-clocks : goal.decreases-clocks
+decreases-clocks g l = l.clocks - l.clock

@@ -1,13 +1,24 @@
-use Rattle.std.proofs.Common.{arith}
+use Rattle.std.proofs.Common.{refl, arith}
 use Rattle.block_core.specs.Slots.{doing}
 use Rattle.block_core.proofs.Steps.{in_step_after}
+use Rattle.block_core.proofs.Told.{place_told}
 use Rattle.block_core.proofs.Wanting.{IsStep, next_run, any_used, levels_stand, directions_stand}
 use Rattle.block_core.proofs.block.Block.step.Given as given
 use Rattle.block_core.proofs.block.Block.step.Goals as goal
 
 pub invariant_of-self : goal.invariant_of-self
-invariant_of-self g c = let kept = c.self.invariant in record {
+invariant_of-self g c = let kept = c.self.invariant in let law = c.a_calm_tick_tells_nothing_new.ensures in record {
   calls = omega (arith, kept.calls);
+  told = (
+    place_told law.after law.more _ _ _ _ _ refl kept.told.0 c.step-first.ensures.after,
+    (
+      place_told law.after law.more _ _ _ _ _ refl kept.told.1.0 c.step-second.ensures.after,
+      (
+        place_told law.after law.more _ _ _ _ _ refl kept.told.1.1.0 c.step-third.ensures.after,
+        (place_told law.after law.more _ _ _ _ _ refl kept.told.1.1.1.0 c.step-fourth.ensures.after, tt),
+      ),
+    ),
+  );
   first = in_step_after _ _ _ _ _ kept.first c.step-first.ensures.after;
   second = in_step_after _ _ _ _ _ kept.second c.step-second.ensures.after;
   third = in_step_after _ _ _ _ _ kept.third c.step-third.ensures.after;

@@ -1,0 +1,38 @@
+-- Which clocks of a run stir: something moves in them, or is about to.
+--   machines_stir   a machine begins or finishes an instruction, or refills its OSR
+--   pads_change     the pads are not those of both clocks before
+--   moves_on        one of these
+--   stirs_in        one of these, or the system acts
+--   stirring        how many of the first clocks stir
+use Rattle.std.specs.Prelude.{ℕ, zero, suc, ◌+◌, ◌==◌, Bool, not, ◌&&◌, ◌||◌, List, if◌then◌else◌}
+use Rattle.std.specs.List.{list_any}
+use Rattle.sm_registers.specs.Idling.{stirs}
+use Rattle.dreq_pacing.specs.declared.line.Line.{Line}
+use Rattle.dreq_pacing.specs.declared.due.Due.{Due}
+use Rattle.dreq_pacing.specs.Ports.{acts_in}
+use Rattle.block_core.specs.Block.{Run, wanted_in, pads_in}
+use Rattle.block_core.specs.Hosted.{Hosted, due_of, hosted_at}
+use Rattle.block_core.specs.Shown.{requests_of}
+
+-- some machine has a tick in which it begins or finishes an instruction, or refills its OSR
+abbrev pub machines_stir : Due → Run → Bool
+machines_stir d r = list_any stirs (wanted_in d r)
+
+-- the pads of the clock, of the one before it and of the one before that are not all the same, so that what machines see may
+-- change (RP2040 Datasheet, section 3.5.6.3)
+abbrev pub pads_change : Due → Run → Bool
+pads_change d r = let pad = pads_in d r.state in not ((pad == r.synchroniser.pad_1) && (pad == r.synchroniser.pad_2))
+
+-- the clock moves the block on: its machines stir, or its pads change
+unfoldable pub moves_on : Due → Run → Bool
+moves_on d r = machines_stir d r || pads_change d r
+
+-- The clock stirs: a line acts, a transfer's word moves, a machine stirs, or the pads change (choice of this profile).
+unfoldable pub stirs_in : List Line → Hosted → Bool
+stirs_in lines h =
+    acts_in lines h.run.clock (requests_of h.run.state) h.transfers || moves_on (due_of lines h) h.run
+
+-- how many of the first n clocks of a run beside a stimulus stir
+unfoldable pub stirring : Run → List Line → ℕ → ℕ
+stirring start lines zero = 0
+stirring start lines (suc n) = stirring start lines n + (if stirs_in lines (hosted_at start lines n) then 1 else 0)

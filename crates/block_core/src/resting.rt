@@ -1,0 +1,47 @@
+//! A place of the block over clocks in which nothing stirs: how many there are, and all of them at once.
+ghost use Rattle.std.specs.Prelude.{◌≡◌, ℕ, ◌<◌, ◌≤◌, ◌^◌, ◌+◌, ◌||◌, Bool, Some, None, false};
+ghost use Rattle.dreq_pacing.specs.Ports as ports;
+ghost use Rattle.block_core.specs.Kept.{HasTime};
+ghost use Rattle.block_core.specs.Resting.{rested_place, stirs_after};
+
+use crate::slot::Slot;
+use fifo_pair::Fifo;
+use sm_registers::View;
+
+/// The clocks before the first that passes some test, or in which the machine of a place stirs. It isn't asked where the
+/// test passes at once.
+pub(crate) fn sooner<F: Fifo>(
+    tested: Option<u64>,
+    place: &Option<Slot<F>>,
+    view: &View,
+) -> Option<u64>
+    ensures { (test : ℕ → Bool) → ports.IsFirst test 0 tested →
+        ports.IsFirst (λ n. test n || stirs_after view.now place.now n) 0 result }
+{
+    match (tested, place) {
+        (Some(0), _) | (_, None) => tested,
+        (_, Some(slot)) => earlier(tested, slot.next_stir(view)),
+    }
+}
+
+/// The lesser of two numbers that may be missing.
+fn earlier(a: Option<u64>, b: Option<u64>) -> Option<u64>
+    ensures { result ≡ ports.earlier a b }
+{
+    match (a, b) {
+        (Some(m), Some(n)) => Some(if n < m { n } else { m }),
+        (None, Some(n)) => Some(n),
+        (_, None) => a,
+    }
+}
+
+/// So many clocks of a place at once, in none of which its machine stirs.
+pub(crate) fn rest<F: Fifo>(place: &mut Option<Slot<F>>, view: &View, clocks: u64)
+    requires clock { HasTime clocks place.old }
+    requires calm { (k : ℕ) → k < clocks → stirs_after view.now place.old k ≡ false }
+    ensures { place.new ≡ rested_place clocks place.old }
+{
+    if let Some(slot) = place {
+        slot.rest(view, clocks);
+    }
+}

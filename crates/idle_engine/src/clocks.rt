@@ -1,0 +1,143 @@
+//! The clocks of a run: those that are worked out singly, and those between, which are passed over at once.
+ghost use Rattle.std.specs.Prelude.{◌≡◌, ℕ, ◌+◌, ◌-◌, ◌<◌, ◌≤◌, ◌^◌, false, true};
+ghost use Rattle.dreq_pacing.specs.Lines.{NoneBetween};
+ghost use Rattle.dreq_pacing.specs.Due.{quiet};
+ghost use Rattle.dreq_pacing.specs.Ports.{asked, due_in, transfers_after};
+ghost use Rattle.block_core.specs.Block.{next, run_from, uses_fifos_in};
+ghost use Rattle.block_core.specs.Shown.{requests_of};
+ghost use Rattle.block_core.specs.Stirring.{moves_on};
+ghost use Rattle.idle_engine.specs.Resting.{IsDue, IsCalm};
+
+use block_core::{Block, a_rest_shows_nothing_new, unused_fifos_ask_as_before};
+use dreq_pacing::{HostPorts, Requests, a_quiet_clock_changes_nothing};
+use fifo_pair::Fifo;
+
+/// Works out one clock. `due` is the clock in which the system does something next, so before it the ports aren't asked; the
+/// result is that clock as seen from the next one.
+#[inline]
+pub(crate) fn step<F: Fifo>(
+    block: &mut Block<F>,
+    ports: &mut HostPorts,
+    clock: u64,
+    due: u64,
+) -> u64
+    requires clock { block.old.run.clock ≡ clock }
+    requires within { clock < 2 ^ 40 }
+    requires next { ports.old.next ≤ clock }
+    requires between { NoneBetween ports.old.lines ports.old.next clock }
+    requires due { IsDue ports.old.lines (requests_of block.old.run.state) ports.old.transfers clock due }
+    ensures run { block.new.run
+        ≡ next (due_in ports.old.lines clock (requests_of block.old.run.state) ports.old.transfers) block.old.run }
+    ensures transfers { ports.new.transfers
+        ≡ transfers_after ports.old.lines clock (requests_of block.old.run.state) ports.old.transfers }
+    ensures lines { ports.new.lines ≡ ports.old.lines }
+    ensures next { ports.new.next ≤ clock + 1 }
+    ensures between { NoneBetween ports.new.lines ports.new.next (clock + 1) }
+    ensures due { IsDue ports.new.lines (requests_of block.new.run.state) ports.new.transfers (clock + 1) result }
+    ensures calls { block.new.calls ≡ block.old.calls + 1 }
+{
+    a_quiet_clock_changes_nothing();
+    unused_fifos_ask_as_before();
+    if clock < due {
+        quiet_step(block, ports, clock, due)
+    } else {
+        asked_step(block, ports, clock)
+    }
+}
+
+/// Works out a clock in which the system does nothing. The clock that is due stays where nobody did anything at a FIFO.
+#[inline(always)]
+fn quiet_step<F: Fifo>(block: &mut Block<F>, ports: &HostPorts, clock: u64, due: u64) -> u64
+    requires time { block.old.run.clock < 2 ^ 40 }
+    requires within { clock < 2 ^ 40 }
+    requires next { ports.now.next ≤ clock }
+    requires between { NoneBetween ports.now.lines ports.now.next (clock + 1) }
+    requires before { clock < due }
+    requires due { IsDue ports.now.lines (requests_of block.old.run.state) ports.now.transfers clock due }
+    ensures run { block.new.run ≡ next quiet block.old.run }
+    ensures due { IsDue ports.now.lines (requests_of block.new.run.state) ports.now.transfers (clock + 1) result }
+    ensures calls { block.new.calls ≡ block.old.calls + 1 }
+{
+    unused_fifos_ask_as_before();
+    if block.quiet_clock() {
+        next_due(ports, clock + 1, &block.requests())
+    } else {
+        due
+    }
+}
+
+/// Works out a clock for which the ports are asked.
+#[inline(never)]
+fn asked_step<F: Fifo>(block: &mut Block<F>, ports: &mut HostPorts, clock: u64) -> u64
+    requires clock { block.old.run.clock ≡ clock }
+    requires within { clock < 2 ^ 40 }
+    requires next { ports.old.next ≤ clock }
+    requires between { NoneBetween ports.old.lines ports.old.next clock }
+    ensures run { block.new.run
+        ≡ next (due_in ports.old.lines clock (requests_of block.old.run.state) ports.old.transfers) block.old.run }
+    ensures ports { ports.new ≡ asked clock (requests_of block.old.run.state) ports.old }
+    ensures due { IsDue ports.new.lines (requests_of block.new.run.state) ports.new.transfers (clock + 1) result }
+    ensures calls { block.new.calls ≡ block.old.calls + 1 }
+{
+    let due = ports.at(clock, &block.requests());
+    block.clock(&due);
+    next_due(ports, clock + 1, &block.requests())
+}
+
+/// The first clock from this one on in which the system does something, while the machines ask for this; past all runs where
+/// there is none.
+#[inline(never)]
+pub(crate) fn next_due(ports: &HostPorts, clock: u64, requests: &Requests) -> u64
+    requires within { clock ≤ 2 ^ 40 }
+    requires next { ports.now.next ≤ clock }
+    requires between { NoneBetween ports.now.lines ports.now.next clock }
+    ensures { IsDue ports.now.lines requests.now ports.now.transfers clock result }
+{
+    match ports.next_due(clock, requests) {
+        Some(due) => due,
+        None => u64::MAX,
+    }
+}
+
+/// Passes over the clocks from this one on in which nothing can move, and gives the first that it leaves: one that stirs, or
+/// that is due, or the end.
+#[inline]
+pub(crate) fn rest<F: Fifo>(block: &mut Block<F>, clock: u64, due: u64, end: u64) -> u64
+    requires clock { block.old.run.clock ≡ clock }
+    requires within { end ≤ 10 ^ 12 }
+    requires end { clock ≤ end }
+    requires due { clock ≤ due }
+    ensures from { clock ≤ result }
+    ensures end { result ≤ end }
+    ensures due { result ≤ due }
+    ensures run { block.new.run ≡ run_from block.old.run (λ c. quiet) (result - clock) }
+    ensures calm { IsCalm block.old.run (result - clock) }
+    ensures calls { block.new.calls ≡ block.old.calls }
+    ensures stirs { result < end → result < due → moves_on quiet block.new.run ≡ true }
+{
+    let until = due.min(end);
+    if clock == until {
+        return clock;
+    }
+    match block.next_stir() {
+        Some(0) => clock,
+        Some(clocks) => leap(block, clock, clocks.min(until - clock)),
+        None => leap(block, clock, until - clock),
+    }
+}
+
+/// Passes over so many clocks.
+#[inline(never)]
+fn leap<F: Fifo>(block: &mut Block<F>, clock: u64, clocks: u64) -> u64
+    requires time { block.old.run.clock + clocks ≤ 2 ^ 40 }
+    requires sum { clock + clocks ≤ 2 ^ 40 }
+    requires calm { (k : ℕ) → k < clocks → moves_on quiet (run_from block.old.run (λ c. quiet) k) ≡ false }
+    ensures clock { result ≡ clock + clocks }
+    ensures run { block.new.run ≡ run_from block.old.run (λ c. quiet) clocks }
+    ensures calm { IsCalm block.old.run clocks }
+    ensures calls { block.new.calls ≡ block.old.calls }
+{
+    a_rest_shows_nothing_new();
+    block.leap(clocks);
+    clock + clocks
+}
