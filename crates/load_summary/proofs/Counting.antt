@@ -1,9 +1,11 @@
 -- No count of edges reaches the most that a trace can keep: a clock has one edge of a pin at most.
 use Rattle.std.proofs.Common.{◌≡◌, ℕ, zero, suc, ◌≤◌, ◌^◌, Bool, true, false, List, [], ◌∷◌, length, min, cond, ap, refl, ◌∙◌, arith, length-append}
+use Rattle.std.specs.Prelude.{slice_index_or}
 use Rattle.dreq_pacing.specs.declared.line.Line.{Line}
 use Rattle.block_core.specs.declared.sample.Sample.{Sample}
 use Rattle.block_core.specs.Block.{Run}
 use Rattle.block_core.specs.Hosted.{samples, sample_at}
+use Rattle.block_core.specs.Shown.{moved_of}
 use Rattle.vcd_trace.specs.Edges.{edge_of, edges_in, most}
 use Rattle.load_summary.specs.declared.summary.Summary.{Summary}
 
@@ -27,12 +29,26 @@ samples_many start lines (suc n) =
     let before = samples_many start lines n in
     omega (arith, length-append (samples start lines n) (sample_at start lines n ∷ []))
 
-pub all_counted : (pin levels : ℕ) (start : Run) (lines : List Line) (n : ℕ) → n ≤ 10 ^ 12
+all_counted : (pin levels : ℕ) (start : Run) (lines : List Line) (n : ℕ) → n ≤ 10 ^ 12
     → min (edges_in pin levels (samples start lines n)) most ≡ edges_in pin levels (samples start lines n)
 all_counted pin levels start lines n within =
     let few = edges_few pin levels (samples start lines n) in
     let many = samples_many start lines n in
     omega arith
+
+-- a count is that of the pin's edges, with the levels of the start before clock 0
+pub pin_counted : (pin levels first : ℕ) (start : Run) (lines : List Line) (n k : ℕ) (counts : List ℕ) → n ≤ 10 ^ 12 → first ≡ levels
+    → k ≡ slice_index_or counts pin 0 → slice_index_or counts pin 0 ≡ min (edges_in pin first (samples start lines n)) most
+    → k ≡ edges_in pin levels (samples start lines n)
+pin_counted pin levels first start lines n k counts within same is counted =
+    is ∙ counted ∙ all_counted pin first start lines n within ∙ ap (λ l. edges_in pin l (samples start lines n)) same
+
+-- what is read of a block's transfers after its run
+pub sent_counted : (machine : ℕ) (now end : Run) (moved : ℕ × ℕ) → moved ≡ moved_of machine now.state → now ≡ end → moved.0 ≡ (moved_of machine end.state).0
+sent_counted machine now end moved is same = ap (λ p. p.0) is ∙ ap (λ r. (moved_of machine r.state).0) same
+
+pub got_counted : (machine : ℕ) (now end : Run) (moved : ℕ × ℕ) → moved ≡ moved_of machine now.state → now ≡ end → moved.1 ≡ (moved_of machine end.state).1
+got_counted machine now end moved is same = ap (λ p. p.1) is ∙ ap (λ r. (moved_of machine r.state).1) same
 
 abbrev summary : (clocks a b c sent got : ℕ) → Summary
 summary clocks a b c sent got = record { clocks = clocks; edges_0 = a; edges_1 = b; edges_3 = c; sent = sent; got = got }

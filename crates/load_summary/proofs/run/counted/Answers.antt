@@ -1,9 +1,9 @@
-use Rattle.std.proofs.Common.{◌≡◌, ℕ, min, [], ◌∷◌, Some, ap, ◌∙◌, refl, lit<}
-use Rattle.block_core.specs.Hosted.{samples}
-use Rattle.block_core.specs.Shown.{sample_of, moved_of}
-use Rattle.vcd_trace.specs.Edges.{edges_in, HasCounted}
+use Rattle.std.proofs.Common.{◌≡◌, [], ◌∷◌, Some, ap, ◌∙◌, refl, lit<}
+use Rattle.block_core.specs.Hosted.{hosted_at, samples}
+use Rattle.block_core.specs.Shown.{sample_of}
+use Rattle.vcd_trace.specs.Edges.{HasCounted}
 use Rattle.load_summary.specs.Counted.{counted_run}
-use Rattle.load_summary.proofs.Counting.{all_counted, same_summary}
+use Rattle.load_summary.proofs.Counting.{pin_counted, sent_counted, got_counted, same_summary}
 use Rattle.load_summary.proofs.run.counted.Goals as goal
 
 pub returns-clause-summary : goal.returns-clause-summary
@@ -15,11 +15,12 @@ returns-clause-summary g c =
     let first = c.new-trace.result.first in
     let is_first : first ≡ start.state.levels = ap (λ t. t.first) c.new-trace.ensures ∙ ap (λ s. s.level) c.view.ensures in
     let told : HasCounted first (samples start lines n) c.simulate.new.trace = c.in-Ok.ensures.ok (Some (first ∷ [])) refl first refl in
-    let exact : (pin : ℕ) → min (edges_in pin first (samples start lines n)) _ ≡ edges_in pin start.state.levels (samples start lines n)
-    = λ pin. all_counted pin first start lines n c.requires.within ∙ ap (λ l. edges_in pin l (samples start lines n)) is_first in
+    let edges = c.simulate.new.trace.counts in
+    let within = c.requires.within in
+    let end = (hosted_at start lines n).run in
     same_summary n
-    (c.edges.ensures ∙ told.edges 0 (lit< tt) ∙ exact 0)
-    (c.edges-2.ensures ∙ told.edges 1 (lit< tt) ∙ exact 1)
-    (c.edges-3.ensures ∙ told.edges 3 (lit< tt) ∙ exact 3)
-    (ap (λ p. p.0) c.moved-sent.ensures ∙ ap (λ r. (moved_of 1 r.state).0) c.in-Ok.ensures.run)
-    (ap (λ p. p.1) c.moved-got.ensures ∙ ap (λ r. (moved_of 2 r.state).1) c.in-Ok.ensures.run)
+    (pin_counted 0 start.state.levels first start lines n c.edges.result edges within is_first c.edges.ensures (told.edges 0 (lit< tt)))
+    (pin_counted 1 start.state.levels first start lines n c.edges-2.result edges within is_first c.edges-2.ensures (told.edges 1 (lit< tt)))
+    (pin_counted 3 start.state.levels first start lines n c.edges-3.result edges within is_first c.edges-3.ensures (told.edges 3 (lit< tt)))
+    (sent_counted 1 c.simulate.new.block.run end c.moved-sent.result c.moved-sent.ensures c.in-Ok.ensures.run)
+    (got_counted 2 c.simulate.new.block.run end c.moved-got.result c.moved-got.ensures c.in-Ok.ensures.run)
