@@ -6,7 +6,7 @@ use Rattle.toml.specs.Data.{Data, Items, no_items, item, Members}
 use Rattle.pin_matrix.specs.declared.span.Span.{Span}
 use Rattle.block_config.specs.Answer.{Refusal}
 use Rattle.block_config.specs.Arrays.{count_items, gather}
-use Rattle.block_config.specs.Block.{MachineKeys, keys_of_span}
+use Rattle.setup_keys.specs.Block.{MachineKeys, keys_of_span}
 use Rattle.block_config.specs.Config.{Sections, top_names, tables_at, pins_at, few_spans, spans_at, sections_of, sections_at}
 use Rattle.block_config.specs.Programs.{Loaded}
 use Rattle.block_config.specs.SpanTable.{span_in, all_spans}

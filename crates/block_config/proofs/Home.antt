@@ -8,7 +8,7 @@ use Rattle.pio_assemble.specs.declared.symbols.Symbol.{Symbol}
 use Rattle.block_config.specs.Apart.{AreApart}
 use Rattle.block_config.specs.declared.fault.ConfigKind.TheVariants.{NoProgram}
 use Rattle.block_config.specs.SpanTable.{load_of_machine}
-use Rattle.block_config.specs.Block.{MachineKeys}
+use Rattle.setup_keys.specs.Block.{MachineKeys}
 use Rattle.block_config.specs.Loads.{covers}
 use Rattle.block_config.specs.MachineTable.{named_load, load_at, moved_place, start_of, start_at, run_at, machine_of_table, id_at, clock_at, pins_at, flags_at, counts_at, machine_keys_of, RunKeys}
 use Rattle.block_config.specs.Programs.{Loaded, find_loaded, place_in, place_of, label_of}

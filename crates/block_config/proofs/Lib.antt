@@ -7,7 +7,6 @@ pub mod Placing
 pub mod Masks
 pub mod Each
 pub mod Ranges
-pub mod Alike
 pub mod Says
 pub mod Outside
 pub mod Apart

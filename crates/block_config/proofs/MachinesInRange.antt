@@ -4,14 +4,14 @@ use Rattle.std.specs.List.{AllByRecursion}
 use Rattle.std.specs.Str.{bytes_eq}
 use Rattle.toml.specs.Data.{Items, no_items, item, Members, as_table, get_member}
 use Rattle.block_config.specs.Answer.{Refusal}
-use Rattle.block_config.specs.Block.{MachineKeys}
+use Rattle.setup_keys.specs.Block.{MachineKeys}
+use Rattle.setup_keys.specs.InRange.{IsMachine, ArePlaced}
 use Rattle.block_config.specs.declared.path.Section.TheVariants.{Machine}
 use Rattle.block_config.specs.MachineTable.{id_key, clock_keys, pin_keys, flag_keys, status_key, count_keys, ClockKeys, clock_keys_of, divides, clock_at, PinKeys, pin_keys_of, pins_at, FlagKeys, flag_keys_of, joins_one_way, flags_at, CountKeys, count_keys_of, counts_at, free_at, id_at, named_load, load_at, start_of, start_at, RunKeys, run_at, machine_keys_of, machine_of_table}
 use Rattle.block_config.specs.Machines.{machine_names, machine_in, machines_from}
 use Rattle.block_config.specs.Programs.{Loaded}
 use Rattle.block_config.specs.Tables.{and_then, number_at, flag_at, each_at}
 use Rattle.block_config.specs.Values.{text_of}
-use Rattle.block_config.proofs.Alike.{Facts}
 use Rattle.block_config.proofs.Gathered.{found_keeps, read_table}
 use Rattle.block_config.proofs.Home.{named_found, start_covered, covered_below}
 use Rattle.block_config.proofs.LoadsFit.{IsLoad}
@@ -126,7 +126,7 @@ shifts t k e =
     subst Shifts (ok_same (count_keys_of read.value) k read.rest) out
 
 parts_in_range : (run : RunKeys) (clock : ClockKeys) (pins : PinKeys) (flags : FlagKeys) (counts : CountKeys) → Runs run → (not (clock.int == 0) || clock.frac == 0) ≡ true → ArePins pins
-    → not (flags.join_tx && flags.join_rx) ≡ true → Shifts counts → Facts (machine_keys_of run clock pins flags counts)
+    → not (flags.join_tx && flags.join_rx) ≡ true → Shifts counts → IsMachine (machine_keys_of run clock pins flags counts)
 parts_in_range run clock pins flags counts r c p f s =
     let within : run.load.address + length run.load.program.words ≤ 32 = r.load.within in
     let bottom : run.load.program.wrap_bottom < length run.load.program.words = r.load.program.bottom in
@@ -155,32 +155,26 @@ parts_in_range run clock pins flags counts r c p f s =
       side_count_fits = omega (arith, run.load.program.side.fits);
     }
 
-machine_in_range : (machines : List (Option MachineKeys)) (loads : List Loaded) (t : Members) (m : MachineKeys) → AllByRecursion IsLoad loads → machine_of_table machines loads t ≡ Ok m → Facts m
+machine_in_range : (machines : List (Option MachineKeys)) (loads : List Loaded) (t : Members) (m : MachineKeys) → AllByRecursion IsLoad loads → machine_of_table machines loads t ≡ Ok m → IsMachine m
 machine_in_range machines loads t m fit e =
     let run = goes_on (run_at machines loads t) (λ run. and_then (clock_at t) (λ clock. and_then (pins_at t) (λ pins. and_then (flags_at t) (λ flags. and_then (counts_at t) (λ counts. Ok (machine_keys_of run clock pins flags counts)))))) m e in
     let clock = goes_on (clock_at t) (λ clock. and_then (pins_at t) (λ pins. and_then (flags_at t) (λ flags. and_then (counts_at t) (λ counts. Ok (machine_keys_of run.value clock pins flags counts))))) m run.rest in
     let pins = goes_on (pins_at t) (λ pins. and_then (flags_at t) (λ flags. and_then (counts_at t) (λ counts. Ok (machine_keys_of run.value clock.value pins flags counts)))) m clock.rest in
     let flags = goes_on (flags_at t) (λ flags. and_then (counts_at t) (λ counts. Ok (machine_keys_of run.value clock.value pins.value flags counts))) m pins.rest in
     let counts = goes_on (counts_at t) (λ counts. Ok (machine_keys_of run.value clock.value pins.value flags.value counts)) m flags.rest in
-    subst Facts (ok_same (machine_keys_of run.value clock.value pins.value flags.value counts.value) m counts.rest)
+    subst IsMachine (ok_same (machine_keys_of run.value clock.value pins.value flags.value counts.value) m counts.rest)
     (parts_in_range run.value clock.value pins.value flags.value counts.value (runs machines loads t run.value fit run.found) (clock_divides t clock.value clock.found) (are_pins t pins.value pins.found)
     (joined_one_way t flags.value flags.found) (shifts t counts.value counts.found))
 
--- the machines from a place on are in range, and each has its place's number
-abbrev pub AreKept : ℕ → List (Option MachineKeys) → Type 0
-AreKept place [] = Unit {0}
-AreKept place (None ∷ rest) = AreKept (place + 1) rest
-AreKept place (Some m ∷ rest) = (m.id ≡ place) × Facts m × AreKept (place + 1) rest
-
-kept_behind : (place : ℕ) (o : Option MachineKeys) (rest : List (Option MachineKeys)) → AreKept place (o ∷ rest) → AreKept (place + 1) rest
+kept_behind : (place : ℕ) (o : Option MachineKeys) (rest : List (Option MachineKeys)) → ArePlaced place (o ∷ rest) → ArePlaced (place + 1) rest
 kept_behind place None rest h = h
 kept_behind place (Some m) rest h = h.2
 
-kept_after : (place : ℕ) (o : Option MachineKeys) (rest after : List (Option MachineKeys)) → AreKept place (o ∷ rest) → AreKept (place + 1) after → AreKept place (o ∷ after)
+kept_after : (place : ℕ) (o : Option MachineKeys) (rest after : List (Option MachineKeys)) → ArePlaced place (o ∷ rest) → ArePlaced (place + 1) after → ArePlaced place (o ∷ after)
 kept_after place None rest after h k = k
 kept_after place (Some m) rest after h k = (h.0, h.1, k)
 
-set_kept : (ms : List (Option MachineKeys)) (place i : ℕ) (m : MachineKeys) → AreKept place ms → m.id ≡ place + i → Facts m → AreKept place (slice_set ms i (Some m))
+set_kept : (ms : List (Option MachineKeys)) (place i : ℕ) (m : MachineKeys) → ArePlaced place ms → m.id ≡ place + i → IsMachine m → ArePlaced place (slice_set ms i (Some m))
 set_kept [] place i m h is f = tt
 set_kept (o ∷ ms) place zero m h is f = (omega arith, f, kept_behind place o ms h)
 set_kept (o ∷ ms) place (suc i) m h is f = kept_after place o ms _ h (set_kept ms (place + 1) i m (kept_behind place o ms h) (omega arith) f)
@@ -193,7 +187,7 @@ set_length (x ∷ ms) (suc i) o = ap suc (set_length ms i o)
 -- four machines at their places
 pub record AreFour (machines : List (Option MachineKeys)) : Type 0 where
   pub four : length machines ≡ 4
-  pub kept : AreKept 0 machines
+  pub kept : ArePlaced 0 machines
 
 pub machines_in_range : (tables : Items) (place : ℕ) (machines all : List (Option MachineKeys)) (loads : List Loaded) → AllByRecursion IsLoad loads → AreFour machines → machines_from place machines loads tables ≡ Ok all → AreFour all
 unfolding machines_from
@@ -202,6 +196,6 @@ machines_in_range (item d rest) place machines all loads fit h e =
     let next = goes_on (machine_in place machines loads d) (λ m. machines_from (place + 1) (slice_set machines m.id (Some m)) loads rest) all e in
     let m = next.value in
     let table = read_table (codes "machine") (as_table d) (Machine place) machine_names (machine_of_table machines loads) m next.found in
-    let f : Facts m = machine_in_range machines loads table.0 m fit table.1 in
+    let f : IsMachine m = machine_in_range machines loads table.0 m fit table.1 in
     let after : AreFour (slice_set machines m.id (Some m)) = record { four = set_length machines m.id (Some m) ∙ h.four; kept = set_kept machines 0 m.id m h.kept (omega arith) f } in
     machines_in_range rest (place + 1) (slice_set machines m.id (Some m)) all loads fit after next.rest

@@ -9,7 +9,7 @@ use Rattle.toml.specs.View.{view, items_view}
 use Rattle.toml.proofs.Views.{items_view-drop}
 use Rattle.answers.specs.Answers.{Refuses}
 use Rattle.block_config.specs.Answer.{Refusal, told}
-use Rattle.block_config.specs.Block.{MachineKeys, keys_of_machine}
+use Rattle.setup_keys.specs.Block.{MachineKeys, keys_of_machine}
 use Rattle.block_config.specs.Programs.{Loaded}
 use Rattle.block_config.specs.declared.fault.ConfigFault.{ConfigFault}
 use Rattle.block_config.specs.declared.fault.ConfigFault.TheVariants.{Memory, At}

@@ -7,14 +7,14 @@ use Rattle.pin_matrix.specs.declared.span.SpanUnit.{SpanUnit}
 use Rattle.pin_matrix.specs.Spans.{is_in_ticks, is_span_name}
 use Rattle.block_config.specs.Answer.{Refusal}
 use Rattle.block_config.specs.Arrays.{count_items, all_items, gather}
-use Rattle.block_config.specs.Block.{MachineKeys, SpanKeys}
+use Rattle.setup_keys.specs.Block.{MachineKeys, SpanKeys}
 use Rattle.block_config.specs.declared.fault.ConfigKind.TheVariants.{Many, WrongType, Range}
 use Rattle.block_config.specs.declared.path.Section.TheVariants.{Span}
 use Rattle.block_config.specs.Programs.{Loaded}
 use Rattle.block_config.specs.SpanTable.{span_names, required, name_of, name_at, configured, machine_at, span_pins, edge_at, Ends, ends_at, unit_at, bound_keys, Bounds, ordered, bounds_at, load_of_machine, stall_addresses, stalls_in, stalls_of, stalls_at, SpanValues, values_at, span_keys_of, span_of_table, span_in, all_spans}
 use Rattle.block_config.specs.Tables.{and_then, number_at, each_at}
 use Rattle.block_config.specs.Values.{text_of}
-use Rattle.block_config.proofs.Alike.{Bounds as Facts}
+use Rattle.setup_keys.specs.InRange.{IsSpan}
 use Rattle.block_config.proofs.Gathered.{gather_keeps, read_table}
 use Rattle.block_config.proofs.Ranges.{goes_on, off_key, ok_same, number_within, all_within, all_defaulted}
 
@@ -111,7 +111,7 @@ value_in_ticks : (unit : SpanUnit) (load : Option Loaded) (o : Option Data) (sta
 value_in_ticks unit load None stalls e = subst (AreInTicks unit) (ok_same [] stalls e) (none_in_ticks (is_in_ticks unit))
 value_in_ticks unit load (Some d) stalls e = in_ticks unit load (as_array d) stalls e
 
-parts_in_range : (name : List ℕ) (v : SpanValues) → is_span_name name ≡ true → AreEnds v.ends → AreOrdered v.bounds → AreInTicks v.bounds.unit v.stalls → Facts (span_keys_of name v)
+parts_in_range : (name : List ℕ) (v : SpanValues) → is_span_name name ≡ true → AreEnds v.ends → AreOrdered v.bounds → AreInTicks v.bounds.unit v.stalls → IsSpan (span_keys_of name v)
 parts_in_range name v n e b s = record {
   named = n;
   machine_in_block = e.machine;
@@ -122,7 +122,7 @@ parts_in_range name v n e b s = record {
   stalls_in_ticks = s;
 }
 
-table_in_range : (machines : List (Option MachineKeys)) (loads : List Loaded) (t : Members) (s : SpanKeys) → span_of_table machines loads t ≡ Ok s → Facts s
+table_in_range : (machines : List (Option MachineKeys)) (loads : List Loaded) (t : Members) (s : SpanKeys) → span_of_table machines loads t ≡ Ok s → IsSpan s
 table_in_range machines loads t s e =
     let name = goes_on (name_at t) (λ name. and_then (values_at machines loads t) (λ values. Ok (span_keys_of name values))) s e in
     let values = goes_on (values_at machines loads t) (λ values. Ok (span_keys_of name.value values)) s name.rest in
@@ -133,12 +133,12 @@ table_in_range machines loads t s e =
     let stalls = goes_on (stalls_at bounds.value.unit load t) (λ stalls. Ok (record { ends = ends.value; bounds = bounds.value; stalls = stalls })) v bounds.rest in
     let whole : record { ends = ends.value; bounds = bounds.value; stalls = stalls.value } ≡ v = ok_same _ v stalls.rest in
     let told : AreInTicks bounds.value.unit stalls.value = value_in_ticks bounds.value.unit load (get_member (codes "stalls") t) stalls.value (off_key (codes "stalls") _ stalls.value stalls.found) in
-    let parts : Facts (span_keys_of name.value (record { ends = ends.value; bounds = bounds.value; stalls = stalls.value })) =
+    let parts : IsSpan (span_keys_of name.value (record { ends = ends.value; bounds = bounds.value; stalls = stalls.value })) =
     parts_in_range name.value _ (named t name.value name.found) (are_ends machines t ends.value ends.found) (are_ordered t bounds.value bounds.found) told in
-    subst Facts (ok_same (span_keys_of name.value v) s values.rest) (subst (λ (x : SpanValues). Facts (span_keys_of name.value x)) whole parts)
+    subst IsSpan (ok_same (span_keys_of name.value v) s values.rest) (subst (λ (x : SpanValues). IsSpan (span_keys_of name.value x)) whole parts)
 
-pub spans_in_range : (machines : List (Option MachineKeys)) (loads : List Loaded) (tables : Items) (spans : List SpanKeys) → all_spans machines loads tables ≡ Ok spans → AllByRecursion Facts spans
+pub spans_in_range : (machines : List (Option MachineKeys)) (loads : List Loaded) (tables : Items) (spans : List SpanKeys) → all_spans machines loads tables ≡ Ok spans → AllByRecursion IsSpan spans
 spans_in_range machines loads tables spans e =
-    gather_keeps Facts (span_in machines loads) (λ place front d s _ read.
+    gather_keeps IsSpan (span_in machines loads) (λ place front d s _ read.
     let table = read_table (codes "span") (as_table d) (Span place) span_names (span_of_table machines loads) s read in
     table_in_range machines loads table.0 s table.1) tables 0 [] spans tt e

@@ -5,7 +5,7 @@ use Rattle.pio_assemble.specs.declared.program.Program.{Program}
 use Rattle.pio_assemble.specs.Program.{Assembled, assembled_of}
 use Rattle.answers.specs.Answers.{made}
 use Rattle.block_config.specs.Answer.{Refusal}
-use Rattle.block_config.specs.Block.{MachineKeys, SpanKeys, BlockKeys, keys_of_machine, keys_of_span, keys_of_block}
+use Rattle.setup_keys.specs.Block.{MachineKeys, SpanKeys, BlockKeys, keys_of_machine, keys_of_span, keys_of_block}
 use Rattle.block_config.specs.Config.{document_of, parsed, sections_at, Sections, pins_in, no_machines, block_with, block_over, block_of_sections, block_of_table, config_block, config_setup_of}
 use Rattle.block_config.specs.Default.{machine_keys, quiet_block, default_block, default_setup_of}
 use Rattle.block_config.specs.Exact.{SaysExactly}
@@ -13,48 +13,20 @@ use Rattle.block_config.specs.Loads.{all_loads, memory_of}
 use Rattle.block_config.specs.Machines.{machines_from}
 use Rattle.block_config.specs.Memory.{no_words, fits_at, loaded}
 use Rattle.block_config.specs.Programs.{Loaded}
-use Rattle.block_config.specs.SetupOf.{machine_of, span_of, machine_at, setup_of}
+use Rattle.block_config.specs.SetupOf.{setup_of}
 use Rattle.block_config.specs.SpanTable.{all_spans}
 use Rattle.block_config.specs.Tables.{and_then}
-use Rattle.block_config.proofs.Alike.{Facts, Bounds, machine_with, span_with}
+use Rattle.setup_keys.specs.InRange.{IsMachine, IsSpan}
+use Rattle.setup_keys.proofs.Making.{a_setup_says}
+use Rattle.setup_keys.proofs.Exact.{not_clipped}
 use Rattle.block_config.proofs.LoadsFit.{IsProgram, IsLoad, are_programs, loads_fit, words_fit}
-use Rattle.block_config.proofs.MachinesInRange.{AreKept, AreFour, machines_in_range}
+use Rattle.block_config.proofs.MachinesInRange.{AreFour, machines_in_range}
 use Rattle.block_config.proofs.Ranges.{goes_on, ok_same}
-use Rattle.block_config.proofs.Says.{machine_of-keys, span_of-keys}
 use Rattle.block_config.proofs.SpansInRange.{spans_in_range}
 
-machine_exact : (k : MachineKeys) (place : ℕ) → Facts k → k.id ≡ place → keys_of_machine (machine_of place k) ≡ k
-machine_exact k place f is = ap keys_of_machine (machine_of-keys (machine_with k f) place is)
-
-span_exact : (k : SpanKeys) → Bounds k → keys_of_span (span_of k) ≡ k
-span_exact k f = ap keys_of_span (span_of-keys (span_with k f))
-
-spans_exact : (ks : List SpanKeys) → AllByRecursion Bounds ks → map keys_of_span (map span_of ks) ≡ ks
-spans_exact [] h = refl
-spans_exact (k ∷ ks) h = rw (span_exact k h.0, spans_exact ks h.1) refl
-
-place_exact : (place : ℕ) (o : Option MachineKeys) (rest : List (Option MachineKeys)) → AreKept place (o ∷ rest) → (option_map keys_of_machine (option_map (machine_of place) o) ≡ o) × AreKept (place + 1) rest
-place_exact place None rest h = (refl, h)
-place_exact place (Some m) rest h = (ap Some (machine_exact m place h.1 h.0), h.2)
-
-four_exact : (ks : List (Option MachineKeys)) → length ks ≡ 4 → AreKept 0 ks → map (option_map keys_of_machine) (machine_at ks 0 ∷ machine_at ks 1 ∷ machine_at ks 2 ∷ machine_at ks 3 ∷ []) ≡ ks
-four_exact [] l h = absurd (omega arith)
-four_exact (a ∷ []) l h = absurd (omega arith)
-four_exact (a ∷ b ∷ []) l h = absurd (omega arith)
-four_exact (a ∷ b ∷ c ∷ []) l h = absurd (omega arith)
-four_exact (a ∷ b ∷ c ∷ d ∷ []) l h =
-    let first = place_exact 0 a (b ∷ c ∷ d ∷ []) h in
-    let second = place_exact 1 b (c ∷ d ∷ []) first.1 in
-    let third = place_exact 2 c (d ∷ []) second.1 in
-    let last = place_exact 3 d [] third.1 in
-    rw (first.0, second.0, third.0, last.0) refl
-four_exact (a ∷ b ∷ c ∷ d ∷ e ∷ more) l h = absurd (omega arith)
-
-block_exact : (k : BlockKeys) → AreFour k.machines → AllByRecursion Bounds k.spans → keys_of_block (setup_of k) ≡ k
+block_exact : (k : BlockKeys) → AreFour k.machines → AllByRecursion IsSpan k.spans → keys_of_block (setup_of k) ≡ k
 unfolding setup_of
-block_exact k m s =
-    ap (λ (ms : List (Option MachineKeys)). record k { machines = ms; spans = map keys_of_span (map span_of k.spans) }) (four_exact k.machines m.four m.kept)
-    ∙ ap (λ (ss : List SpanKeys). record k { spans = ss }) (spans_exact k.spans s)
+block_exact k m s = (a_setup_says k).1 ∙ not_clipped k (record { four = m.four; placed = m.kept; spans = s })
 
 over_exact : (s : Sections) (loads : List Loaded) (k : BlockKeys) → AllByRecursion IsLoad loads → block_over s loads ≡ Ok k → keys_of_block (setup_of k) ≡ k
 over_exact s loads k fit e =
@@ -80,7 +52,7 @@ pub configuration_exact : (bytes : List ℕ) (programs : List Program) → SaysE
 configuration_exact bytes programs = read_back (config_block bytes (map assembled_of programs)) (λ k e. config_exact bytes (map assembled_of programs) k (are_programs programs) e)
 
 -- the machine of the default setup
-default_machine : (p : Assembled) (address : ℕ) → IsProgram p → address + length p.words ≤ 32 → Facts (machine_keys 0 address p)
+default_machine : (p : Assembled) (address : ℕ) → IsProgram p → address + length p.words ≤ 32 → IsMachine (machine_keys 0 address p)
 default_machine p address is within =
     let some : 1 ≤ length p.words = is.some in
     let bottom : p.wrap_bottom < length p.words = is.bottom in

@@ -16,7 +16,7 @@ use Rattle.block_config.specs.declared.path.Section.TheVariants.{Pins}
 use Rattle.answers.specs.Answers.{made}
 use Rattle.block_config.specs.Answer.{Refusal, refused}
 use Rattle.block_config.specs.Arrays.{count_items, all_items}
-use Rattle.block_config.specs.Block.{MachineKeys, SpanKeys, BlockKeys}
+use Rattle.setup_keys.specs.Block.{MachineKeys, SpanKeys, BlockKeys}
 use Rattle.block_config.specs.SetupOf.{setup_of}
 use Rattle.block_config.specs.Loads.{all_loads, memory_of}
 use Rattle.block_config.specs.Machines.{machines_from, section_at}

@@ -8,7 +8,7 @@ use Rattle.block_config.specs.declared.fault.ConfigKind.TheVariants.{NoProgram, 
 use Rattle.pin_matrix.specs.declared.setup.Setup.{Setup}
 use Rattle.answers.specs.Answers.{made}
 use Rattle.block_config.specs.Answer.{Refusal, refused}
-use Rattle.block_config.specs.Block.{MachineKeys, BlockKeys}
+use Rattle.setup_keys.specs.Block.{MachineKeys, BlockKeys}
 use Rattle.block_config.specs.SetupOf.{setup_of}
 use Rattle.block_config.specs.Memory.{fits_at, loaded, no_words}
 

@@ -3,7 +3,7 @@ use Rattle.std.specs.Prelude.{◌≡◌, Result}
 use Rattle.pin_matrix.specs.declared.setup.Setup.{Setup}
 use Rattle.answers.specs.Answers.{made}
 use Rattle.block_config.specs.Answer.{Refusal}
-use Rattle.block_config.specs.Block.{BlockKeys, keys_of_block}
+use Rattle.setup_keys.specs.Block.{BlockKeys, keys_of_block}
 
 -- What the setup says, field by field, is what was said: every number of every machine, the pins, and each span with its name,
 -- its bounds and its stalls. Where nothing was said for a fault, the fault is the same.

@@ -1,4 +1,4 @@
-pub mod Facts
+pub use Rattle.setup_keys.specs.Block
 pub mod Fault
 pub mod Answer
 pub mod Keys
@@ -13,7 +13,6 @@ pub mod RunView
 pub mod Machines
 pub mod Pins
 pub mod PinView
-pub mod Block
 pub mod SetupOf
 pub mod Exact
 pub mod Memory

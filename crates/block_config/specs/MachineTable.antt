@@ -6,7 +6,7 @@
 use Rattle.std.specs.Prelude.{ℕ, ◌+◌, ◌==◌, ◌&&◌, not, is_some, Bool, true, false, if◌then◌else◌, slice_index, slice_index_or, Option, Some, None, List, [], ◌∷◌, Result, Ok, Err, codes}
 use Rattle.toml.specs.Data.{Members, get_member}
 use Rattle.block_config.specs.declared.fault.ConfigKind.{ConfigKind}
-use Rattle.block_config.specs.Block.{MachineKeys}
+use Rattle.setup_keys.specs.Block.{MachineKeys}
 use Rattle.block_config.specs.Programs.{Loaded, find_loaded, label_of}
 use Rattle.block_config.specs.Values.{or_fault, text_of}
 use Rattle.block_config.specs.declared.fault.ConfigKind.TheVariants.{Divider, BothJoins, MachineTwice, Missing, NoProgram, NoLabel}

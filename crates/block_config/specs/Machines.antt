@@ -9,7 +9,7 @@ use Rattle.block_config.specs.declared.fault.ConfigKind.TheVariants.{UnknownKey,
 use Rattle.block_config.specs.declared.path.Section.{Section}
 use Rattle.block_config.specs.declared.path.Section.TheVariants.{Machine}
 use Rattle.block_config.specs.Answer.{Refusal, refused}
-use Rattle.block_config.specs.Block.{MachineKeys}
+use Rattle.setup_keys.specs.Block.{MachineKeys}
 use Rattle.block_config.specs.Fault.{section_path, key_path}
 use Rattle.block_config.specs.MachineTable.{machine_of_table}
 use Rattle.block_config.specs.Programs.{Loaded}

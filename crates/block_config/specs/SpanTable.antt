@@ -17,7 +17,7 @@ use Rattle.block_config.specs.declared.fault.ConfigKind.TheVariants.{Missing, Ra
 use Rattle.block_config.specs.declared.path.Section.TheVariants.{Span}
 use Rattle.block_config.specs.Answer.{Refusal, refused}
 use Rattle.block_config.specs.Arrays.{count_items, all_items, gather}
-use Rattle.block_config.specs.Block.{MachineKeys, SpanKeys}
+use Rattle.setup_keys.specs.Block.{MachineKeys, SpanKeys}
 use Rattle.block_config.specs.Keys.{Numbered}
 use Rattle.block_config.specs.Loads.{covers}
 use Rattle.block_config.specs.Machines.{section_at, element_of}

@@ -5,7 +5,7 @@ ghost use Rattle.toml.specs.View.{items_view, table_view};
 ghost use Rattle.answers.specs.Answers.{Answers, Gives, made};
 ghost use Rattle.block_config.specs.Answer.{told};
 ghost use Rattle.block_config.specs.Arrays.{count_items};
-ghost use Rattle.block_config.specs.Block.{keys_of_block, keys_of_span};
+ghost use Rattle.setup_keys.specs.Block.{keys_of_block, keys_of_span};
 ghost use Rattle.block_config.specs.Config as spec;
 ghost use Rattle.block_config.specs.Config.{config_setup_of};
 ghost use Rattle.block_config.specs.Default.{quiet_block};

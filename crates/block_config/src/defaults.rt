@@ -3,7 +3,7 @@ ghost use Rattle.std.specs.Prelude.{◌≡◌, ◌+◌, ◌≤◌, length, map, 
 ghost use Rattle.pio_assemble.specs.Program.{assembled_of};
 ghost use Rattle.answers.specs.Answers.{Answers, made};
 ghost use Rattle.block_config.specs.Answer.{told};
-ghost use Rattle.block_config.specs.Block.{keys_of_machine};
+ghost use Rattle.setup_keys.specs.Block.{keys_of_machine};
 ghost use Rattle.block_config.specs.Default as default;
 ghost use Rattle.block_config.specs.Default.{default_setup_of};
 ghost use Rattle.block_config.specs.SetupOf as spec;

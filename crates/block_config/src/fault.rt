@@ -8,7 +8,7 @@ use std::alloc::{AllocError, AllocFailed};
 use std::fmt;
 
 /// What is wrong with a key of a configuration (choice of this profile).
-#[derive(Clone, Copy, Debug, PartialEq, Eq)]
+#[derive(Clone, Copy, Debug)]
 pub enum ConfigKind {
     /// `C1`: the file is no TOML.
     NotToml,
@@ -74,7 +74,7 @@ impl fmt::Display for ConfigKind {
 }
 
 /// Why there is no setup.
-#[derive(Debug, Drop)]
+#[derive(Drop)]
 pub enum ConfigFault {
     /// Memory ran out.
     Memory,

@@ -5,7 +5,7 @@ ghost use Rattle.pio_assemble.specs.Program.{Assembled, assembled_of};
 ghost use Rattle.pio_assemble.specs.declared.program.Program as program;
 ghost use Rattle.pin_matrix.specs.declared.setup.Setup as setup;
 ghost use Rattle.block_config.specs.Apart.{AreApart};
-ghost use Rattle.block_config.specs.Block.{MachineKeys, keys_of_block};
+ghost use Rattle.setup_keys.specs.Block.{MachineKeys, keys_of_block};
 ghost use Rattle.block_config.specs.Config.{config_block, config_setup_of};
 ghost use Rattle.block_config.specs.Default.{default_block, default_setup_of};
 ghost use Rattle.block_config.specs.Exact.{SaysExactly};

@@ -1,7 +1,7 @@
 //! The table of a machine, as its setup.
 ghost use Rattle.std.specs.Prelude.{◌≡◌, map, option_map};
 ghost use Rattle.toml.specs.View.{table_view};
-ghost use Rattle.block_config.specs.Block.{keys_of_machine};
+ghost use Rattle.setup_keys.specs.Block.{keys_of_machine};
 ghost use Rattle.block_config.specs.LoadView.{loaded_of};
 ghost use Rattle.block_config.specs.MachineTable as spec;
 ghost use Rattle.block_config.specs.MachineView.{clock_view, counts_view, flags_view, pins_view};

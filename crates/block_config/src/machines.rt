@@ -4,7 +4,7 @@ ghost use Rattle.pin_matrix.specs.Placing.{HasRestOf};
 ghost use Rattle.toml.specs.View.{items_view, table_view, view};
 ghost use Rattle.answers.specs.Answers.{Gives};
 ghost use Rattle.block_config.specs.Answer.{told};
-ghost use Rattle.block_config.specs.Block.{keys_of_machine};
+ghost use Rattle.setup_keys.specs.Block.{keys_of_machine};
 ghost use Rattle.block_config.specs.LoadView.{loaded_of};
 ghost use Rattle.block_config.specs.Machines as spec;
 ghost use Rattle.block_config.specs.MachineTable.{machine_of_table};

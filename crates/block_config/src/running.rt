@@ -30,7 +30,7 @@ pub struct Running<'a> {
 impl<'a> Running<'a> {
     ghost use Rattle.std.specs.Prelude.{◌≡◌, map, option_map, IfOk};
     ghost use Rattle.toml.specs.View.{table_view};
-    ghost use Rattle.block_config.specs.Block.{keys_of_machine};
+    ghost use Rattle.setup_keys.specs.Block.{keys_of_machine};
     ghost use Rattle.block_config.specs.LoadView.{loaded_of};
     ghost use Rattle.block_config.specs.MachineTable as spec;
     ghost use Rattle.block_config.specs.RunView.{run_view};

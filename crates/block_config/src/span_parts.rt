@@ -61,7 +61,7 @@ pub struct EndValues {
 impl EndValues {
     ghost use Rattle.std.specs.Prelude.{◌≡◌, map, option_map, IfOk};
     ghost use Rattle.toml.specs.View.{table_view};
-    ghost use Rattle.block_config.specs.Block.{keys_of_machine};
+    ghost use Rattle.setup_keys.specs.Block.{keys_of_machine};
     ghost use Rattle.block_config.specs.SpanTable as spec;
     ghost use Rattle.block_config.specs.SpanView.{ends_view};
     ghost use Rattle.block_config.specs.Tables.{seen};

@@ -23,7 +23,7 @@ pub struct SpanValues {
 impl SpanValues {
     ghost use Rattle.std.specs.Prelude.{◌≡◌, map, option_map};
     ghost use Rattle.toml.specs.View.{table_view};
-    ghost use Rattle.block_config.specs.Block.{keys_of_machine};
+    ghost use Rattle.setup_keys.specs.Block.{keys_of_machine};
     ghost use Rattle.block_config.specs.LoadView.{loaded_of};
     ghost use Rattle.block_config.specs.SpanTable as spec;
     ghost use Rattle.block_config.specs.SpanView.{values_view};

@@ -4,7 +4,7 @@ ghost use Rattle.pin_matrix.specs.Spans.{is_span_name};
 ghost use Rattle.toml.specs.View.{items_view, table_view, view};
 ghost use Rattle.answers.specs.Answers.{Gives};
 ghost use Rattle.block_config.specs.Answer.{told};
-ghost use Rattle.block_config.specs.Block.{keys_of_machine, keys_of_span};
+ghost use Rattle.setup_keys.specs.Block.{keys_of_machine, keys_of_span};
 ghost use Rattle.block_config.specs.LoadView.{loaded_of};
 ghost use Rattle.block_config.specs.Machines.{section_at};
 ghost use Rattle.block_config.specs.SpanTable as spec;

@@ -12,7 +12,8 @@ use Rattle.pio_assemble.specs.Checks.{statement_fault, program_fault, after, wit
 use Rattle.pio_assemble.specs.Drafts.{Draft, drafted, with_word, with_symbol, coded, labelled}
 use Rattle.pio_assemble.specs.Operands.{word_of_code, number_in, valued}
 use Rattle.pio_assemble.specs.declared.quantity.Quantity.TheVariants as quantity
-use Rattle.pio_assemble.specs.Rules.{rule_of, most_bits}
+use Rattle.setup_keys.specs.Rule.{most_bits}
+use Rattle.pio_assemble.specs.Rules.{rule_of}
 use Rattle.pio_assemble.specs.Source.{program_by}
 
 -- the name of a draft, or where there is none, this one

@@ -15,7 +15,8 @@ use Rattle.pio_assemble.specs.Drafts.{Draft, drafted, with_symbol, with_word, co
 use Rattle.pio_assemble.specs.Lines.{word_by}
 use Rattle.pio_assemble.specs.Operands.{number_in, valued}
 use Rattle.pio_assemble.specs.Plain.{plain_drafted, plain_coded, plain_word_of_code, plain_finished}
-use Rattle.pio_assemble.specs.Rules.{rule_of, most_bits}
+use Rattle.setup_keys.specs.Rule.{most_bits}
+use Rattle.pio_assemble.specs.Rules.{rule_of}
 use Rattle.pio_assemble.specs.Source.{program_by}
 use Rattle.pio_assemble.proofs.Faultless.{no_second, no_cause, kept_behind, same_behind, any}
 use Rattle.pio_assemble.proofs.PlainScope.{has_room}

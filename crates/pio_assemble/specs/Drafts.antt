@@ -17,7 +17,8 @@ use Rattle.answers.specs.Answers.{◌>>=◌}
 use Rattle.pio_assemble.specs.Operands.{number_in, valued, word_of_code}
 use Rattle.pio_assemble.specs.declared.program.Program.{Program}
 use Rattle.pio_assemble.specs.Program.{Assembled, assembled_of}
-use Rattle.pio_assemble.specs.Rules.{rule_of, no_side_set, most_bits}
+use Rattle.setup_keys.specs.Rule.{most_bits}
+use Rattle.pio_assemble.specs.Rules.{rule_of, no_side_set}
 
 -- a program as far as it is read
 pub record Draft : Type 0 where

@@ -3,7 +3,6 @@ pub mod Program
 pub mod Answers
 pub mod Lines
 pub mod Checks
-pub mod Fitting
 pub mod Rules
 pub mod Operands
 pub mod Drafts

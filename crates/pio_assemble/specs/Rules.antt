@@ -1,16 +1,12 @@
 -- The rule of a `.side_set` (RP2040 Datasheet, section 3.5.1).
-use Rattle.std.specs.Prelude.{ℕ, min, Bool, false, if◌then◌else◌}
+use Rattle.std.specs.Prelude.{ℕ, Bool, false}
 use Rattle.pio_encode.specs.declared.rule.SideRule.{SideRule}
-use Rattle.pio_assemble.specs.Fitting.{bits_fit, none_fit}
+use Rattle.setup_keys.proofs.Making.{a_rule_says}
 
--- how many side-set bits there may be: `opt` takes one of five
-abbrev pub most_bits : Bool → ℕ
-most_bits opt = if opt then 4 else 5
-
--- so many bits, which are brought into range
+-- so many bits, which are brought into range (`clipped_rule`): there is such a rule (`a_plain_rule_has_a_rule`)
 abbrev pub rule_of : ℕ → Bool → Bool → SideRule
-rule_of bits opt pindirs = record { bits = min bits (most_bits opt); opt = opt; pindirs = pindirs; fits = bits_fit bits opt }
+rule_of bits opt pindirs = (a_rule_says (record { bits = bits; opt = opt; pindirs = pindirs })).0
 
 -- a program without `.side_set`
 abbrev pub no_side_set : SideRule
-no_side_set = record { bits = 0; opt = false; pindirs = false; fits = none_fit }
+no_side_set = rule_of 0 false false

@@ -15,7 +15,7 @@ use std::alloc::{AllocError, AllocFailed};
 use std::fmt;
 
 /// What is wrong with a line of a source (choice of this profile).
-#[derive(Debug, PartialEq, Eq, Drop)]
+#[derive(Drop)]
 pub enum SourceKind {
     /// `L1`: a byte begins no token.
     BadByte,
@@ -162,7 +162,7 @@ fn kind_of_value(kind: ValueKind) -> SourceKind
 }
 
 /// Why `assemble` gave no programs.
-#[derive(Debug, PartialEq, Eq, Drop)]
+#[derive(Drop)]
 pub enum SourceFault {
     /// Memory ran out.
     Memory,

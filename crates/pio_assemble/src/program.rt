@@ -6,7 +6,7 @@ use arrayvec::ArrayVec;
 use pio_encode::{Name, SideRule};
 
 /// A program as pioasm gives it, not yet at a place in the instruction memory.
-#[derive(Debug, Drop)]
+#[derive(Drop)]
 pub struct Program {
     pub name: Name,
     /// 1 to 32 words, with jump targets counted from the program's first word.

@@ -5,7 +5,7 @@ ghost use Rattle.pio_assemble.specs.Fault.{quantity_text};
 use std::fmt;
 
 /// A number of a statement, with the word that a message has for it.
-#[derive(Clone, Copy, Debug, PartialEq, Eq)]
+#[derive(Clone, Copy)]
 pub enum Quantity {
     /// The target of a JMP: 0 to 31.
     Jmp,

@@ -7,7 +7,7 @@ use pio_encode::Name;
 use std::marker::Model;
 
 /// A name with a value.
-#[derive(Debug, Drop)]
+#[derive(Drop)]
 pub struct Symbol {
     pub name: Name,
     pub value: i32,
@@ -18,7 +18,7 @@ pub struct Symbol {
 }
 
 /// The symbols of a program in the order of the source, seen as their list.
-#[derive(Debug, Drop)]
+#[derive(Drop)]
 pub struct Symbols {
     entries: Vec<Symbol>,
 }

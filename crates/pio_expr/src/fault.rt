@@ -7,7 +7,7 @@ use pio_encode::Name;
 use std::alloc::{AllocError, AllocFailed};
 
 /// What is wrong at a token of an expression.
-#[derive(Clone, Copy, Debug, PartialEq)]
+#[derive(Clone, Copy, Debug)]
 pub enum ExprKind {
     /// No expression goes on with this token, or ends before it.
     Syntax,
@@ -25,7 +25,7 @@ pub struct Refusal {
 }
 
 /// Why `parse_expr` gave no expression.
-#[derive(Debug, PartialEq, Drop)]
+#[derive(Drop)]
 pub enum ExprFault {
     /// Memory ran out.
     Memory,

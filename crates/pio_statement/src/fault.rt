@@ -5,7 +5,7 @@ ghost use Rattle.pio_statement.specs.declared.fault.StatementFault.TheVariants.{
 use std::alloc::{AllocError, AllocFailed};
 
 /// What is wrong with a line: its first fault, from left to right.
-#[derive(Clone, Copy, Debug, PartialEq, Eq)]
+#[derive(Clone, Copy, Debug)]
 pub enum StatementKind {
     /// An unknown directive stands anywhere on the line; it goes before any other fault.
     Directive,
@@ -18,7 +18,7 @@ pub enum StatementKind {
 }
 
 /// Why `read_statement` gave no statement.
-#[derive(Debug, PartialEq, Eq, Drop)]
+#[derive(Drop)]
 pub enum StatementFault {
     /// Memory ran out.
     Memory,

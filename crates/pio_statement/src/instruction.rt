@@ -7,7 +7,7 @@ use pio_encode::{
 use pio_expr::Expr;
 
 /// What an IRQ does.
-#[derive(Clone, Copy, Debug, PartialEq, Eq)]
+#[derive(Clone, Copy, Debug)]
 pub enum IrqMode {
     /// `set`, `nowait` or no word: raises the flag.
     Raise,

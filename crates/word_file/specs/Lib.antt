@@ -1,5 +1,4 @@
 pub mod Fault
 pub mod Line
 pub mod Reading
-pub mod SideBits
 pub mod Listing

@@ -1,9 +1,9 @@
 -- The lines of words (choice of this profile).
-use Rattle.std.specs.Prelude.{ℕ, ◌+◌, ◌/◌, ◌%◌, min, Bool, true, false, List, [], ◌∷◌, ◌++◌, codes}
+use Rattle.std.specs.Prelude.{ℕ, ◌+◌, ◌/◌, ◌%◌, Bool, false, List, [], ◌∷◌, ◌++◌, codes}
 use Rattle.byte_lines.specs.Bytes.{digit_0}
 use Rattle.pio_encode.specs.declared.rule.SideRule.{SideRule}
 use Rattle.pio_encode.specs.Spelling.{hexadecimal_digit, spelled}
-use Rattle.word_file.specs.SideBits.{beside_enable_bit, alone}
+use Rattle.setup_keys.proofs.Making.{a_rule_says}
 
 -- a place in the memory as two decimal digits
 abbrev pub place_text : ℕ → List ℕ
@@ -26,7 +26,6 @@ lines_from rule place (w ∷ words) = word_line rule place w ++ lines_from rule 
 abbrev pub word_lines : SideRule → List ℕ → List ℕ
 word_lines rule words = lines_from rule 0 words
 
--- the rule of so many side-set bits, at most as many as there is room for beside an enable bit (RP2040 Datasheet, section 3.5.1)
+-- the rule of so many side-set bits for levels, at most as many as there is room for (`a_plain_rule_has_a_rule`)
 unfoldable pub rule_for : ℕ → Bool → SideRule
-rule_for bits true = record { bits = min bits 4; opt = true; pindirs = false; fits = beside_enable_bit bits }
-rule_for bits false = record { bits = min bits 5; opt = false; pindirs = false; fits = alone bits }
+rule_for bits opt = (a_rule_says (record { bits = bits; opt = opt; pindirs = false })).0

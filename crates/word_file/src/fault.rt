@@ -3,7 +3,7 @@ ghost use Rattle.std.specs.Prelude.{◌≡◌};
 ghost use Rattle.word_file.specs.Fault.{code_of};
 
 /// What is wrong with a line.
-#[derive(Clone, Copy, Debug, PartialEq, Eq)]
+#[derive(Clone, Copy)]
 pub enum WordKind {
     /// `H1`: it is neither a word nor blank.
     BadWord,
@@ -24,7 +24,7 @@ impl WordKind {
 }
 
 /// The first fault of a file of words.
-#[derive(Clone, Copy, Debug, PartialEq, Eq)]
+#[derive(Clone, Copy)]
 pub struct WordFault {
     /// The line, counted from 1.
     pub line: usize,

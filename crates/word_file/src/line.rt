@@ -7,7 +7,7 @@ ghost use Rattle.word_file.specs.Line as spec;
 use byte_lines::{digit_of, is_blank};
 
 /// What a line says.
-#[derive(Clone, Copy, Debug, PartialEq, Eq)]
+#[derive(Clone, Copy)]
 pub enum Line {
     /// Nothing.
     Blank,

@@ -1,6 +1,6 @@
 use Rattle.std.proofs.Common.{map, option_map}
 use Rattle.toml.specs.View.{view}
-use Rattle.block_config.specs.Block.{keys_of_machine, keys_of_span}
+use Rattle.setup_keys.specs.Block.{keys_of_machine, keys_of_span}
 use Rattle.block_config.specs.LoadView.{loaded_of}
 use Rattle.block_config.specs.SpanTable.{span_in}
 use Rattle.block_config.proofs.Gather.{gather_more, gather_fails, gather_ends}

@@ -1,9 +1,11 @@
 -- What the types of a setup keep, of numbers that are brought into range.
-use Rattle.std.specs.Prelude.{◌≡◌, ℕ, suc, ◌-◌, ◌%◌, ◌^◌, ◌<◌, ◌≤◌, min, ◌==◌, ◌||◌, ◌&&◌, not, cond, if◌then◌else◌, Bool, true, false, List, [], ◌∷◌, length, refl}
+use Rattle.std.specs.Prelude.{◌≡◌, ℕ, ◌+◌, ◌-◌, ◌%◌, ◌^◌, ◌<◌, ◌≤◌, min, ◌==◌, ◌||◌, ◌&&◌, not, cond, if◌then◌else◌, Bool, true, false, List, [], ◌∷◌, length, refl}
 use Rattle.std.proofs.Common.{lit<, lit≤}
-use Rattle.std.proofs.Math.Nat.{zero-lt-suc, min-le_right, le_trans}
+use Rattle.std.proofs.Math.Nat.{zero-lt-suc, min-le_right, le_trans, add-le-add}
 use Rattle.std.proofs.lemmas.Nat.{mod_below}
 use Rattle.pin_matrix.specs.Spans.{underscore, is_span_name}
+use Rattle.setup_keys.specs.Clipped.{bits_of, formed}
+use Rattle.setup_keys.specs.Rule.{most_bits}
 
 -- a number brought below 4
 pub below_4 : (n : ℕ) → n % 4 < 4
@@ -44,10 +46,6 @@ joins_at true true = refl
 joins_at true false = refl
 joins_at false rx = refl
 
--- a number of bits from 1 to 32
-abbrev pub bits_of : ℕ → ℕ
-bits_of n = suc ((n - 1) % 32)
-
 -- it is 1 at least
 pub some_bits : (n : ℕ) → 1 ≤ bits_of n
 some_bits n = zero-lt-suc ((n - 1) % 32)
@@ -61,10 +59,6 @@ pub ticks_at : (ticks : Bool) (stalls : List ℕ) → (ticks || length (cond tic
 ticks_at true stalls = refl
 ticks_at false stalls = refl
 
--- a span's name, `_` in place of one of another form
-abbrev pub formed : List ℕ → List ℕ
-formed name = if is_span_name name then name else underscore ∷ []
-
 -- it has the form, whether the name had it or not
 formed_at : (has : Bool) (name : List ℕ) → is_span_name name ≡ has → is_span_name (cond has name (underscore ∷ [])) ≡ true
 formed_at true name is = is
@@ -73,3 +67,8 @@ formed_at false name is = refl
 -- it has the form
 pub has_form : (name : List ℕ) → is_span_name (formed name) ≡ true
 has_form name = formed_at (is_span_name name) name refl
+
+-- bits that are brought into range fit, beside an enable bit and without one
+pub bits_fit : (bits : ℕ) (opt : Bool) → min bits (most_bits opt) + (if opt then 1 else 0) ≤ 5
+bits_fit bits true = add-le-add {c = 1} {d = 1} (min-le_right bits 4) (lit≤ tt)
+bits_fit bits false = add-le-add {c = 0} {d = 0} (min-le_right bits 5) (lit≤ tt)

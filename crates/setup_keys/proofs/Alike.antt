@@ -1,38 +1,15 @@
 -- Two setups that say the same are one: what their types keep has one proof each.
-use Rattle.std.proofs.Common.{◌≡◌, ℕ, ◌<◌, ◌≤◌, ◌^◌, ◌==◌, ◌||◌, ◌&&◌, not, true, Option, List, length, ap, subst, ◌∙◌}
+use Rattle.std.proofs.Common.{◌≡◌, true, Option, Some, None, option_map, List, [], ◌∷◌, map, refl, ap, subst, ◌∙◌}
 use Rattle.std.proofs.Math.Bridge.{le_prop}
 use Rattle.std.proofs.Math.Bool.{Bool-set}
 use Rattle.pin_matrix.specs.Setups.{ids_are_places}
-use Rattle.pin_matrix.specs.Spans.{is_in_ticks, is_span_name}
 use Rattle.pin_matrix.specs.declared.machine.MachineSetup.{MachineSetup}
 use Rattle.pin_matrix.specs.declared.setup.Setup.{Setup}
 use Rattle.pin_matrix.specs.declared.span.Span.{Span}
-use Rattle.block_config.specs.Block.{MachineKeys, SpanKeys, keys_of_machine, keys_of_span}
+use Rattle.setup_keys.specs.Block.{MachineKeys, SpanKeys, BlockKeys, keys_of_machine, keys_of_span, keys_of_block}
+use Rattle.setup_keys.specs.InRange.{IsMachine, IsSpan}
 
--- what the type of a machine's setup keeps
-pub record Facts (k : MachineKeys) : Type 0 where
-  pub id_in_block : k.id < 4
-  pub start_in_memory : k.start < 32
-  pub divides : (not (k.int == 0) || k.frac == 0) ≡ true
-  pub wrap_bottom_in_memory : k.wrap_bottom < 32
-  pub wrap_top_in_memory : k.wrap_top < 32
-  pub in_base_is_a_pin : k.in_base < 32
-  pub jmp_pin_is_a_pin : k.jmp_pin < 32
-  pub pushes_some : 1 ≤ k.push_threshold
-  pub pushes_a_word : k.push_threshold ≤ 32
-  pub pulls_some : 1 ≤ k.pull_threshold
-  pub pulls_a_word : k.pull_threshold ≤ 32
-  pub joins_one_way : not (k.join_tx && k.join_rx) ≡ true
-  pub status_in_field : k.status_n < 16
-  pub out_base_is_a_pin : k.out_base < 32
-  pub out_count_fits : k.out_count ≤ 32
-  pub set_base_is_a_pin : k.set_base < 32
-  pub set_count_fits : k.set_count ≤ 32
-  pub sets_five_at_most : k.set_count ≤ 5
-  pub side_base_is_a_pin : k.side_base < 32
-  pub side_count_fits : k.side_count ≤ 32
-
-abbrev facts : (m : MachineSetup) → Facts (keys_of_machine m)
+abbrev pub facts : (m : MachineSetup) → IsMachine (keys_of_machine m)
 facts m = record {
   id_in_block = m.id_in_block;
   start_in_memory = m.start_in_memory;
@@ -56,7 +33,7 @@ facts m = record {
   side_count_fits = m.side.count_fits;
 }
 
-abbrev pub machine_with : (k : MachineKeys) → Facts k → MachineSetup
+abbrev pub machine_with : (k : MachineKeys) → IsMachine k → MachineSetup
 machine_with k f = record {
   id = k.id;
   start = k.start;
@@ -98,25 +75,15 @@ machine_with k f = record {
   status_in_field = f.status_in_field;
 }
 
-facts_prop : (k : MachineKeys) → IsProp (Facts k)
+facts_prop : (k : MachineKeys) → IsProp (IsMachine k)
 facts_prop k = hlevel (le_prop, Bool-set)
 
 pub same_machine : (a b : MachineSetup) → keys_of_machine a ≡ keys_of_machine b → a ≡ b
 same_machine a b e =
-    let P : MachineKeys → Type 0 = λ k. (f : Facts k) → a ≡ machine_with k f in
+    let P : MachineKeys → Type 0 = λ k. (f : IsMachine k) → a ≡ machine_with k f in
     subst P e (λ f. ap (machine_with (keys_of_machine a)) (facts_prop (keys_of_machine a) (facts a) f)) (facts b)
 
--- what the type of a span keeps
-pub record Bounds (k : SpanKeys) : Type 0 where
-  pub named : is_span_name k.name ≡ true
-  pub machine_in_block : k.machine < 4
-  pub from_pin_is_a_pin : k.from_pin < 32
-  pub to_pin_is_a_pin : k.to_pin < 32
-  pub ordered : k.least ≤ k.most
-  pub bounded : k.most < 2 ^ 24
-  pub stalls_in_ticks : (is_in_ticks k.unit || length k.stalls == 0) ≡ true
-
-abbrev bounds : (s : Span) → Bounds (keys_of_span s)
+abbrev pub bounds : (s : Span) → IsSpan (keys_of_span s)
 bounds s = record {
   named = s.named;
   machine_in_block = s.machine_in_block;
@@ -127,7 +94,7 @@ bounds s = record {
   stalls_in_ticks = s.stalls_in_ticks;
 }
 
-abbrev pub span_with : (k : SpanKeys) → Bounds k → Span
+abbrev pub span_with : (k : SpanKeys) → IsSpan k → Span
 span_with k f = record {
   name = k.name;
   machine = k.machine;
@@ -148,26 +115,50 @@ span_with k f = record {
   stalls_in_ticks = f.stalls_in_ticks;
 }
 
-bounds_prop : (k : SpanKeys) → IsProp (Bounds k)
+bounds_prop : (k : SpanKeys) → IsProp (IsSpan k)
 bounds_prop k = hlevel (le_prop, Bool-set)
 
 pub same_span : (a b : Span) → keys_of_span a ≡ keys_of_span b → a ≡ b
 same_span a b e =
-    let P : SpanKeys → Type 0 = λ k. (f : Bounds k) → a ≡ span_with k f in
+    let P : SpanKeys → Type 0 = λ k. (f : IsSpan k) → a ≡ span_with k f in
     subst P e (λ f. ap (span_with (keys_of_span a)) (bounds_prop (keys_of_span a) (bounds a) f)) (bounds b)
+
+same_place : (a b : Option MachineSetup) → option_map keys_of_machine a ≡ option_map keys_of_machine b → a ≡ b
+same_place None None e = refl
+same_place None (Some n) e = cc
+same_place (Some m) None e = cc
+same_place (Some m) (Some n) e = ap Some (same_machine m n cc)
+
+same_machines : (ms ns : List (Option MachineSetup)) → map (option_map keys_of_machine) ms ≡ map (option_map keys_of_machine) ns → ms ≡ ns
+same_machines [] [] e = refl
+same_machines [] (n ∷ ns) e = cc
+same_machines (m ∷ ms) [] e = cc
+same_machines (m ∷ ms) (n ∷ ns) e = ap (λ (o : Option MachineSetup). o ∷ ms) (same_place m n cc) ∙ ap (λ (os : List (Option MachineSetup)). n ∷ os) (same_machines ms ns cc)
+
+same_spans : (ss ts : List Span) → map keys_of_span ss ≡ map keys_of_span ts → ss ≡ ts
+same_spans [] [] e = refl
+same_spans [] (t ∷ ts) e = cc
+same_spans (s ∷ ss) [] e = cc
+same_spans (s ∷ ss) (t ∷ ts) e = ap (λ (x : Span). x ∷ ss) (same_span s t cc) ∙ ap (λ (xs : List Span). t ∷ xs) (same_spans ss ts cc)
 
 places_prop : (machines : List (Option MachineSetup)) → IsProp (ids_are_places 0 machines ≡ true)
 places_prop machines = hlevel Bool-set
 
-abbrev pub block_with : (memory : List ℕ) (machines : List (Option MachineSetup)) → ids_are_places 0 machines ≡ true → (high level out bypass : ℕ) → List Span → Setup
-block_with memory machines p high level out bypass spans =
-    record { memory = memory; machines = machines; high = high; level = level; out = out; bypass = bypass; spans = spans; at_their_places = p }
+abbrev pub block_with : (k : BlockKeys) (machines : List (Option MachineSetup)) → ids_are_places 0 machines ≡ true → List Span → Setup
+block_with k machines p spans =
+    record { memory = k.memory; machines = machines; high = k.high; level = k.level; out = k.out; bypass = k.bypass; spans = spans; at_their_places = p }
 
--- blocks with the same machines and spans, and all else the same
-pub same_block : (memory : List ℕ) (machines machines' : List (Option MachineSetup)) (high level out bypass : ℕ) (spans spans' : List Span) (p : ids_are_places 0 machines ≡ true) (q : ids_are_places 0 machines' ≡ true) →
-    machines ≡ machines' → spans ≡ spans' →
-    block_with memory machines p high level out bypass spans ≡ block_with memory machines' q high level out bypass spans'
-same_block memory machines machines' high level out bypass spans spans' p q e s =
-    let P : List (Option MachineSetup) → Type 0 = λ ms. (r : ids_are_places 0 ms ≡ true) → block_with memory machines p high level out bypass spans ≡ block_with memory ms r high level out bypass spans in
-    subst P e (λ r. ap (λ (x : ids_are_places 0 machines ≡ true). block_with memory machines x high level out bypass spans) (places_prop machines p r)) q
-    ∙ ap (λ (x : List Span). block_with memory machines' q high level out bypass x) s
+same_parts : (k : BlockKeys) (machines others : List (Option MachineSetup)) (spans more : List Span) (p : ids_are_places 0 machines ≡ true) (q : ids_are_places 0 others ≡ true) → machines ≡ others → spans ≡ more
+    → block_with k machines p spans ≡ block_with k others q more
+same_parts k machines others spans more p q e s =
+    let P : List (Option MachineSetup) → Type 0 = λ ms. (r : ids_are_places 0 ms ≡ true) → block_with k machines p spans ≡ block_with k ms r spans in
+    subst P e (λ r. ap (λ (x : ids_are_places 0 machines ≡ true). block_with k machines x spans) (places_prop machines p r)) q
+    ∙ ap (λ (x : List Span). block_with k others q x) s
+
+-- two setups that say the same are one
+pub same_block : (s t : Setup) → keys_of_block s ≡ keys_of_block t → s ≡ t
+same_block s t e =
+    let machines = same_machines s.machines t.machines (ap (λ (k : BlockKeys). k.machines) e) in
+    let spans = same_spans s.spans t.spans (ap (λ (k : BlockKeys). k.spans) e) in
+    same_parts (keys_of_block s) s.machines t.machines s.spans t.spans s.at_their_places t.at_their_places machines spans
+    ∙ ap (λ (k : BlockKeys). block_with k t.machines t.at_their_places t.spans) e

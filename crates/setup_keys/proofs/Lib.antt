@@ -1,0 +1,4 @@
+pub mod Facts
+pub mod Alike
+pub mod Making
+pub mod Exact

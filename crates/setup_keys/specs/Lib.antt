@@ -1,0 +1,4 @@
+pub mod Block
+pub mod Rule
+pub mod InRange
+pub mod Clipped
