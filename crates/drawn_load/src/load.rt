@@ -14,6 +14,10 @@ use crate::pulses::put_pin_lines;
 use crate::words::draw_words;
 use dreq_pacing::{Act, Line, Schedule, Words};
 use pin_matrix::{Setup, Spans};
+use setup_keys::{
+    a_block_in_range_is_not_clipped, setups_that_say_the_same_are_one,
+    what_a_setup_says_is_in_range,
+};
 use std::alloc::{AllocError, Global};
 
 /// A block of four busy machines, and what the system does beside it.
@@ -28,6 +32,9 @@ pub fn draw_load(alloc: Global, seed: u64) -> Result<Load, AllocError>
     ensures setup { IfOk result (λ load. load.setup ≡ setup_of seed) }
     ensures schedule { IfOk result (λ load. load.schedule ≡ lines_of seed) }
 {
+    setups_that_say_the_same_are_one();
+    what_a_setup_says_is_in_range();
+    a_block_in_range_is_not_clipped();
     let mut draws = Draws::new(seed);
     let letters = draw_letters(&mut draws);
     let lines = draw_lines(alloc, &letters, &mut draws)?;

@@ -1,14 +1,20 @@
 -- What a block says that transfers moved is what they did, clock by clock.
-use Rattle.std.proofs.Common.{◌≡◌, ℕ, zero, suc, false, Option, Some, None, List, refl, ap, ap₂, sym, subst, ◌∙◌}
+use Rattle.std.proofs.Common.{◌≡◌, ℕ, zero, suc, false, Option, Some, None, option_map, List, refl, ap, ap₂, sym, subst, ◌∙◌}
 use Rattle.std.specs.Prelude.{slice_index_or}
 use Rattle.std.proofs.Math.ListN.{get_or-map}
 use Rattle.dreq_pacing.specs.declared.line.Line.{Line}
 use Rattle.dreq_pacing.specs.declared.due.Due.{Due}
-use Rattle.block_core.specs.Slots.{Slot, counted, place_after, slot_after, settled_slot}
+use Rattle.block_core.specs.Slots.{Slot, first_slot, counted, place_after, slot_after, settled_slot}
 use Rattle.block_core.specs.Block.{Run, next, stepped, view_of, seen_in}
 use Rattle.block_core.specs.Hosted.{hosted_at, hosted_next, host_of}
 use Rattle.block_core.specs.Shown.{moved_of, moved_in}
+use Rattle.pin_matrix.specs.declared.machine.MachineSetup.{MachineSetup}
+use Rattle.setup_keys.specs.Block.{MachineKeys, keys_of_machine}
+use Rattle.setup_keys.specs.Clipped.{clipped_block}
+use Rattle.setup_keys.proofs.Making.{a_setup_says}
+use Rattle.drawn_load.specs.Draws.{letters_of}
 use Rattle.drawn_load.specs.Loads.{lines_of}
+use Rattle.drawn_load.specs.Setups.{load_keys, setup_of}
 use Rattle.load_summary.specs.declared.summary.Summary.{Summary}
 use Rattle.load_summary.specs.Summaries.{start_of, times, sent_to, got_from, edges_of, summary_of}
 use Rattle.load_summary.specs.Counted.{counted_run}
@@ -53,12 +59,30 @@ all_moved start lines id (suc n) h =
     let d = host_of start lines n in
     subst (Has id _ _) (sym (place_next id d r)) (after r d id _ _ (slice_index_or r.state.machines id None) (all_moved start lines id n h))
 
+-- the place of a machine at the start, of what its setup says
+first_has : (id : ℕ) (k : MachineKeys) (o : Option MachineSetup) → option_map keys_of_machine o ≡ Some k → k.id ≡ id → Has id 0 0 (option_map first_slot o)
+first_has id k None e is = cc
+first_has id k (Some m) e is = record {
+  slot = first_slot m;
+  is = refl;
+  number = let one : keys_of_machine m ≡ k = cc in ap (λ x. x.id) one ∙ is;
+  into = refl;
+  out_of = refl;
+}
+
+-- what the setup of a load says of a place
+place_keys : (seed place : ℕ)
+    → option_map keys_of_machine (slice_index_or (setup_of seed).machines place None) ≡ slice_index_or (clipped_block (load_keys (letters_of seed))).machines place None
+place_keys seed place =
+    sym (get_or-map (option_map keys_of_machine) (setup_of seed).machines place None)
+    ∙ ap (λ b. slice_index_or b.machines place None) (a_setup_says (load_keys (letters_of seed))).1
+
 -- the machine that is fed, and the one that is drained, begin with none
 fed : (seed : ℕ) → Has 1 0 0 (slice_index_or (start_of seed).state.machines 1 None)
-fed seed = record { slot = _; is = refl; number = refl; into = refl; out_of = refl }
+fed seed = first_has 1 _ (slice_index_or (setup_of seed).machines 1 None) (place_keys seed 1) refl
 
 drained : (seed : ℕ) → Has 2 0 0 (slice_index_or (start_of seed).state.machines 2 None)
-drained seed = record { slot = _; is = refl; number = refl; into = refl; out_of = refl }
+drained seed = first_has 2 _ (slice_index_or (setup_of seed).machines 2 None) (place_keys seed 2) refl
 
 sent_is : (seed clocks : ℕ) → (moved_of 1 (hosted_at (start_of seed) (lines_of seed) clocks).run.state).0 ≡ sent_to 1 seed clocks
 sent_is seed clocks =

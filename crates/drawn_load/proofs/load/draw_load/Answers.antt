@@ -18,4 +18,4 @@ pub returns-clause-setup : goal.returns-clause-setup
 returns-clause-setup c =
     let seed = c.args.seed in
     let letters = c.draw_letters-letters.ensures.letters ∙ ap letters_of c.new-draws.ensures in
-    one_setup seed c.setup_from.result (subst (λ l. IsLoad l c.setup_from.result) letters c.setup_from.ensures)
+    one_setup seed c.setup_from.result c.setups_that_say_the_same_are_one.ensures c.what_a_setup_says_is_in_range.ensures c.a_block_in_range_is_not_clipped.ensures (subst (λ l. IsLoad l c.setup_from.result) letters c.setup_from.ensures)
