@@ -1,5 +1,5 @@
 -- The ages of a least closed table are in range: with those out of range cut off, a closed table is closed.
-use Rattle.std.proofs.Common.{◌≡◌, ℕ, ◌+◌, ◌*◌, ◌/◌, ◌^◌, ◌<◌, ◌≤◌, ◌==◌, nat_le, nat_lt, min, cond, Bool, true, false, List, [], ◌∷◌, map, Option, Some, None, refl, sym, ap, subst, ◌∙◌, arith}
+use Rattle.std.proofs.Common.{◌≡◌, ℕ, ◌+◌, ◌*◌, ◌/◌, ◌^◌, ◌<◌, ◌≤◌, ◌==◌, nat_le, min, cond, Bool, true, false, List, [], ◌∷◌, map, Option, Some, None, refl, sym, ap, subst, ◌∙◌, arith}
 use Rattle.std.specs.Prelude.{slice_index_or}
 use Rattle.std.proofs.lemmas.Bool.Decides.{nat_tests}
 use Rattle.std.proofs.lemmas.Nat.{mul-le}
@@ -19,7 +19,7 @@ use Rattle.span_bounds.specs.declared.entry.Entry.{Entry}
 use Rattle.span_bounds.specs.declared.entry.Entry.TheVariants.{Absent, Present}
 use Rattle.span_bounds.specs.declared.row.Row.{Row}
 use Rattle.span_bounds.specs.Numbers.{number_of}
-use Rattle.span_bounds.specs.Tables.{entry_at, LiesAt, AllLieIn, EachRow, IsTableFrom, IsTable, IsClosed, IsLeast, LiesWithin, start_context}
+use Rattle.span_bounds.specs.Tables.{entry_at, LiesAt, AllLieIn, EachRow, IsTableFrom, IsClosed, IsLeast, start_context}
 use Rattle.table_files.specs.Told.{IsTold, AreTold}
 use Rattle.table_files.proofs.Rights.{IsRight, AllRight, step_right}
 
@@ -64,6 +64,7 @@ within_fixed m (Between l g) (Between lo hi) h k i =
     rw e (low, top g hi m high most) where
       test : (lo l g hi m : ℕ) → lo ≤ l → g ≤ hi → l ≤ g → g ≤ m → nat_le lo (min hi m) ≡ true
       test lo l g hi m p q r s = let t : lo ≤ min hi m = omega arith in grind (arith, nat_tests)
+
       top : (g hi m : ℕ) → g ≤ hi → g ≤ m → g ≤ min hi m
       top g hi m p q = omega arith
 
@@ -128,12 +129,13 @@ module _ (monotone : IsMonotone) (capped : IsCapped) (u : Setup) (sp : Span) whe
   steps_fixed : (rows rs : List Row) → EachRow (λ r. AllLieIn rows (context_steps u sp r.context r.ages).nexts) rs
       → EachRow (λ r. AllLieIn (map (fixed_row most) rows) (context_steps u sp r.context r.ages).nexts) (map (fixed_row most) rs)
   steps_fixed rows [] h = tt
-  steps_fixed rows (r ∷ rs) h =
-      (nexts_fixed most rows (context_steps u sp r.context (fixed most r.ages)).nexts (context_steps u sp r.context r.ages).nexts
-       (monotone u sp r.context (fixed most r.ages) r.ages (fixed_inside most r.ages)).nexts
-       (step_right u sp r.context (fixed most r.ages) (fixed_right most r.ages))
-       (capped u sp r.context (fixed most r.ages)) h.0,
-       steps_fixed rows rs h.1)
+  steps_fixed rows (r ∷ rs) h = (
+    nexts_fixed most rows (context_steps u sp r.context (fixed most r.ages)).nexts (context_steps u sp r.context r.ages).nexts
+        (monotone u sp r.context (fixed most r.ages) r.ages (fixed_inside most r.ages)).nexts
+        (step_right u sp r.context (fixed most r.ages) (fixed_right most r.ages))
+        (capped u sp r.context (fixed most r.ages)) h.0,
+    steps_fixed rows rs h.1,
+  )
 
   closed_fixed : (rows : List Row) → IsClosed u sp rows → IsClosed u sp (map (fixed_row most) rows)
   closed_fixed rows h = record {

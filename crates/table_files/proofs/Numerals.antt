@@ -6,7 +6,7 @@ use Rattle.std.proofs.lemmas.Bool.{cases_lt, cases_Bool}
 use Rattle.std.proofs.lemmas.Bool.Decides.{nat_tests}
 use Rattle.std.proofs.lemmas.Fmt.{decimal-digits_value}
 use Rattle.std.specs.Char.{digit_value}
-use Rattle.std.specs.Str.Parse.{AllDigits, digits_value, digits_value_after}
+use Rattle.std.specs.Str.Parse.{AllDigits, digits_value_after}
 use Rattle.byte_lines.specs.Bytes.{digit_of}
 use Rattle.table_files.specs.Lines.{known_in}
 use Rattle.table_files.specs.Numbers.{number_from, number_in}
@@ -121,8 +121,10 @@ known_text-known_in o field h e = elim (cases_Bool (bytes_eq field (codes "any")
 ] where
   any : (field : List ℕ) (o : Option ℕ) → bytes_eq field (codes "any") ≡ true → known_in field ≡ Some o → Some None ≡ Some o
   any field o p e = rw p at e
+
   other : (field : List ℕ) (o : Option ℕ) → bytes_eq field (codes "any") ≡ false → known_in field ≡ Some o → option_map Some (number_in field) ≡ Some o
   other field o p e = rw p at e
+
   number : (o : Option ℕ) (field : List ℕ) → ((n : ℕ) → o ≡ Some n → n < 2 ^ 64) → option_map Some (number_in field) ≡ Some o → known_text o ≡ field
   number o field h e = on (number_in field) refl where
     on : (p : Option ℕ) → number_in field ≡ p → known_text o ≡ field

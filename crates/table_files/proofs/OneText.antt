@@ -1,5 +1,5 @@
 -- A text that is read as a table is that table's text.
-use Rattle.std.proofs.Common.{◌≡◌, ℕ, ◌+◌, ◌^◌, ◌<◌, ◌≤◌, nat_lt, nat_le, nat_eq, eqb, cond, ◌&&◌, ◌==◌, Bool, true, false, List, [], ◌∷◌, ◌++◌, length, Option, Some, None, Result, Ok, Err, refl, sym, ap, subst, ◌∙◌, append_assoc, codes, decimal, inl, inr, arith}
+use Rattle.std.proofs.Common.{◌≡◌, ℕ, ◌+◌, ◌≤◌, nat_lt, nat_le, cond, ◌&&◌, ◌==◌, Bool, true, false, List, [], ◌∷◌, ◌++◌, Option, Some, None, Result, Ok, Err, refl, sym, ap, subst, ◌∙◌, append_assoc, codes, decimal, inl, inr, arith}
 use Rattle.std.specs.Prelude.{option_map}
 use Rattle.std.specs.List.{join_with_byte}
 use Rattle.std.specs.Str.{bytes_eq}
@@ -17,14 +17,14 @@ use Rattle.span_bounds.specs.Tables.{IsTable, IsTableFrom}
 use Rattle.table_files.specs.declared.fault.TableKind.{TableKind}
 use Rattle.table_files.specs.declared.said.Said.{Said}
 use Rattle.table_files.specs.Faults.{Refusal}
-use Rattle.table_files.specs.Lines.{known_in, ages_in, empty_in, between, said_by, said_in, fields_of, placed, known_placed, level_of, ages_placed, row_by, row_of, in_order, row_from, row_at, most_age}
+use Rattle.table_files.specs.Lines.{known_in, ages_in, between, said_by, said_in, fields_of, placed, known_placed, level_of, ages_placed, row_by, row_of, in_order, row_from, row_at, most_age}
 use Rattle.table_files.specs.Numbers.{number_in}
 use Rattle.table_files.specs.Reading.{head_line, end_line, left_open, ended, with_row, rows_from, rows_after, rows_in, table_of}
 use Rattle.table_files.specs.Rows.{known_text, level_text, row_line, row_lines, table_text}
 use Rattle.table_files.specs.Told.{IsTold, AreTold}
-use Rattle.table_files.proofs.Numerals.{some_none, none_some, some_same, false_true, true_false, decimal-number_in, bytes_same, known_text-known_in}
+use Rattle.table_files.proofs.Numerals.{none_some, some_same, false_true, decimal-number_in, bytes_same, known_text-known_in}
 use Rattle.table_files.proofs.Readback.{written}
-use Rattle.table_files.proofs.Texts.{ages_fields, row_fields, row_text, row_line-text, AreSmall, IsWritten}
+use Rattle.table_files.proofs.Texts.{ages_fields, row_fields, row_text, row_line-text, AreSmall}
 
 err_ok : {A B : Type 0} {x : A} {y : B} → Err x ≡ Ok y → ⊥
 err_ok e = cc

@@ -1,7 +1,6 @@
 -- The text of a table is read back.
-use Rattle.std.proofs.Common.{◌≡◌, ℕ, ◌+◌, ◌^◌, ◌<◌, ◌≤◌, nat_lt, nat_le, nat_eq, eqb, cond, ◌&&◌, Bool, true, false, List, [], ◌∷◌, ◌++◌, length, Option, Some, None, Bor, Result, Ok, Err, refl, sym, ap, ◌∙◌, append_assoc, codes, decimal, arith}
+use Rattle.std.proofs.Common.{◌≡◌, ℕ, ◌+◌, ◌^◌, ◌<◌, ◌≤◌, nat_lt, nat_le, nat_eq, eqb, ◌&&◌, Bool, true, false, List, [], ◌∷◌, ◌++◌, length, Option, Some, None, Bor, Ok, refl, sym, ap, ◌∙◌, append_assoc, codes, decimal, arith}
 use Rattle.std.specs.Prelude.{option_copied}
-use Rattle.std.specs.List.{AllByRecursion, join_with_byte}
 use Rattle.std.specs.Str.{bytes_eq}
 use Rattle.std.specs.Str.Parse.{AllDigits}
 use Rattle.std.proofs.lemmas.Bool.Decides.{nat_tests}
@@ -17,7 +16,7 @@ use Rattle.span_bounds.specs.declared.row.Row.{Row}
 use Rattle.span_bounds.specs.Numbers.{number_of, level_number}
 use Rattle.span_bounds.specs.Tables.{IsTable, IsTableFrom}
 use Rattle.table_files.specs.declared.said.Said.{Said}
-use Rattle.table_files.specs.Lines.{known_in, ages_in, said_in, fields_of, placed, known_placed, level_of, ages_placed, row_of, row_at, most_age}
+use Rattle.table_files.specs.Lines.{known_in, ages_in, said_in, known_placed, level_of, ages_placed, row_of, row_at, most_age}
 use Rattle.table_files.specs.Numbers.{number_in}
 use Rattle.table_files.specs.Reading.{head_line, end_line, with_row, rows_from, rows_after, rows_in, table_of}
 use Rattle.table_files.specs.Rows.{known_text, level_text, row_line, row_lines, table_text}
@@ -59,8 +58,14 @@ ages_in-text (Between lo hi) h = rw (number_in-decimal lo h.0, number_in-decimal
 
 said_back : (r : Row) → IsWritten r → said_in (row_fields r) ≡ Some (said_row r)
 said_back r h =
-    rw (number_in-decimal r.context.address h.address, known_in-text r.context.x h.x, known_in-text r.context.y h.y,
-        level_in r.context.from, level_in r.context.to, ages_in-text r.ages h.ages) refl
+    rw (
+      number_in-decimal r.context.address h.address,
+      known_in-text r.context.x h.x,
+      known_in-text r.context.y h.y,
+      level_in r.context.from,
+      level_in r.context.to,
+      ages_in-text r.ages h.ages,
+    ) refl
 
 known_back : (o : Option ℕ) → is_small o ≡ true → known_placed o ≡ Some o
 known_back None h = refl

@@ -1,5 +1,5 @@
 -- The ages after a step have their least at most their greatest, where those before have.
-use Rattle.std.proofs.Common.{◌≡◌, ℕ, ◌+◌, ◌≤◌, min, cond, Bool, true, false, List, [], ◌∷◌, ◌++◌, Option, Some, None, refl, arith}
+use Rattle.std.proofs.Common.{ℕ, ◌≤◌, cond, Bool, true, false, List, [], ◌∷◌, ◌++◌, Option, Some, None, arith}
 use Rattle.std.specs.Prelude.{fold, slice_index, slice_index_or}
 use Rattle.pio_encode.specs.declared.op.Op.{Op}
 use Rattle.pio_encode.specs.Word.{reading_of}
@@ -11,7 +11,7 @@ use Rattle.span_step.specs.declared.ages.Ages.TheVariants.{Empty, Between}
 use Rattle.span_step.specs.declared.stepped.Next.{Next}
 use Rattle.span_step.specs.declared.stepped.Stepped.{Stepped}
 use Rattle.span_step.specs.Contexts.{Context}
-use Rattle.span_step.specs.Courses.{Rules, start, delay_tick, older, with_fresh, after_edges, is_edge, watched, followed, courses}
+use Rattle.span_step.specs.Courses.{Rules, start, delay_tick, older, with_fresh, after_edges, watched, followed, courses}
 use Rattle.span_step.specs.Outcomes.{Outcome, outcomes, is_wild}
 use Rattle.span_step.specs.Steps.{Visit, visit_of, with_end, end_of, with_outcome, nothing_found, wild_step, step_by, machine_steps, context_steps}
 

@@ -1,15 +1,13 @@
 -- The fields of a row, and the numbers in them.
-use Rattle.std.proofs.Common.{◌≡◌, ℕ, suc, ◌+◌, ◌-◌, ◌*◌, ◌^◌, ◌<◌, ◌≤◌, nat_lt, nat_le, eqb, cond, ◌&&◌, ◌||◌, ◌==◌, Bool, true, false, List, [], ◌∷◌, ◌++◌, length, get_or, Option, Some, None, refl, sym, ap, ◌∙◌, subst, append_assoc, codes, decimal, inl, inr, arith}
-use Rattle.std.specs.Prelude.{option_and_then}
+use Rattle.std.proofs.Common.{◌≡◌, ℕ, suc, ◌+◌, ◌-◌, ◌*◌, ◌^◌, ◌<◌, ◌≤◌, nat_lt, nat_le, eqb, ◌==◌, Bool, true, false, List, [], ◌∷◌, ◌++◌, length, get_or, Option, Some, None, refl, ap, ◌∙◌, append_assoc, codes, decimal, inl, inr, arith}
 use Rattle.std.proofs.lemmas.Bool.{cases_lt, cases_Bool}
 use Rattle.std.proofs.lemmas.Bool.Decides.{nat_tests}
-use Rattle.std.proofs.lemmas.Fmt.{decimal_is_IsNumeral, decimal_digit, first_decimal, decimal-digits_value}
+use Rattle.std.proofs.lemmas.Fmt.{decimal_is_IsNumeral, decimal_digit, first_decimal}
 use Rattle.std.proofs.lemmas.List.Elements.{All-from_recursion}
 use Rattle.std.proofs.lemmas.List.Splits.{slice_split_none, slice_split_at}
 use Rattle.std.proofs.lemmas.Str.Parse.{digit_from_value, IsNumeralModel, numerals_by_value, tells_digits}
 use Rattle.std.specs.Char.{digit_value}
-use Rattle.std.specs.Int.{IsInRange}
-use Rattle.std.specs.List.{AllByRecursion, join_with_byte, slice_split}
+use Rattle.std.specs.List.{AllByRecursion, join_with_byte}
 use Rattle.std.specs.Str.Parse.{AllDigits, digits_value, digits_value_after}
 use Rattle.byte_lines.specs.Bytes.{digit_of}
 use Rattle.span_step.specs.declared.ages.Ages.{Ages}
@@ -97,9 +95,16 @@ pub record IsWritten (r : Row) : Type 0 where
   pub ages : AreSmall r.ages
 
 pub without_fields : (c : ℕ) (r : Row) → c ≤ 32 → IsWritten r → AllByRecursion (Without c) (row_fields r)
-without_fields c r l h =
-    (without_decimal c r.context.address l h.address, (without_known c r.context.x l h.x, (without_known c r.context.y l h.y,
-    (without_level c r.context.from l, (without_level c r.context.to l, without_ages c r.ages l h.ages)))))
+without_fields c r l h = (
+  without_decimal c r.context.address l h.address,
+  (
+    without_known c r.context.x l h.x,
+    (
+      without_known c r.context.y l h.y,
+      (without_level c r.context.from l, (without_level c r.context.to l, without_ages c r.ages l h.ages)),
+    ),
+  ),
+)
 
 -- fields without blanks, joined by blanks, are the fields of the whole
 pub split_join : (first : List ℕ) (rest : List (List ℕ)) → AllByRecursion (Without 32) (first ∷ rest) → fields_of (join_with_byte 32 (first ∷ rest)) ≡ first ∷ rest

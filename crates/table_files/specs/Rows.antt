@@ -1,7 +1,7 @@
 -- The text of a table (choice of this profile).
 --   row_line         the line of a row
 --   table_text       the text of a table
-use Rattle.std.specs.Prelude.{ℕ, ◌++◌, Bool, true, false, Option, Some, None, List, [], ◌∷◌, codes, decimal, flat_map}
+use Rattle.std.specs.Prelude.{ℕ, ◌++◌, Bool, true, false, Option, Some, None, List, codes, decimal, flat_map}
 use Rattle.span_step.specs.declared.ages.Ages.{Ages}
 use Rattle.span_step.specs.declared.ages.Ages.TheVariants.{Empty, Between}
 use Rattle.span_step.specs.Contexts.{Context}

@@ -1,7 +1,7 @@
 -- Tables that have a text.
 --   IsTold           ages are in the range that a text can tell
 --   AreTold          those of each row are
-use Rattle.std.specs.Prelude.{ℕ, ◌≤◌, List}
+use Rattle.std.specs.Prelude.{◌≤◌, List}
 use Rattle.span_step.specs.declared.ages.Ages.{Ages}
 use Rattle.span_step.specs.declared.ages.Ages.TheVariants.{Empty, Between}
 use Rattle.span_bounds.specs.declared.row.Row.{Row}

@@ -47,14 +47,7 @@ fn put_named<S: Sink>(sink: &mut S, name: &[u8]) -> Result<(), SinkFailed>
     ensures bytes { Takes (S.taken sink.old) (spec.rechecked_line name.now) (S.taken sink.new) result }
     ensures cause { PutCounts (S.faults sink.old) (S.faults sink.new) result }
 {
-    put_all(
-        sink,
-        &[
-            "span ".as_bytes(),
-            name,
-            " rechecked\n".as_bytes(),
-        ],
-    )
+    put_all(sink, &["span ".as_bytes(), name, " rechecked\n".as_bytes()])
 }
 
 /// Puts the line of a table without a row for the start.
@@ -64,12 +57,7 @@ fn put_start<S: Sink>(sink: &mut S, front: &str, name: &[u8]) -> Result<(), Sink
 {
     put_all(
         sink,
-        &[
-            front.as_bytes(),
-            b"span ",
-            name,
-            b" table: start\n",
-        ],
+        &[front.as_bytes(), b"span ", name, b" table: start\n"],
     )
 }
 

@@ -184,7 +184,11 @@ fn placed(number: u32) -> Option<u8>
     ensures value { result ≡ spec.placed number }
     ensures range { IfSome result (λ n. n < 32) }
 {
-    if number < 32 { Some(number as u8) } else { None }
+    if number < 32 {
+        Some(number as u8)
+    } else {
+        None
+    }
 }
 
 /// What is known of X or Y, in range.

@@ -1,4 +1,4 @@
-use Rattle.std.proofs.Common.{◌∙◌, List, Option, ap, sym}
+use Rattle.std.proofs.Common.{◌∙◌, Option, ap}
 use Rattle.span_bounds.specs.declared.row.Row.{Row}
 use Rattle.table_files.specs.Lines.{row_at, in_order, said_in, fields_of}
 use Rattle.table_files.proofs.Forms.{none_said, some_said}

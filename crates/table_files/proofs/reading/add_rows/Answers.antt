@@ -1,8 +1,7 @@
-use Rattle.std.proofs.Common.{◌≡◌, ◌+◌, ◌<◌, ◌≤◌, rules, true, false, Ok, Err, List, ℕ, Option, Bor, length, sym, ap, subst, arith}
+use Rattle.std.proofs.Common.{◌≡◌, ◌+◌, ◌≤◌, rules, true, false, Ok, List, ℕ, Option, Bor, length, sym, ap, subst, arith}
 use Rattle.std.specs.Prelude.{option_copied}
 use Rattle.std.specs.Str.{bytes_eq}
 use Rattle.byte_lines.specs.Lines.{lines_of, left_size}
-use Rattle.span_bounds.specs.declared.row.Row.{Row}
 use Rattle.span_bounds.specs.Numbers.{number_of}
 use Rattle.table_files.specs.Lines.{row_at}
 use Rattle.table_files.specs.Reading.{end_line, rows_from}

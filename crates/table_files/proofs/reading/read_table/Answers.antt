@@ -1,4 +1,4 @@
-use Rattle.std.proofs.Common.{List, ℕ, Result, subst}
+use Rattle.std.proofs.Common.{List, Result, subst}
 use Rattle.answers.specs.Answers.{Answers}
 use Rattle.span_bounds.specs.declared.row.Row.{Row}
 use Rattle.table_files.specs.Faults.{Refusal, told}
