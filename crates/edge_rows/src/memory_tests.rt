@@ -1,6 +1,7 @@
 //! The shelf and the sinks in memory, through their bounds: which calls fail, and what is there afterwards.
-use pio_edge::{Fetch, MemShelf, MemSink, Shelf, Sink, SinkFailed, SureSink, put_all};
-use std::alloc::Global;
+use crate::calls::{gives, put_both};
+use pio_edge::{MemShelf, MemSink, Shelf, Sink, SureSink, put_all};
+use std::alloc::{AllocError, Global};
 use std::test::Fail;
 
 struct SinkRow {
@@ -13,9 +14,7 @@ struct SinkRow {
     faults: u64,
 }
 
-// Each row puts these two.
-static PIECES: [&[u8]; 2] = [b"abc", b"de"];
-
+// Each row puts `abc` and `de`.
 static SINK_ROWS: [SinkRow; 9] = [
     SinkRow {
         shows: "the room is filled to its end",
@@ -91,58 +90,71 @@ static SINK_ROWS: [SinkRow; 9] = [
     },
 ];
 
-// Puts both pieces, whether or not they pass, and says of each call whether it did.
-fn put_both<S: Sink>(sink: &mut S) -> [bool; 3] {
-    let first = sink.put(PIECES[0]).is_ok();
-    let second = sink.put(PIECES[1]).is_ok();
-    [first, second, sink.finish().is_ok()]
-}
-
 #[test]
 fn a_sink_in_memory_fails_where_it_is_listed_or_full(rt: HostRuntime) -> Result<(), Fail> {
     for row in &SINK_ROWS {
-        let mut sink = MemSink::with_room(rt.alloc(), row.room, row.fails)?;
-        let passed = put_both(&mut sink);
-        assert_eq!(rt; passed, row.passes, "{}", row.shows);
-        assert_eq!(rt; sink.bytes(), row.bytes, "{}", row.shows);
-        assert_eq!(rt; sink.faults(), row.faults, "{}", row.shows);
+        assert!(rt; row_holds(rt.alloc(), row)?, "{}", row.shows);
     }
     Ok(())
+}
+
+fn row_holds(alloc: Global, row: &SinkRow) -> Result<bool, AllocError> {
+    let mut sink = MemSink::with_room(alloc, row.room, row.fails)?;
+    let passes = put_both(&mut sink, b"abc", b"de") == row.passes;
+    Ok(passes && has_taken(&sink, row.bytes, row.faults))
+}
+
+fn has_taken(sink: &MemSink, bytes: &[u8], faults: u64) -> bool {
+    sink.bytes() == bytes && sink.faults() == faults
 }
 
 #[test]
 fn an_empty_piece_fits_where_there_is_no_room(rt: HostRuntime) -> Result<(), Fail> {
     let mut sink = MemSink::with_room(rt.alloc(), 0, &[])?;
-    assert!(rt; sink.put(b"").is_ok());
-    assert!(rt; sink.put(b"a").is_err());
-    assert_eq!(rt; sink.faults(), 1);
+    let empty = sink.put(b"").is_ok();
+    let one = sink.put(b"a").is_ok();
+    assert!(rt; empty && !one && sink.faults() == 1);
     Ok(())
 }
 
+/// A failing call, and what is taken of three pieces that are put at once. They pass where no call fails.
+static AT_ONCE: [(&[(u64, usize)], &[u8], u64); 2] = [(&[], b"abcd", 0), (&[(1, 1)], b"a", 1)];
+
 #[test]
 fn put_all_stops_at_the_first_failure(rt: HostRuntime) -> Result<(), Fail> {
-    let pieces: [&[u8]; 3] = [b"ab", b"", b"cd"];
-    let mut sink = MemSink::with_room(rt.alloc(), 9, &[])?;
-    assert_eq!(rt; put_all(&mut sink, &pieces), Ok(()));
-    assert_eq!(rt; sink.bytes(), b"abcd".as_slice());
-    let mut full = MemSink::with_room(rt.alloc(), 9, &[(1, 1)])?;
-    assert_eq!(rt; put_all(&mut full, &pieces), Err(SinkFailed));
-    assert_eq!(rt; full.bytes(), b"a".as_slice());
-    assert_eq!(rt; full.faults(), 1);
+    for (fails, bytes, faults) in &AT_ONCE {
+        assert!(rt;
+            stops_there(rt.alloc(), fails, bytes, *faults)?,
+            "{fails:?}"
+        );
+    }
     Ok(())
+}
+
+fn stops_there(
+    alloc: Global,
+    fails: &[(u64, usize)],
+    bytes: &[u8],
+    faults: u64,
+) -> Result<bool, AllocError> {
+    let mut sink = MemSink::with_room(alloc, 9, fails)?;
+    let passes = put_all(&mut sink, &[b"ab", b"", b"cd"]).is_ok();
+    Ok(passes == fails.is_empty() && has_taken(&sink, bytes, faults))
 }
 
 #[test]
 fn a_sure_sink_counts_bytes(rt: HostRuntime) {
     let mut sink = SureSink::new();
-    assert_eq!(rt; put_both(&mut sink), [true, true, true]);
-    assert_eq!(rt; sink.count(), 5);
+    let passes = put_both(&mut sink, b"abc", b"de");
+    assert!(rt; passes == [true, true, true] && sink.count() == 5);
 }
 
 struct FetchRow {
     name: &'static str,
     cap: usize,
-    gives: Option<&'static [u8]>,
+    // Whether it passes, and the bytes that it then gives.
+    passes: bool,
+    gives: &'static [u8],
 }
 
 // The fourth fetch is listed.
@@ -150,48 +162,52 @@ static FETCH_ROWS: [FetchRow; 8] = [
     FetchRow {
         name: "a.pio",
         cap: 10,
-        gives: Some(b"newer"),
+        passes: true,
+        gives: b"newer",
     },
     FetchRow {
         name: "a.pio",
         cap: 5,
-        gives: Some(b"newer"),
+        passes: true,
+        gives: b"newer",
     },
     FetchRow {
         name: "a.pio",
         cap: 4,
-        gives: Some(b"newe"),
+        passes: true,
+        gives: b"newe",
     },
     FetchRow {
         name: "a.pio",
         cap: 10,
-        gives: None,
+        passes: false,
+        gives: b"",
     },
     FetchRow {
         name: "a.pi",
         cap: 10,
-        gives: None,
+        passes: false,
+        gives: b"",
     },
     FetchRow {
         name: "empty",
         cap: 1,
-        gives: Some(b""),
+        passes: true,
+        gives: b"",
     },
     FetchRow {
         name: "a.pio",
         cap: 0,
-        gives: Some(b""),
+        passes: true,
+        gives: b"",
     },
     FetchRow {
         name: "b.pio",
         cap: 10,
-        gives: Some(b"other"),
+        passes: true,
+        gives: b"other",
     },
 ];
-
-fn fetched<F: Shelf>(alloc: Global, shelf: &mut F, row: &FetchRow) -> Result<Vec<u8>, Fetch> {
-    shelf.fetch(alloc, row.name, row.cap)
-}
 
 #[test]
 fn a_shelf_in_memory_gives_the_first_bytes_of_what_is_held(rt: HostRuntime) -> Result<(), Fail> {
@@ -201,13 +217,13 @@ fn a_shelf_in_memory_gives_the_first_bytes_of_what_is_held(rt: HostRuntime) -> R
     shelf.hold("a.pio", b"newer")?;
     shelf.hold("empty", b"")?;
     for row in &FETCH_ROWS {
-        match (fetched(rt.alloc(), &mut shelf, row), row.gives) {
-            (Ok(bytes), Some(wanted)) => assert_eq!(rt; bytes.as_slice(), wanted, "{}", row.name),
-            (Err(fault), None) => assert_eq!(rt; fault, Fetch::Failed, "{}", row.name),
-            (Ok(_), None) => assert!(rt; false, "{} was fetched", row.name),
-            (Err(_), Some(_)) => assert!(rt; false, "{} was not fetched", row.name),
-        }
+        let is_so = is_fetched(rt.alloc(), &mut shelf, row);
+        assert!(rt; is_so, "{} up to {}", row.name, row.cap);
     }
-    assert_eq!(rt; shelf.faults(), 2);
+    assert!(rt; shelf.faults() == 2);
     Ok(())
+}
+
+fn is_fetched<S: Shelf>(alloc: Global, shelf: &mut S, row: &FetchRow) -> bool {
+    gives(alloc, shelf, row.name, row.cap, row.passes, row.gives)
 }

@@ -1,6 +1,7 @@
 //! The shelf over files and the sinks over writers: what their contracts can't see of the outside.
-use pio_edge::{ErrSink, Fetch, FileShelf, OutSink, Shelf, Sink};
-use std::alloc::Global;
+use crate::calls::{gives, put_both};
+use pio_edge::{ErrSink, FileShelf, OutSink, Shelf, Sink};
+use std::alloc::{AllocError, Global};
 use std::io::{self, ErrorKind, Write};
 use std::test::Fail;
 use std::{fs, process};
@@ -45,74 +46,110 @@ fn files_are_fetched_up_to_cap(rt: HostRuntime) -> Result<(), Fail> {
     let mut shelf = FileShelf::new(&rt);
     for row in &FILE_ROWS {
         fs::write(&rt, path.as_str(), row.bytes)?;
-        match shelf.fetch(rt.alloc(), path.as_str(), row.cap) {
-            Ok(bytes) => assert_eq!(rt; bytes.as_slice(), row.gives, "{}", row.shows),
-            Err(_) => assert!(rt; false, "{}", row.shows),
-        }
+        let is_so = is_fetched(rt.alloc(), &mut shelf, path.as_str(), row);
+        assert!(rt; is_so, "{}", row.shows);
     }
     fs::remove_file(&rt, path.as_str())?;
-    assert_eq!(rt; shelf.faults(), 0);
+    assert!(rt; shelf.faults() == 0);
     Ok(())
 }
+
+fn is_fetched<S: Shelf>(alloc: Global, shelf: &mut S, path: &str, row: &FileRow) -> bool {
+    gives(alloc, shelf, path, row.cap, true, row.gives)
+}
+
+/// How many bytes are asked for of a file of 10,000.
+static CAPS: [usize; 4] = [4_096, 9_999, 10_000, 10_001];
 
 #[test]
 fn a_file_of_many_blocks_is_fetched_in_order(rt: HostRuntime) -> Result<(), Fail> {
     let path = format!(in rt.alloc(); "/tmp/pio_edge_blocks_{}", process::id(rt.process()))?;
-    let mut written = Vec::new(rt.alloc());
-    for number in 0..5_000u16 {
-        written.extend_from_slice(&number.to_be_bytes())?;
-    }
+    let written = numbers(rt.alloc())?;
     fs::write(&rt, path.as_str(), written.as_slice())?;
     let mut shelf = FileShelf::new(&rt);
-    for cap in [4_096, 9_999, 10_000, 10_001] {
-        match shelf.fetch(rt.alloc(), path.as_str(), cap) {
-            Ok(bytes) => {
-                assert_eq!(rt; bytes.len(), cap.min(10_000));
-                assert!(rt; written.starts_with(&bytes), "at {cap}");
-            }
-            Err(_) => assert!(rt; false, "at {cap}"),
-        }
+    for cap in &CAPS {
+        let is_so = begins(rt.alloc(), &mut shelf, path.as_str(), *cap, &written);
+        assert!(rt; is_so, "at {cap}");
     }
     fs::remove_file(&rt, path.as_str())?;
     Ok(())
 }
 
-#[test]
-fn an_absent_file_is_a_fault(rt: HostRuntime) {
-    let mut shelf = FileShelf::new(&rt);
-    for (path, count) in [("/tmp/pio_edge/absent", 1), ("", 2), ("/tmp\0", 3)] {
-        assert!(rt; is_failed(shelf.fetch(rt.alloc(), path, 4)), "{path}");
-        assert_eq!(rt; shelf.faults(), count);
+/// 10,000 bytes, in which each block of 4,096 begins with another one.
+fn numbers(alloc: Global) -> Result<Vec<u8>, AllocError> {
+    let mut bytes = Vec::new(alloc);
+    for place in 0..10_000u32 {
+        bytes.push((place % 251) as u8)?;
+    }
+    Ok(bytes)
+}
+
+/// Whether a fetch gives the first bytes, up to so many.
+fn begins<S: Shelf>(alloc: Global, shelf: &mut S, path: &str, cap: usize, bytes: &[u8]) -> bool {
+    match shelf.fetch(alloc, path, cap) {
+        Ok(fetched) => fetched.len() == cap.min(10_000) && bytes.starts_with(&fetched),
+        Err(_) => false,
     }
 }
 
-// A directory can be opened, and reading it fails.
+/// Files that can't be read: absent, without a name, with a name that no file has, and a directory, which can be opened.
+static UNREAD: [&str; 4] = ["/tmp/pio_edge/absent", "", "/tmp\0", "/"];
+
 #[test]
-fn a_failing_read_is_a_fault(rt: HostRuntime) {
+fn a_file_that_can_not_be_read_is_a_fault(rt: HostRuntime) {
     let mut shelf = FileShelf::new(&rt);
-    assert!(rt; is_failed(shelf.fetch(rt.alloc(), "/", 4)));
-    assert_eq!(rt; shelf.faults(), 1);
+    let mut count = 0u64;
+    for path in &UNREAD {
+        count = count.saturating_add(1);
+        let is_so = fails(rt.alloc(), &mut shelf, path);
+        assert!(rt; is_so && shelf.faults() == count, "{path}");
+    }
 }
 
-fn is_failed(fetched: Result<Vec<u8>, Fetch>) -> bool {
-    matches!(fetched, Err(Fetch::Failed))
+fn fails<S: Shelf>(alloc: Global, shelf: &mut S, path: &str) -> bool {
+    gives(alloc, shelf, path, 4, false, b"")
 }
 
-// What a writer does at its nth call, numbered from 1.
-#[derive(Clone, Copy, PartialEq)]
-enum Turn {
-    Works,
-    BreaksAt(usize),
-    TakesNothingAt(usize),
-    BreaksAtFlush,
+/// What a writer does: at which of its writes, numbered from 1, it breaks, and at which it takes nothing (0 is none), and
+/// whether its flush breaks.
+#[derive(Clone, Copy)]
+struct Turn {
+    breaks: u64,
+    takes_nothing: u64,
+    flush_breaks: bool,
 }
 
-// Notes how long each write was.
+const WORKS: Turn = Turn {
+    breaks: 0,
+    takes_nothing: 0,
+    flush_breaks: false,
+};
+
+const BREAKS_FIRST: Turn = Turn { breaks: 1, ..WORKS };
+
+const BREAKS_SECOND: Turn = Turn { breaks: 2, ..WORKS };
+
+const TAKES_NOTHING_FIRST: Turn = Turn {
+    takes_nothing: 1,
+    ..WORKS
+};
+
+const TAKES_NOTHING_SECOND: Turn = Turn {
+    takes_nothing: 2,
+    ..WORKS
+};
+
+const FLUSH_BREAKS: Turn = Turn {
+    flush_breaks: true,
+    ..WORKS
+};
+
+/// Notes how long each write was.
 #[derive(Drop)]
 struct Noted {
     turn: Turn,
     sizes: Vec<usize>,
-    calls: usize,
+    calls: u64,
 }
 
 impl Noted {
@@ -128,10 +165,10 @@ impl Noted {
 impl Write for Noted {
     fn write(&mut self, buf: &[u8]) -> io::Result<usize> {
         self.calls = self.calls.saturating_add(1);
-        if self.turn == Turn::BreaksAt(self.calls) {
+        if self.calls == self.turn.breaks {
             return Err(io::Error::from(ErrorKind::BrokenPipe));
         }
-        if self.turn == Turn::TakesNothingAt(self.calls) {
+        if self.calls == self.turn.takes_nothing {
             return Ok(0);
         }
         self.sizes.push(buf.len())?;
@@ -139,7 +176,7 @@ impl Write for Noted {
     }
 
     fn flush(&mut self) -> io::Result<()> {
-        if self.turn == Turn::BreaksAtFlush {
+        if self.turn.flush_breaks {
             return Err(io::Error::from(ErrorKind::BrokenPipe));
         }
         Ok(())
@@ -147,6 +184,7 @@ impl Write for Noted {
 }
 
 struct WriterRow {
+    shows: &'static str,
     turn: Turn,
     // Whether each of two puts, and then finish, passes.
     passes: [bool; 3],
@@ -156,106 +194,138 @@ struct WriterRow {
 // Each put is longer than the buffer, so that it reaches the writer.
 static OUT_ROWS: [WriterRow; 6] = [
     WriterRow {
-        turn: Turn::Works,
+        shows: "a writer that works",
+        turn: WORKS,
         passes: [true, true, true],
         faults: 0,
     },
     WriterRow {
-        turn: Turn::BreaksAt(1),
+        shows: "the first write breaks",
+        turn: BREAKS_FIRST,
         passes: [false, true, true],
         faults: 1,
     },
     WriterRow {
-        turn: Turn::BreaksAt(2),
+        shows: "the second write breaks",
+        turn: BREAKS_SECOND,
         passes: [true, false, true],
         faults: 1,
     },
     WriterRow {
-        turn: Turn::TakesNothingAt(1),
+        shows: "the first write takes nothing",
+        turn: TAKES_NOTHING_FIRST,
         passes: [false, true, true],
         faults: 1,
     },
     WriterRow {
-        turn: Turn::TakesNothingAt(2),
+        shows: "the second write takes nothing",
+        turn: TAKES_NOTHING_SECOND,
         passes: [true, false, true],
         faults: 1,
     },
     WriterRow {
-        turn: Turn::BreaksAtFlush,
+        shows: "the flush breaks",
+        turn: FLUSH_BREAKS,
         passes: [true, true, false],
         faults: 1,
     },
 ];
 
-fn passes<S: Sink>(sink: &mut S, piece: &[u8]) -> [bool; 3] {
-    let first = sink.put(piece).is_ok();
-    let second = sink.put(piece).is_ok();
-    [first, second, sink.finish().is_ok()]
+// A piece that stays in the buffer is lost at finish.
+static SHORT_ROWS: [WriterRow; 3] = [
+    WriterRow {
+        shows: "the first write breaks",
+        turn: BREAKS_FIRST,
+        passes: [true, true, false],
+        faults: 1,
+    },
+    WriterRow {
+        shows: "the first write takes nothing",
+        turn: TAKES_NOTHING_FIRST,
+        passes: [true, true, false],
+        faults: 1,
+    },
+    WriterRow {
+        shows: "the flush breaks",
+        turn: FLUSH_BREAKS,
+        passes: [true, true, false],
+        faults: 1,
+    },
+];
+
+fn out_holds(alloc: Global, row: &WriterRow, piece: &[u8]) -> Result<bool, AllocError> {
+    let mut out = OutSink::new(alloc, Noted::new(alloc, row.turn))?;
+    let is_so = put_both(&mut out, piece, piece) == row.passes;
+    Ok(is_so && out.faults() == row.faults)
+}
+
+fn err_holds(alloc: Global, row: &WriterRow) -> bool {
+    let mut err = ErrSink::new(Noted::new(alloc, row.turn));
+    let is_so = put_both(&mut err, b"piotool: memory\n", b"piotool: memory\n") == row.passes;
+    is_so && err.faults() == row.faults
 }
 
 #[test]
 fn a_write_that_fails_or_takes_nothing_is_one_fault(rt: HostRuntime) -> Result<(), Fail> {
     let long = vec![in rt.alloc(); b'x'; 200_000]?;
     for row in &OUT_ROWS {
-        let mut noted = Noted::new(rt.alloc(), row.turn);
-        let mut out = OutSink::new(rt.alloc(), &mut noted)?;
-        assert_eq!(rt; passes(&mut out, &long), row.passes);
-        assert_eq!(rt; out.faults(), row.faults);
-        let mut noted = Noted::new(rt.alloc(), row.turn);
-        let mut err = ErrSink::new(&mut noted);
-        assert_eq!(rt; passes(&mut err, b"piotool: memory\n"), row.passes);
-        assert_eq!(rt; err.faults(), row.faults);
+        let is_so = out_holds(rt.alloc(), row, &long)? && err_holds(rt.alloc(), row);
+        assert!(rt; is_so, "{}", row.shows);
     }
     Ok(())
 }
 
 #[test]
 fn a_short_output_that_is_not_taken_fails_at_finish(rt: HostRuntime) -> Result<(), Fail> {
-    for turn in [
-        Turn::BreaksAt(1),
-        Turn::TakesNothingAt(1),
-        Turn::BreaksAtFlush,
-    ] {
-        let mut noted = Noted::new(rt.alloc(), turn);
-        let mut out = OutSink::new(rt.alloc(), &mut noted)?;
-        assert_eq!(rt; passes(&mut out, b"short"), [true, true, false]);
-        assert_eq!(rt; out.faults(), 1);
+    for row in &SHORT_ROWS {
+        assert!(rt; out_holds(rt.alloc(), row, b"short")?, "{}", row.shows);
     }
     Ok(())
 }
 
 #[test]
 fn output_leaves_in_whole_blocks(rt: HostRuntime) -> Result<(), Fail> {
-    let mut noted = Noted::new(rt.alloc(), Turn::Works);
+    let mut noted = Noted::new(rt.alloc(), WORKS);
     {
         let mut out = OutSink::new(rt.alloc(), &mut noted)?;
-        for _ in 0..50_000 {
-            assert!(rt; out.put(b"1234567").is_ok());
-        }
-        assert!(rt; out.finish().is_ok());
+        assert!(rt; puts_many(&mut out));
     }
-    let Some((_, blocks)) = noted.sizes.split_last() else {
-        return Err(Fail::from("nothing was written"));
-    };
-    assert!(rt; blocks.iter().all(|size| *size >= 65_536), "{blocks:?}");
-    assert_eq!(rt; noted.sizes.len(), 3);
-    assert_eq!(rt; total(&noted.sizes), 350_000);
+    assert!(rt; has_whole_blocks(&noted.sizes), "{:?}", noted.sizes);
     Ok(())
 }
 
-#[test]
-fn errors_leave_piece_by_piece(rt: HostRuntime) -> Result<(), Fail> {
-    let mut noted = Noted::new(rt.alloc(), Turn::Works);
-    {
-        let mut err = ErrSink::new(&mut noted);
-        assert_eq!(rt; passes(&mut err, b"abc"), [true, true, true]);
+/// 50,000 pieces of 7 bytes pass.
+fn puts_many<S: Sink>(sink: &mut S) -> bool {
+    for _ in 0..50_000 {
+        if sink.put(b"1234567").is_err() {
+            return false;
+        }
     }
-    assert_eq!(rt; noted.sizes.as_slice(), [3, 3].as_slice());
-    Ok(())
+    sink.finish().is_ok()
+}
+
+/// Three blocks of 350,000 bytes in all, of which only the last is short.
+fn has_whole_blocks(sizes: &[usize]) -> bool {
+    match sizes {
+        [first, second, _] => *first >= 65_536 && *second >= 65_536 && total(sizes) == 350_000,
+        _ => false,
+    }
 }
 
 fn total(sizes: &[usize]) -> usize {
-    sizes
-        .iter()
-        .fold(0, |sum: usize, size| sum.saturating_add(*size))
+    let mut sum = 0usize;
+    for size in sizes {
+        sum = sum.saturating_add(*size);
+    }
+    sum
+}
+
+#[test]
+fn errors_leave_piece_by_piece(rt: HostRuntime) {
+    let mut noted = Noted::new(rt.alloc(), WORKS);
+    {
+        let mut err = ErrSink::new(&mut noted);
+        assert!(rt; put_both(&mut err, b"abc", b"abc") == [true, true, true]);
+    }
+    assert!(rt; noted.sizes.as_slice() == [3, 3].as_slice());
 }

@@ -58,7 +58,7 @@ struct Row {
     shows: &'static str,
     told: &'static [(u64, Sample)],
     end: u64,
-    // The values of the dump that are not 0, by the number of their variable.
+    // The lines of the dump whose values are not 0, by the number of their variable.
     dumped: &'static [(usize, &'static str)],
     changes: &'static str,
 }
@@ -75,7 +75,7 @@ static ROWS: [Row; 6] = [
         shows: "one clock",
         told: &[(0, LOW)],
         end: 1,
-        dumped: &[(32, "1")],
+        dumped: &[(32, "1A")],
         changes: "#1\n",
     },
     Row {
@@ -91,14 +91,14 @@ static ROWS: [Row; 6] = [
             (7, LOW),
         ],
         end: 8,
-        dumped: &[(32, "1")],
+        dumped: &[(32, "1A")],
         changes: "#1\n1!\n#3\n0!\n#5\n1!\n#7\n0!\n#8\n",
     },
     Row {
         shows: "the same wave, told where it changes",
         told: &[(0, LOW), (1, HIGH), (3, LOW), (5, HIGH), (7, LOW)],
         end: 8,
-        dumped: &[(32, "1")],
+        dumped: &[(32, "1A")],
         changes: "#1\n1!\n#3\n0!\n#5\n1!\n#7\n0!\n#8\n",
     },
     Row {
@@ -134,67 +134,229 @@ static ROWS: [Row; 6] = [
             (10, QUIET),
         ],
         end: 12,
-        dumped: &[(79, "b1"), (84, "b100"), (87, "b1000")],
+        dumped: &[(79, "b1 p"), (84, "b100 u"), (87, "b1000 x")],
         changes: "#9\n1!\n1@\n1`\n1a\n1h\nb1000 l\n\
             b11111111111111111111111111111111 q\nb101 t\nb0 x\n\
             #10\n0!\n0@\n0`\n0a\n0h\nb0 l\nb0 p\nb0 q\nb0 t\nb0 u\n#12\n",
     },
 ];
 
-// Letter, width and count of the variables, in order.
-static VARIABLES: [(&str, u8, usize); 7] = [
-    ("p", 1, 32),
-    ("d", 1, 32),
-    ("f", 1, 8),
-    ("t", 4, 4),
-    ("r", 4, 4),
-    ("w", 32, 4),
-    ("s", 4, 4),
-];
+/// The declarations of the 88 variables, up to the first clock.
+const HEAD: &str = "\
+$timescale 1 ns $end
+$scope module pio $end
+$var wire 1 ! p0 $end
+$var wire 1 \" p1 $end
+$var wire 1 # p2 $end
+$var wire 1 $ p3 $end
+$var wire 1 % p4 $end
+$var wire 1 & p5 $end
+$var wire 1 ' p6 $end
+$var wire 1 ( p7 $end
+$var wire 1 ) p8 $end
+$var wire 1 * p9 $end
+$var wire 1 + p10 $end
+$var wire 1 , p11 $end
+$var wire 1 - p12 $end
+$var wire 1 . p13 $end
+$var wire 1 / p14 $end
+$var wire 1 0 p15 $end
+$var wire 1 1 p16 $end
+$var wire 1 2 p17 $end
+$var wire 1 3 p18 $end
+$var wire 1 4 p19 $end
+$var wire 1 5 p20 $end
+$var wire 1 6 p21 $end
+$var wire 1 7 p22 $end
+$var wire 1 8 p23 $end
+$var wire 1 9 p24 $end
+$var wire 1 : p25 $end
+$var wire 1 ; p26 $end
+$var wire 1 < p27 $end
+$var wire 1 = p28 $end
+$var wire 1 > p29 $end
+$var wire 1 ? p30 $end
+$var wire 1 @ p31 $end
+$var wire 1 A d0 $end
+$var wire 1 B d1 $end
+$var wire 1 C d2 $end
+$var wire 1 D d3 $end
+$var wire 1 E d4 $end
+$var wire 1 F d5 $end
+$var wire 1 G d6 $end
+$var wire 1 H d7 $end
+$var wire 1 I d8 $end
+$var wire 1 J d9 $end
+$var wire 1 K d10 $end
+$var wire 1 L d11 $end
+$var wire 1 M d12 $end
+$var wire 1 N d13 $end
+$var wire 1 O d14 $end
+$var wire 1 P d15 $end
+$var wire 1 Q d16 $end
+$var wire 1 R d17 $end
+$var wire 1 S d18 $end
+$var wire 1 T d19 $end
+$var wire 1 U d20 $end
+$var wire 1 V d21 $end
+$var wire 1 W d22 $end
+$var wire 1 X d23 $end
+$var wire 1 Y d24 $end
+$var wire 1 Z d25 $end
+$var wire 1 [ d26 $end
+$var wire 1 \\ d27 $end
+$var wire 1 ] d28 $end
+$var wire 1 ^ d29 $end
+$var wire 1 _ d30 $end
+$var wire 1 ` d31 $end
+$var wire 1 a f0 $end
+$var wire 1 b f1 $end
+$var wire 1 c f2 $end
+$var wire 1 d f3 $end
+$var wire 1 e f4 $end
+$var wire 1 f f5 $end
+$var wire 1 g f6 $end
+$var wire 1 h f7 $end
+$var wire 4 i t0 $end
+$var wire 4 j t1 $end
+$var wire 4 k t2 $end
+$var wire 4 l t3 $end
+$var wire 4 m r0 $end
+$var wire 4 n r1 $end
+$var wire 4 o r2 $end
+$var wire 4 p r3 $end
+$var wire 32 q w0 $end
+$var wire 32 r w1 $end
+$var wire 32 s w2 $end
+$var wire 32 t w3 $end
+$var wire 4 u s0 $end
+$var wire 4 v s1 $end
+$var wire 4 w s2 $end
+$var wire 4 x s3 $end
+$upscope $end
+$enddefinitions $end
+#0
+";
 
-// The 88 printable characters from `!` on.
-static IDENTIFIERS: &str =
-    "!\"#$%&'()*+,-./0123456789:;<=>?@ABCDEFGHIJKLMNOPQRSTUVWXYZ[\\]^_`abcdefghijklmnopqrstuvwx";
+/// The values of a dump in which all is 0.
+const ZEROS: &str = "\
+0!
+0\"
+0#
+0$
+0%
+0&
+0'
+0(
+0)
+0*
+0+
+0,
+0-
+0.
+0/
+00
+01
+02
+03
+04
+05
+06
+07
+08
+09
+0:
+0;
+0<
+0=
+0>
+0?
+0@
+0A
+0B
+0C
+0D
+0E
+0F
+0G
+0H
+0I
+0J
+0K
+0L
+0M
+0N
+0O
+0P
+0Q
+0R
+0S
+0T
+0U
+0V
+0W
+0X
+0Y
+0Z
+0[
+0\\
+0]
+0^
+0_
+0`
+0a
+0b
+0c
+0d
+0e
+0f
+0g
+0h
+b0 i
+b0 j
+b0 k
+b0 l
+b0 m
+b0 n
+b0 o
+b0 p
+b0 q
+b0 r
+b0 s
+b0 t
+b0 u
+b0 v
+b0 w
+b0 x
+";
 
 // The text of a row, by the tables.
 fn text_of(alloc: Global, row: &Row) -> Result<String, AllocError> {
-    let mut text = String::new(alloc);
-    let mut dump = String::new(alloc);
-    let mut ids = IDENTIFIERS.chars();
-    let mut variable = 0usize;
-    text.push_str("$timescale 1 ns $end\n$scope module pio $end\n")?;
-    for (letter, width, count) in &VARIABLES {
-        for number in 0..*count {
-            let id = ids.next().unwrap_or('?');
-            let line = format!(in alloc; "$var wire {width} {id} {letter}{number} $end\n")?;
-            text.push_str(&line)?;
-            let line = if *width == 1 {
-                format!(in alloc; "{}{id}\n", value_of(row, variable).unwrap_or("0"))?
-            } else {
-                format!(in alloc; "{} {id}\n", value_of(row, variable).unwrap_or("b0"))?
-            };
-            dump.push_str(&line)?;
-            variable = variable.wrapping_add(1);
-        }
-    }
-    text.push_str("$upscope $end\n$enddefinitions $end\n#0\n")?;
-    if !row.told.is_empty() {
-        text.push_str("$dumpvars\n")?;
-        text.push_str(&dump)?;
-        text.push_str("$end\n")?;
+    let mut text = String::from_str(alloc, HEAD)?;
+    if row.end > 0 {
+        put_dump(row, &mut text)?;
     }
     text.push_str(row.changes)?;
     Ok(text)
 }
 
-// The value of a variable in a row's dump, where it isn't 0.
-fn value_of(row: &Row, variable: usize) -> Option<&'static str> {
-    for (place, value) in row.dumped {
-        if *place == variable {
-            return Some(value);
+fn put_dump(row: &Row, text: &mut String) -> Result<(), AllocError> {
+    text.push_str("$dumpvars\n")?;
+    for (number, zero) in ZEROS.lines().enumerate() {
+        text.push_str(value_of(row, number, zero))?;
+        text.push('\n')?;
+    }
+    text.push_str("$end\n")
+}
+
+// The line of a variable in a row's dump.
+fn value_of<'a>(row: &Row, variable: usize, zero: &'a str) -> &'a str {
+    for (number, value) in row.dumped {
+        if *number == variable {
+            return value;
         }
     }
-    None
+    zero
 }
 
 fn tell<T: Trace>(trace: &mut T, row: &Row) -> Result<(), TraceFailed>
@@ -210,14 +372,23 @@ fn tell<T: Trace>(trace: &mut T, row: &Row) -> Result<(), TraceFailed>
 #[test]
 fn texts_of_samples(rt: HostRuntime) -> Result<(), Fail> {
     for row in &ROWS {
-        let mut sink = MemSink::with_room(rt.alloc(), 4096, &[])?;
-        let mut trace = VcdTrace::new(&mut sink);
-        assert!(rt; tell(&mut trace, row).is_ok(), "{}", row.shows);
-        assert!(rt; !trace.failed(), "{}", row.shows);
-        let text = text_of(rt.alloc(), row)?;
-        assert_eq!(rt; sink.bytes(), text.as_bytes(), "{}", row.shows);
+        assert!(rt; is_told(rt.alloc(), row)?, "{}", row.shows);
     }
     Ok(())
+}
+
+fn is_told(alloc: Global, row: &Row) -> Result<bool, AllocError> {
+    let text = text_of(alloc, row)?;
+    let mut sink = MemSink::with_room(alloc, 4096, &[])?;
+    let passes = traces(&mut sink, row);
+    Ok(passes && sink.bytes() == text.as_bytes())
+}
+
+// Whether a row is told without a failure.
+fn traces<S: Sink>(sink: &mut S, row: &Row) -> bool {
+    let mut trace = VcdTrace::new(sink);
+    let passes = tell(&mut trace, row).is_ok();
+    passes && !trace.failed()
 }
 
 // The sink's call that fails, how much of its piece is taken, and how many bytes there are then.
@@ -235,18 +406,34 @@ static FAILURES: [(u64, usize, usize); 6] = [
 
 #[test]
 fn a_failing_call_breaks_the_trace(rt: HostRuntime) -> Result<(), Fail> {
-    let row = &ROWS[2];
-    let text = text_of(rt.alloc(), row)?;
+    let text = text_of(rt.alloc(), &ROWS[2])?;
     for (call, taken, count) in &FAILURES {
-        let mut sink = MemSink::with_room(rt.alloc(), 4096, &[(*call, *taken)])?;
-        let mut trace = VcdTrace::new(&mut sink);
-        assert_eq!(rt; tell(&mut trace, row), Err(TraceFailed), "call {call}");
-        assert!(rt; trace.failed(), "call {call}");
-        assert_eq!(rt; sink.faults(), 1, "call {call}");
-        assert!(rt; text.as_bytes().starts_with(sink.bytes()), "call {call}");
-        assert_eq!(rt; sink.bytes().len(), *count, "call {call}");
+        let is_so = breaks(rt.alloc(), text.as_bytes(), (*call, *taken), *count)?;
+        assert!(rt; is_so, "call {call}");
     }
     Ok(())
+}
+
+fn breaks(
+    alloc: Global,
+    text: &[u8],
+    failure: (u64, usize),
+    count: usize,
+) -> Result<bool, AllocError> {
+    let mut sink = MemSink::with_room(alloc, 4096, &[failure])?;
+    let is_broken = fails(&mut sink, &ROWS[2]);
+    Ok(is_broken && sink.faults() == 1 && begins(text, sink.bytes(), count))
+}
+
+// Whether a row is told with a failure, which the trace keeps.
+fn fails<S: Sink>(sink: &mut S, row: &Row) -> bool {
+    let mut trace = VcdTrace::new(sink);
+    let is_broken = tell(&mut trace, row).is_err();
+    is_broken && trace.failed()
+}
+
+fn begins(text: &[u8], bytes: &[u8], count: usize) -> bool {
+    text.starts_with(bytes) && bytes.len() == count
 }
 
 // The room of a list, and whether the wave, told where it changes, passes: it has 8 samples.
@@ -260,31 +447,40 @@ static ROOMS: [(usize, bool, usize); 4] = [
 #[test]
 fn a_list_fails_past_its_room(rt: HostRuntime) -> Result<(), Fail> {
     for (room, passes, kept) in &ROOMS {
-        let mut trace = ListTrace::with_room(rt.alloc(), *room)?;
-        assert_eq!(rt; tell(&mut trace, &ROWS[3]).is_ok(), *passes, "room {room}");
-        assert_eq!(rt; trace.failed(), !*passes, "room {room}");
-        assert_eq!(rt; trace.faults(), u64::from(!*passes), "room {room}");
-        assert_eq!(rt; trace.samples().len(), *kept, "room {room}");
+        let is_so = list_holds(rt.alloc(), *room, *passes, *kept)?;
+        assert!(rt; is_so, "room {room}");
     }
     Ok(())
 }
 
+fn list_holds(alloc: Global, room: usize, passes: bool, kept: usize) -> Result<bool, AllocError> {
+    let mut trace = ListTrace::with_room(alloc, room)?;
+    let has_passed = tell(&mut trace, &ROWS[3]).is_ok();
+    let has_failed = trace.failed() && trace.faults() == 1;
+    let is_whole = !trace.failed() && trace.faults() == 0;
+    Ok(
+        has_passed == passes
+            && has_failed != passes
+            && is_whole == passes
+            && trace.samples().len() == kept,
+    )
+}
+
+static WAVE: [Sample; 8] = [LOW, HIGH, HIGH, LOW, LOW, HIGH, HIGH, LOW];
+
 #[test]
 fn a_list_has_a_sample_for_each_clock(rt: HostRuntime) -> Result<(), Fail> {
     let mut trace = ListTrace::with_room(rt.alloc(), 10)?;
-    assert!(rt; tell(&mut trace, &ROWS[3]).is_ok());
-    assert_eq!(rt;
-        trace.samples(),
-        [LOW, HIGH, HIGH, LOW, LOW, HIGH, HIGH, LOW].as_slice()
-    );
+    let passes = tell(&mut trace, &ROWS[3]).is_ok();
+    assert!(rt; passes && trace.samples() == WAVE.as_slice());
     Ok(())
 }
 
 #[test]
 fn a_sink_is_lent_and_comes_back(rt: HostRuntime) -> Result<(), Fail> {
-    let mut sink = MemSink::with_room(rt.alloc(), 4096, &[])?;
-    assert!(rt; put_text(&mut sink, &[LOW]).is_ok());
     let text = text_of(rt.alloc(), &ROWS[1])?;
-    assert_eq!(rt; sink.bytes(), text.as_bytes());
+    let mut sink = MemSink::with_room(rt.alloc(), 4096, &[])?;
+    let passes = put_text(&mut sink, &[LOW]).is_ok();
+    assert!(rt; passes && sink.bytes() == text.as_bytes());
     Ok(())
 }

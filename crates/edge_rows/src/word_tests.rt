@@ -1,5 +1,6 @@
 //! Words with their texts, worked by hand from the instruction table, and every word under every rule.
 use pio_encode::{Act, Name, SideRule, WaitSource, decode, encode, op_fits, relocate, spell};
+use std::alloc::{AllocError, Global};
 use std::process::Abort;
 use std::test::Fail;
 
@@ -27,158 +28,190 @@ const FIVE_BITS: SideRule = SideRule {
     pindirs: false,
 };
 
-const TEXTS: [(u16, &str); 59] = [
-    // a square wave
-    (0xe081, "set pindirs, 1"),
-    (0xe101, "set pins, 1 [1]"),
-    (0xe000, "set pins, 0"),
-    (0x0001, "jmp 1"),
-    // each kind and each operand
-    (0x0023, "jmp !x, 3"),
-    (0x0043, "jmp x--, 3"),
-    (0x0063, "jmp !y, 3"),
-    (0x0083, "jmp y--, 3"),
-    (0x00a3, "jmp x!=y, 3"),
-    (0x00c3, "jmp pin, 3"),
-    (0x00ff, "jmp !osre, 31"),
-    (0x2085, "wait 1 gpio 5"),
-    (0x2025, "wait 0 pin 5"),
-    (0x20c5, "wait 1 irq 5"),
-    (0x20d5, "wait 1 irq 5 rel"),
-    (0x4008, "in pins, 8"),
-    (0x4022, "in x, 2"),
-    (0x4043, "in y, 3"),
-    (0x4060, "in null, 32"),
-    (0x40ca, "in isr, 10"),
-    (0x40ff, "in osr, 31"),
-    (0x6020, "out x, 32"),
-    (0x6044, "out y, 4"),
-    (0x6061, "out null, 1"),
-    (0x6081, "out pindirs, 1"),
-    (0x60a5, "out pc, 5"),
-    (0x60c1, "out isr, 1"),
-    (0x60f0, "out exec, 16"),
-    (0x8000, "push noblock"),
-    (0x8060, "push iffull block"),
-    (0x80a0, "pull block"),
-    (0x80c0, "pull ifempty noblock"),
-    (0xa022, "mov x, y"),
-    (0xa02a, "mov x, !y"),
-    (0xa032, "mov x, ::y"),
-    (0xa042, "nop"),
-    (0xa04a, "mov y, !y"),
-    (0xa000, "mov pins, pins"),
-    (0xa085, "mov exec, status"),
-    (0xa0a6, "mov pc, isr"),
-    (0xa0c7, "mov isr, osr"),
-    (0xa0e3, "mov osr, null"),
-    (0xa021, "mov x, x"),
-    (0xc003, "irq nowait 3"),
-    (0xc023, "irq wait 3"),
-    (0xc043, "irq clear 3"),
-    (0xc057, "irq clear 7 rel"),
-    (0xe027, "set x, 7"),
-    (0xe05f, "set y, 31"),
-    (0xff1f, "set pins, 31 [31]"),
-    // a flag above 7, and both clear and wait
-    (0xc008, ".word 0xc008"),
-    (0xc01b, ".word 0xc01b"),
-    (0x20c8, ".word 0x20c8"),
-    (0xc060, ".word 0xc060"),
-    // stray bits and reserved fields, and the first and last word
-    (0x8021, ".word 0x8021"),
-    (0x80a1, ".word 0x80a1"),
-    (0xc080, ".word 0xc080"),
-    (0xffff, ".word 0xffff"),
-    (0x0000, "jmp 0"),
-];
+// Tables of words, a row a line: a word in hexadecimal digits and its text.
 
-const RESERVED: [u16; 15] = [
+/// Words without side-set.
+const TEXTS: &str = "\
+### a square wave
+e081 set pindirs, 1
+e101 set pins, 1 [1]
+e000 set pins, 0
+0001 jmp 1
+### each kind and each operand
+0023 jmp !x, 3
+0043 jmp x--, 3
+0063 jmp !y, 3
+0083 jmp y--, 3
+00a3 jmp x!=y, 3
+00c3 jmp pin, 3
+00ff jmp !osre, 31
+2085 wait 1 gpio 5
+2025 wait 0 pin 5
+20c5 wait 1 irq 5
+20d5 wait 1 irq 5 rel
+4008 in pins, 8
+4022 in x, 2
+4043 in y, 3
+4060 in null, 32
+40ca in isr, 10
+40ff in osr, 31
+6020 out x, 32
+6044 out y, 4
+6061 out null, 1
+6081 out pindirs, 1
+60a5 out pc, 5
+60c1 out isr, 1
+60f0 out exec, 16
+8000 push noblock
+8060 push iffull block
+80a0 pull block
+80c0 pull ifempty noblock
+a022 mov x, y
+a02a mov x, !y
+a032 mov x, ::y
+a042 nop
+a04a mov y, !y
+a000 mov pins, pins
+a085 mov exec, status
+a0a6 mov pc, isr
+a0c7 mov isr, osr
+a0e3 mov osr, null
+a021 mov x, x
+c003 irq nowait 3
+c023 irq wait 3
+c043 irq clear 3
+c057 irq clear 7 rel
+e027 set x, 7
+e05f set y, 31
+ff1f set pins, 31 [31]
+### a flag above 7, and both clear and wait
+c008 .word 0xc008
+c01b .word 0xc01b
+20c8 .word 0x20c8
+c060 .word 0xc060
+### stray bits and reserved fields, and the first and last word
+8021 .word 0x8021
+80a1 .word 0x80a1
+c080 .word 0xc080
+ffff .word 0xffff
+0000 jmp 0
+";
+
+/// Words with one side-set bit.
+const ONE_BIT_TEXTS: &str = "\
+### a ws2812 transmitter
+6221 out x, 1 side 0 [2]
+1123 jmp !x, 3 side 1 [1]
+1400 jmp 0 side 1 [4]
+a442 nop side 0 [4]
+### the longest text
+9fc0 pull ifempty noblock side 1 [15]
+";
+
+/// Words with one side-set bit, and one that says whether it counts.
+const ONE_BIT_OPT_TEXTS: &str = "\
+### a serial transmitter
+9fa0 pull block side 1 [7]
+f727 set x, 7 side 0 [7]
+6001 out pins, 1
+0642 jmp x--, 2 [6]
+### value bits under a cleared enable bit
+e801 .word 0xe801
+";
+
+/// Words with five side-set bits.
+const FIVE_BITS_TEXTS: &str = "\
+### no bit is left for the delay
+ff01 set pins, 1 side 31
+e001 set pins, 1 side 0
+";
+
+/// Words whose fields have reserved values, with nothing done.
+static RESERVED: [u16; 15] = [
     0x20e0, 0x4088, 0x40a8, 0x8021, 0x80a1, 0xa061, 0xa039, 0xa004, 0xa024, 0xc080, 0xc0a0, 0xe061,
     0xe0a1, 0xe0c1, 0xe0e1,
 ];
 
-const SIDE_TEXTS: [(u16, SideRule, &str); 12] = [
-    // a ws2812 transmitter
-    (0x6221, ONE_BIT, "out x, 1 side 0 [2]"),
-    (0x1123, ONE_BIT, "jmp !x, 3 side 1 [1]"),
-    (0x1400, ONE_BIT, "jmp 0 side 1 [4]"),
-    (0xa442, ONE_BIT, "nop side 0 [4]"),
-    // a serial transmitter
-    (0x9fa0, ONE_BIT_OPT, "pull block side 1 [7]"),
-    (0xf727, ONE_BIT_OPT, "set x, 7 side 0 [7]"),
-    (0x6001, ONE_BIT_OPT, "out pins, 1"),
-    (0x0642, ONE_BIT_OPT, "jmp x--, 2 [6]"),
-    // value bits under a cleared enable bit
-    (0xe801, ONE_BIT_OPT, ".word 0xe801"),
-    // no bit is left for the delay
-    (0xff01, FIVE_BITS, "set pins, 1 side 31"),
-    (0xe001, FIVE_BITS, "set pins, 1 side 0"),
-    // the longest text
-    (0x9fc0, ONE_BIT, "pull ifempty noblock side 1 [15]"),
+/// A word, an address, and the word as it is loaded there, where its jump has a target.
+static LOADED: [(u16, u8, Option<u16>); 4] = [
+    (0x0001, 5, Some(0x0006)),
+    (0x1f5e, 1, Some(0x1f5f)),
+    (0x1f5e, 2, None),
+    (0xe01f, 31, Some(0xe01f)),
 ];
 
 #[test]
 fn spells_words(rt: HostRuntime) {
-    for &(word, text) in &TEXTS {
-        assert_eq!(rt; spell(word, &PLAIN).as_str(), text, "of {word:04x}");
+    rows_hold(&rt, &PLAIN, TEXTS);
+    rows_hold(&rt, &ONE_BIT, ONE_BIT_TEXTS);
+    rows_hold(&rt, &ONE_BIT_OPT, ONE_BIT_OPT_TEXTS);
+    rows_hold(&rt, &FIVE_BITS, FIVE_BITS_TEXTS);
+}
+
+/// Each row's word has its text under the rule; a line that begins with `###` is a note.
+fn rows_hold(rt: &impl Abort, rule: &SideRule, table: &str) {
+    for line in table.lines() {
+        let is_note = line.starts_with("###");
+        assert!(rt; is_note || is_spelled(line, rule) == Some(true), "{line}");
     }
-    for &(word, rule, text) in &SIDE_TEXTS {
-        assert_eq!(rt;
-            spell(word, &rule).as_str(),
-            text,
-            "of {word:04x} under {rule:?}"
-        );
-    }
+}
+
+/// Whether a row's word has its text; none where the row is not well written.
+fn is_spelled(line: &str, rule: &SideRule) -> Option<bool> {
+    let (word, text) = line.split_once(' ')?;
+    let word = u16::from_str_radix(word, 16).ok()?;
+    Some(spell(word, rule).as_str() == text)
 }
 
 #[test]
 fn reserved_words_do_nothing(rt: HostRuntime) {
-    for word in RESERVED {
-        assert!(rt; decode(word, &PLAIN).act == Act::Nothing, "of {word:04x}");
-        assert!(rt;
-            spell(word, &PLAIN).as_str().starts_with(".word 0x"),
-            "of {word:04x}"
-        );
+    for word in &RESERVED {
+        assert!(rt; does_nothing(*word), "of {word:04x}");
     }
+}
+
+fn does_nothing(word: u16) -> bool {
+    matches!(decode(word, &PLAIN).act, Act::Nothing) && is_number(word, &PLAIN)
+}
+
+fn is_number(word: u16, rule: &SideRule) -> bool {
+    spell(word, rule).as_str().starts_with(".word 0x")
 }
 
 #[test]
 fn every_word_under_every_rule(rt: HostRuntime) {
     for bits in 0..=5u8 {
-        check_rule(
-            &rt,
-            &SideRule {
-                bits,
-                opt: false,
-                pindirs: false,
-            },
-        );
+        let rule = SideRule {
+            bits,
+            opt: false,
+            pindirs: false,
+        };
+        assert!(rt; first_wrong(&rule).is_none(), "{bits} bits");
     }
     for bits in 0..=4u8 {
-        check_rule(
-            &rt,
-            &SideRule {
-                bits,
-                opt: true,
-                pindirs: false,
-            },
-        );
+        let rule = SideRule {
+            bits,
+            opt: true,
+            pindirs: false,
+        };
+        assert!(rt; first_wrong(&rule).is_none(), "{bits} bits and one more");
     }
 }
 
-/// Each word's text is a number exactly where no instruction that can be written has the word.
-fn check_rule(rt: &impl Abort, rule: &SideRule) {
+/// The first word whose text is a number though an instruction that can be written has the word, or the other way round.
+fn first_wrong(rule: &SideRule) -> Option<u16> {
     for word in 0..=u16::MAX {
-        let op = decode(word, rule);
-        let is_whole = op_fits(&op, rule) && encode(&op, rule) == word;
-        let is_number = spell(word, rule).as_str().starts_with(".word 0x");
-        assert_eq!(rt;
-            is_number,
-            !is_whole || is_unwritable(op.act),
-            "{word:04x} {rule:?}"
-        );
+        if is_number(word, rule) == is_written(word, rule) {
+            return Some(word);
+        }
     }
+    None
+}
+
+/// An instruction that can be written has the word.
+fn is_written(word: u16, rule: &SideRule) -> bool {
+    let op = decode(word, rule);
+    op_fits(&op, rule) && encode(&op, rule) == word && !is_unwritable(op.act)
 }
 
 /// A flag above 7, or both clear and wait.
@@ -196,17 +229,35 @@ fn is_unwritable(act: Act) -> bool {
 
 #[test]
 fn relocates_jumps_alone(rt: HostRuntime) {
-    assert_eq!(rt; relocate(0x0001, 5), Some(0x0006));
-    assert_eq!(rt; relocate(0x1f5e, 1), Some(0x1f5f));
-    assert_eq!(rt; relocate(0x1f5e, 2), None);
-    assert_eq!(rt; relocate(0xe01f, 31), Some(0xe01f));
+    for (word, address, loaded) in &LOADED {
+        assert!(rt;
+            is_loaded(*word, *address, *loaded),
+            "{word:04x} at {address}"
+        );
+    }
+}
+
+fn is_loaded(word: u16, address: u8, loaded: Option<u16>) -> bool {
+    address < 32 && relocate(word, address) == loaded
 }
 
 #[test]
 fn names_are_their_bytes(rt: HostRuntime) -> Result<(), Fail> {
     let name = Name::new("ws2812".to_string(rt.alloc())?);
-    assert_eq!(rt; name, Name::new("ws2812".to_string(rt.alloc())?));
-    assert_ne!(rt; name, Name::new("ws2813".to_string(rt.alloc())?));
-    assert_eq!(rt; format!(in rt.alloc(); "<{name}>")?.as_str(), "<ws2812>");
+    assert!(rt; is_ws2812(rt.alloc(), &name)?);
     Ok(())
+}
+
+fn is_ws2812(alloc: Global, name: &Name) -> Result<bool, AllocError> {
+    let is_same = is_name(alloc, name, "ws2812")?;
+    let is_other = is_name(alloc, name, "ws2813")?;
+    Ok(is_same && !is_other && is_shown(alloc, name, "<ws2812>")?)
+}
+
+fn is_name(alloc: Global, name: &Name, text: &str) -> Result<bool, AllocError> {
+    Ok(*name == Name::new(text.to_string(alloc)?))
+}
+
+fn is_shown(alloc: Global, name: &Name, text: &str) -> Result<bool, AllocError> {
+    Ok(format!(in alloc; "<{name}>")?.as_str() == text)
 }
