@@ -13,7 +13,8 @@ use Rattle.block_core.specs.Shown.{shown_in, requests_of, sample_of}
 use Rattle.block_core.specs.Slots.{Slot}
 use Rattle.block_core.specs.Stirring.{moves_on}
 use Rattle.block_core.proofs.Firsts.{first_same, first_while}
-use Rattle.block_core.proofs.Rests.{CalmLaws, rests, rests_by}
+use Rattle.block_core.proofs.Rests.{CalmLaws, pads_same, rests, rests_by}
+use Rattle.block_core.proofs.Unused.{or_false_parts}
 use Rattle.block_core.proofs.Wanting.{view, run}
 
 -- what the machines of such a block see, where the pads are these
@@ -64,20 +65,10 @@ is_settled pad a b h =
 pub settled_pads : (settled : Bool) (pad : ℕ) (sync : Synchroniser) → IsTrue settled ↔ ((pad ≡ sync.pad_1) × (pad ≡ sync.pad_2)) → settled ≡ true → unsettled pad sync ≡ false
 settled_pads settled pad sync test h = is_settled pad sync.pad_1 sync.pad_2 (test.0 h)
 
-both_same : (pad a b : ℕ) → not ((pad == a) && (pad == b)) ≡ false → (pad ≡ a) × (pad ≡ b)
-both_same pad a b h = let parts = split (pad == a) (pad == b) h in (is_same a parts.0, is_same b parts.1) where
-  split : (x y : Bool) → not (x && y) ≡ false → (x ≡ true) × (y ≡ true)
-  split true true h = (refl, refl)
-  split true false h = cc
-  split false y h = cc
-
-  is_same : (x : ℕ) → (pad == x) ≡ true → pad ≡ x
-  is_same x h = grind (arith, nat_tests)
-
 pub unsettled_pads : (settled : Bool) (pad : ℕ) (sync : Synchroniser) → IsTrue settled ↔ ((pad ≡ sync.pad_1) × (pad ≡ sync.pad_2)) → settled ≡ false → unsettled pad sync ≡ true
 unsettled_pads settled pad sync test h = elim (unsettled pad sync) as (λ b. unsettled pad sync ≡ b → b ≡ true) [
   | true ↦ λ e. refl
-  | false ↦ λ e. let t : settled ≡ true = test.1 (both_same pad sync.pad_1 sync.pad_2 e) in cc
+  | false ↦ λ e. let t : settled ≡ true = test.1 (pads_same pad sync.pad_1 sync.pad_2 e) in cc
 ] refl
 
 -- none of the four stirs in a clock in which the block doesn't move on
@@ -86,10 +77,6 @@ pub record AreCalm (v : View) (a b c e : Option Slot) (n : ℕ) : Type 0 where
   pub second : stirs_after v b n ≡ false
   pub third : stirs_after v c n ≡ false
   pub fourth : stirs_after v e n ≡ false
-
-or_false_parts : (a b : Bool) → (a || b) ≡ false → (a ≡ false) × (b ≡ false)
-or_false_parts false b h = (refl, h)
-or_false_parts true b h = cc
 
 parted : (v : View) (a b c e : Option Slot) (n : ℕ) (p : Bool) → ((stirs_after v a n || (stirs_after v b n || (stirs_after v c n || (stirs_after v e n || false)))) || p) ≡ false → AreCalm v a b c e n
 parted v a b c e n p h =

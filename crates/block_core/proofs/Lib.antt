@@ -10,3 +10,4 @@ pub mod Rests
 pub mod Firsts
 pub mod SlotRests
 pub mod Leaping
+pub mod Rows

@@ -1,5 +1,5 @@
 -- A clock in which nothing stirs and the system does nothing, and many of them.
-use Rattle.std.proofs.Common.{◌≡◌, ℕ, zero, suc, ◌+◌, ◌-◌, ◌<◌, ◌==◌, Bool, true, false, not, ◌&&◌, ◌||◌, Option, Some, None, List, [], ◌∷◌, ◌++◌, map, cond, slice_index_or, bit_or, refl, ap, sym, ◌∙◌, subst, arith, add-one}
+use Rattle.std.proofs.Common.{◌≡◌, ℕ, zero, suc, ◌+◌, ◌-◌, ◌<◌, ◌==◌, Bool, true, false, not, ◌&&◌, Option, Some, None, List, [], ◌∷◌, ◌++◌, map, cond, slice_index_or, bit_or, refl, ap, sym, ◌∙◌, subst, arith, add-one}
 use Rattle.std.proofs.lemmas.Bool.Decides.{nat_tests}
 use Rattle.std.specs.Int.Bits.{or_zero_l, or_zero_r}
 use Rattle.std.specs.List.{AllByRecursion, list_any}
@@ -25,6 +25,7 @@ use Rattle.block_core.specs.Resting.{ticks_in, rested_slot, rested_place, rested
 use Rattle.block_core.specs.Slots.{Slot, lined, has_tick, acted, settled_slot, slot_after, place_after, place_intent}
 use Rattle.block_core.specs.Stirring.{moves_on, machines_stir, pads_change}
 use Rattle.block_core.proofs.Told.{known_in, told_rested}
+use Rattle.block_core.proofs.Unused.{or_false_parts}
 
 -- what the laws of calm ticks and of quiet FIFOs say
 pub record CalmLaws : Type 0 where
@@ -113,10 +114,6 @@ only_waits_if laws v s told h =
     let calm = acted_calm laws v s told (subst (λ t. stirs (acted v t).1 ≡ false) (lined_quiet s) h) in
     subst (λ t. (acted v t).1 ≡ only_waits (acted v t).1) (sym (lined_quiet s)) (ap (λ (x : Registers × Intent). x.1) calm.acts)
 
-or_false_parts : (a b : Bool) → (a || b) ≡ false → (a ≡ false) × (b ≡ false)
-or_false_parts false b h = (refl, h)
-or_false_parts true b h = cc
-
 -- all places rest
 places_rest : CalmLaws → (v : View) (places : List (Option Slot)) → AreTold v.memory places → list_any stirs (map (place_intent v quiet) places) ≡ false → map (place_after v quiet) places ≡ map (rested_place 1) places
 places_rest laws v [] told h = refl
@@ -174,20 +171,21 @@ state_rests laws memory seen b told h =
     ) refl
 
 -- pads that don't change leave the synchronisers
-not_both : (a b : Bool) → not (a && b) ≡ false → (a ≡ true) × (b ≡ true)
-not_both true true h = (refl, refl)
-not_both true false h = cc
-not_both false b h = cc
+both_true : (a b : Bool) → not (a && b) ≡ false → (a ≡ true) × (b ≡ true)
+both_true true true h = (refl, refl)
+both_true true false h = cc
+both_true false b h = cc
 
 is_same : (a b : ℕ) → (a == b) ≡ true → a ≡ b
 is_same a b h = grind (arith, nat_tests)
 
+pub pads_same : (pad a b : ℕ) → not ((pad == a) && (pad == b)) ≡ false → (pad ≡ a) × (pad ≡ b)
+pads_same pad a b h = let parts = both_true (pad == a) (pad == b) h in (is_same pad a parts.0, is_same pad b parts.1)
+
 sync_rests : (pad : ℕ) (s : Synchroniser) → not ((pad == s.pad_1) && (pad == s.pad_2)) ≡ false → pads.stepped pad s ≡ s
 sync_rests pad s h =
-    let parts = not_both (pad == s.pad_1) (pad == s.pad_2) h in
-    let first = is_same pad s.pad_1 parts.0 in
-    let second = is_same pad s.pad_2 parts.1 in
-    rw (sym first ∙ second, first ∙ sym first ∙ second) refl
+    let same = pads_same pad s.pad_1 s.pad_2 h in
+    rw (sym same.0 ∙ same.1, same.0 ∙ sym same.0 ∙ same.1) refl
 
 pub rests_once : CalmLaws → (r : Run) → AreTold r.memory r.state.machines → moves_on quiet r ≡ false → next quiet r ≡ rested 1 r
 unfolding next rested moves_on

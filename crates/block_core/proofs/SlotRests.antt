@@ -99,8 +99,8 @@ never_stirs often v s h n = elim (s.enabled) as (λ b. s.enabled ≡ b → stirs
 ] refl
 
 -- one that idles until a tick, in the clock of that tick
-pub first_stir : CountsOften → (v : View) (s : Slot) → s.enabled ≡ true → (m c : ℕ) → IsIdle s.machine.setup v (queues_of s.machine.ports.fifos) s.machine.registers (Ticks m) → ticks_after s c ≡ true → ticks_of s c ≡ m → IsFirst (stirs_after v (Some s)) 0 (Some c)
-first_stir often v s on m c idle tick count = (
+pub first_stir : CountsOften → (v : View) (s : Slot) → s.enabled ≡ true → (m asked c : ℕ) → asked ≡ m → IsIdle s.machine.setup v (queues_of s.machine.ports.fifos) s.machine.registers (Ticks m) → ticks_after s c ≡ true → ticks_of s c ≡ asked → IsFirst (stirs_after v (Some s)) 0 (Some c)
+first_stir often v s on m asked c is idle tick counted = let count : ticks_of s c ≡ m = counted ∙ is in (
   omega arith,
   enabled_stirs v s on c ∙ ap (λ b. b && stirs (counted_tick v s (ticks_of s c)).1) tick
       ∙ ap (λ k. stirs (counted_tick v s k).1) count ∙ counted_stirs often v s m idle.1 ∙ idle.0,
@@ -115,7 +115,7 @@ unfolding tick_count
 no_ticks restarted period clock j lt = omega (arith, lt)
 
 -- the ticks of clocks in which it doesn't stir don't stir
-pub ticks_still : CountsOften → (v : View) (s : Slot) → s.enabled ≡ true → (n : ℕ) → ((k : ℕ) → k < n → stirs_after v (Some s) k ≡ false) → (j : ℕ) → j < ticks_of s n → slot_stirs_at v s j ≡ false
+ticks_still : CountsOften → (v : View) (s : Slot) → s.enabled ≡ true → (n : ℕ) → ((k : ℕ) → k < n → stirs_after v (Some s) k ≡ false) → (j : ℕ) → j < ticks_of s n → slot_stirs_at v s j ≡ false
 ticks_still often v s on zero h j lt = absurd (no_ticks s.timing.restarted s.timing.period s.timing.clock j lt)
 ticks_still often v s on (suc n) h j lt =
     let t = s.timing in
@@ -130,3 +130,8 @@ ticks_still often v s on (suc n) h j lt =
     last true x a c j e lt le calm same =
         let here : j ≡ a = omega (arith, e, lt, le) in ap (slot_stirs_at v s) here ∙ sym same ∙ calm
     last false x a c j e lt le calm same = absurd (omega (arith, e, lt, le))
+
+-- the same of a machine by another name, and of so many ticks
+pub calm_ticks : CountsOften → (v : View) (s t : Slot) → s ≡ t → s.enabled ≡ true → (n ticks : ℕ) → ticks ≡ ticks_of s n → ((k : ℕ) → k < n → stirs_after v (Some t) k ≡ false) → (j : ℕ) → j < ticks → slot_stirs_at v s j ≡ false
+calm_ticks often v s t same on n ticks count h j lt =
+    ticks_still often v s on n (λ k below. ap (λ (s : Slot). stirs_after v (Some s) k) same ∙ h k below) j (subst (λ c. j < c) count lt)

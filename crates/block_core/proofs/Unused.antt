@@ -40,7 +40,7 @@ place_rx : StaysQuiet → (v : View) (d : Due) (m : Option Slot) → place_uses_
 place_rx law v d None h = refl
 place_rx law v d (Some s) h = ap (λ (f : Fifos). asks_rx (Some (record s { machine = record s.machine { ports = record s.machine.ports { fifos = f } } }))) (fifos_stay law v d s h)
 
-or_false_parts : (a b : Bool) → (a || b) ≡ false → (a ≡ false) × (b ≡ false)
+pub or_false_parts : (a b : Bool) → (a || b) ≡ false → (a ≡ false) × (b ≡ false)
 or_false_parts false b h = (refl, h)
 or_false_parts true b h = cc
 

@@ -8,8 +8,8 @@ use crate::slot::Slot;
 use fifo_pair::Fifo;
 use sm_registers::View;
 
-/// The clocks before the first that passes some test, or in which the machine of a place stirs. It isn't asked where the
-/// test passes at once.
+/// The least number of clocks after which a test passes or the machine of a place stirs, from that of the test alone. The
+/// machine isn't asked where the test passes at once.
 pub(crate) fn sooner<F: Fifo>(
     tested: Option<u64>,
     place: &Option<Slot<F>>,

@@ -22,6 +22,8 @@ pub enum Seen {
     Got(u8, u32),
     /// A machine's sticky FIFO flags.
     Sticky(u8, u8),
+    /// How many clocks go by before the next one that stirs, if the system does nothing.
+    Stirs(Option<u64>),
 }
 
 /// A memory that begins with these words, the machines over it, the pins at the start, and a stimulus.

@@ -4,6 +4,7 @@ ghost use Rattle.std.specs.Prelude.{◌≤◌};
 use crate::block_row::{Row, Seen, setup_of};
 use crate::block_rows::BLOCK;
 use crate::port_rows::PORTS;
+use crate::stir_rows::STIRS;
 use block_core::{Block, Sample};
 use dreq_pacing::{HostPorts, Schedule, read_stimulus};
 use fifo_pair::{Fifo, PlainFifo, RingFifo};
@@ -12,8 +13,8 @@ use std::alloc::{AllocError, Global};
 use std::process::Abort;
 use std::test::Fail;
 
-/// Whether this is seen.
-fn is_seen(sample: &Sample, seen: Seen) -> bool {
+/// Whether this is seen, where the block stirs after so many clocks.
+fn is_seen(sample: &Sample, stir: Option<u64>, seen: Seen) -> bool {
     match seen {
         Seen::Levels(levels) => sample.level == levels,
         Seen::Directions(directions) => sample.direction == directions,
@@ -22,6 +23,7 @@ fn is_seen(sample: &Sample, seen: Seen) -> bool {
         Seen::Rx(machine, level) => sample.rx.get(machine as usize) == Some(&level),
         Seen::Got(machine, word) => sample.got.get(machine as usize) == Some(&word),
         Seen::Sticky(machine, flags) => sample.sticky.get(machine as usize) == Some(&flags),
+        Seen::Stirs(clocks) => stir == clocks,
     }
 }
 
@@ -39,10 +41,10 @@ fn clocks_of(row: &Row) -> u64
 }
 
 /// Whether all is seen that a row shows after a clock.
-fn are_seen(row: &Row, sample: &Sample, clock: u64) -> bool {
+fn are_seen(row: &Row, sample: &Sample, stir: Option<u64>, clock: u64) -> bool {
     row.seen
         .iter()
-        .all(|&(at, seen)| at != clock || is_seen(sample, seen))
+        .all(|&(at, seen)| at != clock || is_seen(sample, stir, seen))
 }
 
 /// The row's clocks, one after the other: the first after which something isn't seen.
@@ -57,7 +59,7 @@ fn unseen<F: Fifo>(
     for clock in 0..clocks_of(row) {
         let due = ports.at(clock, &block.requests());
         block.clock(&due);
-        if !are_seen(row, &block.view(), clock) {
+        if !are_seen(row, &block.view(), block.next_stir(), clock) {
             return Ok(Some(clock));
         }
     }
@@ -79,5 +81,6 @@ fn run_all(rt: &impl Abort, alloc: Global, rows: &[Row]) -> Result<(), Fail> {
 #[test]
 fn rows(rt: HostRuntime) -> Result<(), Fail> {
     run_all(&rt, rt.alloc(), &BLOCK)?;
-    run_all(&rt, rt.alloc(), &PORTS)
+    run_all(&rt, rt.alloc(), &PORTS)?;
+    run_all(&rt, rt.alloc(), &STIRS)
 }

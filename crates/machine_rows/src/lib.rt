@@ -18,8 +18,6 @@ mod flag_tests;
 #[cfg(test)]
 mod idle_tests;
 #[cfg(test)]
-mod leap_rows;
-#[cfg(test)]
 mod leap_tests;
 #[cfg(test)]
 mod machine_fifos;
@@ -41,3 +39,9 @@ mod port_rows;
 mod run_tests;
 #[cfg(test)]
 mod shift_tests;
+#[cfg(test)]
+mod stir_rows;
+#[cfg(test)]
+mod stirring_rows;
+#[cfg(test)]
+mod stirring_tests;
