@@ -10,6 +10,10 @@ mod block_tests;
 #[cfg(test)]
 mod divider_tests;
 #[cfg(test)]
+mod engine_rows;
+#[cfg(test)]
+mod engine_tests;
+#[cfg(test)]
 mod fifo_rows;
 #[cfg(test)]
 mod fifo_tests;
@@ -41,7 +45,3 @@ mod run_tests;
 mod shift_tests;
 #[cfg(test)]
 mod stir_rows;
-#[cfg(test)]
-mod stirring_rows;
-#[cfg(test)]
-mod stirring_tests;

@@ -3,7 +3,7 @@
 ghost use Rattle.std.specs.Prelude.{◌≡◌, ◌≤◌, ◌^◌, false};
 
 use crate::block_row::{Row, setup_of};
-use crate::stirring_rows::LEAPS;
+use crate::engine_rows::LEAPS;
 use block_core::{Block, Sample};
 use dreq_pacing::{Schedule, read_stimulus};
 use fifo_pair::{Fifo, PlainFifo, RingFifo};
