@@ -10,6 +10,10 @@ mod block_tests;
 #[cfg(test)]
 mod divider_tests;
 #[cfg(test)]
+mod engine_rows;
+#[cfg(test)]
+mod engine_tests;
+#[cfg(test)]
 mod fifo_rows;
 #[cfg(test)]
 mod fifo_tests;
@@ -17,8 +21,6 @@ mod fifo_tests;
 mod flag_tests;
 #[cfg(test)]
 mod idle_tests;
-#[cfg(test)]
-mod leap_rows;
 #[cfg(test)]
 mod leap_tests;
 #[cfg(test)]
@@ -43,5 +45,3 @@ mod run_tests;
 mod shift_tests;
 #[cfg(test)]
 mod stir_rows;
-#[cfg(test)]
-mod stir_tests;

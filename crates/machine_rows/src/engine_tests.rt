@@ -1,0 +1,110 @@
+//! The table of runs in which most clocks are passed over, with both kinds of FIFO. A trace is told of each clock that is
+//! worked out, and of no other.
+ghost use Rattle.std.specs.Prelude.{◌≡◌, ◌≤◌, ◌^◌, false};
+
+use crate::block_row::{Row, setup_of};
+use crate::engine_rows::LEAPS;
+use block_core::{Block, Sample};
+use dreq_pacing::{Schedule, read_stimulus};
+use fifo_pair::{Fifo, PlainFifo, RingFifo};
+use idle_engine::simulate;
+use pin_matrix::Spans;
+use std::alloc::{AllocError, Global};
+use std::marker::Brand;
+use std::sync::ledger::{Blank, Ledger};
+use std::test::Fail;
+use step_count::Steps;
+use vcd_trace::{Trace, TraceFailed};
+
+/// A trace that looks whether it is told of the clocks of a list. It keeps no samples, and never fails.
+#[derive(Drop)]
+struct Watch {
+    left: &'static [u64],
+    other: bool,
+}
+
+impl Trace for Watch {
+    ghost name = { λ _. 0 };
+
+    ghost faults = { λ _. 0 };
+
+    ghost has_failed = { λ _. false };
+
+    ghost ready = { λ _ _. Unit {0} };
+
+    ghost stands = { λ _ _ _ _. Unit {0} };
+
+    ghost broken = { λ _ _ _ _. Unit {0} };
+
+    fn begin(&mut self) -> Result<(), TraceFailed> {
+        Ok(())
+    }
+
+    fn sample(&mut self, clock: u64, _sample: &Sample) -> Result<(), TraceFailed> {
+        match self.left {
+            [first, rest @ ..] if *first == clock => self.left = rest,
+            _ => self.other = true,
+        }
+        Ok(())
+    }
+
+    fn end(&mut self, _clock: u64) -> Result<(), TraceFailed> {
+        Ok(())
+    }
+
+    fn failed(&self) -> bool {
+        false
+    }
+}
+
+/// Whether a run of so many clocks works out these clocks alone.
+fn works_out<F: Fifo, L: Ledger>(
+    alloc: Global,
+    row: &Row,
+    schedule: &Schedule,
+    clocks: u64,
+    worked: &'static [u64],
+    blank: Blank,
+) -> Result<bool, AllocError>
+    requires name { blank.name ≡ L.name }
+    requires parts { blank.parts ≡ L.parts }
+    requires whole { blank.parts ≡ 1 }
+{
+    let setup = setup_of(row, Spans::empty(alloc));
+    let mut block = Block::<F>::new(alloc, &setup)?;
+    let mut watch = Watch {
+        left: worked,
+        other: false,
+    };
+    let mut steps = Steps::<L>::new(blank);
+    let clocks = clocks.min(1_000_000_000_000);
+    let ended = simulate(&mut block, schedule, clocks, &mut watch, &mut steps).is_ok();
+    Ok(ended && watch.left.is_empty() && !watch.other)
+}
+
+#[test]
+fn clocks_that_stir(rt: HostRuntime) -> Result<(), Fail> {
+    let alloc = rt.alloc();
+    for leap in &LEAPS {
+        let row = &leap.row;
+        let schedule = read_stimulus(alloc, row.stimulus.as_bytes()).expect(&rt, row.shows);
+        let plain = works_out::<PlainFifo, Brand>(
+            alloc,
+            row,
+            &schedule,
+            leap.clocks,
+            leap.worked,
+            Blank::new(1),
+        )?;
+        let ring = works_out::<RingFifo, Brand>(
+            alloc,
+            row,
+            &schedule,
+            leap.clocks,
+            leap.worked,
+            Blank::new(1),
+        )?;
+        assert!(rt; plain && ring, "{}", row.shows);
+    }
+    Ok(())
+}
