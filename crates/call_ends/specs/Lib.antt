@@ -1,0 +1,4 @@
+pub mod Outside
+pub mod Tasks
+pub mod Promise
+pub mod Written
