@@ -12,6 +12,8 @@ mod rows_bounds;
 #[cfg(test)]
 mod rows_config;
 #[cfg(test)]
+mod rows_loads;
+#[cfg(test)]
 mod rows_machine;
 #[cfg(test)]
 mod rows_refused;

@@ -132,8 +132,39 @@ static SOURCES: [(&[&str], &str); 4] = [
     (&["asm", "--", "-a.pio"], "-a.pio"),
 ];
 
+/// Words, and the seed and the number of clocks of the load that they ask for.
+static LOADS: [(&[&str], u64, u64); 4] = [
+    (&["gen", "--seed", "0", "--clocks", "8"], 0, 8),
+    (
+        &["gen", "--clocks=8", "--seed=18446744073709551615"],
+        18_446_744_073_709_551_615,
+        8,
+    ),
+    (&["gen", "--seed", "+7", "--clocks", "0"], 7, 0),
+    (
+        &["gen", "--seed", "007", "--clocks", "1000000000000"],
+        7,
+        1_000_000_000_000,
+    ),
+];
+
+/// Words that ask what the machines of `a.pio` share, and the name of their configuration.
+static SHARED: [(&[&str], Option<&str>); 2] = [
+    (&["shares", "--source", "a.pio"], None),
+    (&["shares", "--config=c", "--source=a.pio"], Some("c")),
+];
+
 /// Words that ask for nothing.
-static REFUSED: [&[&str]; 46] = [
+static REFUSED: [&[&str]; 55] = [
+    &["gen", "--seed", "18446744073709551616", "--clocks", "8"],
+    &["gen", "--seed", "-1", "--clocks", "8"],
+    &["gen", "--seed", "7", "--clocks", "1000000000001"],
+    &["gen", "--clocks", "8"],
+    &["gen", "--seed", "7"],
+    &["gen", "7", "--clocks", "8"],
+    &["shares"],
+    &["shares", "--source", "a.pio", "--clocks", "8"],
+    &["check", "--source", "a.pio", "--span", "h"],
     &[],
     &["--help"],
     &["-h"],
@@ -243,6 +274,27 @@ fn sources(rt: HostRuntime) -> Result<(), Fail> {
 fn listings(rt: HostRuntime) -> Result<(), Fail> {
     for &(words, file, side, opt) in &LISTINGS {
         let order = Order::Dis { file, side, opt };
+        assert!(rt; gives(rt.alloc(), words, Ok(order))?, "{words:?}");
+    }
+    Ok(())
+}
+
+#[test]
+fn loads(rt: HostRuntime) -> Result<(), Fail> {
+    for &(words, seed, clocks) in &LOADS {
+        let order = Order::Gen { seed, clocks };
+        assert!(rt; gives(rt.alloc(), words, Ok(order))?, "{words:?}");
+    }
+    Ok(())
+}
+
+#[test]
+fn shared(rt: HostRuntime) -> Result<(), Fail> {
+    for &(words, config) in &SHARED {
+        let order = Order::Shares {
+            source: "a.pio",
+            config,
+        };
         assert!(rt; gives(rt.alloc(), words, Ok(order))?, "{words:?}");
     }
     Ok(())
