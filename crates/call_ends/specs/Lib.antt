@@ -2,3 +2,4 @@ pub mod Outside
 pub mod Tasks
 pub mod Promise
 pub mod Written
+pub mod Worked

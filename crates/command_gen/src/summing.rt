@@ -3,6 +3,7 @@ ghost use Rattle.std.specs.Prelude.{◌≡◌, ◌+◌, ◌≤◌, ◌^◌};
 ghost use Rattle.command_line.specs.Words.{gen as gen_asked};
 ghost use Rattle.call_ends.specs.Outside.{call_of};
 ghost use Rattle.call_ends.specs.Promise.{CommandEnds};
+ghost use Rattle.call_ends.specs.Worked.{most_worked};
 ghost use Rattle.call_ends.specs.Written.{Writes};
 ghost use Rattle.fault_lines.specs.Output.{output_of};
 ghost use Rattle.load_summary.specs.Summaries.{summary_text};
@@ -33,6 +34,7 @@ pub fn generate<F: Shelf, O: Sink, L: Ledger>(
         result }
     ensures same { shelf.new ≡ shelf.old }
     ensures steps { steps.new ≤ steps.old + clocks }
+    ensures worked { steps.new ≤ steps.old + most_worked (F.holds shelf.old) (gen_asked seed clocks) }
 {
     match summarise(alloc, seed, clocks, steps) {
         Ok(summary) => write_summary(out, &summary),

@@ -1,11 +1,13 @@
 //! The command `run`: the trace of the first clocks of a block that a source and a configuration set up, beside a stimulus.
 ghost use Rattle.std.specs.Prelude.{◌≡◌, ◌+◌, ◌≤◌, ◌^◌, false, option_map};
 ghost use Rattle.block_core.specs.Block.{first_run};
+ghost use Rattle.block_core.specs.Stirring.{stirring};
 ghost use Rattle.command_line.specs.Words.{run as run_asked};
 ghost use Rattle.pio_edge.specs.Edge.{PutCounts, Takes};
 ghost use Rattle.call_ends.specs.Tasks.{trace_text};
 ghost use Rattle.call_ends.specs.Outside.{call_of};
 ghost use Rattle.call_ends.specs.Promise.{CommandEnds};
+ghost use Rattle.call_ends.specs.Worked.{most_worked};
 ghost use Rattle.call_ends.specs.Written.{Writes};
 ghost use Rattle.fault_lines.specs.Output.{output_of};
 
@@ -26,7 +28,7 @@ use vcd_trace::{TraceFailed, VcdTrace};
 /// Writes the trace of so many clocks of the block that a source sets up, by a configuration or by default, beside a
 /// stimulus where one is named. Each span of the block has to be provable; the first one that isn't ends the run, and nothing
 /// is written. All memory is taken before the first piece is put.
-#[tactic(auto, unfolding(call_ends::specs::Tasks::judge))]
+#[tactic(auto, unfolding(call_ends::specs::Tasks::judge), using(crate::proofs::Working::worked_by))]
 pub fn run<F: Shelf, O: Sink, L: Ledger>(
     alloc: Global,
     files: RunFiles,
@@ -44,6 +46,8 @@ pub fn run<F: Shelf, O: Sink, L: Ledger>(
         result }
     ensures same { F.holds shelf.new ≡ F.holds shelf.old }
     ensures steps { steps.new ≤ steps.old + clocks }
+    ensures worked { steps.new ≤ steps.old + most_worked (F.holds shelf.old)
+        (run_asked files.entry.source.now (option_map (λ t. t.now) files.entry.config) (option_map (λ t. t.now) files.entry.stimulus) clocks) }
 {
     let (setup, schedule) = prepare(alloc, shelf, files)?;
     ask_spans(alloc, &setup)?;
@@ -65,6 +69,7 @@ fn write_run<O: Sink, L: Ledger>(
         (output_of (O.taken out.new) (O.waiting out.new) (O.faults out.new))
         (trace_text (first_run setup.now) schedule.now clocks) result }
     ensures steps { steps.new ≤ steps.old + clocks }
+    ensures stirring { steps.new ≤ steps.old + stirring (first_run setup.now) schedule.now clocks + 1 }
 {
     match Block::<RingFifo>::new(alloc, setup) {
         Ok(mut block) => write_trace(&mut block, schedule, clocks, out, steps),
@@ -86,6 +91,7 @@ fn write_trace<O: Sink, L: Ledger>(
         (output_of (O.taken out.new) (O.waiting out.new) (O.faults out.new))
         (trace_text block.old.run schedule.now clocks) result }
     ensures steps { steps.new ≤ steps.old + clocks }
+    ensures stirring { steps.new ≤ steps.old + stirring block.old.run schedule.now clocks + 1 }
 {
     match put_trace(block, schedule, clocks, out, steps) {
         Ok(()) => {}
@@ -110,6 +116,7 @@ fn put_trace<O: Sink, L: Ledger>(
     ensures bytes { Takes (O.taken out.old) (trace_text block.old.run schedule.now clocks) (O.taken out.new) result }
     ensures cause { PutCounts (O.faults out.old) (O.faults out.new) result }
     ensures steps { steps.new ≤ steps.old + clocks }
+    ensures stirring { steps.new ≤ steps.old + stirring block.old.run schedule.now clocks + 1 }
 {
     let mut trace = VcdTrace::new(out);
     trace_run(block, schedule, clocks, &mut trace, steps)
@@ -132,6 +139,7 @@ fn trace_run<O: Sink, L: Ledger>(
     ensures cause { PutCounts (O.faults trace.old.sink.now) (O.faults trace.new.sink.now) result }
     ensures same { trace.new.sink.ghost_name ≡ trace.old.sink.ghost_name }
     ensures steps { steps.new ≤ steps.old + clocks }
+    ensures stirring { steps.new ≤ steps.old + stirring block.old.run schedule.now clocks + 1 }
 {
     a_stopped_run_leaves_a_first_part();
     match simulate(block, schedule, clocks, trace, steps) {

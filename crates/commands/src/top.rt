@@ -3,8 +3,10 @@ ghost use Rattle.std.specs.Prelude.{◌≡◌, ◌≢◌, ◌+◌, ◌≤◌, ma
 ghost use Rattle.command_line.specs.Words.{IsTaken, IsWithinRange, asked_by, clocks_asked, most_clocks};
 ghost use Rattle.call_ends.specs.Outside.{call_of};
 ghost use Rattle.call_ends.specs.Promise.{CommandEnds};
+ghost use Rattle.call_ends.specs.Worked.{most_worked};
 ghost use Rattle.commands.specs.Complete.{FilesDecide};
 ghost use Rattle.commands.specs.Ends.{EndsAs, WorkEnds};
+ghost use Rattle.commands.specs.Steps.{worked_for};
 ghost use Rattle.fault_lines.specs.Output.{output_of};
 ghost use Rattle.fault_lines.specs.Told as told_spec;
 ghost use Rattle.fault_lines.specs.Told.{TellsFault};
@@ -48,6 +50,7 @@ pub fn piotool<F: Shelf, O: Sink, E: Sink, L: Ledger>(
         result.fault }
     ensures same { F.holds shelf.new ≡ F.holds shelf.old }
     ensures steps { steps.new ≤ steps.old + most_clocks (map string_bytes words.now) }
+    ensures worked { steps.new ≤ steps.old + worked_for (F.holds shelf.old) (map string_bytes words.now) }
 {
     let fault = work(alloc, words, shelf, out, steps).err();
     end_with(err, fault)
@@ -69,6 +72,7 @@ fn work<F: Shelf, O: Sink, L: Ledger>(
     ensures taken { IsTaken (map string_bytes words.now) → result ≢ Err Fault.Usage }
     ensures same { F.holds shelf.new ≡ F.holds shelf.old }
     ensures steps { steps.new ≤ steps.old + most_clocks (map string_bytes words.now) }
+    ensures worked { steps.new ≤ steps.old + worked_for (F.holds shelf.old) (map string_bytes words.now) }
 {
     match read(alloc, words) {
         Ok(order) => obey(alloc, order, shelf, out, steps),
@@ -94,6 +98,7 @@ fn obey<F: Shelf, O: Sink, L: Ledger>(
     ensures asked { result ≢ Err Fault.Usage }
     ensures same { F.holds shelf.new ≡ F.holds shelf.old }
     ensures steps { steps.new ≤ steps.old + clocks_asked (asked_by order.entry) }
+    ensures worked { steps.new ≤ steps.old + most_worked (F.holds shelf.old) (asked_by order.entry) }
 {
     match order {
         Order::Asm { file } => asm(alloc, file, shelf, out),
