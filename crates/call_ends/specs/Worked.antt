@@ -1,7 +1,7 @@
 -- How many clocks a command works out singly at most.
 --   run_worked    of a run whose files come to this
 --   most_worked   of a command, where the files are told or not
-use Rattle.std.specs.Prelude.{ℕ, ◌+◌, Option, Some, None, List, ◌×◌}
+use Rattle.std.specs.Prelude.{ℕ, ◌+◌, Option, Some, None, List}
 use Rattle.pio_edge.specs.Edge.{Files}
 use Rattle.dreq_pacing.specs.declared.line.Line.{Line}
 use Rattle.block_core.specs.Block.{first_run}

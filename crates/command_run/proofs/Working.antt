@@ -1,5 +1,5 @@
 -- A run works out no more clocks than those of its files that stir, and one.
-use Rattle.std.proofs.Common.{◌≡◌, ◌+◌, ◌≤◌, ℕ, Option, Some, None, List, ◌×◌, IfSome, sym, subst}
+use Rattle.std.proofs.Common.{◌≡◌, ◌+◌, ◌≤◌, ℕ, Option, Some, None, List, IfSome, sym, subst, arith}
 use Rattle.pio_edge.specs.Edge.{Files}
 use Rattle.pin_matrix.specs.declared.setup.Setup.{Setup}
 use Rattle.dreq_pacing.specs.declared.line.Line.{Line}
@@ -12,7 +12,8 @@ use Rattle.call_ends.specs.Worked.{run_worked, most_worked}
 of_right : (clocks before after : ℕ) (j : Judged (Setup × List Line)) (u : Setup) (lines : List Line) → j ≡ right (u, lines)
     → after ≤ before + stirring (first_run u) lines clocks + 1 → after ≤ before + run_worked clocks j
 of_right clocks before after j u lines same h =
-    subst (λ (k : Judged (Setup × List Line)). after ≤ before + run_worked clocks k) (sym same) h
+    let most : after ≤ before + (stirring (first_run u) lines clocks + 1) = omega (arith, h) in
+    subst (λ (k : Judged (Setup × List Line)). after ≤ before + run_worked clocks k) (sym same) most
 
 -- where the files come to this setup and these lines
 pub worked_by : (files : Option Files) (source : List ℕ) (config stimulus : Option (List ℕ)) (clocks before after : ℕ) (u : Setup) (lines : List Line)
