@@ -8,14 +8,16 @@ use Rattle.fault_lines.specs.declared.fault.Fault.{Fault}
 use Rattle.fault_lines.specs.declared.fault.Fault.TheVariants as fault
 use Rattle.clap.specs.Walk.{Text}
 use Rattle.command_line.specs.Words.{Asked, IsTaken}
-use Rattle.commands.specs.Judged.{Judged, right, wrong, IfRight, Task, listing, trace, verdicts, asked_setup, judge, file_in}
-use Rattle.commands.specs.Outside.{HasSuch, Call}
-use Rattle.commands.specs.Promise.{Ends, HasText}
-use Rattle.commands.specs.Spans.{AreProvable, IsFirstRefused}
-use Rattle.commands.proofs.Judging.{never_both}
+use Rattle.file_stages.specs.Judged.{Judged, right, wrong, IfRight}
+use Rattle.file_stages.specs.Stages.{HasSuch}
+use Rattle.span_stage.specs.Spans.{AreProvable, IsFirstRefused}
+use Rattle.call_ends.specs.Tasks.{Task, asked_setup, judge, file_in, HasText}
+use Rattle.call_ends.specs.Outside.{Call}
+use Rattle.call_ends.specs.Promise.{Ends}
 use Rattle.commands.specs.Ends.{EndsAs}
 use Rattle.commands.specs.Wanted.{wanted}
-use Rattle.commands.specs.Complete.{IsDone, IsUndone, EndsBySpans, EndsByTask, EndsByFiles, FilesDecide}
+use Rattle.commands.specs.Complete.{EndsByTask, EndsByFiles, FilesDecide}
+use Rattle.commands.proofs.NeverBoth.{never_both}
 
 -- of files that are told, what holds of them holds
 of_told : (P : Files → Type 0) (files : Option Files) (f : Files) → files ≡ Some f → IfSome files P → P f

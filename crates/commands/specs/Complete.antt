@@ -7,10 +7,11 @@ use Rattle.clap.specs.Walk.{Text}
 use Rattle.command_line.specs.Words.{IsTaken}
 use Rattle.verdict_lines.specs.declared.refusal.Refusal.{Refusal}
 use Rattle.pin_matrix.specs.declared.setup.Setup.{Setup}
-use Rattle.commands.specs.Judged.{Judged, right, wrong, Task, asked_setup, judge}
-use Rattle.commands.specs.Outside.{HasSuch, Call}
-use Rattle.commands.specs.Promise.{HasText}
-use Rattle.commands.specs.Spans.{AreProvable, IsFirstRefused}
+use Rattle.file_stages.specs.Judged.{Judged, right, wrong}
+use Rattle.file_stages.specs.Stages.{HasSuch}
+use Rattle.span_stage.specs.Spans.{AreProvable, IsFirstRefused}
+use Rattle.call_ends.specs.Tasks.{Task, asked_setup, judge, HasText}
+use Rattle.call_ends.specs.Outside.{Call}
 use Rattle.commands.specs.Wanted.{wanted}
 
 -- `tool` takes the words, the files are told, memory sufficed, and no count rose

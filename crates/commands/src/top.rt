@@ -1,21 +1,24 @@
 //! The call: the words, then what they ask for, and its end told.
 ghost use Rattle.std.specs.Prelude.{◌≡◌, ◌≢◌, ◌+◌, ◌≤◌, map, Some, Err, string_bytes};
 ghost use Rattle.command_line.specs.Words.{IsTaken, IsWithinRange, asked_by, clocks_asked, most_clocks};
+ghost use Rattle.call_ends.specs.Outside.{call_of};
+ghost use Rattle.call_ends.specs.Promise.{CommandEnds};
+ghost use Rattle.call_ends.specs.Worked.{most_worked};
 ghost use Rattle.commands.specs.Complete.{FilesDecide};
-ghost use Rattle.commands.specs.Outside.{call_of};
-ghost use Rattle.fault_lines.specs.Output.{output_of};
-ghost use Rattle.commands.specs.Stages.{CommandEnds};
 ghost use Rattle.commands.specs.Ends.{EndsAs, WorkEnds};
+ghost use Rattle.commands.specs.Steps.{worked_for};
+ghost use Rattle.fault_lines.specs.Output.{output_of};
 ghost use Rattle.fault_lines.specs.Told as told_spec;
 ghost use Rattle.fault_lines.specs.Told.{TellsFault};
 
-use crate::command_asm::asm;
-use crate::command_check::check;
-use crate::command_dis::dis;
-use crate::command_run::run;
-use crate::preparation::RunFiles;
+use command_check::check;
+use command_gen::generate;
 use command_line::{Order, WordsFault, read};
+use command_listing::{asm, dis};
+use command_run::run;
+use command_shares::shares;
 use fault_lines::{Ended, Fault, end_with};
+use file_stages::RunFiles;
 use pio_edge::{Shelf, Sink};
 use std::alloc::Global;
 use std::sync::ledger::Ledger;
@@ -47,6 +50,7 @@ pub fn piotool<F: Shelf, O: Sink, E: Sink, L: Ledger>(
         result.fault }
     ensures same { F.holds shelf.new ≡ F.holds shelf.old }
     ensures steps { steps.new ≤ steps.old + most_clocks (map string_bytes words.now) }
+    ensures worked { steps.new ≤ steps.old + worked_for (F.holds shelf.old) (map string_bytes words.now) }
 {
     let fault = work(alloc, words, shelf, out, steps).err();
     end_with(err, fault)
@@ -68,6 +72,7 @@ fn work<F: Shelf, O: Sink, L: Ledger>(
     ensures taken { IsTaken (map string_bytes words.now) → result ≢ Err Fault.Usage }
     ensures same { F.holds shelf.new ≡ F.holds shelf.old }
     ensures steps { steps.new ≤ steps.old + most_clocks (map string_bytes words.now) }
+    ensures worked { steps.new ≤ steps.old + worked_for (F.holds shelf.old) (map string_bytes words.now) }
 {
     match read(alloc, words) {
         Ok(order) => obey(alloc, order, shelf, out, steps),
@@ -93,6 +98,7 @@ fn obey<F: Shelf, O: Sink, L: Ledger>(
     ensures asked { result ≢ Err Fault.Usage }
     ensures same { F.holds shelf.new ≡ F.holds shelf.old }
     ensures steps { steps.new ≤ steps.old + clocks_asked (asked_by order.entry) }
+    ensures worked { steps.new ≤ steps.old + most_worked (F.holds shelf.old) (asked_by order.entry) }
 {
     match order {
         Order::Asm { file } => asm(alloc, file, shelf, out),
@@ -110,6 +116,8 @@ fn obey<F: Shelf, O: Sink, L: Ledger>(
             run(alloc, files, clocks, shelf, out, steps)
         }
         Order::Check { source, config } => check(alloc, source, config, shelf, out),
+        Order::Shares { source, config } => shares(alloc, source, config, shelf, out),
+        Order::Gen { seed, clocks } => generate(alloc, seed, clocks, shelf, out, steps),
         Order::Dis { file, side, opt } => dis(alloc, file, side, opt, shelf, out),
     }
 }

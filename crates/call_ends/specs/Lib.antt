@@ -1,0 +1,5 @@
+pub mod Outside
+pub mod Tasks
+pub mod Promise
+pub mod Written
+pub mod Worked

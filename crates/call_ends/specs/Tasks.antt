@@ -1,0 +1,85 @@
+-- What a command comes to, from its files alone: a task, or the first fault in the order of reading.
+--   Task        what the files have a command do
+--   judge       what a command comes to
+--   HasText     the text of a task is such; ComesTo: the told files come to a task that is such
+--   file_in     which file a command reads in a role; reaches: when it comes to it
+use Rattle.std.specs.Prelude.{ℕ, Bool, true, Option, Some, None, IfSome, List}
+use Rattle.pio_edge.specs.Edge.{Files}
+use Rattle.fault_lines.specs.declared.fault.File.{File}
+use Rattle.vcd_trace.specs.VcdText.{vcd_text}
+use Rattle.dreq_pacing.specs.declared.line.Line.{Line}
+use Rattle.block_core.specs.Block.{Run, first_run}
+use Rattle.block_core.specs.Hosted.{samples}
+use Rattle.pin_matrix.specs.declared.setup.Setup.{Setup}
+use Rattle.block_shares.specs.Report.{shares_text}
+use Rattle.load_summary.specs.Summaries.{summary_of, summary_text}
+use Rattle.command_line.specs.Words.{Asked, asm, run, check, shares, gen, dis}
+use Rattle.program_listing.specs.Listing.{listing_text}
+use Rattle.word_file.specs.Listing.{word_lines, rule_for}
+use Rattle.span_stage.specs.Spans.{AreProvable, HasVerdicts}
+use Rattle.file_stages.specs.Judged.{Judged, right, and_then, IfRight, source_at, words_at, prepared_at}
+use Rattle.file_stages.specs.Roles.{source_alone, words_alone, run_files, no_file, run_reaches}
+use Rattle.call_ends.specs.Outside.{Call}
+
+-- What the files have a command do: write a text; write a text where each span of a setup is provable; or write the lines of
+-- the verdicts on the spans of a setup.
+pub data Task : Type 0 where
+  listing : List ℕ → Task
+  trace : Setup → List ℕ → Task
+  verdicts : Setup → Task
+
+-- the text of so many clocks from a start, beside the lines of a stimulus
+unfoldable pub trace_text : Run → List Line → ℕ → List ℕ
+trace_text start lines clocks = vcd_text (samples start lines clocks)
+
+-- what a command comes to; `check` and `shares` read what a run without a stimulus reads
+unfoldable pub judge : Files → Asked → Judged Task
+judge files (asm name) = and_then (source_at files name) (λ programs. right (listing (listing_text programs)))
+judge files (run source config stimulus clocks) =
+    and_then (prepared_at files source config stimulus)
+    (λ prepared. right (trace prepared.0 (trace_text (first_run prepared.0) prepared.1 clocks)))
+judge files (check source config) = and_then (prepared_at files source config None) (λ prepared. right (verdicts prepared.0))
+judge files (shares source config) =
+    and_then (prepared_at files source config None) (λ prepared. right (listing (shares_text prepared.0)))
+judge files (gen seed clocks) = right (listing (summary_text (summary_of seed clocks)))
+judge files (dis name side opt) = and_then (words_at files name) (λ words. right (listing (word_lines (rule_for side opt) words)))
+
+-- the told files come to a task that is such
+abbrev pub ComesTo : Call → Asked → (Task → Type 0) → Type 0
+ComesTo c a P = IfSome c.files (λ f. IfRight (judge f a) P)
+
+-- the text that a task writes is such
+abbrev pub HasText : Task → (List ℕ → Type 0) → Type 0
+HasText (listing text) P = P text
+HasText (trace u text) P = P text
+HasText (verdicts u) P = HasVerdicts u P
+
+-- the setup whose spans are asked
+abbrev pub asked_setup : Task → Option Setup
+asked_setup (listing text) = None
+asked_setup (trace u text) = Some u
+asked_setup (verdicts u) = Some u
+
+-- the spans that are asked before anything is written are provable
+abbrev pub AskedBefore : Task → Type 0
+AskedBefore (listing text) = Unit {0}
+AskedBefore (trace u text) = AreProvable u
+AskedBefore (verdicts u) = Unit {0}
+
+-- the name of the file that a command reads in this role, where it reads one
+abbrev pub file_in : Asked → File → Option (List ℕ)
+file_in (asm name) role = source_alone name role
+file_in (run source config stimulus clocks) role = run_files source config stimulus role
+file_in (check source config) role = run_files source config None role
+file_in (shares source config) role = run_files source config None role
+file_in (gen seed clocks) role = no_file role
+file_in (dis name side opt) role = words_alone name role
+
+-- a command comes to the file of this role: what it reads before is right
+abbrev pub reaches : Files → Asked → File → Bool
+reaches files (asm name) role = true
+reaches files (run source config stimulus clocks) role = run_reaches files source config role
+reaches files (check source config) role = run_reaches files source config role
+reaches files (shares source config) role = run_reaches files source config role
+reaches files (gen seed clocks) role = true
+reaches files (dis name side opt) role = true

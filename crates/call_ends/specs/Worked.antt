@@ -1,0 +1,28 @@
+-- How many clocks a command works out singly at most.
+--   run_worked    of a run whose files come to this
+--   most_worked   of a command, where the files are told or not
+use Rattle.std.specs.Prelude.{ℕ, ◌+◌, Option, Some, None, List}
+use Rattle.pio_edge.specs.Edge.{Files}
+use Rattle.dreq_pacing.specs.declared.line.Line.{Line}
+use Rattle.block_core.specs.Block.{first_run}
+use Rattle.block_core.specs.Stirring.{stirring}
+use Rattle.pin_matrix.specs.declared.setup.Setup.{Setup}
+use Rattle.drawn_load.specs.Loads.{lines_of}
+use Rattle.load_summary.specs.Summaries.{start_of}
+use Rattle.command_line.specs.Words.{Asked, asm, run, check, shares, gen, dis}
+use Rattle.file_stages.specs.Judged.{Judged, right, wrong, prepared_at}
+
+-- the clocks of a run that stir, and one more; none where its files have a fault
+abbrev pub run_worked : ℕ → Judged (Setup × List Line) → ℕ
+run_worked clocks (right prepared) = stirring (first_run prepared.0) prepared.1 clocks + 1
+run_worked clocks (wrong e) = 0
+
+-- At most the clocks that stir, and one more. Of files that aren't told no more is said than that it is the clocks asked.
+abbrev pub most_worked : Option Files → Asked → ℕ
+most_worked (Some files) (run source config stimulus clocks) = run_worked clocks (prepared_at files source config stimulus)
+most_worked None (run source config stimulus clocks) = clocks
+most_worked files (gen seed clocks) = stirring (start_of seed) (lines_of seed) clocks + 1
+most_worked files (asm name) = 0
+most_worked files (check source config) = 0
+most_worked files (shares source config) = 0
+most_worked files (dis name side opt) = 0

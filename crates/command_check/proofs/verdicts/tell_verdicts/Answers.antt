@@ -1,0 +1,10 @@
+use Rattle.command_check.proofs.VerdictText.{as_many}
+use Rattle.command_check.proofs.Told.{tells_failing}
+use Rattle.command_check.proofs.verdicts.tell_verdicts.Goals as goal
+
+pub write_verdicts-requires : goal.write_verdicts-requires
+write_verdicts-requires g c = rw (c.as_slice.ensures.list, c.deref.ensures.value) (as_many _ _ _ c.requires.judged.verdicts)
+
+pub returns-in-Err : goal.returns-in-Err
+returns-in-Err g c =
+    tells_failing _ c.as_slice.result.now c.deref.result.now _ _ _ _ c.as_slice.ensures.list c.deref.ensures.value c.requires.judged.verdicts c.in-Err.ensures

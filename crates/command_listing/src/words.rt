@@ -1,0 +1,55 @@
+//! The command `dis`: the text of each word of a file.
+ghost use Rattle.std.specs.Prelude.{◌≡◌, ◌+◌, ◌≤◌, if◌then◌else◌, length};
+ghost use Rattle.command_line.specs.Words.{dis as dis_asked};
+ghost use Rattle.word_file.specs.Listing.{word_lines};
+ghost use Rattle.fault_lines.specs.Output.{output_of};
+ghost use Rattle.call_ends.specs.Outside.{call_of};
+ghost use Rattle.call_ends.specs.Promise.{CommandEnds};
+ghost use Rattle.call_ends.specs.Written.{Writes};
+
+use fault_lines::Fault;
+use file_stages::fetch_words;
+use pio_edge::{Shelf, Sink, SinkFailed};
+use pio_encode::SideRule;
+use std::alloc::Global;
+use word_file::{make_rule, put_words};
+
+/// Writes the lines of a file's words, read under a rule of so many side-set bits. All memory is taken before the
+/// first piece is put.
+#[tactic(auto, unfolding(call_ends::specs::Tasks::judge))]
+pub fn dis<F: Shelf, O: Sink>(
+    alloc: Global,
+    file: &str,
+    side: u8,
+    opt: bool,
+    shelf: &mut F,
+    out: &mut O,
+) -> Result<(), Fault>
+    requires { side + (if opt then 1 else 0) ≤ 5 }
+    ensures ends { CommandEnds (dis_asked file.now side opt)
+        (call_of (F.holds shelf.old) (F.faults shelf.old) (F.faults shelf.new)
+        (output_of (O.taken out.old) (O.waiting out.old) (O.faults out.old))
+        (output_of (O.taken out.new) (O.waiting out.new) (O.faults out.new)))
+        result }
+    ensures same { F.holds shelf.new ≡ F.holds shelf.old }
+{
+    let words = fetch_words(alloc, shelf, file)?;
+    write_words(out, &words, &make_rule(side, opt))
+}
+
+/// Writes the lines of words, and hands on what the output still keeps.
+fn write_words<O: Sink>(out: &mut O, words: &[u16], rule: &SideRule) -> Result<(), Fault>
+    requires { length words.now ≤ 32 }
+    ensures { Writes (output_of (O.taken out.old) (O.waiting out.old) (O.faults out.old))
+        (output_of (O.taken out.new) (O.waiting out.new) (O.faults out.new))
+        (word_lines rule.now words.now) result }
+{
+    match put_words(out, words, rule) {
+        Ok(()) => {}
+        Err(SinkFailed) => return Err(Fault::Out),
+    }
+    match out.finish() {
+        Ok(()) => Ok(()),
+        Err(SinkFailed) => Err(Fault::Out),
+    }
+}

@@ -1,7 +1,0 @@
-use Rattle.std.proofs.Common.{IsSome, None, slice_index_or, ap, subst}
-use Rattle.commands.proofs.Judging.{all_at, judged_next, judged_all}
-use Rattle.commands.proofs.spans.judge_spans.Goals as goal
-
-pub loop-place-preserved : goal.loop-place-preserved
-loop-place-preserved c =
-    judged_next _ c.as_slice-spans.result.now c.loop-place.place _ _ _ _ c.index-spans-place.result c.loop-place-test.true c.index-spans-place.is c.loop-place.invariant c.in-Ok.ensures

@@ -1,0 +1,105 @@
+-- What the files of a command come to: bytes within their limit, programs, words, a setup, the lines of a stimulus; or the first
+-- fault in the order of reading.
+use Rattle.std.specs.Prelude.{ℕ, nat_lt, Bool, true, false, if◌then◌else◌, Option, Some, None, List, [], length, Result, Ok, Err}
+use Rattle.std.specs.FinMap.{get}
+use Rattle.pio_edge.specs.Edge.{Files}
+use Rattle.pio_assemble.specs.Program.{Assembled}
+use Rattle.pio_assemble.specs.Answers.{Refusal}
+use Rattle.pio_assemble.specs.Source.{reads_source}
+use Rattle.fault_lines.specs.declared.fault.File.{File}
+use Rattle.fault_lines.specs.declared.fault.File.TheVariants as file
+use Rattle.fault_lines.specs.declared.fault.Fault.{Fault}
+use Rattle.fault_lines.specs.declared.fault.Fault.TheVariants as fault
+use Rattle.dreq_pacing.specs.declared.line.Line.{Line}
+use Rattle.dreq_pacing.specs.Reading as stimulus
+use Rattle.dreq_pacing.specs.Reading.{stimulus_of}
+use Rattle.pin_matrix.specs.declared.setup.Setup.{Setup}
+use Rattle.block_config.specs.Answer as config
+use Rattle.block_config.specs.Config.{config_setup_of}
+use Rattle.block_config.specs.Default.{default_setup_of}
+use Rattle.word_file.specs.declared.fault.WordFault.{WordFault}
+use Rattle.word_file.specs.Reading.{word_file}
+
+-- a value, or the first fault on the way to it
+pub data Judged (X : Type 0) : Type 0 where
+  right : X → Judged X
+  wrong : Fault → Judged X
+
+-- what comes next where there was no fault so far
+abbrev pub and_then : {X Y : Type 0} → Judged X → (X → Judged Y) → Judged Y
+and_then (right x) next = next x
+and_then (wrong e) next = wrong e
+
+-- it is right, and its value is such
+abbrev pub IfRight : {X : Type 0} → Judged X → (X → Type 0) → Type 0
+IfRight (right x) P = P x
+IfRight (wrong e) P = ⊥
+
+-- it is right
+abbrev pub is_right : {X : Type 0} → Judged X → Bool
+is_right (right x) = true
+is_right (wrong e) = false
+
+-- how many bytes a file may have (choice of this profile)
+abbrev pub limit : File → ℕ
+limit file.Source = 262144
+limit file.Words = 262144
+limit file.Config = 262144
+limit file.Stimulus = 33554432
+
+-- a file's bytes, if it is there and within its limit
+abbrev pub read_at : File → Option (List ℕ) → Judged (List ℕ)
+read_at role None = wrong (fault.Shelf role)
+read_at role (Some bytes) = if nat_lt (limit role) (length bytes) then wrong (fault.TooLong role) else right bytes
+
+-- a reading of a source, or its fault
+abbrev pub judged_source : Result (List Assembled) Refusal → Judged (List Assembled)
+judged_source (Ok programs) = right programs
+judged_source (Err refusal) = wrong (fault.Source refusal.line refusal.kind)
+
+-- the programs of the source with this name
+unfoldable pub source_at : Files → List ℕ → Judged (List Assembled)
+source_at files name = and_then (read_at file.Source (get files name)) (λ bytes. judged_source (reads_source bytes))
+
+-- a reading of a word file, or its fault
+abbrev pub judged_words : Result (List ℕ) WordFault → Judged (List ℕ)
+judged_words (Ok words) = right words
+judged_words (Err refusal) = wrong (fault.Words refusal.line refusal.kind)
+
+-- the words of the file with this name
+unfoldable pub words_at : Files → List ℕ → Judged (List ℕ)
+words_at files name = and_then (read_at file.Words (get files name)) (λ bytes. judged_words (word_file bytes))
+
+-- a setup, or its fault
+abbrev pub judged_setup : Result Setup config.Refusal → Judged Setup
+judged_setup (Ok setup) = right setup
+judged_setup (Err refusal) = wrong (fault.Config refusal.key refusal.kind)
+
+-- what the configuration with this name makes of programs
+unfoldable pub config_at : Files → List ℕ → List Assembled → Judged Setup
+config_at files name programs = and_then (read_at file.Config (get files name)) (λ bytes. judged_setup (config_setup_of bytes programs))
+
+-- the same, and the default setup where none is named
+abbrev pub setup_at : Files → Option (List ℕ) → List Assembled → Judged Setup
+setup_at files None programs = judged_setup (default_setup_of programs)
+setup_at files (Some name) programs = config_at files name programs
+
+-- a reading of a stimulus, or its fault
+abbrev pub judged_stimulus : Result (List Line) stimulus.Refusal → Judged (List Line)
+judged_stimulus (Ok lines) = right lines
+judged_stimulus (Err refusal) = wrong (fault.Stim refusal.line refusal.kind)
+
+-- the lines of the stimulus with this name
+unfoldable pub stimulus_at : Files → List ℕ → Judged (List Line)
+stimulus_at files name = and_then (read_at file.Stimulus (get files name)) (λ bytes. judged_stimulus (stimulus_of bytes))
+
+-- the same, and no lines where none is named
+abbrev pub schedule_at : Files → Option (List ℕ) → Judged (List Line)
+schedule_at files None = right []
+schedule_at files (Some name) = stimulus_at files name
+
+-- the setup of a source's programs and the lines of a stimulus, in this order
+unfoldable pub prepared_at : Files → List ℕ → Option (List ℕ) → Option (List ℕ) → Judged (Setup × List Line)
+prepared_at files source config stimulus =
+    and_then (source_at files source) (λ programs. and_then (setup_at files config programs) (λ setup.
+    and_then (schedule_at files stimulus) (λ lines. right (setup, lines))))

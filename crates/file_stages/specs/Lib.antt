@@ -1,0 +1,3 @@
+pub mod Judged
+pub mod Roles
+pub mod Stages

@@ -1,0 +1,43 @@
+-- Which files a stage or a command reads, by their roles, and when it comes to them.
+use Rattle.std.specs.Prelude.{ℕ, Bool, true, Option, Some, None, List}
+use Rattle.pio_edge.specs.Edge.{Files}
+use Rattle.fault_lines.specs.declared.fault.File.{File}
+use Rattle.fault_lines.specs.declared.fault.File.TheVariants as file
+use Rattle.file_stages.specs.Judged.{is_right, and_then, source_at, setup_at}
+
+-- no file at all
+abbrev pub no_file : File → Option (List ℕ)
+no_file role = None
+
+-- the source, and no other file
+abbrev pub source_alone : List ℕ → File → Option (List ℕ)
+source_alone name file.Source = Some name
+source_alone name role = None
+
+-- the file of words, and no other
+abbrev pub words_alone : List ℕ → File → Option (List ℕ)
+words_alone name file.Words = Some name
+words_alone name role = None
+
+-- the configuration, where there is one, and no other file
+abbrev pub config_alone : Option (List ℕ) → File → Option (List ℕ)
+config_alone name file.Config = name
+config_alone name role = None
+
+-- the stimulus, where there is one, and no other file
+abbrev pub stimulus_alone : Option (List ℕ) → File → Option (List ℕ)
+stimulus_alone name file.Stimulus = name
+stimulus_alone name role = None
+
+-- the files of a run: a configuration and a stimulus where they are named
+abbrev pub run_files : List ℕ → Option (List ℕ) → Option (List ℕ) → File → Option (List ℕ)
+run_files source config stimulus file.Source = Some source
+run_files source config stimulus file.Config = config
+run_files source config stimulus file.Stimulus = stimulus
+run_files source config stimulus role = None
+
+-- a run comes to the file of this role: what it reads before is right
+abbrev pub run_reaches : Files → List ℕ → Option (List ℕ) → File → Bool
+run_reaches files source config file.Config = is_right (source_at files source)
+run_reaches files source config file.Stimulus = is_right (and_then (source_at files source) (setup_at files config))
+run_reaches files source config role = true

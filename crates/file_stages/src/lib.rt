@@ -1,0 +1,16 @@
+//! The stages that read the files of a command: each fetches a file from the shelf and reads it, or ends with its cause.
+#![tactic(auto)]
+
+mod fetch;
+mod preparation;
+mod setup;
+mod source;
+mod stimulus;
+mod words;
+
+pub use fetch::fetch_file;
+pub use preparation::{RunFiles, prepare};
+pub use setup::read_setup;
+pub use source::read_source;
+pub use stimulus::read_schedule;
+pub use words::fetch_words;

@@ -1,0 +1,99 @@
+-- What is said of the spans of a setup.
+--   IsProvableAlone  a span is provable, and no other machine may write a pin of it
+--   IsRefused        why a span isn't
+--   IsFirstRefused   the first span that isn't, and why
+--   AreVerdicts      a verdict on each span, in order
+--   HasVerdicts      the lines of such verdicts
+use Rattle.std.specs.Prelude.{◌≡◌, ℕ, ◌⊎◌, ◌++◌, Bool, List, [], ◌∷◌, Option, Some, None, Result, Ok, Err}
+use Rattle.std.specs.List.{AllByRecursion}
+use Rattle.pin_matrix.specs.declared.setup.Setup.{Setup}
+use Rattle.pin_matrix.specs.declared.span.Span.{Span}
+use Rattle.span_bounds.specs.declared.row.Row.{Row}
+use Rattle.span_bounds.specs.Tables.{IsProvable}
+use Rattle.span_verdict.specs.Sharing.{IsUnshared, IsLeastSharer}
+use Rattle.span_verdict.specs.Verdicts.{IsProved, IsUnproved}
+use Rattle.span_check.specs.Proved.{HoldsInEveryRun}
+use Rattle.verdict_lines.specs.declared.refusal.Refusal.{Refusal}
+use Rattle.verdict_lines.specs.declared.refusal.Refusal.TheVariants.{Unproved, Shared}
+use Rattle.verdict_lines.specs.Lines.{verdict_line}
+use Rattle.fault_lines.specs.declared.fault.Fault.{Fault}
+use Rattle.fault_lines.specs.declared.fault.Fault.TheVariants as fault
+
+-- some closed table is good, and no other machine may write a pin of the span
+pub record IsProvableAlone (u : Setup) (sp : Span) : Type 0 where
+  pub provable : IsProvable u sp
+  pub alone : IsUnshared u sp
+
+-- each span is so
+abbrev pub AreProvable : Setup → Type 0
+AreProvable u = AllByRecursion (IsProvableAlone u) u.spans
+
+-- each span holds in every run of the setup, whatever the stimulus and the length
+abbrev pub AllHold : Setup → Type 0
+AllHold u = AllByRecursion (HoldsInEveryRun u) u.spans
+
+-- Why a span isn't provable: the first bad context of the least closed table, which is bad for this cause in every closed
+-- one; or the least other machine that may write a pin of the span.
+abbrev pub IsRefused : Setup → Span → Refusal → Type 0
+IsRefused u sp (Unproved k cause) = IsUnproved u sp k cause
+IsRefused u sp (Shared m) = IsLeastSharer u sp m
+
+-- the spans before this one are provable, and this is the name of the one that isn't, and why
+abbrev pub IsFirstRefused : Setup → List Span → List ℕ → Refusal → Type 0
+IsFirstRefused u [] name refusal = ⊥
+IsFirstRefused u (sp ∷ spans) name refusal =
+    ((sp.name ≡ name) × IsRefused u sp refusal) ⊎ (IsProvableAlone u sp × IsFirstRefused u spans name refusal)
+
+-- a span is proved, and opens or not; or this is why it isn't
+abbrev pub IsVerdictOn : Setup → Span → Result Bool Refusal → Type 0
+IsVerdictOn u sp (Ok opens) = (rows : List Row) × IsProved u sp rows opens
+IsVerdictOn u sp (Err refusal) = IsRefused u sp refusal
+
+-- a verdict on each span, in order
+abbrev pub AreVerdicts : Setup → List Span → List (Result Bool Refusal) → Type 0
+AreVerdicts u [] [] = Unit {0}
+AreVerdicts u [] (found ∷ more) = ⊥
+AreVerdicts u (sp ∷ spans) [] = ⊥
+AreVerdicts u (sp ∷ spans) (found ∷ more) = IsVerdictOn u sp found × AreVerdicts u spans more
+
+-- the line of the verdict on each span, in order
+unfoldable pub verdict_text : List Span → List (Result Bool Refusal) → List ℕ
+verdict_text [] found = []
+verdict_text (sp ∷ spans) [] = []
+verdict_text (sp ∷ spans) (found ∷ more) = verdict_line [] sp.name found ++ verdict_text spans more
+
+-- the lines of right verdicts on the spans of a setup are such
+abbrev pub HasVerdicts : Setup → (List ℕ → Type 0) → Type 0
+HasVerdicts u P = (found : List (Result Bool Refusal)) × AreVerdicts u u.spans found × P (verdict_text u.spans found)
+
+-- ---- what the stages that ask spans give
+
+-- the name of the first span that isn't provable, and why, once this verdict on a span of this name comes after those before it
+abbrev pub first_refused : Option (List ℕ × Refusal) → List ℕ → Result Bool Refusal → Option (List ℕ × Refusal)
+first_refused None name (Err refusal) = Some (name, refusal)
+first_refused None name (Ok opens) = None
+first_refused (Some earlier) name found = Some earlier
+
+-- each of these spans is provable, or this is the first one that isn't, and why
+abbrev pub IsFirstOf : Setup → List Span → Option (List ℕ × Refusal) → Type 0
+IsFirstOf u spans None = AllByRecursion (IsProvableAlone u) spans
+IsFirstOf u spans (Some refused) = IsFirstRefused u spans refused.0 refused.1
+
+-- a verdict on each of these spans, and the first one that isn't provable
+pub record AreJudged (u : Setup) (spans : List Span) (found : List (Result Bool Refusal)) (refused : Option (List ℕ × Refusal)) : Type 0 where
+  pub verdicts : AreVerdicts u spans found
+  pub first : IsFirstOf u spans refused
+
+-- a verdict on this span came after the others
+pub record IsNext (u : Setup) (sp : Span) (before after : List (Result Bool Refusal)) (earlier refused : Option (List ℕ × Refusal)) : Type 0 where
+  pub found : Result Bool Refusal
+  pub verdict : IsVerdictOn u sp found
+  pub more : after ≡ before ++ found ∷ []
+  pub first : refused ≡ first_refused earlier sp.name found
+
+-- how a command ends that asks the spans: each is provable and holds in every run, or the first one that isn't is told
+abbrev pub AreAsked : Setup → Result (Unit {0}) Fault → Type 0
+AreAsked u (Ok done) = AreProvable u × AllHold u
+AreAsked u (Err (fault.Unproved name refusal)) = IsFirstRefused u u.spans name refusal
+AreAsked u (Err fault.Memory) = Unit {0}
+AreAsked u (Err e) = ⊥
