@@ -32,12 +32,7 @@ pub struct Seen {
 }
 
 /// What a call of these words leaves, with ample memory.
-pub fn seen(
-    alloc: Global,
-    words: &str,
-    held: &Held,
-    failing: Failing,
-) -> Result<Seen, AllocError> {
+pub fn seen(alloc: Global, words: &str, held: &Held, failing: Failing) -> Result<Seen, AllocError> {
     seen_of::<Brand>(alloc, words, held, failing, Blank::new(1))
 }
 

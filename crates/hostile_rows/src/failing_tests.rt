@@ -116,7 +116,8 @@ fn put_fails(alloc: Global, whole: &Whole, call: u64) -> Option<Put> {
     let one = failing_put(alloc, whole, call, 1)?;
     let text = whole.seen.out.bytes();
     let taken = none.out.bytes().len();
-    let right = is_stopped(&none) && is_stopped(&one)
+    let right = is_stopped(&none)
+        && is_stopped(&one)
         && text.starts_with(none.out.bytes())
         && text.starts_with(one.out.bytes())
         && one.out.bytes().len().saturating_sub(taken) <= 1;
@@ -150,7 +151,10 @@ fn fetches_fail(alloc: Global, line: &str) -> Option<bool> {
         };
         let found = seen(alloc, whole.words, &whole.held, failing).ok()?;
         let line = format!(in alloc; "piotool: shelf {file}\n").ok()?;
-        if found.status != 4 || !found.out.bytes().is_empty() || found.err.bytes() != line.as_bytes() {
+        if found.status != 4
+            || !found.out.bytes().is_empty()
+            || found.err.bytes() != line.as_bytes()
+        {
             return Some(false);
         }
     }
@@ -170,7 +174,11 @@ fn line_fails(alloc: Global, line: &str) -> Option<bool> {
             return Some(false);
         }
     }
-    Some(is_cut(alloc, &whole, 2, 0)? && is_cut(alloc, &whole, 3, 0)? && is_cut(alloc, &whole, 4, 0)?)
+    Some(
+        is_cut(alloc, &whole, 2, 0)?
+            && is_cut(alloc, &whole, 3, 0)?
+            && is_cut(alloc, &whole, 4, 0)?,
+    )
 }
 
 /// Where this call of the error output fails after so many bytes, the status stays and a first part of the line is told; of the
