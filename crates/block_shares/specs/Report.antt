@@ -64,5 +64,5 @@ machine_text setup m =
     if is_some (slice_index_or setup.machines m None) then (if feels_any setup m then share_texts setup m else alone_line m) else []
 
 -- the lines of all machines that are configured, in order of their numbers
-abbrev pub shares_text : Setup → List ℕ
+unfoldable pub shares_text : Setup → List ℕ
 shares_text setup = machine_text setup 0 ++ machine_text setup 1 ++ machine_text setup 2 ++ machine_text setup 3

@@ -11,6 +11,7 @@ use pio_edge::{Sink, SinkFailed, put_all};
 
 /// Puts the report on what the machines of a setup share: for each that is configured a line for each other machine that it can
 /// feel something of, or one line that it is alone. It takes no memory.
+#[tactic(auto, unfolding(crate::specs::Report::shares_text))]
 pub fn put_shares<S: Sink>(sink: &mut S, setup: &Setup) -> Result<(), SinkFailed>
     ensures bytes { Takes (S.taken sink.old) (spec.shares_text setup.now) (S.taken sink.new) result }
     ensures cause { PutCounts (S.faults sink.old) (S.faults sink.new) result }
