@@ -48,6 +48,7 @@ fn refills<F: Fifo>(setup: &MachineSetup, fifos: &Pair<F>, registers: &Registers
 }
 
 /// Whether the current instruction stalls as soon as no delay is left. Nothing of what it does is kept.
+#[inline(never)]
 #[tactic(auto, unfolding(pio_encode::specs::Word::reading_of))]
 fn stalls_again<F: Fifo>(
     setup: &MachineSetup,

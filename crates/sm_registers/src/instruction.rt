@@ -19,6 +19,7 @@ use pin_matrix::MachineSetup;
 use pio_encode::Act;
 
 /// Does to the registers what an act does to them, and tells what it does besides.
+#[inline(always)]
 #[tactic(auto, unfolding(crate::specs::Effects::effect_of))]
 pub(crate) fn effect_of<F: Fifo>(
     act: Act,
