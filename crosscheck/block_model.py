@@ -320,10 +320,10 @@ class System:
         return writes, reads
 
 
-def samples(memory, setups, pins, lines, clocks):
+def samples(memory, setups, pins, lines, clocks, system=None):
     """The 88 values after each clock. Setups are by machine number; pins has high, level, out and bypass as words."""
     machines = {number: Machine(setup) for number, setup in sorted(setups.items())}
-    system = System(lines)
+    system = system or System(lines)
     levels, directions, outside, flags = pins["level"], pins["out"], pins["high"], 0
 
     def pads():
