@@ -1,4 +1,6 @@
 //! A call of the whole program over files in memory.
+ghost use Rattle.std.specs.Prelude.{◌≡◌};
+
 use commands::piotool;
 use pio_edge::{MemShelf, MemSink};
 use std::alloc::{AllocError, Global};
