@@ -1,0 +1,10 @@
+use Rattle.std.proofs.Common.{◌+◌, ◌≤◌, sym, subst}
+use Rattle.command_line.specs.Words.{asked_by}
+use Rattle.command_line.specs.declared.order.Order.{Order}
+use Rattle.call_ends.specs.Worked.{most_worked}
+use Rattle.commands.proofs.top.obey.Goals as goal
+
+pub returns-in-Gen-clause-worked : goal.returns-in-Gen-clause-worked
+returns-in-Gen-clause-worked g c =
+    subst (λ (o : Order). c.generate.new.steps ≤ c.args.steps.now + most_worked (g.F.Shelf.holds c.args.shelf.now) (asked_by o))
+    (sym c.in-Gen.is) c.generate.ensures.worked
