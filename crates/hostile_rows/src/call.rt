@@ -27,14 +27,19 @@ pub struct Failing<'a> {
 
 /// What a call leaves: its status, and what the output and the error output took.
 #[derive(Drop)]
-pub struct Seen {
+pub struct Outcome {
     pub status: u8,
     pub out: MemSink,
     pub err: MemSink,
 }
 
 /// What a call of these words leaves, with ample memory.
-pub fn seen(alloc: Global, words: &str, held: &Held, failing: Failing) -> Result<Seen, AllocError> {
+pub fn seen(
+    alloc: Global,
+    words: &str,
+    held: &Held,
+    failing: Failing,
+) -> Result<Outcome, AllocError> {
     seen_of::<Brand>(alloc, words, held, failing, Blank::new(1))
 }
 
@@ -44,7 +49,7 @@ fn seen_of<L: Ledger>(
     held: &Held,
     failing: Failing,
     blank: Blank,
-) -> Result<Seen, AllocError>
+) -> Result<Outcome, AllocError>
     requires name { blank.name ≡ L.name }
     requires parts { blank.parts ≡ L.parts }
     requires whole { blank.parts ≡ 1 }
@@ -55,7 +60,7 @@ fn seen_of<L: Ledger>(
     let mut err = MemSink::with_room(alloc, 1000, failing.err)?;
     let mut steps = Steps::<L>::new(blank);
     let end = piotool(alloc, &words, &mut shelf, &mut out, &mut err, &mut steps);
-    Ok(Seen {
+    Ok(Outcome {
         status: end.status,
         out,
         err,

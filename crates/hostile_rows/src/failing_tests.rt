@@ -1,5 +1,5 @@
 //! Calls whose outside fails: each put, each finish and each fetch once, and the error output within its line.
-use crate::call::{Failing, Held, Seen, seen};
+use crate::call::{Failing, Held, Outcome, seen};
 use crate::failing_rows::{TELLING, WRITING};
 use crate::spelling::spelled;
 use std::alloc::Global;
@@ -20,7 +20,7 @@ const QUIET: Failing<'static> = Failing {
 struct Whole<'a> {
     words: &'a str,
     held: Held,
-    seen: Seen,
+    seen: Outcome,
 }
 
 #[test]
@@ -124,7 +124,7 @@ fn put_fails(alloc: Global, whole: &Whole, call: u64) -> Option<Put> {
     Some(if right { Put::Fails } else { Put::Wrong })
 }
 
-fn failing_put(alloc: Global, whole: &Whole, call: u64, taken: usize) -> Option<Seen> {
+fn failing_put(alloc: Global, whole: &Whole, call: u64, taken: usize) -> Option<Outcome> {
     let failing = Failing {
         out: &[(call, taken)],
         ..QUIET
@@ -133,7 +133,7 @@ fn failing_put(alloc: Global, whole: &Whole, call: u64, taken: usize) -> Option<
 }
 
 /// The call ended since the output failed.
-fn is_stopped(seen: &Seen) -> bool {
+fn is_stopped(seen: &Outcome) -> bool {
     seen.status == 5 && seen.err.bytes() == "piotool: out\n".as_bytes()
 }
 

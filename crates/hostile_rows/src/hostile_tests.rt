@@ -1,5 +1,5 @@
 //! Files that are malformed, or as large as they may be, or a byte larger.
-use crate::call::{Failing, Held, Seen, seen};
+use crate::call::{Failing, Held, Outcome, seen};
 use crate::hostile_rows::{CONFIGS, SOURCES, STIMULI};
 use crate::spelling::spelled;
 use std::alloc::Global;
@@ -53,7 +53,7 @@ fn ends_as_stated(alloc: Global, line: &str) -> Option<bool> {
 }
 
 /// A call ended with this status and this line, and the output ends in this text; where it is empty, so is the output.
-fn is_as_stated(found: &Seen, status: u8, out: &[u8], err: &[u8]) -> bool {
+fn is_as_stated(found: &Outcome, status: u8, out: &[u8], err: &[u8]) -> bool {
     found.status == status
         && found.err.bytes() == err
         && found.out.bytes().ends_with(out)
