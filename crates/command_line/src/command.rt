@@ -2,7 +2,7 @@
 ghost use Rattle.std.specs.Prelude.{IfOk};
 ghost use Rattle.clap.specs.Simple.{new_app};
 ghost use Rattle.command_line.specs.Making.{IsApp, Offers, Takes};
-ghost use Rattle.command_line.specs.Tool.{asm_app, check_app, dis_app, gen_app, run_app, shares_app, bare_app, tool as tool_app};
+ghost use Rattle.command_line.specs.Tool.{asm_app, check_app, dis_app, gen_app, recheck_app, run_app, shares_app, table_app, bare_app, tool as tool_app};
 
 use crate::arguments;
 use clap::{Arg, Command};
@@ -17,6 +17,8 @@ pub fn tool<'a>(alloc: Global) -> Result<Command<'a>, AllocError>
     let command = add(command, dis(alloc));
     let command = add(command, check(alloc));
     let command = add(command, generate(alloc));
+    let command = add(command, table(alloc));
+    let command = add(command, recheck(alloc));
     add(command, shares(alloc))
 }
 
@@ -95,6 +97,35 @@ fn generate<'a>(alloc: Global) -> Result<Command<'a>, AllocError>
     );
     let command = with_argument(command, arguments::seed(alloc));
     with_argument(command, arguments::clocks(alloc))
+}
+
+#[tactic(auto, unfolding(crate::specs::Tool::table_app))]
+fn table<'a>(alloc: Global) -> Result<Command<'a>, AllocError>
+    ensures { IfOk result (IsApp table_app) }
+{
+    let command = named(
+        alloc,
+        "table",
+        "Writes the table that proves a span: what its machine may come to, and how old an open edge is there",
+    );
+    let command = with_argument(command, arguments::source(alloc));
+    let command = with_argument(command, arguments::config(alloc));
+    with_argument(command, arguments::span(alloc))
+}
+
+#[tactic(auto, unfolding(crate::specs::Tool::recheck_app))]
+fn recheck<'a>(alloc: Global) -> Result<Command<'a>, AllocError>
+    ensures { IfOk result (IsApp recheck_app) }
+{
+    let command = named(
+        alloc,
+        "recheck",
+        "Says whether the table in a file proves a span, without working one out",
+    );
+    let command = with_argument(command, arguments::source(alloc));
+    let command = with_argument(command, arguments::config(alloc));
+    let command = with_argument(command, arguments::span(alloc));
+    with_argument(command, arguments::table(alloc))
 }
 
 #[tactic(auto, unfolding(crate::specs::Tool::shares_app))]
