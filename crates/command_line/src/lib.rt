@@ -11,6 +11,9 @@ mod order;
 mod reading;
 
 pub use advising::advice;
-pub use laws::{asm_words, check_words, dis_words, gen_words, run_words, shares_words};
+pub use laws::{
+    asm_words, check_words, dis_words, gen_words, recheck_words, run_words, shares_words,
+    table_words,
+};
 pub use order::{Order, WordsFault};
 pub use reading::read;

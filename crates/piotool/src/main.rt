@@ -36,7 +36,7 @@ fn counted<L: Ledger, R: Env + Files + Print + Eprint + AllocGlobal, W: Write + 
     match words_of(rt) {
         Ok(words) => {
             let ended = over_outside(rt, &words, &mut err, &mut steps);
-            advise(rt, &words, ended);
+            advise(rt, &words, &ended);
             ended
         }
         Err(fault) => end_with(&mut err, Some(fault)),
@@ -73,7 +73,7 @@ fn over_outside<L: Ledger, R: Files + Print + AllocGlobal, W: Write + Drop>(
 
 /// After words that ask for nothing, what there is to say of them: the help, or the mistake with its usage. It is told as far
 /// as memory and standard error allow, since the call's line is already there.
-fn advise<R: Eprint + AllocGlobal>(rt: &R, words: &[String], ended: Ended) {
+fn advise<R: Eprint + AllocGlobal>(rt: &R, words: &[String], ended: &Ended) {
     if let Some(Fault::Usage) = ended.fault {
         if let Ok(Some(text)) = advice(rt.alloc(), words) {
             let _ = rt.eprint(&text);
