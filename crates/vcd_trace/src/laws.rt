@@ -18,7 +18,7 @@ pub fn same_values_have_no_lines()
         → changes_text before now ≡ [] }
 {}
 
-/// Samples that differ have a line between them, so that no clock's line stands alone but the last.
+/// Samples that differ have a line between them, so that no clock's line is alone but the last.
 pub fn different_samples_have_lines()
     ensures { (before now : Shown) → IsSample before → IsSample now
         → same_sample before now ≡ false → changes_text before now ≢ [] }
@@ -29,7 +29,7 @@ pub fn repeated_samples_add_nothing()
     ensures { (clock : ℕ) (told : List Shown) → open_text (held_to clock told) ≡ open_text told }
 {}
 
-/// What was written stays: each further sample only adds behind it.
+/// What was written stays: each further sample only adds after it.
 pub fn text_only_grows()
     ensures { (clock : ℕ) (now : Shown) (told : List Shown) → IsNext told clock
         → (more : List ℕ) × (open_text (told_at clock now told) ≡ open_text told ++ more) }
@@ -42,7 +42,7 @@ pub fn failing_early_leaves_a_first_part()
         → TakesPrefix before (open_text told) now → TakesPrefix before (vcd_text (told ++ more)) now }
 {}
 
-/// Where samples were told, the whole text ends with the line of the clock behind them.
+/// Where samples were told, the whole text ends with the line of the clock after them.
 pub fn the_text_ends_with_its_length()
     ensures { (told : List Shown) → told ≢ []
         → vcd_text told ≡ open_text told ++ clock_line (length told) }

@@ -27,10 +27,10 @@ pub trait Trace {
     /// What its sink has taken so far, where that is told.
     ghost ready: { Self → Option (List ℕ) → Type 0 };
 
-    /// It was told these samples since `begin`, behind what its sink had taken before, and whether `end` was told.
+    /// It was told these samples since `begin`, after what its sink had taken before, and whether `end` was told.
     ghost stands: { Self → Option (List ℕ) → List Shown → Bool → Type 0 };
 
-    /// It failed on the way to standing so.
+    /// It failed on the way there.
     ghost broken: { Self → Option (List ℕ) → List Shown → Bool → Type 0 };
 
     /// Begins with no samples.
