@@ -18,4 +18,4 @@ returns g c =
     let stay : unsettled c.pad_of-pad.result b.sync ≡ false = settled_pads c.settled.result c.pad_of-pad.result b.sync c.settled.ensures c.if-not-settled.false in
     subst (λ (w : Worked). (c.begins_now-first.result || (c.begins_now-second.result || (c.begins_now-third.result || c.begins_now-fourth.result))) ≡ plainly_moves_on w.run) c.self.view_is
     (by_machines b.view.memory b.clock b.levels b.directions b.view.flags.up b.outside b.sync b.first b.second b.third b.fourth _ (subst (λ pad. unsettled pad b.sync ≡ false) c.pad_of-pad.ensures stay)
-        (any_begins_now b.first b.second b.third b.fourth _ _ _ _ c.begins_now-first.ensures c.begins_now-second.ensures c.begins_now-third.ensures c.begins_now-fourth.ensures))
+    (any_begins_now b.first b.second b.third b.fourth _ _ _ _ c.begins_now-first.ensures c.begins_now-second.ensures c.begins_now-third.ensures c.begins_now-fourth.ensures))
