@@ -7,6 +7,7 @@ ghost use Rattle.sm_registers.specs.Effects.{no_intent};
 ghost use Rattle.sm_registers.specs.State as spec_shown;
 ghost use Rattle.dreq_pacing.specs.Ports.{IsFirst};
 ghost use Rattle.block_core.specs.Resting.{rested_slot, stirs_after};
+ghost use Rattle.block_core.specs.Stirring.{begins_now};
 ghost use Rattle.block_core.specs.Slots as spec;
 ghost use Rattle.block_core.specs.Slots.{doing, lined, acted, settled_slot, slot_after, slot_intent, slot_uses_fifos, used_by};
 
@@ -142,6 +143,14 @@ impl<F: Fifo> Slot<F> {
         self.received = counted(due.read_paced[place], self.received);
         self.machine
             .settle(intent, due.word[place], due.read[place])
+    }
+
+    /// Whether it begins an instruction in the present clock, if no line acts in it.
+    #[inline(always)]
+    pub fn begins_now(&self) -> bool
+        ensures { result ≡ begins_now (Some self.now) }
+    {
+        self.enabled && self.divider.ticks_now() && self.machine.begins_next()
     }
 
     /// How many clocks go by before the next one in which it stirs, where it sees the same and the system does nothing.

@@ -5,12 +5,13 @@
 --   only_waits         what such a tick wants of its block
 --   after_ticks        the registers after some ticks
 --   stirs_at           whether the tick after so many others stirs
+--   begins_next        the next tick begins an instruction
 --   undelayed          what the current instruction does, without the delay that is left
 --   stays              a stall that nothing but the outside ends
 --   idle_of            the ticks until one stirs
 --   IsIdle             what this number means
 --   IsSoon             it is below 32
-use Rattle.std.specs.Prelude.{◌≡◌, ℕ, zero, suc, ◌-◌, ◌<◌, Bool, true, false, not, ◌&&◌, ◌||◌, if◌then◌else◌}
+use Rattle.std.specs.Prelude.{◌≡◌, ℕ, zero, suc, ◌-◌, ◌<◌, ◌==◌, Bool, true, false, not, ◌&&◌, ◌||◌, if◌then◌else◌}
 use Rattle.pin_matrix.specs.declared.machine.MachineSetup.{MachineSetup}
 use Rattle.sm_registers.specs.declared.idle.Idle.{Idle}
 use Rattle.sm_registers.specs.declared.idle.Idle.TheVariants.{Ticks, Never}
@@ -59,6 +60,10 @@ after_ticks s v q (suc n) r = (tick_of s v q (after_ticks s v q n r)).0
 -- whether the tick after n others stirs, where all see the same
 abbrev pub stirs_at : MachineSetup → View → Queues → Registers → ℕ → Bool
 stirs_at s v q r n = stirs (tick_of s v q (after_ticks s v q n r)).1
+
+-- the next tick is the first of its instruction, by the registers alone: no delay is left, and the instruction has not stalled
+abbrev pub begins_next : Registers → Bool
+begins_next r = (r.delay == 0) && not r.begun
 
 -- what the current instruction does as soon as no delay is left
 abbrev pub undelayed : MachineSetup → View → Queues → Registers → Effect

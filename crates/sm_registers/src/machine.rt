@@ -3,7 +3,7 @@ ghost use Rattle.std.specs.Prelude.{◌≡◌, ℕ, ◌-◌, ◌<◌, false, len
 ghost use Rattle.std.specs.List.{AllByRecursion};
 ghost use Rattle.pin_matrix.specs.Pins.{IsWrite};
 ghost use Rattle.sm_registers.specs.Effects.{no_intent};
-ghost use Rattle.sm_registers.specs.Idling.{IsIdle, IsSoon, after_ticks, idle_of, stirs_at};
+ghost use Rattle.sm_registers.specs.Idling.{IsIdle, IsSoon, after_ticks, begins_next, idle_of, stirs_at};
 ghost use Rattle.sm_registers.specs.State.{IsKept, first_machine, queues_of, settled_ports, shown_of, uses_fifos};
 ghost use Rattle.sm_registers.specs.State as spec;
 ghost use Rattle.sm_registers.specs.Tick as spec_tick;
@@ -109,6 +109,14 @@ impl<F: Fifo> Machine<F> {
             &mut self.registers,
             intent,
         );
+    }
+
+    /// Whether its next tick begins an instruction. Such a tick stirs, whatever it sees (`a_first_tick_stirs`).
+    #[inline(always)]
+    pub fn begins_next(&self) -> bool
+        ensures { result ≡ begins_next self.now.registers }
+    {
+        self.registers.delay == 0 && !self.registers.begun
     }
 
     /// When it next has a tick that stirs, if nothing outside it changes: in each tick it sees the same view, and its FIFOs
