@@ -198,15 +198,15 @@ class Source:
             "set": lambda: f" {self.some('pins', 'x', 'y', 'pindirs')}{comma}{self.number(0, 31)}",
         }
         kind = random.choice(list(forms))
-        behind = []
+        after = []
         if kind == "wait" and random.random() < 0.08:
-            behind.append(" rel")
+            after.append(" rel")
         if side == "asked" and random.random() < 0.99 or side == "opt" and random.random() < 0.5:
-            behind.append(f" {self.some('side', 'side', 'sideset', 'side_set')} {self.number(0, 1)}")
+            after.append(f" {self.some('side', 'side', 'sideset', 'side_set')} {self.number(0, 1)}")
         if random.random() < 0.3:
-            behind.append(f" [{self.number(0, 3)}]")
-        random.shuffle(behind)
-        return (kind if random.random() < 0.9 else kind.upper()) + forms[kind]() + "".join(behind)
+            after.append(f" [{self.number(0, 3)}]")
+        random.shuffle(after)
+        return (kind if random.random() < 0.9 else kind.upper()) + forms[kind]() + "".join(after)
 
     def condition(self, comma):
         condition = self.some(

@@ -46,7 +46,7 @@ SET_DESTINATIONS = {"pins": 0, "x": 1, "y": 2, "pindirs": 4}
 
 
 class Fault(Exception):
-    """The first fault of a source: its line, its code, and what is told behind it."""
+    """The first fault of a source: its line, its code, and what is told after it."""
 
     def __init__(self, line, code, detail=""):
         super().__init__(f"line {line}: {code}" + (f" {detail}" if detail != "" else ""))
@@ -81,7 +81,7 @@ def tokens_of(source):
             line += source.count(b"\n", place, end)
             place = end + 2
         elif byte == b"%" and is_fresh:
-            place, line = behind_block(source, place, line)
+            place, line = after_block(source, place, line)
         else:
             token, place = token_at(source, place, line)
             tokens.append(token)
@@ -96,7 +96,7 @@ def end_of_line(source, place):
     return len(source) if end < 0 else end
 
 
-def behind_block(source, place, line):
+def after_block(source, place, line):
     opens = BLOCK_OPENS.match(source, place, end_of_line(source, place))
     if not opens:
         raise Fault(line, "L1")

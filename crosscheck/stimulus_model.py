@@ -4,7 +4,7 @@ import re
 
 NUMBER = re.compile(rb"[0-9]+|0x[0-9a-fA-F]+")
 LAST_CLOCK, LONGEST_PERIOD = 10**12, 10**6
-# How many numbers stand behind each word; a feed has three or more.
+# How many numbers come after each word; a feed has three or more.
 NUMBERS = {b"pin": 2, b"tx": 2, b"rx": 1, b"feed": 3, b"drain": 2, b"enable": 1, b"disable": 1, b"restart": 1}
 OF_VERSION_2 = (b"enable", b"disable", b"restart")
 
