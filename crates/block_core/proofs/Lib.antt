@@ -11,4 +11,5 @@ pub mod Firsts
 pub mod SlotRests
 pub mod Leaping
 pub mod Beginning
+pub mod Passing
 pub mod Rows

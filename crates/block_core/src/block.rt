@@ -305,6 +305,9 @@ fn step<F: Fifo>(
     let Some(slot) = slot else {
         return false;
     };
+    if due.is_none() && slot.pass() {
+        return false;
+    }
     let mut intent = Intent::none();
     let used = slot.clock(view, due, &mut intent);
     wanted.add(&intent);
