@@ -67,6 +67,34 @@ asm s ~ .program p|`33 nop|` ~ - ~ - ~ 1 ~ - ~ piotool: source line 34: S6|
 asm s ~ .program p|`32 nop|` ~ - ~ - ~ 0 ~ |31 a042 nop| ~ -
 asm s ~ .program p|set x, 32 ~ - ~ - ~ 1 ~ - ~ piotool: source line 2: S7 data 32|
 asm s ~ .program p|set x, 31 ~ - ~ - ~ 0 ~ |00 e03f set x, 31| ~ -
+asm s ~ .program p|jmp 32 ~ - ~ - ~ 1 ~ - ~ piotool: source line 2: S7 jmp 32|
+asm s ~ .program p|jmp 31 ~ - ~ - ~ 0 ~ |00 001f jmp 31| ~ -
+asm s ~ .program p|wait 2 gpio 0 ~ - ~ - ~ 1 ~ - ~ piotool: source line 2: S7 polarity 2|
+asm s ~ .program p|wait 1 gpio 0 ~ - ~ - ~ 0 ~ |00 2080 wait 1 gpio 0| ~ -
+asm s ~ .program p|wait 1 gpio 32 ~ - ~ - ~ 1 ~ - ~ piotool: source line 2: S7 index 32|
+asm s ~ .program p|wait 1 gpio 31 ~ - ~ - ~ 0 ~ |00 209f wait 1 gpio 31| ~ -
+asm s ~ .program p|irq 8 ~ - ~ - ~ 1 ~ - ~ piotool: source line 2: S7 index 8|
+asm s ~ .program p|irq 7 ~ - ~ - ~ 0 ~ |00 c007 irq nowait 7| ~ -
+asm s ~ .program p|in x, 33 ~ - ~ - ~ 1 ~ - ~ piotool: source line 2: S7 count 33|
+asm s ~ .program p|in x, 32 ~ - ~ - ~ 0 ~ |00 4020 in x, 32| ~ -
+asm s ~ .program p|in x, 0 ~ - ~ - ~ 1 ~ - ~ piotool: source line 2: S7 count 0|
+asm s ~ .program p|in x, 1 ~ - ~ - ~ 0 ~ |00 4021 in x, 1| ~ -
+asm s ~ .program p|set x, 0 - 1 ~ - ~ - ~ 1 ~ - ~ piotool: source line 2: S7 data -1|
+asm s ~ .program p|set x, 0 ~ - ~ - ~ 0 ~ |00 e020 set x, 0| ~ -
+asm s ~ .program p|.side_set 1|nop side 2 ~ - ~ - ~ 1 ~ - ~ piotool: source line 3: S7 side 2|
+asm s ~ .program p|.side_set 1|nop side 1 ~ - ~ - ~ 0 ~ |00 b042 nop side 1| ~ -
+asm s ~ .program p|nop [32] ~ - ~ - ~ 1 ~ - ~ piotool: source line 2: S7 delay 32|
+asm s ~ .program p|nop [31] ~ - ~ - ~ 0 ~ |00 bf42 nop [31]| ~ -
+asm s ~ .program p|.side_set 1|nop side 0 [16] ~ - ~ - ~ 1 ~ - ~ piotool: source line 3: S7 delay 16|
+asm s ~ .program p|.side_set 1|nop side 0 [15] ~ - ~ - ~ 0 ~ |00 af42 nop side 0 [15]| ~ -
+asm s ~ .program p|.origin 32|nop ~ - ~ - ~ 1 ~ - ~ piotool: source line 2: S7 origin 32|
+asm s ~ .program p|.origin 31|nop ~ - ~ - ~ 0 ~ |00 a042 nop| ~ -
+asm s ~ .program p|.side_set 6|nop side 0 ~ - ~ - ~ 1 ~ - ~ piotool: source line 2: S7 side_set 6|
+asm s ~ .program p|.side_set 5|nop side 0 ~ - ~ - ~ 0 ~ |00 a042 nop side 0| ~ -
+asm s ~ .program p|.word 65536 ~ - ~ - ~ 1 ~ - ~ piotool: source line 2: S7 word 65536|
+asm s ~ .program p|.word 65535 ~ - ~ - ~ 0 ~ |00 ffff .word 0xffff| ~ -
+asm s ~ .program p|.pio_version 1|nop ~ - ~ - ~ 1 ~ - ~ piotool: source line 2: S7 pio_version 1|
+asm s ~ .program p|.pio_version 0|nop ~ - ~ - ~ 0 ~ |00 a042 nop| ~ -
 asm s ~ .program p|.side_set 1|nop ~ - ~ - ~ 1 ~ - ~ piotool: source line 3: S8|
 asm s ~ .program p|.side_set 1|nop side 0 ~ - ~ - ~ 0 ~ |00 a042 nop side 0| ~ -
 asm s ~ .program p|nop side 1 ~ - ~ - ~ 1 ~ - ~ piotool: source line 2: S9|
