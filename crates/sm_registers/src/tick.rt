@@ -84,7 +84,7 @@ fn tick_current<F: Fifo>(
 }
 
 /// A tick of an instruction. The intent, of nothing so far, gets what it does outside the registers.
-#[inline(always)]
+#[inline(never)]
 #[tactic(auto, unfolding(crate::specs::Tick::tick_word, crate::specs::Tick::tick_by))]
 fn tick_op<F: Fifo>(
     op: &Op,
@@ -104,7 +104,7 @@ fn tick_op<F: Fifo>(
 {
     let before = *registers;
     let outcome = effect_of(op.act, setup, view, fifos, registers);
-    conclude(outcome, op, setup, &before, registers, intent);
+    conclude(&outcome, op, setup, &before, registers, intent);
     if refill(setup, fifos, registers) {
         intent.take = true;
     }
@@ -113,7 +113,7 @@ fn tick_op<F: Fifo>(
 /// Ends an instruction's tick, by the registers before it. The intent, of nothing so far, gets side-set and what it does.
 #[tactic(auto, unfolding(crate::specs::Tick::after_effect))]
 fn conclude(
-    outcome: Outcome,
+    outcome: &Outcome,
     op: &Op,
     setup: &MachineSetup,
     before: &Registers,
@@ -122,11 +122,11 @@ fn conclude(
 )
     requires pc { before.now.pc < 32 }
     requires fresh { intent.old ≡ no_intent }
-    requires writes { WritesOwnPins (effect_by registers.old outcome) }
+    requires writes { WritesOwnPins (effect_by registers.old outcome.now) }
     ensures registers { registers.new
-        ≡ spec.after_effect op.now.delay setup.now before.now (effect_by registers.old outcome) }
+        ≡ spec.after_effect op.now.delay setup.now before.now (effect_by registers.old outcome.now) }
     ensures intent { intent.new
-        ≡ wanted_by op.now setup.now before.now.begun (effect_by registers.old outcome) }
+        ≡ wanted_by op.now setup.now before.now.begun (effect_by registers.old outcome.now) }
     ensures level { AllByRecursion IsWrite intent.new.level }
     ensures direction { AllByRecursion IsWrite intent.new.direction }
 {
@@ -134,8 +134,8 @@ fn conclude(
     match outcome {
         Outcome::Stalls { sets, sticky } => {
             registers.begun = true;
-            intent.sets = sets;
-            intent.sticky = sticky;
+            intent.sets = *sets;
+            intent.sticky = *sticky;
             intent.stalled = true;
         }
         Outcome::Finishes(deed) => finish(deed, op, setup, before, registers, intent),
@@ -145,7 +145,7 @@ fn conclude(
 /// Ends an instruction that is finished: PC, pending word and delay. The intent, of side-set alone so far, gets its deed.
 #[tactic(auto, unfolding(crate::specs::Tick::after_effect))]
 fn finish(
-    deed: Deed,
+    deed: &Deed,
     op: &Op,
     setup: &MachineSetup,
     before: &Registers,
@@ -155,9 +155,9 @@ fn finish(
     requires pc { before.now.pc < 32 }
     requires side_set { intent.old ≡ side_intent op.now.side setup.now before.now.begun }
     ensures registers { registers.new
-        ≡ spec.after_effect op.now.delay setup.now before.now (finished_by registers.old deed) }
+        ≡ spec.after_effect op.now.delay setup.now before.now (finished_by registers.old deed.now) }
     ensures intent { intent.new
-        ≡ wanted_by op.now setup.now before.now.begun (finished_by registers.old deed) }
+        ≡ wanted_by op.now setup.now before.now.begun (finished_by registers.old deed.now) }
 {
     registers.pc = next_pc(before.pending.is_some(), setup, before);
     registers.pending = None;
@@ -165,18 +165,18 @@ fn finish(
     registers.begun = false;
     match deed {
         Deed::Nothing => {}
-        Deed::Jump(address) => registers.pc = address,
+        Deed::Jump(address) => registers.pc = *address,
         Deed::Execute(word) => {
-            registers.pending = Some(word);
+            registers.pending = Some(*word);
             registers.delay = 0;
         }
-        Deed::WriteLevels(write) => intent.level[0] = write,
-        Deed::WriteDirections(write) => intent.direction[0] = write,
-        Deed::Lower(flags) => intent.clears = flags,
-        Deed::Raise(flags) => intent.sets = flags,
+        Deed::WriteLevels(write) => intent.level[0] = *write,
+        Deed::WriteDirections(write) => intent.direction[0] = *write,
+        Deed::Lower(flags) => intent.clears = *flags,
+        Deed::Raise(flags) => intent.sets = *flags,
         Deed::Take => intent.take = true,
-        Deed::Give(word) => intent.word = Some(word),
-        Deed::Tell(flags) => intent.sticky = flags,
+        Deed::Give(word) => intent.word = Some(*word),
+        Deed::Tell(flags) => intent.sticky = *flags,
     }
 }
 
