@@ -15,6 +15,7 @@ use pio_encode::{MovDestination, MovOperation, MovSource, SetDestination};
 use shift_engine::reverse_bits;
 
 /// Copies a word, inverted or with its bits reversed where that is asked.
+#[inline(always)]
 #[tactic(auto, unfolding(crate::specs::Effects::mov_effect))]
 pub(crate) fn mov_effect<F: Fifo>(
     destination: MovDestination,

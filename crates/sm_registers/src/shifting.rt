@@ -100,6 +100,7 @@ pub(crate) fn empty_isr(registers: &mut Registers)
 }
 
 /// Shifts bits out; with autopull it stalls where the OSR is empty by its threshold.
+#[inline(always)]
 #[tactic(auto, unfolding(crate::specs::Effects::out_effect))]
 pub(crate) fn out_effect<F: Fifo>(
     destination: OutDestination,
