@@ -10,7 +10,7 @@ const NO_SIDE_SET: SideRule = SideRule {
     pindirs: false,
 };
 
-/// What lies in memory behind the words that a program begins with.
+/// What lies in memory after the words that a program begins with.
 #[derive(Clone, Copy)]
 pub enum Body {
     /// Nothing: zeros, which are `jmp 0`.

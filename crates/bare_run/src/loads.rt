@@ -126,7 +126,7 @@ fn reader() -> MachineSetup {
     machine
 }
 
-/// A machine that starts at an address and wraps behind another.
+/// A machine that starts at an address and wraps after another.
 fn looped(id: u8, first: u8, last: u8) -> MachineSetup
     requires id { id < 4 }
     requires first { first < 32 }

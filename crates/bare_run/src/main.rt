@@ -49,7 +49,7 @@ fn print(rt: &impl Print, block: &Block<RingFifo>) -> io::Result<()> {
     Ok(())
 }
 
-/// The block behind the run that the program's words ask for, where they are as they should be and there is memory.
+/// The block after the run that the program's words ask for, where they are as they should be and there is memory.
 fn asked<L: Ledger, R: Env + Files + AllocGlobal>(rt: &R, blank: Blank) -> Option<Block<RingFifo>>
     requires name { blank.name ≡ L.name }
     requires parts { blank.parts ≡ L.parts }

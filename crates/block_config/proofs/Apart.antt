@@ -90,7 +90,7 @@ not_there f l front a within covered lone =
       | inr not_here ↦ not_here
     ]
 
--- a load behind others that lie apart
+-- a load after others that lie apart
 apart_more : (front : List Loaded) (l : Loaded) → AreApart front → Lone front l → AreApart (front ++ l ∷ [])
 apart_more [] l apart lone = (λ a within covered. refl, tt)
 apart_more (f ∷ front) l apart lone = (

@@ -77,7 +77,7 @@ are_ordered t bounds e =
     let w = all_within t bound_keys read.value [] 0 (all_defaulted bound_keys refl) refl read.found in
     ordered_tested (record { unit = unit.value; least = slice_index read.value 0; most = slice_index read.value 1 }) bounds _ _ refl read.rest w.2.1
 
--- stalls stand in a span in ticks alone
+-- stalls are in a span in ticks alone
 abbrev AreInTicks : SpanUnit → List ℕ → Type 0
 AreInTicks unit stalls = (is_in_ticks unit || length stalls == 0) ≡ true
 

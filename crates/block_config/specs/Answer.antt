@@ -1,6 +1,6 @@
 -- The faults of a configuration as definitions compute them, and what a returned fault tells of them.
 --   Refusal    a fault as a definition computes it
---   Tells      a fault is of this kind and stands at this path
+--   Tells      a fault is of this kind and is at this path
 --   told       the fault that is told, nothing where memory ran out
 use Rattle.std.specs.Prelude.{◌≡◌, ℕ, List, Option, Some, None, Result, Err}
 use Rattle.block_config.specs.declared.fault.ConfigFault.{ConfigFault}
@@ -16,7 +16,7 @@ pub record Refusal : Type 0 where
 abbrev pub refused : {X : Type 0} → List ℕ → ConfigKind → Result X Refusal
 refused key kind = Err (record { key = key; kind = kind })
 
--- a fault stands at this path and is of this kind
+-- a fault is at this path and is of this kind
 abbrev pub Tells : ConfigFault → List ℕ → ConfigKind → Type 0
 Tells Memory path kind = Unit {0}
 Tells (At key found) path kind = (key ≡ path) × (found ≡ kind)

@@ -2,7 +2,7 @@
 --   count_items   how many elements an array has
 --   all_items     each element passes a test
 --   is_one        an element is a table, a number or a text
---   gather        what the elements from a place on give, behind what those before them gave
+--   gather        what the elements from a place on give, after what those before them gave
 use Rattle.std.specs.Prelude.{ℕ, suc, ◌+◌, ◌++◌, ◌&&◌, is_some, Bool, true, List, [], ◌∷◌, Result, Ok}
 use Rattle.toml.specs.Data.{Data, Items, no_items, item, as_integer, as_str, as_table}
 use Rattle.block_config.specs.declared.arrays.Element.{Element}
@@ -25,7 +25,7 @@ is_one Table = λ d. is_some (as_table d)
 is_one Number = λ d. is_some (as_integer d)
 is_one Text = λ d. is_some (as_str d)
 
--- what the elements from a place on give, in order behind what those before them gave, or the first fault
+-- what the elements from a place on give, in order after what those before them gave, or the first fault
 unfoldable pub gather : {X E : Type 0} → (ℕ → List X → Data → Result X E) → ℕ → List X → Items → Result (List X) E
 gather read place front no_items = Ok front
 gather read place front (item d rest) = and_then (read place front d) (λ x. gather read (place + 1) (front ++ x ∷ []) rest)

@@ -25,7 +25,7 @@ code_of Divider = codes "C11"
 code_of Many = codes "C12"
 code_of Missing = codes "C13"
 
--- the code, and behind an overlap its address
+-- the code, and after an overlap its address
 abbrev pub kind_text : ConfigKind → List ℕ
 kind_text (Overlap address) = codes "C7 " ++ decimal address
 kind_text kind = code_of kind

@@ -36,7 +36,7 @@ abbrev pub named_program : List Assembled → List Loaded → Option (List ℕ) 
 named_program programs loads None = Err Missing
 named_program programs loads (Some name) = if is_some (find_loaded name loads) then Err Range else or_fault NoProgram (find_program name programs)
 
--- the program of a table, behind the loads of the tables before it
+-- the program of a table, after the loads of the tables before it
 abbrev pub program_at : List Assembled → List Loaded → Members → Result Assembled Refusal
 program_at programs loads t = on_key (codes "program") (and_then (text_of (get_member (codes "program") t)) (named_program programs loads))
 
@@ -66,7 +66,7 @@ abbrev pub unshared : Loaded → Option ℕ → Result Loaded ConfigKind
 unshared l None = Ok l
 unshared l (Some address) = Err (Overlap address)
 
--- a program at an address, behind other loads: where its origin asks for, within memory with all jump targets, and where none is
+-- a program at an address, after other loads: where its origin asks for, within memory with all jump targets, and where none is
 abbrev pub placed_at : Assembled → List Loaded → ℕ → Result Loaded ConfigKind
 placed_at p loads address =
     let l : Loaded = record { program = p; address = address } in
@@ -76,7 +76,7 @@ placed_at p loads address =
 abbrev pub load_at : Assembled → List Loaded → Members → Result Loaded Refusal
 load_at p loads t = on_key (codes "at") (and_then (number_of (at_key p) (get_member (codes "at") t)) (placed_at p loads))
 
--- the load of a table, behind the loads of the tables before it
+-- the load of a table, after the loads of the tables before it
 abbrev pub load_of_table : List Assembled → List Loaded → Members → Result Loaded Refusal
 load_of_table programs loads t = and_then (program_at programs loads t) (λ p. load_at p loads t)
 

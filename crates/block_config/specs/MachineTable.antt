@@ -1,7 +1,7 @@
 -- The table of a machine: its keys in order, and the machine that it says (choice of this profile; the fields are those of the
 -- RP2040 Datasheet, section 3.7).
 --   machine_names   every key of the table
---   clock_keys, pin_keys, flag_keys, count_keys   its keys in order, behind `id`, `program` and `start`
+--   clock_keys, pin_keys, flag_keys, count_keys   its keys in order, after `id`, `program` and `start`
 --   ClockKeys, PinKeys, FlagKeys, CountKeys       their values by name
 use Rattle.std.specs.Prelude.{ℕ, ◌+◌, ◌==◌, ◌&&◌, not, is_some, Bool, true, false, if◌then◌else◌, slice_index, slice_index_or, Option, Some, None, List, [], ◌∷◌, Result, Ok, Err, codes}
 use Rattle.toml.specs.Data.{Members, get_member}
@@ -65,7 +65,7 @@ pub record ClockKeys : Type 0 where
 abbrev pub clock_keys_of : List ℕ → ClockKeys
 clock_keys_of values = record { int = slice_index values 0; frac = slice_index values 1 }
 
--- a divider of 0 stands for 65,536, and has no fraction
+-- a divider of 0 means 65,536, and has no fraction
 abbrev pub divides : ClockKeys → Result ClockKeys Refusal
 divides k = if k.int == 0 && not (k.frac == 0) then refused (codes "fraction") Divider else Ok k
 
@@ -237,6 +237,6 @@ machine_with_pins t run clock pins =
 abbrev pub machine_running : Members → RunKeys → Result MachineKeys Refusal
 machine_running t run = and_then (clock_at t) (λ clock. and_then (pins_at t) (λ pins. machine_with_pins t run clock pins))
 
--- the machine of a table, behind the machines of the tables before it
+-- the machine of a table, after the machines of the tables before it
 abbrev pub machine_of_table : List (Option MachineKeys) → List Loaded → Members → Result MachineKeys Refusal
 machine_of_table machines loads t = and_then (run_at machines loads t) (λ run. machine_running t run)

@@ -28,7 +28,7 @@ abbrev pub in_section : {X : Type 0} → Section → Result X Refusal → Result
 in_section section (Ok x) = Ok x
 in_section section (Err r) = refused (key_path section r.key) r.kind
 
--- an unknown key comes first, and stands on the table
+-- an unknown key comes first, and is on the table
 abbrev pub section_at : {X : Type 0} → Section → List (List ℕ) → Members → Result X Refusal → Result X Refusal
 section_at section names t inner = if are_known names t then in_section section inner else refused (section_path section) UnknownKey
 

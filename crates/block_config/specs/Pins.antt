@@ -1,4 +1,4 @@
--- The table of pins (choice of this profile): lists of pins, each 0 to 31, as numbers in which bit i stands for pin i.
+-- The table of pins (choice of this profile): lists of pins, each 0 to 31, as numbers in which bit i is for pin i.
 --   all_numbers   each element is a number
 --   mask_from     the pins of a list, beside those of a number
 --   mask_at       the pins of a key; an element of another type comes before one out of range

@@ -22,7 +22,7 @@ abbrev pub place_in : List ℕ → ℤ → Option ℕ
 place_in words (pos n) = if nat_lt n (length words) then Some n else None
 place_in words (negsuc n) = None
 
--- a symbol that a label made, and that stands before a word
+-- a symbol that a label made, and that comes before a word
 abbrev pub symbol_place : List ℕ → Symbol → Option ℕ
 symbol_place words s = if s.is_label then place_in words s.value else None
 

@@ -149,7 +149,7 @@ stalls_of unit load (Some d) = stalls_in unit load (as_array d)
 abbrev pub stalls_at : SpanUnit → Option Loaded → Members → Result (List ℕ) Refusal
 stalls_at unit load t = on_key (codes "stalls") (stalls_of unit load (get_member (codes "stalls") t))
 
--- what a span says behind its name
+-- what a span says after its name
 pub record SpanValues : Type 0 where
   pub ends : Ends
   pub bounds : Bounds

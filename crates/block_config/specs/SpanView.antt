@@ -12,6 +12,6 @@ ends_view e = record { machine = e.machine; from_pin = e.from_pin; to_pin = e.to
 abbrev pub bounds_view : BoundValues → Bounds
 bounds_view b = record { unit = b.unit; least = b.min; most = b.max }
 
--- all behind the name
+-- all after the name
 abbrev pub values_view : Code → SpanValues
 values_view v = record { ends = ends_view v.ends; bounds = bounds_view v.bounds; stalls = v.stalls.items }

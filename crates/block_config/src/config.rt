@@ -31,7 +31,7 @@ use std::alloc::Global;
 use toml::{Table, Value};
 
 /// The setup of a configuration (TOML) over the programs of a source, or the configuration's first fault: that it is no
-/// TOML stands on `file`, an unknown section on `top`, and else a fault stands on its key, as `machine[0].fraction`.
+/// TOML is on `file`, an unknown section on `top`, and else a fault is on its key, as `machine[0].fraction`.
 /// Sections are read in the order load, machine, pins, span, and keys in the order of the tables' description.
 #[tactic(auto, using(crate::proofs::Says::answered, crate::proofs::Says::refuses_setup))]
 pub fn read_config(alloc: Global, bytes: &[u8], programs: &[Program]) -> Result<Setup, ConfigFault>

@@ -16,7 +16,7 @@ use pio_assemble::Program;
 use std::alloc::Global;
 
 /// The setup without a configuration: the first program, at its origin or else at address 0, on machine 0, with all else
-/// at its default. Its faults stand on `default`: `NoProgram` where there is none, `DoesNotFit` where it doesn't fit.
+/// at its default. Its faults are on `default`: `NoProgram` where there is none, `DoesNotFit` where it doesn't fit.
 pub fn default_setup(alloc: Global, programs: &[Program]) -> Result<Setup, ConfigFault>
     ensures value { Answers told result (default_setup_of (map assembled_of programs.now)) }
 

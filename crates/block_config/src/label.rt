@@ -16,7 +16,7 @@ pub fn label_of(program: &Program, name: &[u8]) -> Option<u8>
     }
 }
 
-/// The place of a symbol that a label made, and that stands before a word.
+/// The place of a symbol that a label made, and that comes before a word.
 fn place_of(words: &[u16], symbol: &Symbol) -> Option<u8>
     requires { length words.now ≤ 32 }
     ensures place { result ≡ spec.symbol_place words.now symbol.now }

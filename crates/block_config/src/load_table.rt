@@ -18,7 +18,7 @@ use crate::value::text_of;
 use pio_assemble::Program;
 use toml::Table;
 
-/// The load of a table whose keys are known, behind the loads of the tables before it.
+/// The load of a table whose keys are known, after the loads of the tables before it.
 pub fn load_of<'a>(
     programs: &'a [Program],
     loads: &[Load<'a>],
@@ -111,7 +111,7 @@ fn load_at<'a>(program: &'a Program, loads: &[Load<'a>], table: &Table) -> Resul
     }
 }
 
-/// A program at an address, behind other loads.
+/// A program at an address, after other loads.
 fn placed_at<'a>(
     program: &'a Program,
     loads: &[Load<'a>],

@@ -1,4 +1,4 @@
-//! The parts of a machine's table behind its pins: the divider, the flags and the counts, by name.
+//! The parts of a machine's table after its pins: the divider, the flags and the counts, by name.
 ghost use Rattle.std.specs.Prelude.{◌≤◌, ◌<◌, ◌==◌, ◌||◌, ◌&&◌, not, IsTrue};
 
 use crate::fault::ConfigKind;

@@ -16,7 +16,7 @@ use crate::table::Lack;
 use pin_matrix::{MachineSetup, Mapping};
 use toml::Table;
 
-/// The machine of a table whose keys are known, behind the machines of the tables before it.
+/// The machine of a table whose keys are known, after the machines of the tables before it.
 pub fn machine_of(
     table: &Table,
     loads: &[Load],

@@ -30,7 +30,7 @@ impl fmt::Display for Section {
     }
 }
 
-/// A fault that stands at a path.
+/// A fault that is at a path.
 pub fn fault_at(alloc: Global, path: &str, kind: ConfigKind) -> ConfigFault
     ensures { Tells result path.now kind }
 {
@@ -43,7 +43,7 @@ pub fn fault_at(alloc: Global, path: &str, kind: ConfigKind) -> ConfigFault
     }
 }
 
-/// A fault of a table, which stands on no one key.
+/// A fault of a whole table, and so of no key of it.
 pub fn fault_of_section(alloc: Global, section: Section, kind: ConfigKind) -> ConfigFault
     ensures { Tells result (section_path section) kind }
 {

@@ -1,4 +1,4 @@
-//! The table of pins: lists of pins as numbers in which bit i stands for pin i.
+//! The table of pins: lists of pins as numbers in which bit i is for pin i.
 ghost use Rattle.std.specs.Prelude.{◌≡◌, Some, option_map};
 ghost use Rattle.toml.specs.View.{items_view, table_view, view};
 ghost use Rattle.block_config.specs.PinView.{pin_view};

@@ -1,4 +1,4 @@
-//! The parts of a span's table behind its name: its two edges and its bounds.
+//! The parts of a span's table after its name: its two edges and its bounds.
 ghost use Rattle.std.specs.Prelude.{◌≤◌, ◌<◌, ◌^◌};
 
 use crate::fault::ConfigKind;

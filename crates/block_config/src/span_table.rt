@@ -1,4 +1,4 @@
-//! The table of a span behind its name, as values.
+//! The table of a span after its name, as values.
 ghost use Rattle.std.specs.Prelude.{◌==◌, ◌||◌, length, IsTrue};
 ghost use Rattle.pin_matrix.specs.Spans.{are_addresses, is_in_ticks};
 
@@ -10,7 +10,7 @@ use arrayvec::ArrayVec;
 use pin_matrix::MachineSetup;
 use toml::Table;
 
-/// What a span says behind its name.
+/// What a span says after its name.
 #[derive(Drop)]
 pub struct SpanValues {
     pub ends: EndValues,

@@ -10,4 +10,6 @@ pub mod Rests
 pub mod Firsts
 pub mod SlotRests
 pub mod Leaping
+pub mod Beginning
+pub mod Passing
 pub mod Rows

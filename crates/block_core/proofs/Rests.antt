@@ -36,14 +36,14 @@ pub record CalmLaws : Type 0 where
   pub fifos : (f : Fifos) → settled false None None false f ≡ f
 
 -- nothing is done at any place
-no_line : (id : ℕ) → slice_index_or no_machine id false ≡ false
+pub no_line : (id : ℕ) → slice_index_or no_machine id false ≡ false
 no_line zero = refl
 no_line (suc zero) = refl
 no_line (suc (suc zero)) = refl
 no_line (suc (suc (suc zero))) = refl
 no_line (suc (suc (suc (suc id)))) = refl
 
-no_word : (id : ℕ) → slice_index_or quiet.word id None ≡ None
+pub no_word : (id : ℕ) → slice_index_or quiet.word id None ≡ None
 no_word zero = refl
 no_word (suc zero) = refl
 no_word (suc (suc zero)) = refl
@@ -54,7 +54,7 @@ pub lined_quiet : (s : Slot) → lined quiet s ≡ s
 lined_quiet s = rw (no_line s.machine.setup.id) refl
 
 -- a slot with these registers one clock on
-abbrev clock_on : Slot → Registers → Slot
+abbrev pub clock_on : Slot → Registers → Slot
 clock_on s r = record s {
   machine = record s.machine { registers = r };
   timing = record s.timing { clock = s.timing.clock + 1 };

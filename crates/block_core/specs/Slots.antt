@@ -5,8 +5,9 @@
 --   has_tick        that the clock is a tick of it
 --   acted           its registers after the clock, and what it wants of its block
 --   slot_after      after the clock
+--   passes          that it only counts in a clock
 --   doing           what the system does, where it does anything
-use Rattle.std.specs.Prelude.{ℕ, ◌+◌, Bool, true, false, ◌&&◌, Option, Some, None, if◌then◌else◌, slice_index_or}
+use Rattle.std.specs.Prelude.{ℕ, ◌+◌, Bool, true, false, not, ◌&&◌, ◌||◌, Option, Some, None, if◌then◌else◌, slice_index_or}
 use Rattle.std.specs.Borrow.{Bor}
 use Rattle.clock_divider.specs.Timing.{Timing, period_of, first, stepped, resumed}
 use Rattle.clock_divider.specs.Ticks.{is_tick}
@@ -15,6 +16,7 @@ use Rattle.sm_registers.specs.declared.registers.Registers.{Registers}
 use Rattle.sm_registers.specs.declared.view.View.{View}
 use Rattle.sm_registers.specs.declared.intent.Intent.{Intent}
 use Rattle.sm_registers.specs.Effects.{no_intent}
+use Rattle.sm_registers.specs.Idling.{is_counting}
 use Rattle.sm_registers.specs.Tick.{tick_of}
 use Rattle.sm_registers.specs.State.{MachineState, first_machine, queues_of, settled_ports, uses_fifos}
 use Rattle.dreq_pacing.specs.declared.due.Due.{Due}
@@ -95,6 +97,11 @@ slot_after v d s = settled_slot d (acted v (lined d s)) (lined d s)
 -- what it wants of its block in the clock
 abbrev pub slot_intent : View → Due → Slot → Intent
 slot_intent v d s = (acted v (lined d s)).1
+
+-- it has no tick in the clock, or one that only counts a delay, if no line acts in it
+abbrev pub passes : Slot → Bool
+passes s =
+    not (has_tick s) || is_counting s.machine.setup (queues_of s.machine.ports.fifos) s.machine.registers
 
 -- the same of a place in the block, where a machine is configured or not
 abbrev pub place_after : View → Due → Option Slot → Option Slot

@@ -2,17 +2,21 @@
 --   machines_stir   a machine begins or finishes an instruction, or refills its OSR
 --   pads_change     the pads are not those of both clocks before
 --   moves_on        one of these
+--   begins_now      the machine of a place begins an instruction
+--   plainly_moves_on   the pads change, or a machine begins an instruction
 --   stirs_in        one of these, or the system acts
 --   stirring        how many of the first clocks stir
-use Rattle.std.specs.Prelude.{ℕ, zero, suc, ◌+◌, ◌==◌, Bool, not, ◌&&◌, ◌||◌, List, if◌then◌else◌}
+use Rattle.std.specs.Prelude.{ℕ, zero, suc, ◌+◌, ◌==◌, Bool, false, not, ◌&&◌, ◌||◌, Option, Some, None, List, if◌then◌else◌}
 use Rattle.std.specs.List.{list_any}
-use Rattle.sm_registers.specs.Idling.{stirs}
+use Rattle.sm_registers.specs.Idling.{stirs, begins_next}
 use Rattle.dreq_pacing.specs.declared.line.Line.{Line}
 use Rattle.dreq_pacing.specs.declared.due.Due.{Due}
+use Rattle.dreq_pacing.specs.Due.{quiet}
 use Rattle.dreq_pacing.specs.Ports.{acts_in}
 use Rattle.block_core.specs.Block.{Run, wanted_in, pads_in}
 use Rattle.block_core.specs.Hosted.{Hosted, due_of, hosted_at}
 use Rattle.block_core.specs.Shown.{requests_of}
+use Rattle.block_core.specs.Slots.{Slot, has_tick}
 
 -- some machine has a tick in which it begins or finishes an instruction, or refills its OSR
 abbrev pub machines_stir : Due → Run → Bool
@@ -26,6 +30,15 @@ pads_change d r = let pad = pads_in d r.state in not ((pad == r.synchroniser.pad
 -- the clock moves the block on: its machines stir, or its pads change
 unfoldable pub moves_on : Due → Run → Bool
 moves_on d r = machines_stir d r || pads_change d r
+
+-- the clock is a tick in which the machine of a place begins an instruction, if no line acts in it
+abbrev pub begins_now : Option Slot → Bool
+begins_now None = false
+begins_now (Some s) = has_tick s && begins_next s.machine.registers
+
+-- The clock moves the block on, whatever the machines see in it: its pads change, or a machine begins an instruction.
+unfoldable pub plainly_moves_on : Run → Bool
+plainly_moves_on r = pads_change quiet r || list_any begins_now r.state.machines
 
 -- The clock stirs: a line acts, a transfer's word moves, a machine stirs, or the pads change (choice of this profile).
 unfoldable pub stirs_in : List Line → Hosted → Bool

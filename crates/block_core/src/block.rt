@@ -10,11 +10,11 @@ ghost use Rattle.block_core.specs.Shown.{sample_of, requests_of, moved_of, shown
 ghost use Rattle.block_core.specs.Slots.{doing, first_slot, place_after, place_intent, place_uses_fifos};
 ghost use Rattle.block_core.specs.Merging.{with_intent};
 ghost use Rattle.block_core.specs.Resting.{rested};
-ghost use Rattle.block_core.specs.Stirring.{moves_on};
+ghost use Rattle.block_core.specs.Stirring.{moves_on, plainly_moves_on};
 
 use crate::Sample;
 use crate::merging::{Wanted, outside_after};
-use crate::resting::{rest, sooner};
+use crate::resting::{begins_now, rest, sooner};
 use crate::slot::Slot;
 use dreq_pacing::{Due, Requests};
 use fifo_pair::{Fifo, a_quiet_clock_changes_nothing};
@@ -149,6 +149,22 @@ impl<F: Fifo> Block<F> {
         wanted.merge_flags(&mut self.view.flags);
         self.clock += 1;
         self.calls += 1;
+        first | (second | (third | fourth))
+    }
+
+    /// Whether the present clock stirs, if the system does nothing in it, by what is known without asking a machine what it
+    /// sees: the pads change, or a machine begins an instruction. Such a clock moves the block on
+    /// (`what_begins_moves_on`); whether others do is told by `next_stir`.
+    #[inline(always)]
+    pub fn plainly_moves_on(&self) -> bool
+        ensures { result ≡ plainly_moves_on self.now.run }
+    {
+        let pad = pad_of(self.levels, self.directions, self.outside);
+        if !self.sync.settled(pad) {
+            return true;
+        }
+        let (first, second) = (begins_now(&self.first), begins_now(&self.second));
+        let (third, fourth) = (begins_now(&self.third), begins_now(&self.fourth));
         first | (second | (third | fourth))
     }
 
@@ -289,6 +305,9 @@ fn step<F: Fifo>(
     let Some(slot) = slot else {
         return false;
     };
+    if due.is_none() && slot.pass() {
+        return false;
+    }
     let mut intent = Intent::none();
     let used = slot.clock(view, due, &mut intent);
     wanted.add(&intent);

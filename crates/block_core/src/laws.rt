@@ -1,5 +1,5 @@
 //! Laws of a run, each on a function that does nothing.
-ghost use Rattle.std.specs.Prelude.{◌≡◌, ℕ, suc, ◌+◌, ◌<◌, ◌++◌, ◌↔◌, None, false, [], List, Option, option_map, option_to_list, map, slice_get, slice_index_or, if◌then◌else◌, IsTrue};
+ghost use Rattle.std.specs.Prelude.{◌≡◌, ℕ, suc, ◌+◌, ◌<◌, ◌++◌, ◌↔◌, None, true, false, [], List, Option, option_map, option_to_list, map, slice_get, slice_index_or, if◌then◌else◌, IsTrue};
 ghost use Rattle.std.specs.List.{AllByRecursion};
 ghost use Rattle.std.specs.Int.{bit_at};
 ghost use Rattle.fifo_pair.specs.Fifos.{is_over, got_word};
@@ -8,6 +8,7 @@ ghost use Rattle.sm_registers.specs.declared.view.View.{View};
 ghost use Rattle.pin_matrix.specs.Pads.{seen_of};
 ghost use Rattle.pin_matrix.specs.declared.setup.Setup.{Setup};
 ghost use Rattle.dreq_pacing.specs.declared.due.Due.{Due};
+ghost use Rattle.dreq_pacing.specs.Due.{quiet};
 ghost use Rattle.dreq_pacing.specs.declared.line.Line.{Line};
 ghost use Rattle.dreq_pacing.specs.Ports.{transfers_at, due_at};
 ghost use Rattle.block_core.specs.Block.{BlockState, Run, next, run_at, run_from, uses_fifos_in, stepped, first_state, view_of, intents_of, level_writes, direction_writes};
@@ -16,10 +17,12 @@ ghost use Rattle.block_core.specs.Slots.{Slot, lined, has_tick, slot_after, slot
 ghost use Rattle.block_core.specs.Hosted.{hosted_at, host_of, asked_at};
 ghost use Rattle.block_core.specs.Resting.{rested};
 ghost use Rattle.block_core.specs.Shown.{requests_of, sample_of};
+ghost use Rattle.block_core.specs.Stirring.{moves_on, plainly_moves_on};
 
 use clock_divider::tick_test;
 use fifo_pair::{a_quiet_clock_changes_nothing, rx_loses_nothing, tx_loses_only_overruns};
 use pin_matrix::the_last_write_stands;
+use sm_registers::a_first_tick_stirs;
 
 /// A machine sees of each pin the pad of two clocks ago, or of now where the pin bypasses its synchroniser: the state after
 /// each clock follows from the state before it and from the history of the pads.
@@ -100,6 +103,13 @@ pub fn unused_fifos_ask_as_before()
         requests_of (next d r).state ≡ requests_of r.state }
 {
     a_quiet_clock_changes_nothing();
+}
+
+/// A clock in which the pads change, or a machine begins an instruction, moves the block on, whatever the machines see.
+pub fn what_begins_moves_on()
+    ensures { (r : Run) → plainly_moves_on r ≡ true → moves_on quiet r ≡ true }
+{
+    a_first_tick_stirs();
 }
 
 /// After clocks in which nothing stirs and the system does nothing, a run shows what it showed, and the machines ask for the

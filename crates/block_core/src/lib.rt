@@ -17,6 +17,6 @@ pub use following::{
 pub use laws::{
     a_rest_shows_nothing_new, a_stimulus_is_a_system, clocks_are_counted,
     each_pin_gets_the_last_write, pads_are_seen_two_clocks_late, ticks_follow_the_divider,
-    unused_fifos_ask_as_before, words_go_through_in_order,
+    unused_fifos_ask_as_before, what_begins_moves_on, words_go_through_in_order,
 };
 pub use sample::Sample;

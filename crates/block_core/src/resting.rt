@@ -3,10 +3,22 @@ ghost use Rattle.std.specs.Prelude.{◌≡◌, ℕ, ◌<◌, ◌≤◌, ◌^◌,
 ghost use Rattle.dreq_pacing.specs.Ports as ports;
 ghost use Rattle.block_core.specs.Kept.{HasTime};
 ghost use Rattle.block_core.specs.Resting.{rested_place, stirs_after};
+ghost use Rattle.block_core.specs.Stirring as spec;
 
 use crate::slot::Slot;
 use fifo_pair::Fifo;
 use sm_registers::View;
+
+/// Whether the machine of a place begins an instruction in the present clock.
+#[inline(always)]
+pub(crate) fn begins_now<F: Fifo>(place: &Option<Slot<F>>) -> bool
+    ensures { result ≡ spec.begins_now place.now }
+{
+    match place {
+        Some(slot) => slot.begins_now(),
+        None => false,
+    }
+}
 
 /// The least number of clocks after which a test passes or the machine of a place stirs, from that of the test alone. The
 /// machine isn't asked where the test passes at once.

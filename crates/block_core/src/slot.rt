@@ -1,20 +1,25 @@
 //! One machine in a run of its block, with its divider.
-ghost use Rattle.std.specs.Prelude.{◌≡◌, ℕ, ◌<◌, ◌≤◌, ◌^◌, ◌+◌, Some, length, IsTrue, IsSome, IfOk, if◌then◌else◌, slice_index_or, false};
+ghost use Rattle.std.specs.Prelude.{◌≡◌, ℕ, ◌<◌, ◌≤◌, ◌^◌, ◌+◌, Some, length, IsTrue, IsSome, IfOk, if◌then◌else◌, slice_index_or, false, true};
 ghost use Rattle.std.specs.List.{AllByRecursion};
 ghost use Rattle.clock_divider.specs.Timing as timing;
 ghost use Rattle.pin_matrix.specs.Pins.{IsWrite};
 ghost use Rattle.sm_registers.specs.Effects.{no_intent};
 ghost use Rattle.sm_registers.specs.State as spec_shown;
+ghost use Rattle.sm_registers.specs.declared.view.View as spec_view;
+ghost use Rattle.dreq_pacing.specs.Due.{quiet};
 ghost use Rattle.dreq_pacing.specs.Ports.{IsFirst};
 ghost use Rattle.block_core.specs.Resting.{rested_slot, stirs_after};
+ghost use Rattle.block_core.specs.Stirring.{begins_now};
 ghost use Rattle.block_core.specs.Slots as spec;
 ghost use Rattle.block_core.specs.Slots.{doing, lined, acted, settled_slot, slot_after, slot_intent, slot_uses_fifos, used_by};
 
 use clock_divider::Divider;
 use dreq_pacing::Due;
-use fifo_pair::Fifo;
+use fifo_pair::{Fifo, a_quiet_clock_changes_nothing};
 use pin_matrix::MachineSetup;
-use sm_registers::{Idle, Intent, Machine, Shown, View, a_calm_tick_only_counts};
+use sm_registers::{
+    Idle, Intent, Machine, Shown, View, a_calm_tick_only_counts, a_delay_only_counts,
+};
 use std::alloc::{AllocError, Global};
 use std::marker::Model;
 
@@ -73,6 +78,38 @@ impl<F: Fifo> Slot<F> {
         self.obey(due);
         self.act(view, intent);
         self.settle(due, intent)
+    }
+
+    /// Its clock, where the system does nothing in it and it has no tick, or one that only counts a delay; else nothing is
+    /// done. True where it was done. It wants nothing of its block then, nor of its FIFOs.
+    #[inline(always)]
+    pub fn pass(&mut self) -> bool
+        requires { self.old.timing.clock < 2 ^ 40 }
+        ensures passes { result ≡ spec.passes self.old }
+        ensures passed { (v : spec_view.View) → result ≡ true → self.new ≡ slot_after v quiet self.old }
+        ensures wants { (v : spec_view.View) → result ≡ true →
+            slot_intent v quiet self.old ≡ record no_intent { kind = (slot_intent v quiet self.old).kind } }
+        ensures kept { result ≡ false → self.new ≡ self.old }
+    {
+        a_delay_only_counts();
+        a_quiet_clock_changes_nothing();
+        if !self.has_tick() {
+            self.divider.step();
+            return true;
+        }
+        if !self.machine.count() {
+            return false;
+        }
+        self.divider.step();
+        true
+    }
+
+    /// Whether the clock is a tick of it.
+    #[inline(always)]
+    fn has_tick(&self) -> bool
+        ensures { result ≡ spec.has_tick self.now }
+    {
+        self.enabled && self.divider.ticks_now()
     }
 
     /// The place of its lines in `Due`.
@@ -142,6 +179,14 @@ impl<F: Fifo> Slot<F> {
         self.received = counted(due.read_paced[place], self.received);
         self.machine
             .settle(intent, due.word[place], due.read[place])
+    }
+
+    /// Whether it begins an instruction in the present clock, if no line acts in it.
+    #[inline(always)]
+    pub fn begins_now(&self) -> bool
+        ensures { result ≡ begins_now (Some self.now) }
+    {
+        self.enabled && self.divider.ticks_now() && self.machine.begins_next()
     }
 
     /// How many clocks go by before the next one in which it stirs, where it sees the same and the system does nothing.

@@ -1,5 +1,5 @@
 -- What an instruction can feel of its block, what it does to the flags, and where it goes on (RP2040 Datasheet, section 3.4).
--- In a number bit i stands for pin, flag or address i.
+-- In a number bit i is for pin, flag or address i.
 --   has          a bit is 1
 --   leads_to     the addresses that may come after it
 --   is_wild      it sets PC, or the next instruction, from data
@@ -37,7 +37,7 @@ all_32 = 2 ^ 32 - 1
 abbrev pub all_flags : ℕ
 all_flags = 2 ^ 8 - 1
 
--- so many pins from this one on, round behind pin 31 (section 3.5.6)
+-- so many pins from this one on, round after pin 31 (section 3.5.6)
 abbrev pub pins_in : (base count : ℕ) → ℕ
 pins_in base count = rotated_right ((2 ^ 32 - 1) % 2 ^ count) (32 - base)
 

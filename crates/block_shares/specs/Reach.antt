@@ -9,7 +9,7 @@ use Rattle.pio_encode.specs.Word.{act_of}
 use Rattle.pin_matrix.specs.declared.machine.MachineSetup.{MachineSetup}
 use Rattle.block_shares.specs.Acts.{has, leads_to, is_wild}
 
--- the address that follows one: the program wraps behind wrap_top, and the memory behind 31 (RP2040 Datasheet, section 3.5.2)
+-- the address that follows one: the program wraps after wrap_top, and the memory after 31 (RP2040 Datasheet, section 3.5.2)
 abbrev pub next_after : MachineSetup → ℕ → ℕ
 next_after s address = if address == s.wrap_top then s.wrap_bottom else (address + 1) % 32
 

@@ -1,6 +1,6 @@
 //! All that a machine can feel or change of its block, in numbers.
 
-/// What a machine touches. In a number bit i stands for address, pin or flag i.
+/// What a machine touches. In a number bit i is for address, pin or flag i.
 ///
 /// A machine of which a reached instruction sets PC, or the next instruction, from data is taken to reach all words, to read
 /// all pins, and to see and change all flags.

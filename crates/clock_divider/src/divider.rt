@@ -28,7 +28,7 @@ impl Model for Divider {
 }
 
 impl Divider {
-    /// A divider by `int + frac / 256` in clock 0, whose first tick is now. `int` 0 stands for 65,536 and takes no
+    /// A divider by `int + frac / 256` in clock 0, whose first tick is now. `int` 0 means 65,536 and takes no
     /// fraction: with one there is no such divider.
     pub fn new(int: u16, frac: u8) -> Option<Divider>
         ensures none { IsNone result ↔ ((int ≡ 0) × (0 < frac)) }

@@ -13,8 +13,8 @@ use Rattle.clap.specs.declared.error.kind.ErrorKind.TheVariants as kind
 use Rattle.clap.proofs.OnLiterals.{clap_on_literals}
 use Rattle.clap.proofs.WalkLemmas.{both}
 use Rattle.command_line.specs.Tool.{clock_limit, seed_limit, side_limit, tool}
-use Rattle.command_line.specs.Words.{Asked, IsTaken, asm, run, check, shares, gen, dis, asked_of, number_in, has_no_room}
-use Rattle.command_line.specs.Laws.{number_of, asm_words, run_words, check_words, shares_words, gen_words, dis_words, AskWhere, AsmWords, RunWords, CheckWords, SharesWords, GenWords, DisWords}
+use Rattle.command_line.specs.Words.{Asked, IsTaken, asm, run, check, table, recheck, shares, gen, dis, asked_of, number_in, has_no_room}
+use Rattle.command_line.specs.Laws.{number_of, asm_words, run_words, check_words, table_words, recheck_words, shares_words, gen_words, dis_words, AskWhere, AsmWords, RunWords, CheckWords, TableWords, RecheckWords, SharesWords, GenWords, DisWords}
 
 -- ---- a number in range
 
@@ -177,6 +177,32 @@ check_gives name source (Some config) = record { asked = refl; takes = refl; pas
 pub check_words_law : CheckWords
 check_words_law name source config =
     let g = check_gives name source config in
+    (taken_by _ _ g.takes g.asked refl, record { taken = g.passes; asked = g.asked })
+
+-- ---- table
+
+table_gives : (name source : Text) (config : Option Text) (span : Text)
+    → Gives (table_words name source config span) (table source config span)
+unfolding clap_on_literals tool asked_of
+table_gives name source None span = record { asked = refl; takes = refl; passes = refl }
+table_gives name source (Some config) span = record { asked = refl; takes = refl; passes = refl }
+
+pub table_words_law : TableWords
+table_words_law name source config span =
+    let g = table_gives name source config span in
+    (taken_by _ _ g.takes g.asked refl, record { taken = g.passes; asked = g.asked })
+
+-- ---- recheck
+
+recheck_gives : (name source : Text) (config : Option Text) (span file : Text)
+    → Gives (recheck_words name source config span file) (recheck source config span file)
+unfolding clap_on_literals tool asked_of
+recheck_gives name source None span file = record { asked = refl; takes = refl; passes = refl }
+recheck_gives name source (Some config) span file = record { asked = refl; takes = refl; passes = refl }
+
+pub recheck_words_law : RecheckWords
+recheck_words_law name source config span file =
+    let g = recheck_gives name source config span file in
     (taken_by _ _ g.takes g.asked refl, record { taken = g.passes; asked = g.asked })
 
 -- ---- shares

@@ -4,7 +4,7 @@ use Rattle.std.specs.Str.Parse.{digits_value, without_leading_plus}
 use Rattle.clap.specs.ValueTests.{is_unsigned_in}
 use Rattle.clap.specs.Walk.{Text}
 use Rattle.command_line.specs.Tool.{clock_limit, seed_limit, side_limit}
-use Rattle.command_line.specs.Words.{Asked, Asks, IsRefused, IsTaken, asm, check, dis, gen, run, shares}
+use Rattle.command_line.specs.Words.{Asked, Asks, IsRefused, IsTaken, asm, check, dis, gen, recheck, run, shares, table}
 
 -- the number of decimal digits, where a plus may stand first
 abbrev pub number_of : Text → ℕ
@@ -47,6 +47,27 @@ check_words name source config = name ∷ codes "check" ∷ (codes "--source=" +
 -- they ask for the verdicts on the spans of C over S, whatever S and C are
 abbrev pub CheckWords : Type 0
 CheckWords = (name source : Text) (config : Option Text) → AskWhere true (check_words name source config) (check source config)
+
+-- `table --source=S [--config=C] --span=NAME`, of a program of any name
+abbrev pub table_words : Text → Text → Option Text → Text → List Text
+table_words name source config span =
+    name ∷ codes "table" ∷ (codes "--source=" ++ source) ∷ (given (codes "--config=") config ++ (codes "--span=" ++ span) ∷ [])
+
+-- they ask for the table of the span NAME of C over S, whatever S, C and NAME are
+abbrev pub TableWords : Type 0
+TableWords = (name source : Text) (config : Option Text) (span : Text)
+    → AskWhere true (table_words name source config span) (table source config span)
+
+-- `recheck --source=S [--config=C] --span=NAME --table=F`, of a program of any name
+abbrev pub recheck_words : Text → Text → Option Text → Text → Text → List Text
+recheck_words name source config span file =
+    name ∷ codes "recheck" ∷ (codes "--source=" ++ source) ∷ (given (codes "--config=") config
+    ++ (codes "--span=" ++ span) ∷ (codes "--table=" ++ file) ∷ [])
+
+-- they ask whether the table in F proves the span NAME of C over S, whatever S, C, NAME and F are
+abbrev pub RecheckWords : Type 0
+RecheckWords = (name source : Text) (config : Option Text) (span file : Text)
+    → AskWhere true (recheck_words name source config span file) (recheck source config span file)
 
 -- `shares --source=S [--config=C]`, of a program of any name
 abbrev pub shares_words : Text → Text → Option Text → List Text

@@ -38,6 +38,14 @@ source_rule = required (option_rule (codes "source"))
 unfoldable pub config_rule : Rule
 config_rule = option_rule (codes "config")
 
+-- `--span NAME`: the name of a span
+unfoldable pub span_rule : Rule
+span_rule = required (option_rule (codes "span"))
+
+-- `--table F`: the name of a file with a table
+unfoldable pub table_rule : Rule
+table_rule = required (option_rule (codes "table"))
+
 -- `--stimulus T`: the name of a stimulus, which need not be given
 unfoldable pub stimulus_rule : Rule
 stimulus_rule = option_rule (codes "stimulus")
@@ -94,6 +102,14 @@ check_app = subcommand (codes "check") (source_rule ∷ config_rule ∷ [])
 unfoldable pub gen_app : App
 gen_app = subcommand (codes "gen") (seed_rule ∷ clocks_rule ∷ [])
 
+-- `table --source S [--config C] --span NAME`
+unfoldable pub table_app : App
+table_app = subcommand (codes "table") (source_rule ∷ config_rule ∷ span_rule ∷ [])
+
+-- `recheck --source S [--config C] --span NAME --table F`
+unfoldable pub recheck_app : App
+recheck_app = subcommand (codes "recheck") (source_rule ∷ config_rule ∷ span_rule ∷ table_rule ∷ [])
+
 -- `shares --source S [--config C]`
 unfoldable pub shares_app : App
 shares_app = subcommand (codes "shares") (source_rule ∷ config_rule ∷ [])
@@ -106,5 +122,5 @@ bare_app = record (new_app (codes "piotool")) {
 
 -- `piotool` with its subcommands; who unfolds it unfolds all that it is made of
 unfoldable pub tool : App
-unfolding taking offering bare_app asm_app run_app dis_app check_app gen_app shares_app file_rule source_rule config_rule stimulus_rule clocks_rule seed_rule side_rule opt_rule
-tool = fold offering bare_app (asm_app ∷ run_app ∷ dis_app ∷ check_app ∷ gen_app ∷ shares_app ∷ [])
+unfolding taking offering bare_app asm_app run_app dis_app check_app gen_app table_app recheck_app shares_app file_rule source_rule config_rule stimulus_rule clocks_rule seed_rule span_rule table_rule side_rule opt_rule
+tool = fold offering bare_app (asm_app ∷ run_app ∷ dis_app ∷ check_app ∷ gen_app ∷ table_app ∷ recheck_app ∷ shares_app ∷ [])

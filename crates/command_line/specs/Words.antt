@@ -11,16 +11,18 @@ use Rattle.clap.specs.Takes.{takes}
 use Rattle.clap.specs.Faults.{fault_of}
 use Rattle.command_line.specs.Tool.{clock_limit, seed_limit, side_limit, tool}
 use Rattle.command_line.specs.declared.order.Order.{Order}
-use Rattle.command_line.specs.declared.order.Order.TheVariants.{Asm, Run, Check, Shares, Gen, Dis}
+use Rattle.command_line.specs.declared.order.Order.TheVariants.{Asm, Run, Check, Table, Recheck, Shares, Gen, Dis}
 use Rattle.command_line.specs.declared.order.WordsFault.{WordsFault}
 use Rattle.command_line.specs.declared.order.WordsFault.TheVariants.{Usage, Memory}
 
 -- a subcommand with its arguments: file; source, configuration and stimulus if there are some, and clocks; source, and
--- configuration if there is one; seed and clocks; or file, side-set bits and whether their value is optional
+-- configuration if there is one; the same with a span's name, and then with a table; seed and clocks; or file, side-set bits and whether their value is optional
 pub data Asked : Type 0 where
   asm : Text → Asked
   run : Text → Option Text → Option Text → ℕ → Asked
   check : Text → Option Text → Asked
+  table : Text → Option Text → Text → Asked
+  recheck : Text → Option Text → Text → Text → Asked
   shares : Text → Option Text → Asked
   gen : ℕ → ℕ → Asked
   dis : Text → ℕ → Bool → Asked
@@ -30,6 +32,8 @@ abbrev pub asked_by : Order → Asked
 asked_by (Asm file) = asm file.now
 asked_by (Run source config stimulus clocks) = run source.now (option_map (λ t. t.now) config) (option_map (λ t. t.now) stimulus) clocks
 asked_by (Check source config) = check source.now (option_map (λ t. t.now) config)
+asked_by (Table source config span) = table source.now (option_map (λ t. t.now) config) span.now
+asked_by (Recheck source config span file) = recheck source.now (option_map (λ t. t.now) config) span.now file.now
 asked_by (Shares source config) = shares source.now (option_map (λ t. t.now) config)
 asked_by (Gen seed clocks) = gen seed clocks
 asked_by (Dis file side opt) = dis file.now side opt
@@ -69,6 +73,16 @@ run_asked rows =
 abbrev pub check_asked : List Row → Asked
 check_asked rows = check (text_at (codes "source") rows) (first_of (codes "config") rows)
 
+-- the arguments of `table`
+abbrev pub table_asked : List Row → Asked
+table_asked rows = table (text_at (codes "source") rows) (first_of (codes "config") rows) (text_at (codes "span") rows)
+
+-- the arguments of `recheck`
+abbrev pub recheck_asked : List Row → Asked
+recheck_asked rows =
+    recheck (text_at (codes "source") rows) (first_of (codes "config") rows) (text_at (codes "span") rows)
+    (text_at (codes "table") rows)
+
 -- the arguments of `shares`
 abbrev pub shares_asked : List Row → Asked
 shares_asked rows = shares (text_at (codes "source") rows) (first_of (codes "config") rows)
@@ -85,7 +99,8 @@ dis_asked rows = dis (text_at (codes "file") rows) (number_at side_limit (codes 
 abbrev pub subcommand_asked : Text → List Row → Asked
 subcommand_asked name rows =
     if bytes_eq name (codes "asm") then asm_asked rows else if bytes_eq name (codes "run") then run_asked rows
-    else if bytes_eq name (codes "check") then check_asked rows
+    else if bytes_eq name (codes "check") then check_asked rows else if bytes_eq name (codes "table") then table_asked rows
+    else if bytes_eq name (codes "recheck") then recheck_asked rows
     else if bytes_eq name (codes "shares") then shares_asked rows else if bytes_eq name (codes "gen") then gen_asked rows else dis_asked rows
 
 -- what the matches that clap's definition gives for `tool` and the words ask for

@@ -1,6 +1,6 @@
 //! The arguments of the subcommands, one function each.
 ghost use Rattle.command_line.specs.Making.{IsRule};
-ghost use Rattle.command_line.specs.Tool.{clocks_rule, config_rule, file_rule, opt_rule, option_rule, seed_rule, side_rule, source_rule, stimulus_rule};
+ghost use Rattle.command_line.specs.Tool.{clocks_rule, config_rule, file_rule, opt_rule, option_rule, seed_rule, side_rule, source_rule, span_rule, stimulus_rule, table_rule};
 
 use crate::order::{MOST_CLOCKS, MOST_SEED, MOST_SIDE_BITS};
 use clap::builder::ValueParser;
@@ -30,6 +30,26 @@ pub fn config<'a>(alloc: Global) -> Arg<'a>
     ensures { IsRule config_rule result }
 {
     option(alloc, "config").help("What the block starts from, in TOML")
+}
+
+/// `--span NAME`: the name of a span, any text.
+#[tactic(auto, unfolding(crate::specs::Tool::span_rule))]
+pub fn span<'a>(alloc: Global) -> Arg<'a>
+    ensures { IsRule span_rule result }
+{
+    option(alloc, "span")
+        .required(true)
+        .help("The name of a span of the configuration")
+}
+
+/// `--table F`: the name of a file with a table, any text.
+#[tactic(auto, unfolding(crate::specs::Tool::table_rule))]
+pub fn table<'a>(alloc: Global) -> Arg<'a>
+    ensures { IsRule table_rule result }
+{
+    option(alloc, "table").required(true).help(
+        "The table, in the form in which the command table writes it",
+    )
 }
 
 /// `--stimulus T`: the stimulus's name, any text, where one is given.

@@ -2,11 +2,15 @@
 ghost use Rattle.std.specs.Prelude.{IfOk};
 ghost use Rattle.clap.specs.Simple.{new_app};
 ghost use Rattle.command_line.specs.Making.{IsApp, Offers, Takes};
-ghost use Rattle.command_line.specs.Tool.{asm_app, check_app, dis_app, gen_app, run_app, shares_app, bare_app, tool as tool_app};
+ghost use Rattle.command_line.specs.Tool.{asm_app, check_app, dis_app, gen_app, recheck_app, run_app, shares_app, table_app, bare_app, tool as tool_app};
 
 use crate::arguments;
 use clap::{Arg, Command};
 use std::alloc::{AllocError, Global};
+
+/// Where a newcomer begins.
+const FIRST_RUN: &str = "A first trace: piotool run --source blink.pio --clocks 1000 > blink.vcd\n\
+    README.md leads from there to a wave viewer, and docs/FAULTS.md says what each refusal means.";
 
 /// The command with all its subcommands.
 pub fn tool<'a>(alloc: Global) -> Result<Command<'a>, AllocError>
@@ -17,6 +21,8 @@ pub fn tool<'a>(alloc: Global) -> Result<Command<'a>, AllocError>
     let command = add(command, dis(alloc));
     let command = add(command, check(alloc));
     let command = add(command, generate(alloc));
+    let command = add(command, table(alloc));
+    let command = add(command, recheck(alloc));
     add(command, shares(alloc))
 }
 
@@ -27,6 +33,7 @@ fn bare<'a>(alloc: Global) -> Result<Command<'a>, AllocError>
     Ok(
         Command::new(alloc, "piotool")
             .about("Assembles, simulates and checks programs of the RP2040's PIO")
+            .after_help(FIRST_RUN)
             .subcommand_required(true),
     )
 }
@@ -39,6 +46,7 @@ fn asm<'a>(alloc: Global) -> Result<Command<'a>, AllocError>
         alloc,
         "asm",
         "Writes the words of each program, with what they mean",
+        "Example: piotool asm blink.pio",
     );
     with_argument(command, arguments::file(alloc, "The programs, in pioasm"))
 }
@@ -51,6 +59,7 @@ fn run<'a>(alloc: Global) -> Result<Command<'a>, AllocError>
         alloc,
         "run",
         "Traces the pins of a program clock by clock, as a value-change dump",
+        "Example: piotool run --source uart.pio --config uart.toml --stimulus uart.stim --clocks 100000 > uart.vcd",
     );
     let command = with_argument(command, arguments::source(alloc));
     let command = with_argument(command, arguments::config(alloc));
@@ -62,7 +71,12 @@ fn run<'a>(alloc: Global) -> Result<Command<'a>, AllocError>
 fn dis<'a>(alloc: Global) -> Result<Command<'a>, AllocError>
     ensures { IfOk result (IsApp dis_app) }
 {
-    let command = named(alloc, "dis", "Writes the instruction that each word means");
+    let command = named(
+        alloc,
+        "dis",
+        "Writes the instruction that each word means",
+        "Example: piotool dis words.hex --side 2 --opt",
+    );
     let command = with_argument(
         command,
         arguments::file(alloc, "The words, four hexadecimal digits a line"),
@@ -79,6 +93,7 @@ fn check<'a>(alloc: Global) -> Result<Command<'a>, AllocError>
         alloc,
         "check",
         "Says of each span of the configuration whether its bounds hold in every run",
+        "Example: piotool check --source uart.pio --config uart.toml",
     );
     let command = with_argument(command, arguments::source(alloc));
     with_argument(command, arguments::config(alloc))
@@ -92,9 +107,41 @@ fn generate<'a>(alloc: Global) -> Result<Command<'a>, AllocError>
         alloc,
         "gen",
         "Runs the load that a seed draws, and writes how many edges and words it had",
+        "Example: piotool gen --seed 7 --clocks 1000",
     );
     let command = with_argument(command, arguments::seed(alloc));
     with_argument(command, arguments::clocks(alloc))
+}
+
+#[tactic(auto, unfolding(crate::specs::Tool::table_app))]
+fn table<'a>(alloc: Global) -> Result<Command<'a>, AllocError>
+    ensures { IfOk result (IsApp table_app) }
+{
+    let command = named(
+        alloc,
+        "table",
+        "Writes the table that proves a span: what its machine may come to, and how old an open edge is there",
+        "Example: piotool table --source uart.pio --config uart.toml --span bit > bit.table",
+    );
+    let command = with_argument(command, arguments::source(alloc));
+    let command = with_argument(command, arguments::config(alloc));
+    with_argument(command, arguments::span(alloc))
+}
+
+#[tactic(auto, unfolding(crate::specs::Tool::recheck_app))]
+fn recheck<'a>(alloc: Global) -> Result<Command<'a>, AllocError>
+    ensures { IfOk result (IsApp recheck_app) }
+{
+    let command = named(
+        alloc,
+        "recheck",
+        "Says whether the table in a file proves a span, without working one out",
+        "Example: piotool recheck --source uart.pio --config uart.toml --span bit --table bit.table",
+    );
+    let command = with_argument(command, arguments::source(alloc));
+    let command = with_argument(command, arguments::config(alloc));
+    let command = with_argument(command, arguments::span(alloc));
+    with_argument(command, arguments::table(alloc))
 }
 
 #[tactic(auto, unfolding(crate::specs::Tool::shares_app))]
@@ -105,16 +152,22 @@ fn shares<'a>(alloc: Global) -> Result<Command<'a>, AllocError>
         alloc,
         "shares",
         "Writes for each machine which pins and IRQ flags another may change that it uses itself",
+        "Example: piotool shares --source uart.pio --config uart.toml",
     );
     let command = with_argument(command, arguments::source(alloc));
     with_argument(command, arguments::config(alloc))
 }
 
-/// A subcommand that takes no arguments yet.
-fn named<'a>(alloc: Global, name: &'a str, about: &'a str) -> Result<Command<'a>, AllocError>
+/// A subcommand that takes no arguments yet: its name, and for its help what it writes and an example.
+fn named<'a>(
+    alloc: Global,
+    name: &'a str,
+    about: &'a str,
+    example: &'a str,
+) -> Result<Command<'a>, AllocError>
     ensures { IfOk result (IsApp (new_app name.entry.now)) }
 {
-    Ok(Command::new(alloc, name).about(about))
+    Ok(Command::new(alloc, name).about(about).after_help(example))
 }
 
 /// The command with one argument more.

@@ -1,5 +1,5 @@
 //! Laws above clap's definition of a parse: what words as the usage has them ask for. The functions do nothing.
-ghost use Rattle.command_line.specs.Laws.{AsmWords, CheckWords, DisWords, GenWords, RunWords, SharesWords};
+ghost use Rattle.command_line.specs.Laws.{AsmWords, CheckWords, DisWords, GenWords, RecheckWords, RunWords, SharesWords, TableWords};
 
 /// `asm -- FILE` asks for the listing of FILE.
 pub fn asm_words()
@@ -15,6 +15,16 @@ pub fn run_words()
 /// `check --source=S [--config=C]` asks for the verdicts on the spans of C over S.
 pub fn check_words()
     ensures { CheckWords }
+{}
+
+/// `table --source=S [--config=C] --span=NAME` asks for the table of the span NAME of C over S.
+pub fn table_words()
+    ensures { TableWords }
+{}
+
+/// `recheck --source=S [--config=C] --span=NAME --table=F` asks whether the table in F proves the span NAME of C over S.
+pub fn recheck_words()
+    ensures { RecheckWords }
 {}
 
 /// `shares --source=S [--config=C]` asks what the machines of C over S share.

@@ -1,6 +1,7 @@
 //! The words of a call of `piotool`, read by one clap command: which subcommand they ask for, with its arguments.
 #![tactic(auto)]
 
+mod advising;
 mod arguments;
 mod command;
 mod getters;
@@ -9,6 +10,10 @@ mod matching;
 mod order;
 mod reading;
 
-pub use laws::{asm_words, check_words, dis_words, gen_words, run_words, shares_words};
+pub use advising::advice;
+pub use laws::{
+    asm_words, check_words, dis_words, gen_words, recheck_words, run_words, shares_words,
+    table_words,
+};
 pub use order::{Order, WordsFault};
 pub use reading::read;

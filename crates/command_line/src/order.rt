@@ -29,6 +29,19 @@ pub enum Order<'a> {
         source: &'a str,
         config: Option<&'a str>,
     },
+    /// The table of the span of this name, in a configuration over the programs in a source.
+    Table {
+        source: &'a str,
+        config: Option<&'a str>,
+        span: &'a str,
+    },
+    /// Whether the table in a file proves the span of this name, in a configuration over the programs in a source.
+    Recheck {
+        source: &'a str,
+        config: Option<&'a str>,
+        span: &'a str,
+        table: &'a str,
+    },
     /// What each machine shares with each other machine, in a configuration over the programs in a source.
     Shares {
         source: &'a str,

@@ -5,7 +5,7 @@ ghost use Rattle.clap.specs.Simple.{subcommand_rows_of};
 ghost use Rattle.clap.specs.Walk.{rows_of};
 ghost use Rattle.std.specs.Option.{option_map};
 ghost use Rattle.command_line.specs.Words.{Asks, HasCause, IsTaken, IsWithinRange, asked_by, asm_asked, check_asked, dis_asked, gen_asked};
-ghost use Rattle.command_line.specs.Words.{has_no_room as has_no_room_of, run_asked, shares_asked, subcommand_asked};
+ghost use Rattle.command_line.specs.Words.{has_no_room as has_no_room_of, recheck_asked, run_asked, shares_asked, subcommand_asked, table_asked};
 
 use crate::getters::{flag, number, option_text, text};
 use crate::matching::matched;
@@ -36,6 +36,8 @@ fn has_no_room(order: Order<'_>) -> bool
         Order::Asm { .. }
         | Order::Run { .. }
         | Order::Check { .. }
+        | Order::Table { .. }
+        | Order::Recheck { .. }
         | Order::Shares { .. }
         | Order::Gen { .. } => false,
         Order::Dis { side, opt, .. } => u64::from(side) == MOST_SIDE_BITS && opt,
@@ -57,6 +59,10 @@ fn order_of<'a>(matches: &ArgMatches<'a>) -> Order<'a>
         run_order(found)
     } else if name == "check" {
         check_order(found)
+    } else if name == "table" {
+        table_order(found)
+    } else if name == "recheck" {
+        recheck_order(found)
     } else if name == "shares" {
         shares_order(found)
     } else if name == "gen" {
@@ -91,6 +97,27 @@ fn check_order<'a>(matches: &ArgMatches<'a>) -> Order<'a>
     Order::Check {
         source: text(matches, "source"),
         config: option_text(matches, "config"),
+    }
+}
+
+fn table_order<'a>(matches: &ArgMatches<'a>) -> Order<'a>
+    ensures { asked_by result ≡ table_asked (rows_of (found_of matches.now)) }
+{
+    Order::Table {
+        source: text(matches, "source"),
+        config: option_text(matches, "config"),
+        span: text(matches, "span"),
+    }
+}
+
+fn recheck_order<'a>(matches: &ArgMatches<'a>) -> Order<'a>
+    ensures { asked_by result ≡ recheck_asked (rows_of (found_of matches.now)) }
+{
+    Order::Recheck {
+        source: text(matches, "source"),
+        config: option_text(matches, "config"),
+        span: text(matches, "span"),
+        table: text(matches, "table"),
     }
 }
 

@@ -105,7 +105,7 @@ access-cons (Some p) c k ks = sym (parts (is_access p c k) false (list_any (is_a
 both_false : (a b : Bool) → a ≡ false → b ≡ false → (a || b) ≡ false
 both_false a b p q = ap (λ (x : Bool). x || b) p ∙ q
 
--- a line that crowds none of the lines may stand behind each
+-- a line that crowds none of the lines may be after each
 precedes : (ls : List Line) (last : ℕ) (l : Line) → AllByRecursion (λ k. k.clock ≤ last) ls → last ≤ l.clock → is_crowded ls l ≡ false → AllByRecursion (λ k. MayPrecede k l) ls
 precedes [] last l h le e = tt
 precedes (k ∷ ks) last l h le e =

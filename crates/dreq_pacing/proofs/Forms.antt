@@ -1,4 +1,4 @@
--- The fields behind the first and the second.
+-- The fields after the first and the second.
 use Rattle.std.proofs.Common.{◌≡◌, ℕ, List, [], ◌∷◌, drop, refl}
 use Rattle.std.specs.Prelude.{slice_get}
 

@@ -6,7 +6,7 @@ use Rattle.std.proofs.lemmas.Bool.Decides.{nat_tests}
 use Rattle.dreq_pacing.specs.declared.line.Line.{Line}
 use Rattle.dreq_pacing.specs.Lines.{IsLine, IsSchedule, MayPrecede, lines_in, has_lines, has_line, NoneBetween, IsRest, leading}
 
--- a line at the head that stands in the clock, or doesn't
+-- a line at the head that is in the clock, or doesn't
 pub lines_in-here : (c : ℕ) (l : Line) (ls : List Line) → l.clock ≡ c → lines_in c (l ∷ ls) ≡ l ∷ lines_in c ls
 lines_in-here c l ls e =
     let test : (l.clock == c) ≡ true = grind (arith, nat_tests) in
@@ -15,7 +15,7 @@ lines_in-here c l ls e =
 pub lines_in-other : (c : ℕ) (l : Line) (ls : List Line) → (l.clock == c) ≡ false → lines_in c (l ∷ ls) ≡ lines_in c ls
 lines_in-other c l ls test = ap (λ (b : Bool). cond b (l ∷ lines_in c ls) (lines_in c ls)) test
 
--- lines behind one whose clock is past this bound are past it too
+-- lines after one whose clock is past this bound are past it too
 pub ahead-from : (n : ℕ) (l : Line) (ls : List Line) → n ≤ l.clock → AllByRecursion (MayPrecede l) ls → AllByRecursion (λ k. n ≤ k.clock) ls
 ahead-from n l [] low h = tt
 ahead-from n l (k ∷ ks) low h = ((let o = h.0.in_order in omega arith), ahead-from n l ks low h.1)
@@ -74,7 +74,7 @@ turn-more c n l ls fine e t = record {
   fine = (fine, t.fine);
 }
 
--- the lines at the head that stand in the clock are all of its lines
+-- the lines at the head that are in the clock are all of its lines
 pub turn : (c : ℕ) (ls : List Line) → IsSchedule ls → AllByRecursion (λ l. c ≤ l.clock) ls → IsTurn c ls (leading c ls)
 turn c [] s h = record { here = refl; schedule = tt; later = λ d k. refl; ahead = tt; fine = tt }
 turn c (l ∷ ls) s h =

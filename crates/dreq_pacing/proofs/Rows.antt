@@ -60,7 +60,7 @@ row_down : due_at fed_lines (λ c. none_up) 4 ≡ quiet
 unfolding due_at due_in transfers_at transfers_after
 row_down = refl
 
--- of two lines of a pin the later stands
+-- of two lines of a pin the later counts
 pin_row : due_at (record { clock = 0; act = Pin 3 true } ∷ record { clock = 0; act = Pin 3 false } ∷ record { clock = 0; act = Pin 4 true } ∷ []) (λ c. none_up) 0 ≡ record quiet { pins = 24; values = 16 }
 unfolding due_at due_in transfers_at transfers_after
 pin_row = refl

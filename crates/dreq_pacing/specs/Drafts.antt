@@ -15,7 +15,7 @@ pub record Lines : Type 0 where
 abbrev pub first_draft : Lines
 first_draft = record { lines = []; clock = 0 }
 
--- what is wrong with a line behind these: its clock is below the last one's, or it crowds one of them
+-- what is wrong with a line after these: its clock is below the last one's, or it crowds one of them
 abbrev pub objection : Lines → Line → Option StimKind
 objection d l = if nat_lt l.clock d.clock then Some Backwards else if is_crowded d.lines l then Some Crowded else None
 

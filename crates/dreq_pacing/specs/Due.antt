@@ -30,7 +30,7 @@ quiet = record {
 abbrev pub bit_of : ℕ → ℕ
 bit_of pin = 2 ^ pin
 
--- a pin is set to a level, which stands over an earlier one
+-- a pin is set to a level, in place of an earlier one
 abbrev pub with_pin : ℕ → Bool → Due → Due
 with_pin pin level d = record d {
   pins = bit_or d.pins (bit_of pin);

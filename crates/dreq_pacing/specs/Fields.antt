@@ -1,4 +1,4 @@
--- The fields of a line: the parts between blanks of what stands before `#`, without the empty ones (choice of this profile).
+-- The fields of a line: the parts between blanks of what comes before `#`, without the empty ones (choice of this profile).
 use Rattle.std.specs.Prelude.{ℕ, ◌==◌, Bool, true, false, List, [], ◌∷◌, if◌then◌else◌}
 use Rattle.std.specs.List.{filter, slice_split}
 use Rattle.byte_lines.specs.Bytes.{is_blank}
@@ -7,7 +7,7 @@ use Rattle.byte_lines.specs.Bytes.{is_blank}
 abbrev pub number_sign : ℕ
 number_sign = 35
 
--- what stands before the first `#`
+-- what comes before the first `#`
 abbrev pub before_comment : List ℕ → List ℕ
 before_comment [] = []
 before_comment (b ∷ bs) = if b == number_sign then [] else b ∷ before_comment bs

@@ -1,5 +1,5 @@
 -- What the fields of a line say: first its form, then the ranges of its numbers (choice of this profile).
---   verb_of   the word behind the clock
+--   verb_of   the word after the clock
 --   has_form  that all other fields are numbers, and as many as the word wants
 --   act_of    what the numbers say, where they are in their ranges
 --   line_of   the line, or what is wrong with it
@@ -38,7 +38,7 @@ verb_of two name =
     if bytes_eq name (codes "drain") then Some verb.Drain else
     if two then second_verb_of name else None
 
--- whether a word wants so many fields behind it, where three stands for more too
+-- whether a word wants so many fields after it, where three is for more too
 abbrev pub fits : Verb → ℕ → Bool
 fits verb.Pin count = count == 2
 fits verb.Tx count = count == 2
@@ -53,7 +53,7 @@ fits verb.Restart count = count == 1
 abbrev pub are_numbers : List (List ℕ) → Bool
 are_numbers fields = list_all is_number fields
 
--- whether the clock and the fields behind the word are numbers, and as many as the word wants: for a feed three or more
+-- whether the clock and the fields after the word are numbers, and as many as the word wants: for a feed three or more
 abbrev pub has_form : Verb → List ℕ → List (List ℕ) → Bool
 has_form verb clock args = is_number clock && (fits verb (min (length args) 3) && are_numbers args)
 
@@ -132,7 +132,7 @@ restart_act machine = do
   m ← number 0 3 machine
   Some (act.Restart m)
 
--- what the fields behind the word say, where they are in their ranges
+-- what the fields after the word say, where they are in their ranges
 abbrev pub act_of : Verb → List (List ℕ) → Option Act
 act_of verb.Pin args = pin_act (slice_get args 0) (slice_get args 1)
 act_of verb.Tx args = tx_act (slice_get args 0) (slice_get args 1)

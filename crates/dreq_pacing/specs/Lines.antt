@@ -83,12 +83,12 @@ has_access (Some place) clock lines = list_any (is_access place clock) lines
 abbrev pub is_crowded : List Line → Line → Bool
 is_crowded before l = has_transfer (transfer_of l.act) before || has_access (access_of l.act) l.clock before
 
--- Whether a line may stand in front of another: its clock isn't above, and the two don't crowd each other.
+-- Whether a line may be in front of another: its clock isn't above, and the two don't crowd each other.
 pub record MayPrecede (l k : Line) : Type 0 where
   pub in_order : l.clock ≤ k.clock
   pub apart : is_crowded (l ∷ []) k ≡ false
 
--- A stimulus: lines in their ranges, of which each may stand in front of those behind it.
+-- A stimulus: lines in their ranges, of which each may be in front of those after it.
 abbrev pub IsSchedule : List Line → Type 0
 IsSchedule [] = Unit {0}
 IsSchedule (l ∷ lines) = IsLine l × AllByRecursion (MayPrecede l) lines × IsSchedule lines
@@ -103,11 +103,11 @@ abbrev pub has_lines : List Line → Bool
 has_lines [] = false
 has_lines (l ∷ lines) = true
 
--- whether a line stands in the clock
+-- whether a line is in the clock
 abbrev pub has_line : ℕ → List Line → Bool
 has_line clock lines = has_lines (lines_in clock lines)
 
--- no line stands in a clock from this one on and before that one
+-- no line is in a clock from this one on and before that one
 abbrev pub NoneBetween : List Line → ℕ → ℕ → Type 0
 NoneBetween lines from to = (c : ℕ) → from ≤ c → c < to → has_line c lines ≡ false
 
@@ -117,7 +117,7 @@ pub record IsRest (lines : List Line) (next : ℕ) (rest : List Line) : Type 0 w
   pub same : (c : ℕ) → next ≤ c → lines_in c lines ≡ lines_in c rest
   pub ahead : AllByRecursion (λ l. next ≤ l.clock) rest
 
--- how many lines at the head stand in the clock
+-- how many lines at the head are in the clock
 abbrev pub leading : ℕ → List Line → ℕ
 leading clock [] = 0
 leading clock (l ∷ lines) = if l.clock == clock then leading clock lines + 1 else 0

@@ -3,7 +3,7 @@
 use Rattle.std.specs.Prelude.{ℕ, ◌+◌, ◌*◌, ◌==◌, ◌&&◌, nat_le, min, Bool, Option, Some, None, is_some, option_and_then, List, [], ◌∷◌, if◌then◌else◌}
 use Rattle.byte_lines.specs.Bytes.{digit_0, digit_of}
 
--- `x`, which stands behind `0` in front of hexadecimal digits
+-- `x`, which comes after `0` in front of hexadecimal digits
 abbrev pub small_x : ℕ
 small_x = 120
 

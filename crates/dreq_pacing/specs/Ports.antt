@@ -3,7 +3,7 @@
 --   transfers_after  what is left of the transfers after the clock
 --   transfers_at     the same from clock 0 on, by the history of requests
 --   due_at           what it does in a clock, by the history of requests
---   acts_in          whether a line stands in the clock, or a transfer moves in it
+--   acts_in          whether a line is in the clock, or a transfer moves in it
 use Rattle.std.specs.Prelude.{◌≡◌, ℕ, zero, suc, ◌+◌, ◌<◌, ◌≤◌, ◌&&◌, ◌||◌, nat_lt, not, Bool, true, false, Option, Some, None, is_some, List, [], ◌∷◌, if◌then◌else◌, slice_index_or}
 use Rattle.dreq_pacing.specs.declared.line.Line.{Line}
 use Rattle.dreq_pacing.specs.declared.due.Due.{Due}
@@ -96,7 +96,7 @@ abbrev pub moves_in : ℕ → Requests → Transfers → Bool
 moves_in clock requests t =
     moves 0 clock requests t.first || (moves 1 clock requests t.second || (moves 2 clock requests t.third || moves 3 clock requests t.fourth))
 
--- Whether a line stands in the clock, or a transfer moves in it.
+-- Whether a line acts in the clock, or a transfer moves in it.
 unfoldable pub acts_in : List Line → ℕ → Requests → Transfers → Bool
 acts_in lines clock requests t = has_line clock lines || moves_in clock requests t
 

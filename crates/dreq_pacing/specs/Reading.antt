@@ -35,7 +35,7 @@ abbrev pub is_two : Option ℕ → Result Bool StimKind
 is_two None = Err Range
 is_two (Some version) = Ok (version == 2)
 
--- whether a version line tells version 2, by the fields behind its word: one number, 1 or 2
+-- whether a version line tells version 2, by the fields after its word: one number, 1 or 2
 abbrev pub version_of : List (List ℕ) → Result Bool StimKind
 version_of [] = Err BadLine
 version_of (number ∷ []) = if is_number number then is_two (in_range 1 2 number) else Err BadLine

@@ -1,4 +1,4 @@
-//! What a line's fields behind its word say, where they are in their ranges (choice of this profile).
+//! What a line's fields after its word say, where they are in their ranges (choice of this profile).
 ghost use Rattle.std.specs.Prelude.{◌≡◌, ◌≤◌, IfOk, IfSome, length, option_copied, option_map};
 ghost use Rattle.dreq_pacing.specs.Lines.{IsAct};
 ghost use Rattle.dreq_pacing.specs.Form as spec;

@@ -14,7 +14,7 @@ pub struct Requests {
     pub rx: [bool; 4],
 }
 
-/// What the system does in a clock. In `pins` and `values` bit p stands for pin p.
+/// What the system does in a clock. In `pins` and `values` bit p is for pin p.
 #[derive(Clone, Copy, PartialEq, Eq)]
 pub struct Due {
     /// The pins that lines set from the outside.

@@ -1,4 +1,4 @@
-//! The fields of a line: what stands before `#`, parted by blanks (choice of this profile).
+//! The fields of a line: what comes before `#`, parted by blanks (choice of this profile).
 ghost use Rattle.std.specs.Prelude.{◌≡◌, ◌∷◌, ◌<◌, ◌≤◌, [], drop, length, option_copied, slice_get, MatchOption};
 ghost use Rattle.dreq_pacing.specs.Fields as spec;
 
@@ -57,7 +57,7 @@ impl<'a> Fields<'a> {
     }
 }
 
-/// What stands before the first `#`.
+/// What comes before the first `#`.
 fn before_comment(line: &[u8]) -> &[u8]
     ensures { result.now ≡ spec.before_comment line.now }
 {
@@ -69,7 +69,7 @@ fn before_comment(line: &[u8]) -> &[u8]
     line
 }
 
-/// What stands before the first blank, and what stands behind it.
+/// What comes before the first blank, and what comes after it.
 fn first_part(text: &[u8]) -> (&[u8], &[u8])
     requires { 0 < length text.now }
     ensures parts { spec.parted text.now ≡ spec.with_field result.0.now (spec.parted result.1.now) }

@@ -33,7 +33,7 @@ pub fn read_line(
     }
 }
 
-/// The line with this word, its clock's field and those behind the word.
+/// The line with this word, its clock's field and those after the word.
 fn read_form(
     alloc: Global,
     verb: Verb,
@@ -86,7 +86,7 @@ fn count_to_three(fields: &Fields) -> usize
     count
 }
 
-/// Whether a word wants so many fields behind it, where three stands for more too.
+/// Whether a word wants so many fields after it, where three is for more too.
 fn fits(verb: Verb, count: usize) -> bool
     requires { count ≤ 3 }
     ensures { result ≡ spec.fits verb count }

@@ -1,4 +1,4 @@
-//! Laws of the definitions: what clocks without a line and without a move are, which pin line stands, and that a feed's
+//! Laws of the definitions: what clocks without a line and without a move are, which pin line counts, and that a feed's
 //! words stay in order. Each is the contract of a function that does nothing.
 ghost use Rattle.std.specs.Prelude.{◌≡◌, ℕ, ◌+◌, ◌<◌, ◌≤◌, List, ◌++◌, false};
 ghost use Rattle.std.specs.List.{AllByRecursion};
@@ -27,7 +27,7 @@ pub fn quiet_clocks_may_be_left_out()
         → transfers_at lines requests (from + n) ≡ transfers_at lines requests from }
 {}
 
-/// Ports that are asked of each clock in which a line stands or a transfer moves do what the history of requests says.
+/// Ports that are asked of each clock in which a line is or a transfer moves do what the history of requests says.
 pub fn ports_follow_the_history()
     ensures first { (lines : List Line) (requests : ℕ → Requests)
         → Follows requests (first_ports lines) }
@@ -41,7 +41,7 @@ pub fn ports_follow_the_history()
         → Follows requests (asked clock (requests clock) p) }
 {}
 
-/// Of the lines of a pin in one clock the last stands; a pin without one isn't set, and has no level.
+/// Of the lines of a pin in one clock the last counts; a pin without one isn't set, and has no level.
 pub fn the_last_pin_line_stands()
     ensures set { (lines : List Line) (pin : ℕ) → AllByRecursion IsLine lines → pin < 32
         → bit_at (with_lines lines quiet).pins pin ≡ is_set (last_level pin lines) }

@@ -58,7 +58,7 @@ impl<'a> HostPorts<'a> {
     }
 
     /// What the system does in a clock, given the requests at its start. Clocks may be left out in which nothing
-    /// happens: no line stands in them, and no transfer moves.
+    /// happens: no line acts in them, and no transfer moves.
     pub fn at(&mut self, clock: u64, requests: &Requests) -> Due
         requires next { self.old.next ≤ clock }
         requires lines { NoneBetween self.old.lines self.old.next clock }
@@ -74,7 +74,7 @@ impl<'a> HostPorts<'a> {
         self.act(clock, here, requests)
     }
 
-    /// Whether a transfer moves in a clock in which no line stands.
+    /// Whether a transfer moves in a clock in which no line is.
     fn moves(&self, clock: u64, requests: &Requests) -> bool
         ensures { result ≡ moves_in clock requests.now self.now.transfers }
     {
@@ -101,7 +101,7 @@ impl<'a> HostPorts<'a> {
         with_moves(lined, first, second, third, fourth)
     }
 
-    /// The least clock from this one on in which a line stands or a transfer moves, while the requests stay as they
+    /// The least clock from this one on in which a line is or a transfer moves, while the requests stay as they
     /// are.
     pub fn next_due(&self, clock: u64, requests: &Requests) -> Option<u64>
         requires next { self.now.next ≤ clock }
@@ -152,7 +152,7 @@ impl<'a> HostPorts<'a> {
     }
 }
 
-/// How many lines at the head stand in the clock.
+/// How many lines at the head are in the clock.
 fn leading(lines: &[Line], clock: u64) -> usize
     ensures number { result ≡ leading clock lines.now }
     ensures within { result ≤ length lines.now }

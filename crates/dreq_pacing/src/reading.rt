@@ -77,7 +77,7 @@ impl Reader {
         self.take_line(alloc, fields)
     }
 
-    /// The version line, by the fields behind its word.
+    /// The version line, by the fields after its word.
     fn take_version(&mut self, args: &Fields) -> Option<StimKind>
         requires { self.old.count < 1000000 }
         ensures { MatchOption result (spec.with_version self.old (spec.version_of args.now) ≡ Ok self.new)
@@ -112,7 +112,7 @@ impl Reader {
     }
 }
 
-/// Whether the version is 2, by the fields behind the word `version`.
+/// Whether the version is 2, by the fields after the word `version`.
 fn version_of(args: &Fields) -> Result<bool, StimKind>
     ensures { result ≡ spec.version_of args.now }
 {

@@ -3,7 +3,7 @@ ghost use Rattle.std.specs.Prelude.{◌≡◌};
 ghost use Rattle.std.specs.Str.{bytes_eq};
 ghost use Rattle.dreq_pacing.specs.Form as spec;
 
-/// The word behind a line's clock.
+/// The word after a line's clock.
 #[derive(Clone, Copy)]
 pub enum Verb {
     Pin,

@@ -53,7 +53,7 @@ const HIGH: Sample = Sample {
     ..QUIET
 };
 
-// What is told, and the text that it has to have behind the declarations.
+// What is told, and the text that it has to have after the declarations.
 struct Row {
     shows: &'static str,
     told: &'static [(u64, Sample)],
@@ -394,12 +394,12 @@ fn traces<S: Sink>(sink: &mut S, row: &Row) -> bool {
 // The sink's call that fails, how much of its piece is taken, and how many bytes there are then.
 static FAILURES: [(u64, usize, usize); 6] = [
     (1, 0, 0),
-    // The first declaration of a variable, behind two lines.
+    // The first declaration of a variable, after two lines.
     (3, 0, 44),
     (3, 4, 48),
-    // `$upscope $end`, behind 88 declarations.
+    // `$upscope $end`, after 88 declarations.
     (91, 0, 2028),
-    // The last value of the dump, and the first change behind `#1`.
+    // The last value of the dump, and the first change after `#1`.
     (182, 0, 2367),
     (185, 1, 2381),
 ];

@@ -3,7 +3,7 @@ use Rattle.std.proofs.Common.{◌≡◌, ℕ, ◌<◌, ◌≤◌, Bool, true, fa
 use Rattle.std.proofs.lemmas.Bool.Decides.{nat_tests}
 use Rattle.fifo_pair.specs.Fifos.{queued, less_front, if_room, is_dropped}
 
--- a word goes behind all others
+-- a word goes after all others
 pub queued-append : (o : Option ℕ) (words : List ℕ) → queued o words ≡ words ++ option_to_list o
 queued-append None words = sym (append-nil words)
 queued-append (Some word) words = refl

@@ -33,7 +33,7 @@ pub record Fits (f : Fifos) : Type 0 where
   pub tx : length f.tx ≤ f.tx_room
   pub rx : length f.rx ≤ f.rx_room
 
--- the words with one more, if any, behind them
+-- the words with one more, if any, after them
 abbrev pub queued : Option ℕ → List ℕ → List ℕ
 queued None words = words
 queued (Some word) words = words ++ word ∷ []

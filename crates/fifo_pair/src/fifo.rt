@@ -31,7 +31,7 @@ pub trait Fifo: Drop {
     fn front(&self) -> Option<u32>
         ensures { result ≡ slice_get (items self.now) 0 };
 
-    /// Puts a word behind all others.
+    /// Puts a word after all others.
     fn push(&mut self, word: u32)
         requires { length (items self.old) < room self.old }
         ensures items { items self.new ≡ items self.old ++ word ∷ [] }

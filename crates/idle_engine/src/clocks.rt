@@ -8,7 +8,9 @@ ghost use Rattle.block_core.specs.Shown.{requests_of};
 ghost use Rattle.block_core.specs.Stirring.{moves_on};
 ghost use Rattle.idle_engine.specs.Resting.{IsDue, IsCalm};
 
-use block_core::{Block, a_rest_shows_nothing_new, unused_fifos_ask_as_before};
+use block_core::{
+    Block, a_rest_shows_nothing_new, unused_fifos_ask_as_before, what_begins_moves_on,
+};
 use dreq_pacing::{HostPorts, Requests, a_quiet_clock_changes_nothing};
 use fifo_pair::Fifo;
 
@@ -115,8 +117,12 @@ pub(crate) fn rest<F: Fifo>(block: &mut Block<F>, clock: u64, due: u64, end: u64
     ensures calls { block.new.calls ≡ block.old.calls }
     ensures stirs { result < end → result < due → moves_on quiet block.new.run ≡ true }
 {
+    what_begins_moves_on();
     let until = due.min(end);
     if clock == until {
+        return clock;
+    }
+    if block.plainly_moves_on() {
         return clock;
     }
     match block.next_stir() {

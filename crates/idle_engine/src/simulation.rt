@@ -48,7 +48,7 @@ pub fn simulate<F: Fifo, T: Trace, L: Ledger>(
     let mut clock = 0;
     'clocks: while clock < clocks {
         due = step(block, &mut ports, clock, due);
-        steps.tick();
+        steps.count();
         trace.sample(clock, &block.view())?;
         clock = rest(block, clock + 1, due, clocks);
     }

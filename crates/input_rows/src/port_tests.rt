@@ -139,7 +139,7 @@ fn reads(dues: &[Due; 12]) -> [Option<bool>; 12] {
     reads
 }
 
-// The next clock in which something happens, behind clock 0 with these requests, while those stay.
+// The next clock in which something happens, after clock 0 with these requests, while those stay.
 fn next_after(schedule: &Schedule, at_first: &Requests, then: &Requests) -> Option<u64> {
     let mut ports = HostPorts::new(schedule);
     let _due = ports.at(0, at_first);

@@ -1,4 +1,4 @@
-//! What word lists ask for. A row has the words behind the program's name, and what they give, worked by hand from the
+//! What word lists ask for. A row has the words after the program's name, and what they give, worked by hand from the
 //! usage of the subcommands and the rules of Rust's crate clap, version 4.
 use command_line::{Order, WordsFault, read};
 use std::alloc::{AllocError, Global};
@@ -316,7 +316,7 @@ fn no_words_at_all(rt: HostRuntime) {
     assert!(rt; read(rt.alloc(), &[]) == Err(WordsFault::Usage));
 }
 
-/// Whether a call with these words behind the program's name reads as this.
+/// Whether a call with these words after the program's name reads as this.
 fn gives(
     alloc: Global,
     words: &[&str],

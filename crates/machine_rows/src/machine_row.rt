@@ -32,7 +32,7 @@ pub enum Seen {
     Flags(u8),
 }
 
-/// A program from address 0 on, which wraps behind its last word unless the setup says another one than 31.
+/// A program from address 0 on, which wraps after its last word unless the setup says another one than 31.
 pub struct Row {
     pub shows: &'static str,
     pub words: &'static [u16],

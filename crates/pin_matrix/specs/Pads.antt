@@ -1,4 +1,4 @@
--- What is on the pads, and what a machine sees of them. In a number bit i stands for pin i.
+-- What is on the pads, and what a machine sees of them. In a number bit i is for pin i.
 --   pads_of         the pads of a clock
 --   Synchroniser    what the input synchronisers hold
 --   seen_of         what a machine sees

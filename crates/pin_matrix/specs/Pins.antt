@@ -1,4 +1,4 @@
--- What is written to pins, and which write stands. In a number bit i stands for pin i.
+-- What is written to pins, and which write counts. In a number bit i is for pin i.
 --   rotated_right   a word turned round
 --   writes_of       the pins that a mapped value is written to, and the bits that they get
 --   place_of        a pin's place in a mapping
@@ -11,7 +11,7 @@ use Rattle.std.specs.Prelude.{◌≡◌, ℕ, ◌+◌, ◌-◌, ◌*◌, ◌/◌
 use Rattle.std.specs.Int.{bit_at}
 use Rattle.pin_matrix.specs.declared.mapping.Mapping.{Mapping}
 
--- The word turned right by n bits, up to 32: its low n bits come to stand at the top.
+-- The word turned right by n bits, up to 32: its low n bits come to be at the top.
 abbrev pub rotated_right : ℕ → ℕ → ℕ
 rotated_right word n = word / 2 ^ n + word % 2 ^ n * 2 ^ (32 - n)
 

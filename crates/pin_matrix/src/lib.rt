@@ -1,4 +1,4 @@
-//! Pins of the RP2040's PIO: which an instruction writes, whose write stands, what a machine sees, and the types of a
+//! Pins of the RP2040's PIO: which an instruction writes, whose write counts, what a machine sees, and the types of a
 //! setup.
 #![tactic(auto)]
 

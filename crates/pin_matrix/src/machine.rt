@@ -15,7 +15,7 @@ pub struct MachineSetup {
     pub x: u32,
     /// Y at the start.
     pub y: u32,
-    /// The divider's whole part; 0 stands for 65,536.
+    /// The divider's whole part; 0 means 65,536.
     pub int: u16,
     /// The divider's fraction in 1/256; 0 where the whole part is 0.
     pub frac: u8,
@@ -23,7 +23,7 @@ pub struct MachineSetup {
     pub side_rule: SideRule,
     /// The address that follows `wrap_top`: 0 to 31.
     pub wrap_bottom: u8,
-    /// The address behind which the program wraps: 0 to 31.
+    /// The address after which the program wraps: 0 to 31.
     pub wrap_top: u8,
     /// The pin that `in pins` and `wait pin` count from: 0 to 31.
     pub in_base: u8,

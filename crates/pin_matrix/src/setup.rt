@@ -5,7 +5,7 @@ ghost use Rattle.pin_matrix.specs.Setups.{ids_are_places};
 use crate::machine::MachineSetup;
 use crate::span::Spans;
 
-/// A block at the start of a run, and the spans that are asked of it. In the pins bit i stands for pin i.
+/// A block at the start of a run, and the spans that are asked of it. In the pins bit i is for pin i.
 #[derive(Drop)]
 pub struct Setup {
     /// The instruction memory.

@@ -11,7 +11,7 @@ use Rattle.pio_assemble.specs.Checks.{first_fault, line_fault as fault_of_line, 
 use Rattle.pio_assemble.specs.Lines.{has_word, word_on}
 use Rattle.pio_assemble.proofs.Lining.{first_left}
 
--- a word stands on the lines that are left, by the first of them
+-- a word is on the lines that are left, by the first of them
 pub word_left : (lines : List Line) (i : ℕ) (l : Line) (word : Option Bool) → i < length lines → l ≡ get_or lines i l
     → ((more : Bool) → word_on l.reading more ≡ unwrap_or word more)
     → has_word (drop i lines) ≡ unwrap_or word (has_word (drop (i + 1) lines))

@@ -84,7 +84,7 @@ finish d = by d.name refl where
   by None h = record { kept = false; names = rw h refl }
   by (Some name) h = some name (length d.words == 0) h refl
 
--- a program that begins is new, and so are those behind it
+-- a program that begins is new, and so are those after it
 all_behind : (names : List (List ℕ)) (name : List ℕ) (programs : List Assembled) → is_among names name ≡ false → Named (with_name names name) (Some name) programs → AreNew names (names_of programs) × AreDistinct (names_of programs)
 all_behind names name programs new h = by h.kept refl where
   behind : AreNew names h.rest × Differs name h.rest

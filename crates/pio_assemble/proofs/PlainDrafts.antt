@@ -1,4 +1,4 @@
--- What a statement without a fault adds to a program: no word is one too many, and no wrap target stands behind the last word.
+-- What a statement without a fault adds to a program: no word is one too many, and no wrap target comes after the last word.
 use Rattle.std.proofs.Common.{◌≡◌, ℕ, ◌+◌, ◌-◌, ◌≤◌, ◌==◌, ◌∷◌, [], ◌++◌, Bool, true, false, not, List, length, length-append, Option, Some, None, Result, Ok, IfOk, refl, ap, ◌∙◌, arith, min}
 use Rattle.std.proofs.lemmas.Bool.{not-false}
 use Rattle.pio_expr.specs.Values.{Scope, value_of_name}
@@ -27,7 +27,7 @@ abbrev pub to_come : Bool → ℕ
 to_come true = 1
 to_come false = 0
 
--- what stands before a line is what a program has so far; a program with a name wraps to one of its words, or to one to come
+-- what comes before a line is what a program has so far; a program with a name wraps to one of its words, or to one to come
 pub record IsDraft (b : Before) (more : Bool) (d : Draft) : Type 0 where
   pub count : length d.words ≡ b.words
   pub rule : IsRule b.side_set d.side
@@ -94,7 +94,7 @@ drafted_same scope b more d (statement.Label public name (Some c)) h fault k =
     coded_same scope (symbol_after b name) more (labelled d public name) c (no_second (symbol_fault b name) (code_fault b c) inside) (labelled_is b true d public name k)
 drafted_same scope b more d (statement.Code c) h fault k = coded_same scope b more d c (no_second (outside b) (code_fault b c) fault) k
 
--- a program behind its last line has a word, and wraps to one of its words
+-- a program after its last line has a word, and wraps to one of its words
 pub finished_same : (b : Before) (d : Draft) → IsDraft b false d → finished d ≡ plain_finished d
 finished_same b d k = by d.name refl where
   by : (o : Option (List ℕ)) → d.name ≡ o → finished d ≡ plain_finished d

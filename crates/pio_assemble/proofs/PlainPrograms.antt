@@ -21,7 +21,7 @@ use Rattle.pio_assemble.proofs.PlainLines.{line_of, lines_by, all_say}
 use Rattle.pio_assemble.proofs.PlainScope.{scope_same}
 use Rattle.pio_assemble.proofs.PlainDrafts.{IsDraft, drafted_same, finished_same}
 
--- the programs of these statements are the plain ones, whatever stands before them
+-- the programs of these statements are the plain ones, whatever comes before them
 abbrev AreSame : List Numbered → Type 0
 AreSame statements = (b : Before) (scope : Scope) (d : Draft) → first_fault b (lines_by statements) ≡ None → IsDraft b (has_word (lines_by statements)) d
     → programs_from (lines_by statements) scope d ≡ plain_programs_from statements scope d

@@ -31,7 +31,7 @@ not_found place (s ∷ symbols) name h =
     let both = or_parts (bytes_eq name s.0) (is_among (names_in symbols) name) h in
     rw both.0 (not_found (place + 1) symbols name both.1)
 
--- what stands before a line is what a scope and a number of words have
+-- what comes before a line is what a scope and a number of words have
 pub record IsScope (b : Before) (scope : Scope) (words : ℕ) : Type 0 where
   pub names : b.names ≡ names_in (present scope scope.program)
   pub count : words ≡ b.words
@@ -98,7 +98,7 @@ passed b more scope words (statement.Code c) h fault k =
     let room = has_room b c (no_second (outside b) (code_fault b c) fault) in
     record { scope_same = refl; words_same = omega (arith, room, k.count); behind = record { names = k.names; count = ap (λ n. n + 1) k.count; most = omega (arith, room, k.count) } }
 
--- the scope behind these statements is the plain one, whatever stands before them
+-- the scope after these statements is the plain one, whatever comes before them
 abbrev AreSame : List Numbered → Type 0
 AreSame statements = (b : Before) (scope : Scope) (words : ℕ) → first_fault b (lines_by statements) ≡ None → IsScope b scope words → scope_from (lines_by statements) scope words ≡ plain_scope_from statements scope words
 

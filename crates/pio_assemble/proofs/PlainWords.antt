@@ -23,7 +23,7 @@ use Rattle.pio_assemble.specs.Operands.{valued, in_range, number_in, side_in, de
 use Rattle.pio_assemble.specs.Plain.{plain_op_of, plain_word_of_instruction, plain_word_of_code}
 use Rattle.pio_assemble.proofs.Faultless.{no_second, kept_behind, same_behind, any}
 
--- what a `.side_set` says stands in the rule; without one the rule is that of none
+-- what a `.side_set` says is in the rule; without one the rule is that of none
 abbrev pub IsRule : Option Bool → SideRule → Type 0
 IsRule None rule = (rule.opt ≡ false) × (rule.bits ≡ 0)
 IsRule (Some opt) rule = rule.opt ≡ opt

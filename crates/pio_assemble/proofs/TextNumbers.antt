@@ -1,5 +1,5 @@
 -- The tokens of the numbers of a text: 0 to 32.
---   Follow         what stands behind a number or a word
+--   Follow         what comes after a number or a word
 --   all_below      a test of each number below one
 --   numbered       a row that begins with a number
 --   spaced         a row that begins with a blank and a number
@@ -18,7 +18,7 @@ use Rattle.pio_lex.specs.Spellings.{token_at}
 use Rattle.pio_lex.specs.Pieces.{piece_at}
 use Rattle.pio_assemble.proofs.TextRows.{may_stand, AreRow}
 
--- what stands behind a number or a word: nothing, a blank, or the bracket that closes a delay
+-- what comes after a number or a word: nothing, a blank, or the bracket that closes a delay
 pub data Follow : Type 0 where
   nothing : Follow
   blank : List ℕ → Follow
@@ -34,7 +34,7 @@ behind (bracket rest) = 93 ∷ rest
 abbrev pub number : ℕ → Piece
 number n = piece.Token (kind.Number n) (length (decimal n))
 
--- a piece stands at the beginning of a text
+-- a piece is at the beginning of a text
 abbrev pub Stands : List ℕ → Piece → Type 0
 Stands text p = (may_stand text p ≡ true) × (piece_at None text ≡ Ok p)
 
@@ -104,13 +104,13 @@ numbers nothing = refl
 numbers (blank rest) = refl
 numbers (bracket rest) = refl
 
--- a number before what stands behind it
+-- a number before what comes after it
 pub numbered : (n : ℕ) → n < 33 → (f : Follow) (pieces : List Piece) → AreRow (behind f) pieces → AreRow (decimal n ++ behind f) (number n ∷ pieces)
 numbered n h f pieces row =
     let it = number_stands n (decimal n ++ behind f) (each_below (λ m. number_test m (decimal m ++ behind f)) 33 (numbers f) n h) in
     (it.0, it.1, subst (λ (t : List ℕ). AreRow t pieces) (sym (drop-append_seam (decimal n) (behind f))) row)
 
--- the same behind a blank
+-- the same after a blank
 pub spaced : (n : ℕ) → n < 33 → (f : Follow) (pieces : List Piece) → AreRow (behind f) pieces → AreRow (32 ∷ decimal n ++ behind f) (piece.Gap 1 ∷ number n ∷ pieces)
 spaced n h f pieces row =
     let it = gap_stands (32 ∷ decimal n ++ behind f) (each_below (λ m. gap_test (32 ∷ decimal m ++ behind f)) 33 (gaps (behind f)) n h) in

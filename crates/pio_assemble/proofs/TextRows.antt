@@ -1,5 +1,5 @@
 -- The tokens of a text, piece by piece.
---   AreRow         these pieces stand one behind the other, from the beginning of a text to its end
+--   AreRow         these pieces are one after the other, from the beginning of a text to its end
 --   tokens_from    the tokens of pieces
 --   reads_row      a text's reading is the tokens of its pieces
 use Rattle.std.proofs.Common.{◌≡◌, ℕ, zero, suc, ◌+◌, ◌-◌, ◌<◌, ◌≤◌, ◌&&◌, not, Bool, true, false, List, [], ◌∷◌, ◌++◌, length, drop, Option, Some, None, Ok, refl, ap, subst, ◌∙◌, nat_lt, get_or, slice_get, arith, append_assoc}
@@ -31,12 +31,12 @@ is_plain (piece.Token kind n) = not (is_lang_opt (Some kind))
 abbrev pub may_stand : List ℕ → Piece → Bool
 may_stand text p = is_some_text text && (nat_lt 0 (size p) && (not (opens_block text) && is_plain p))
 
--- these pieces stand one behind the other, from the beginning of a text to its end
+-- these pieces are one after the other, from the beginning of a text to its end
 abbrev pub AreRow : List ℕ → List Piece → Type 0
 AreRow text [] = text ≡ []
 AreRow text (p ∷ pieces) = (may_stand text p ≡ true) × (piece_at None text ≡ Ok p) × AreRow (drop (size p) text) pieces
 
--- the tokens of pieces that stand at a place of a source
+-- the tokens of pieces that are at a place of a source
 abbrev pub tokens_from : List ℕ → ℕ → List Piece → List Token
 tokens_from source at [] = []
 tokens_from source at (p ∷ pieces) = tokens_of (line_at source at) at p ++ tokens_from source (at + size p) pieces
@@ -49,7 +49,7 @@ last_kind_more tokens t =
     let that : get_or (tokens ++ t ∷ []) (length tokens) t ≡ t = get_or-append_seam tokens t [] t in
     ap (λ (at : ℕ). option_map (λ (token : Token). token.kind) (slice_get (tokens ++ t ∷ []) at)) last ∙ ap (λ (o : Option Token). option_map (λ (token : Token). token.kind) o) (it ∙ ap (λ (x : Token). Some x) that)
 
--- where no foreign block begins, and behind no `.lang_opt`, a piece does not depend on the token before it
+-- where no foreign block begins, and after no `.lang_opt`, a piece does not depend on the token before it
 any_last : (last : Option TokenKind) (text : List ℕ) → is_lang_opt last ≡ false → opens_block text ≡ false → piece_at last text ≡ piece_at None text
 unfolding piece_at gap_at
 any_last last text plain none = by (begins_line last) refl where
@@ -79,7 +79,7 @@ some_length : (text : List ℕ) → is_some_text text ≡ true → 0 < length te
 some_length [] e = absurd cc
 some_length (b ∷ bs) e = omega arith
 
--- behind a plain piece there is no `.lang_opt`
+-- after a plain piece there is no `.lang_opt`
 stays_plain : (source : List ℕ) (place : Place) (p : Piece) → is_lang_opt (last_kind place.tokens) ≡ false → is_plain p ≡ true → is_lang_opt (last_kind (behind_piece source place p).tokens) ≡ false
 stays_plain source place (piece.Gap n) h plain = rw (append-nil place.tokens) h
 stays_plain source place (piece.Token kind n) h plain =

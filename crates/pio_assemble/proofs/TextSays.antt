@@ -1,5 +1,5 @@
 -- What the tokens of a line of code say, by computing the grammar on them.
---   Says             pieces, with any tail behind them, are one line: an instruction of a form
+--   Says             pieces, with any tail after them, are one line: an instruction of a form
 --   the forms, each by its operands
 use Rattle.std.proofs.Common.{◌≡◌, ℕ, Bool, true, false, List, [], ◌∷◌, ◌++◌, length, Some, Ok, refl}
 use Rattle.pio_lex.specs.declared.keyword.Keyword.{Keyword}
@@ -37,7 +37,7 @@ use Rattle.pio_statement.specs.declared.statement.Code.TheVariants as code
 use Rattle.pio_statement.specs.declared.statement.Statement.TheVariants as statement
 use Rattle.pio_statement.specs.Tokens.{kind_at, ends_at, past_comma, past_close, keyword_at, past_open, past_side, expression}
 use Rattle.pio_statement.specs.Operands.{wait_source_at, in_source_at, out_destination_at, mov_destination_at, mov_destination_of, mov_source_at, mov_source_of, set_destination_at, irq_mode_at, blocking_at, if_full_at, if_empty_at, relative_at, operation_at}
-use Rattle.pio_statement.specs.Conditions.{inverted_at, differs_at, behind_x, behind_y, condition_at}
+use Rattle.pio_statement.specs.Conditions.{inverted_at, differs_at, after_x, after_y, condition_at}
 use Rattle.pio_statement.specs.Forms.{jmp_at, wait_at, in_at, out_at, push_at, pull_at, mov_at, irq_at, set_at, form_at}
 use Rattle.pio_statement.specs.Instructions.{delay_at, side_first, delay_first, suffix_at, instruction_at, word_at, code_at}
 use Rattle.pio_statement.specs.Statements.{lone_word_at, lone_code_at, statement_from}
@@ -50,14 +50,14 @@ use Rattle.pio_assemble.proofs.TextTails.{lone, Tail, bare, sided, delayed, both
 
 -- what the grammar is computed by
 pub grammar : Unit {0}
-unfolding lines_from line_end has_unknown known_at statement_at statement_from lone_word_at lone_code_at code_at word_at instruction_at form_at jmp_at wait_at in_at out_at push_at pull_at mov_at irq_at set_at condition_at inverted_at differs_at behind_x behind_y wait_source_at in_source_at out_destination_at mov_destination_at mov_source_at set_destination_at irq_mode_at blocking_at if_full_at if_empty_at relative_at operation_at suffix_at side_first delay_first delay_at kind_at ends_at past_comma past_close keyword_at past_open past_side expression expression_at readers chain value_read mark_at
+unfolding lines_from line_end has_unknown known_at statement_at statement_from lone_word_at lone_code_at code_at word_at instruction_at form_at jmp_at wait_at in_at out_at push_at pull_at mov_at irq_at set_at condition_at inverted_at differs_at after_x after_y wait_source_at in_source_at out_destination_at mov_destination_at mov_source_at set_destination_at irq_mode_at blocking_at if_full_at if_empty_at relative_at operation_at suffix_at side_first delay_first delay_at kind_at ends_at past_comma past_close keyword_at past_open past_side expression expression_at readers chain value_read mark_at
 grammar = tt
 
 -- the first line, with this code
 abbrev pub line_of : Code → List Line
 line_of c = record { number = 1; reading = Ok (statement.Code c) } ∷ []
 
--- pieces with a tail behind them are one line: an instruction of a form
+-- pieces with a tail after them are one line: an instruction of a form
 abbrev SaysWith : List Piece → Form → Tail → Type 0
 SaysWith pieces f t = (source : List ℕ) → lines_of source (tokens_from source 0 (pieces ++ tail_pieces t)) ≡ line_of (code.Instruction (record { form = f; suffix = tail_suffix t }))
 
@@ -87,7 +87,7 @@ blank = piece.Gap 1
 abbrev pub comma : Piece
 comma = piece.Token kind.Comma 1
 
--- a JMP's condition behind its blank
+-- a JMP's condition after its blank
 abbrev pub condition_pieces : Condition → List Piece
 condition_pieces condition.Always = []
 condition_pieces condition.XZero = blank ∷ piece.Token kind.Bang 1 ∷ word keyword.X 1 ∷ comma ∷ []
@@ -118,7 +118,7 @@ abbrev pub rel_pieces : Bool → List Piece
 rel_pieces true = blank ∷ word keyword.Rel 3 ∷ []
 rel_pieces false = []
 
--- an IRQ flag behind its blank
+-- an IRQ flag after its blank
 abbrev pub flag_pieces : Bool → ℕ → List Piece
 flag_pieces rel n = blank ∷ number n ∷ rel_pieces rel
 
@@ -288,7 +288,7 @@ operation_pieces mov_operation.Plain = []
 operation_pieces mov_operation.Invert = piece.Token kind.Bang 1 ∷ []
 operation_pieces mov_operation.Reverse = piece.Token kind.DoubleColon 2 ∷ []
 
--- a MOV's source with its sign, behind its blank
+-- a MOV's source with its sign, after its blank
 abbrev pub mov_operand_pieces : MovOperation → MovSource → List Piece
 mov_operand_pieces o s = blank ∷ operation_pieces o ++ word (mov_source_word s) (length (mov_source_text s)) ∷ []
 

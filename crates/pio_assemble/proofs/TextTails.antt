@@ -1,5 +1,5 @@
 -- The side-set and the delay of an instruction's text: their tokens and their values.
---   Tail           what stands behind an instruction: a side-set value, a delay, both or none
+--   Tail           what comes after an instruction: a side-set value, a delay, both or none
 --   tail_row       its pieces
 --   tail_of        the tail of a side-set value and a delay that fit a rule
 use Rattle.std.proofs.Common.{◌≡◌, ℕ, ◌-◌, ◌^◌, ◌<◌, ◌≤◌, ◌==◌, Bool, true, false, List, [], ◌∷◌, ◌++◌, Option, None, Some, Ok, refl, sym, subst, pos, arith}
@@ -37,14 +37,14 @@ pub value_in : (scope : Scope) (what : Quantity) (low high n : ℕ) → low ≤ 
 unfolding worked_out
 value_in scope what low high n l h = rw (le-leb low n l, le-leb n high h) refl
 
--- what stands behind an instruction
+-- what comes after an instruction
 pub data Tail : Type 0 where
   bare : Tail
   sided : ℕ → Tail
   delayed : ℕ → Tail
   both : ℕ → ℕ → Tail
 
--- a delay's bytes behind its blank
+-- a delay's bytes after its blank
 abbrev bracketed : ℕ → List ℕ
 bracketed d = 91 ∷ decimal d ++ 93 ∷ []
 

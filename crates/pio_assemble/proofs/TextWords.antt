@@ -1,5 +1,5 @@
 -- The pieces of the texts of instructions.
---   EndsWell       a word is one token, whatever stands behind it
+--   EndsWell       a word is one token, whatever comes after it
 --   the rows of the forms, each by its operands
 use Rattle.std.proofs.Common.{ℕ, ◌/◌, ◌%◌, ◌^◌, ◌<◌, ◌==◌, Bool, true, false, List, [], ◌∷◌, ◌++◌, length, drop, refl, sym, subst, append_assoc, if◌then◌else◌, arith}
 use Rattle.std.specs.Prelude.{codes, decimal}
@@ -52,7 +52,7 @@ record EndsWell (text : List ℕ) (k : Keyword) : Type 0 where
   before_blank : (rest : List ℕ) → Stands (text ++ 32 ∷ rest) (word k (length text))
   before_bracket : (rest : List ℕ) → Stands (text ++ 93 ∷ rest) (word k (length text))
 
--- a word before what stands behind it
+-- a word before what comes after it
 worded : (text : List ℕ) (k : Keyword) → EndsWell text k → (f : Follow) (pieces : List Piece) → AreRow (behind f) pieces → AreRow (text ++ behind f) (word k (length text) ∷ pieces)
 worded text k e f pieces row = by f row where
   on : (rest : List ℕ) → AreRow rest pieces → AreRow (drop (length text) (text ++ rest)) pieces
@@ -89,7 +89,7 @@ mov_source_ends mov_source.Status = record { gap = λ rest. (refl, refl); bang =
 mov_source_ends mov_source.Isr = record { gap = λ rest. (refl, refl); bang = λ rest. (refl, refl); at_end = (refl, refl); before_blank = λ rest. (refl, refl); before_bracket = λ rest. (refl, refl) }
 mov_source_ends mov_source.Osr = record { gap = λ rest. (refl, refl); bang = λ rest. (refl, refl); at_end = (refl, refl); before_blank = λ rest. (refl, refl); before_bracket = λ rest. (refl, refl) }
 
--- the row of an instruction, before what stands behind it
+-- the row of an instruction, before what comes after it
 abbrev pub Rows : Act → List Piece → Type 0
 Rows a pieces = (f : Follow) (rest : List Piece) → AreRow (behind f) rest → AreRow (act_text a ++ behind f) (pieces ++ rest)
 

@@ -1,7 +1,7 @@
 -- The faults of statements that need no value: which is the first of a source (choice of this profile, where the Pico SDK manual,
 -- section 3.3, says no more than that they are faults).
---   statement_fault   what is wrong with a statement, behind what stands before it and before the lines behind it
---   after             what stands before the next line
+--   statement_fault   what is wrong with a statement, after what comes before it and before the lines after it
+--   after             what comes before the next line
 --   first_fault       the first fault of lines
 use Rattle.std.specs.Prelude.{◌≡◌, ℕ, ◌+◌, ◌==◌, nat_le, not, Bool, true, false, if◌then◌else◌, List, [], ◌∷◌, ◌++◌, length, Option, Some, None, Result, Ok, Err}
 use Rattle.std.specs.Borrow.{Bor}
@@ -82,7 +82,7 @@ abbrev pub code_fault : Before → Code → Option SourceKind
 code_fault b (code.Word value) = room_fault b
 code_fault b (code.Instruction i) = room_fault b <|> side_fault b.side_set (has_side i.suffix)
 
--- code behind a label, where there is some
+-- code after a label, where there is some
 abbrev pub some_code_fault : Before → Option Code → Option SourceKind
 some_code_fault b None = None
 some_code_fault b (Some c) = code_fault b c
@@ -97,7 +97,7 @@ abbrev pub program_fault : Before → Bool → List ℕ → Option SourceKind
 program_fault b more name =
     duplicate b.programs name <|> fault_if (nat_le 64 (length b.programs)) Many <|> fault_if (not more) EmptyProgram
 
--- What is wrong with a statement; `more` says whether a word of its program stands behind it.
+-- What is wrong with a statement; `more` says whether a word of its program comes after it.
 unfoldable pub statement_fault : Before → Bool → Statement → Option SourceKind
 statement_fault b more statement.Nothing = None
 statement_fault b more statement.LangOpt = None
@@ -124,7 +124,7 @@ symbol_after b name = record b { names = with_name b.names name; symbols = b.sym
 abbrev pub words_after : Before → ℕ → Before
 words_after b count = record b { words = b.words + count }
 
--- what stands before the line behind a statement
+-- what comes before the line after a statement
 unfoldable pub after : Before → Statement → Before
 after b (statement.Program name) = program_after b name
 after b (statement.Define public name value) = symbol_after b name
@@ -153,12 +153,12 @@ abbrev pub IsStatement : Result (Bor Statement) LineFault → Result Statement S
 IsStatement (Ok s) reading = reading ≡ Ok s.now
 IsStatement (Err fault) reading = Unit {0}
 
--- what stands before the next line; behind a fault nothing is asked
+-- what comes before the next line; after a fault nothing is asked
 abbrev pub after_line : Before → Result Statement StatementKind → Before
 after_line b (Ok s) = after b s
 after_line b (Err kind) = b
 
--- a fault on a line, or what is found behind it
+-- a fault on a line, or what is found after it
 abbrev pub fault_or : ℕ → Option SourceKind → Option Refusal → Option Refusal
 fault_or number (Some kind) rest = Some (record { line = number; kind = kind })
 fault_or number None rest = rest

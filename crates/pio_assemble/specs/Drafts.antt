@@ -1,7 +1,7 @@
 -- A program as far as its lines are read (Pico SDK manual, section 3.3).
 --   Draft         the program so far; before the first one it has no name, and is none
 --   drafted       what a statement adds to it
---   finished      the program behind its last line
+--   finished      the program after its last line
 use Rattle.std.specs.Prelude.{ℕ, pos, ◌-◌, ◌==◌, ◌≤◌, min, Bool, true, false, if◌then◌else◌, unwrap_or, List, [], ◌∷◌, ◌++◌, length, Option, Some, None, Result, Ok, Err}
 use Rattle.pio_encode.specs.declared.rule.SideRule.{SideRule}
 use Rattle.pio_expr.specs.declared.expr.Item.{Item}
@@ -32,7 +32,7 @@ pub record Draft : Type 0 where
   pub wrap_top : Option ℕ
   pub symbols : List Symbol
 
--- a program without lines; and what stands before the first one
+-- a program without lines; and what comes before the first one
 abbrev pub begun : Option (List ℕ) → Draft
 begun name = record { name = name; words = []; origin = None; side = no_side_set; wrap_bottom = 0; wrap_top = None; symbols = [] }
 
@@ -58,7 +58,7 @@ with_word d word = if length d.words == 32 then Err TooLong else Ok (record d { 
 abbrev pub coded : Scope → Draft → Code → Result Draft SourceKind
 coded scope d code = word_of_code scope d.side code >>= with_word d
 
--- code behind a label, where there is some
+-- code after a label, where there is some
 abbrev pub some_coded : Scope → Draft → Option Code → Result Draft SourceKind
 some_coded scope d None = Ok d
 some_coded scope d (Some code) = coded scope d code
@@ -85,7 +85,7 @@ drafted scope d (statement.Label public name code) = some_coded scope (labelled 
 drafted scope d (statement.Code code) = coded scope d code
 drafted scope d _ = Ok d
 
--- the program behind its last line: it wraps behind its last word where it has no `.wrap`, and to no word behind that
+-- the program after its last line: it wraps after its last word where it has no `.wrap`, and to no word after that
 abbrev pub program_of : List ℕ → Draft → Assembled
 program_of name d = record {
   name = name;

@@ -1,7 +1,7 @@
 -- How a fault of a source is told in a message (choice of this profile).
 --   code_of         the code of a fault
 --   quantity_text   the word for a number of a statement
---   kind_text       the code, and behind it the name, or the number's word and its value
+--   kind_text       the code, and after it the name, or the number's word and its value
 use Rattle.std.specs.Prelude.{ℕ, ◌++◌, List, codes}
 use Rattle.std.specs.Fmt.{signed_decimal}
 use Rattle.pio_assemble.specs.declared.quantity.Quantity.{Quantity}
@@ -49,7 +49,7 @@ quantity_text quantity.SideSet = codes "side_set"
 quantity_text quantity.Word = codes "word"
 quantity_text quantity.PioVersion = codes "pio_version"
 
--- the code, and behind it the name, or the number's word and its value
+-- the code, and after it the name, or the number's word and its value
 abbrev pub kind_text : SourceKind → List ℕ
 kind_text (Duplicate name) = codes "S5 " ++ name
 kind_text (Range what value) = codes "S7 " ++ quantity_text what ++ codes " " ++ signed_decimal value

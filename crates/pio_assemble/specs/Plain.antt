@@ -48,13 +48,13 @@ statements_of (l ∷ lines) = do
   others ← statements_of lines
   Ok (record { line = l.number; says = s } ∷ others)
 
--- the symbols behind a statement, with so many words of its program before it: a define or a label is one more (Pico SDK manual, section 3.3)
+-- the symbols after a statement, with so many words of its program before it: a define or a label is one more (Pico SDK manual, section 3.3)
 abbrev pub plain_scope_by : Scope → ℕ → Statement → Scope
 plain_scope_by scope words (statement.Define public name items) = with_symbol scope name (symbol.Define items)
 plain_scope_by scope words (statement.Label public name code) = with_symbol scope name (symbol.Label words)
 plain_scope_by scope words _ = scope
 
--- the words behind a statement: code is one word more, behind a label too (Pico SDK manual, section 3.3)
+-- the words after a statement: code is one word more, after a label too (Pico SDK manual, section 3.3)
 abbrev pub plain_words_by : ℕ → Statement → ℕ
 plain_words_by words (statement.Label public name code) = words + word_count code
 plain_words_by words (statement.Code code) = words + 1
@@ -88,7 +88,7 @@ plain_coded scope d code = do
   word ← plain_word_of_code scope d.side code
   Ok (record d { words = d.words ++ word ∷ [] })
 
--- code behind a label, where there is some (Pico SDK manual, section 3.3)
+-- code after a label, where there is some (Pico SDK manual, section 3.3)
 abbrev pub plain_some_coded : Scope → Draft → Option Code → Result Draft SourceKind
 plain_some_coded scope d None = Ok d
 plain_some_coded scope d (Some code) = plain_coded scope d code
@@ -109,7 +109,7 @@ plain_drafted scope d (statement.Label public name code) = plain_some_coded scop
 plain_drafted scope d (statement.Code code) = plain_coded scope d code
 plain_drafted scope d _ = Ok d
 
--- the program behind its last line: it wraps behind its last word where it has no `.wrap` (Pico SDK manual, section 3.3)
+-- the program after its last line: it wraps after its last word where it has no `.wrap` (Pico SDK manual, section 3.3)
 abbrev pub plain_program_of : List ℕ → Draft → Assembled
 plain_program_of name d = record {
   name = name;
@@ -130,13 +130,13 @@ plain_finished_by (Some name) d = plain_program_of name d ∷ []
 abbrev pub plain_finished : Draft → List Assembled
 plain_finished d = plain_finished_by d.name d
 
--- the programs of a statement and those behind it: where one begins, the one before it ends (Pico SDK manual, section 3.3)
+-- the programs of a statement and those after it: where one begins, the one before it ends (Pico SDK manual, section 3.3)
 abbrev pub plain_programs_by : (Scope → Draft → Result (List Assembled) Refusal) → Scope → Draft → Numbered → List Numbered → Option (List ℕ) → Result (List Assembled) Refusal
 plain_programs_by rest scope d s statements (Some name) =
     with_programs (plain_finished d) (rest (plain_scope_from statements (with_program scope) 0) (begun (Some name)))
 plain_programs_by rest scope d s statements None = at_line s.line (plain_drafted scope d s.says) >>= rest scope
 
--- the programs of statements, behind a program as far as it is read (Pico SDK manual, section 3.3)
+-- the programs of statements, after a program as far as it is read (Pico SDK manual, section 3.3)
 unfoldable pub plain_programs_from : List Numbered → Scope → Draft → Result (List Assembled) Refusal
 plain_programs_from [] scope d = Ok (plain_finished d)
 plain_programs_from (s ∷ statements) scope d = plain_programs_by (plain_programs_from statements) scope d s statements (program_by s.says)

@@ -1,7 +1,7 @@
 -- What a source means: its programs, or its first fault in one order (Pico SDK manual, section 3.3; the faults and their order are
 -- choices of this profile).
 --   scope_from       the symbols of lines, up to where the next program begins
---   programs_from    the programs of lines, behind a program as far as it is read
+--   programs_from    the programs of lines, after a program as far as it is read
 --   reads_source     the programs of a source, or its first fault: a byte that is no token's comes before any statement's fault, and
 --                    that before any fault of a value
 use Rattle.std.specs.Prelude.{◌≢◌, ℕ, ◌+◌, min, if◌then◌else◌, is_some, List, [], ◌∷◌, ◌++◌, Option, Some, None, Result, Ok, Err}
@@ -45,7 +45,7 @@ abbrev pub with_new_by : Found → Scope → List ℕ → Symbol → Scope
 with_new_by (Some found) scope name is = scope
 with_new_by None scope name is = with_symbol scope name is
 
--- a symbol more: behind the globals, or behind those of the program, once one has begun
+-- a symbol more: after the globals, or after those of the program, once one has begun
 abbrev pub with_new : Scope → List ℕ → Symbol → Scope
 with_new scope name is = with_new_by (found_in 0 (present scope scope.program) name) scope name is
 
@@ -65,7 +65,7 @@ abbrev pub with_some : Scope → Option (List ℕ × Symbol) → Scope
 with_some scope (Some s) = with_new scope s.0 s.1
 with_some scope None = scope
 
--- the symbols behind a statement, with so many words of its program before it
+-- the symbols after a statement, with so many words of its program before it
 abbrev pub scope_by : Scope → ℕ → Statement → Scope
 scope_by scope words s = with_some scope (symbol_by words s)
 
@@ -77,7 +77,7 @@ scope_on scope words reading = with_some scope (symbol_on words reading)
 abbrev pub more_words : ℕ → ℕ → ℕ
 more_words words count = min (words + count) 32
 
--- the words behind a statement
+-- the words after a statement
 abbrev pub words_by : ℕ → Statement → ℕ
 words_by words (statement.Label public name code) = more_words words (word_count code)
 words_by words (statement.Code code) = more_words words 1
@@ -94,12 +94,12 @@ scope_from [] scope words = scope
 scope_from (l ∷ lines) scope words =
     if is_some (program_on l.reading) then scope else scope_from lines (scope_on scope words l.reading) (words_on words l.reading)
 
--- the lines behind the one where the next program begins
+-- the lines after the one where the next program begins
 unfoldable pub behind_program : List Line → List Line
 behind_program [] = []
 behind_program (l ∷ lines) = if is_some (program_on l.reading) then lines else behind_program lines
 
--- names are looked up among the globals, and in a program first among its own symbols, also those behind
+-- names are looked up among the globals, and in a program first among its own symbols, also those after
 abbrev pub global_scope : List Line → Scope
 global_scope lines = scope_from lines no_symbols 0
 
@@ -107,7 +107,7 @@ global_scope lines = scope_from lines no_symbols 0
 abbrev pub program_scope : Scope → List Line → Scope
 program_scope scope lines = scope_from lines (with_program scope) 0
 
--- a program before those behind it
+-- a program before those after it
 abbrev pub with_programs : List Assembled → Result (List Assembled) Refusal → Result (List Assembled) Refusal
 with_programs first (Ok others) = Ok (first ++ others)
 with_programs first (Err refusal) = Err refusal
@@ -117,12 +117,12 @@ abbrev pub drafted_on : Scope → Draft → Result Statement StatementKind → R
 drafted_on scope d (Ok s) = drafted scope d s
 drafted_on scope d (Err kind) = Ok d
 
--- the programs of a line and those behind it: where one begins, the one before it is finished
+-- the programs of a line and those after it: where one begins, the one before it is finished
 abbrev pub programs_by : (Scope → Draft → Result (List Assembled) Refusal) → Scope → Draft → Line → List Line → Option (List ℕ) → Result (List Assembled) Refusal
 programs_by rest scope d l lines (Some name) = with_programs (finished d) (rest (program_scope scope lines) (begun (Some name)))
 programs_by rest scope d l lines None = at_line l.number (drafted_on scope d l.reading) >>= rest scope
 
--- the programs of lines, behind a program as far as it is read
+-- the programs of lines, after a program as far as it is read
 unfoldable pub programs_from : List Line → Scope → Draft → Result (List Assembled) Refusal
 programs_from [] scope d = Ok (finished d)
 programs_from (l ∷ lines) scope d = programs_by (programs_from lines) scope d l lines (program_on l.reading)
@@ -166,7 +166,7 @@ abbrev pub Differs : List ℕ → List (List ℕ) → Type 0
 Differs name [] = Unit {0}
 Differs name (other ∷ others) = (other ≢ name) × Differs name others
 
--- no name stands twice
+-- no name is twice
 abbrev pub AreDistinct : List (List ℕ) → Type 0
 AreDistinct [] = Unit {0}
 AreDistinct (name ∷ names) = Differs name names × AreDistinct names

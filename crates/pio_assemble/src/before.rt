@@ -1,4 +1,4 @@
-//! What stands before a line: in the file, and in its program.
+//! What comes before a line: in the file, and in its program.
 ghost use Rattle.std.specs.Prelude.{◌≡◌, ◌+◌, ◌<◌, ◌≤◌, ◌^◌, OnOk};
 ghost use Rattle.pio_assemble.specs.Lines.{word_count};
 ghost use Rattle.pio_assemble.specs.Checks as spec;
@@ -8,7 +8,7 @@ use pio_encode::Name;
 use pio_statement::{Code, Statement};
 use std::alloc::{AllocError, Global};
 
-/// What stands before a line (before the first program, of what is global).
+/// What comes before a line (before the first program, of what is global).
 #[derive(Drop)]
 pub struct Before {
     /// The programs that have begun.
@@ -46,7 +46,7 @@ impl Before {
         }
     }
 
-    /// Goes behind a statement.
+    /// Goes after a statement.
     #[tactic(auto, unfolding(crate::specs::Checks::after))]
     pub fn pass(&mut self, alloc: Global, statement: &Statement) -> Result<(), AllocError>
         requires symbols { self.old.symbols + 1 < 2 ^ 64 }
@@ -95,7 +95,7 @@ impl Before {
     }
 }
 
-/// How many words code behind a label gives.
+/// How many words code after a label gives.
 pub fn word_count(code: &Option<Code>) -> usize
     ensures value { result ≡ word_count code.now }
     ensures most { result ≤ 1 }

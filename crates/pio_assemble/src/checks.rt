@@ -35,7 +35,7 @@ pub fn first_fault(alloc: Global, lines: &[Line]) -> Result<(), SourceFault>
     checked
 }
 
-/// The same after what stands before the lines, which goes on to what stands after them.
+/// The same after what comes before the lines, which goes on to what comes after them.
 fn check_lines(alloc: Global, before: &mut Before, lines: &[Line]) -> Result<(), SourceFault>
     requires symbols { before.old.symbols ≡ 0 }
     requires words { before.old.words ≡ 0 }
@@ -128,7 +128,7 @@ fn statement_fault(
     }
 }
 
-/// A program that begins has a new name, and a word behind it.
+/// A program that begins has a new name, and a word after it.
 fn program_fault(
     alloc: Global,
     before: &Before,
@@ -221,7 +221,7 @@ fn has_side(suffix: &Suffix) -> bool
     }
 }
 
-/// A word stands on these lines, before the next program begins.
+/// A word is on these lines, before the next program begins.
 fn has_word(lines: &[Line]) -> bool
     ensures { result ≡ has_word lines.now }
 {

@@ -49,7 +49,7 @@ impl Model for Draft {
 }
 
 impl Draft {
-    /// A program without lines; without a name, what stands before the first one. It takes no memory.
+    /// A program without lines; without a name, what comes before the first one. It takes no memory.
     pub fn begun(alloc: Global, name: Option<Name>) -> Self
         ensures { result ≡ spec.begun name }
     {
@@ -64,7 +64,7 @@ impl Draft {
         }
     }
 
-    /// Goes behind a statement.
+    /// Goes after a statement.
     #[tactic(auto, unfolding(crate::specs::Drafts::drafted))]
     pub fn read(
         &mut self,
@@ -182,7 +182,7 @@ impl Draft {
         Ok(())
     }
 
-    /// The program behind its last line, if it is one.
+    /// The program after its last line, if it is one.
     pub fn finish(self) -> Option<Program>
         ensures { spec.one_or_none result ≡ spec.finished self }
     {

@@ -27,11 +27,11 @@ pub enum SourceKind {
     OpenBlock,
     /// `S1`: the line is no statement.
     Syntax,
-    /// `S2`: the statement stands before the first program, and has to stand in one.
+    /// `S2`: the statement comes before the first program, and has to be in one.
     Outside,
     /// `S3`: the program has this directive already.
     Twice,
-    /// `S4`: a `.side_set` behind a word of its program.
+    /// `S4`: a `.side_set` after a word of its program.
     Late,
     /// `S5`: an earlier program has this name, or an earlier symbol of the program.
     Duplicate(Name),
@@ -49,7 +49,7 @@ pub enum SourceKind {
     Directive,
     /// `S12`: the 65th program, or the 1,025th symbol.
     Many,
-    /// `S13`: a `.wrap` before the first word of its program, or a `.wrap_target` behind the last.
+    /// `S13`: a `.wrap` before the first word of its program, or a `.wrap_target` after the last.
     WrapPlace,
     /// `V1`: a name of no symbol.
     Unknown(Name),
@@ -98,7 +98,7 @@ impl SourceKind {
     }
 }
 
-/// Its code, and behind it the name, or the number's name and its value.
+/// Its code, and after it the name, or the number's name and its value.
 impl fmt::Display for SourceKind {
     ghost output = { λ kind. Some (kind_text kind) };
 
@@ -210,7 +210,7 @@ fn kind_of_lex(kind: LexKind) -> SourceKind
     }
 }
 
-/// What keeps a source from its programs, where it stands on this line.
+/// What keeps a source from its programs, where it is on this line.
 pub fn at_line(line: usize, fault: LineFault) -> SourceFault
     ensures { result ≡ located line fault }
 {

@@ -14,7 +14,7 @@ pub fn a_spelled_word_is_read_back()
 {}
 
 /// Where no statement has a fault, the programs are those of the plain reading: no word is one too many, no program is
-/// empty, no wrap stands behind its program, no symbol is a second of its name, and no `side` that is asked for is missing.
+/// empty, no wrap comes after its program, no symbol is a second of its name, and no `side` that is asked for is missing.
 pub fn nothing_is_clipped()
     ensures { (lines : List Line) → first_fault nothing_before lines ≡ None → programs_of lines ≡ plain_programs_of lines }
 {}

@@ -17,7 +17,7 @@ pub struct Program {
     pub side: SideRule,
     /// The word that follows `wrap_top`.
     pub wrap_bottom: u8,
-    /// The word behind which the program wraps.
+    /// The word after which the program wraps.
     pub wrap_top: u8,
     pub symbols: Symbols,
     pub ghost has_words: { 1 ≤ length words.items },

@@ -1,11 +1,11 @@
--- Puts one behind the other: what a sink has taken after some of them, also where one of them fails.
+-- Puts one after the other: what a sink has taken after some of them, also where one of them fails.
 use Rattle.std.proofs.Common.{◌≡◌, ℕ, ◌+◌, ◌≤◌, Option, Some, None, List, [], ◌++◌, length, take, Result, Ok, Err, IsErr, refl, sym, ap, subst, flat_map, drop, get_or, ◌<◌, add-one, ◌∙◌, append_assoc, append-nil, length-append, arith}
 use Rattle.std.proofs.Math.Seq.{take-append-add, drop-cons}
 use Rattle.std.proofs.lemmas.List.{take-append-le}
 use Rattle.pio_edge.specs.Edge.{with_bytes, TakesPrefix, Takes}
 use Rattle.pio_edge.specs.Puts.{Going}
 
--- two rows of bytes, one behind the other, are their join
+-- two rows of bytes, one after the other, are their join
 pub with_bytes-append : (o : Option (List ℕ)) (a b : List ℕ) → with_bytes (with_bytes o a) b ≡ with_bytes o (a ++ b)
 with_bytes-append None a b = refl
 with_bytes-append (Some t) a b = ap Some (append_assoc t a b)
@@ -15,7 +15,7 @@ pub with_bytes-nil : (o : Option (List ℕ)) → with_bytes o [] ≡ o
 with_bytes-nil None = refl
 with_bytes-nil (Some t) = ap Some (append-nil t)
 
--- a first part of a, put behind what was taken, is one of a ++ b
+-- a first part of a, put after what was taken, is one of a ++ b
 pub takes_prefix-append_l : (o m : Option (List ℕ)) (a b : List ℕ) → TakesPrefix o a m → TakesPrefix o (a ++ b) m
 takes_prefix-append_l o m a b p =
     let within : p.count ≤ length a = p.within in
@@ -68,6 +68,6 @@ going_stops o m n whole rest line later g e p =
 pub going_ends : (o m : Option (List ℕ)) (whole : List ℕ) → Going o m whole [] → m ≡ with_bytes o whole
 going_ends o m whole g = g.taken ∙ ap (with_bytes o) (sym (append-nil g.done) ∙ g.all)
 
--- the pieces from one on are this piece and those behind it
+-- the pieces from one on are this piece and those after it
 pub flat_map-drop : {A : Type 0} (f : A → List ℕ) (xs : List A) (i : ℕ) (d : A) → i < length xs → flat_map f (drop i xs) ≡ f (get_or xs i d) ++ flat_map f (drop (i + 1) xs)
 flat_map-drop f xs i d h = rw (add-one, drop-cons xs i d)

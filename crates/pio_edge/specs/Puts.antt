@@ -1,4 +1,4 @@
--- What stands between puts that are made one behind the other: what was taken so far, and what is left to put.
+-- What is between puts that are made one after the other: what was taken so far, and what is left to put.
 use Rattle.std.specs.Prelude.{◌≡◌, ℕ, Option, List, ◌++◌}
 use Rattle.pio_edge.specs.Edge.{with_bytes}
 

@@ -44,7 +44,7 @@ impl<W: Write + Drop> Sink for ErrSink<W> {
         ensures cause { PutCounts self.old.faults self.new.faults result }
         // One fault exactly where it fails.
         ensures counted { self.new.faults ≡ call_faults self.old.faults result }
-        // Where the writer tells its bytes, the piece stands behind them.
+        // Where the writer tells its bytes, the piece comes after them.
         ensures appends { OnOk result (Appends (W.contents self.old.writer)
             (W.contents self.new.writer) piece.now) }
     {

@@ -1,4 +1,4 @@
-//! A shelf in memory, whose fetches fail as its maker lists. It stands in for real files in tests.
+//! A shelf in memory, whose fetches fail as its maker lists. Tests use it in place of real files.
 ghost use Rattle.std.specs.Prelude.{◌≡◌, ◌≤◌, Some, None, IfOk, OnOk, OnErr, take, vec_len};
 ghost use Rattle.std.specs.FinMap.{empty, insert};
 ghost use Rattle.pio_edge.specs.Edge.{IsFetched};

@@ -1,4 +1,4 @@
-//! Puts one behind the other.
+//! Puts one after the other.
 ghost use Rattle.std.specs.Prelude.{◌≡◌, ℕ, flat_map};
 ghost use Rattle.pio_edge.specs.Edge.{Takes, PutCounts};
 

@@ -121,7 +121,7 @@ out_back :
 out_back w destination count k d n low high =
     out_kind w k ∙ rw (d, n, out_destination_back destination) (ap (λ c. Out destination c) (count_back count low high))
 
--- each act is read back, whatever stands in bits 12 to 8
+-- each act is read back, whatever is in bits 12 to 8
 pub act_back :
     (act : Act) (shared : ℕ) → IsInstruction act → IsInRange act → shared < 32 →
     act_of (kind_of act * 2 ^ 13 + shared * 2 ^ 8 + operands_of act) ≡ act

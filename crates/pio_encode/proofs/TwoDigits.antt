@@ -7,7 +7,7 @@ use Rattle.std.proofs.lemmas.Fmt.{decimal-digits_of, decimal_digit}
 use Rattle.std.proofs.lemmas.Int.Digits.{digits_of_step}
 use Rattle.std.proofs.lemmas.List.{map-append}
 
--- the last digit stands behind the digits of a tenth
+-- the last digit comes after the digits of a tenth
 decimal_step : (n : ℕ) → 10 ≤ n → n < 2 ^ 64 → decimal n ≡ decimal (n / 10) ++ (48 + n % 10) ∷ []
 decimal_step n low high =
     let whole : decimal n ≡ map (λ d. 48 + d) (digits_of 10 n) = decimal-digits_of n (omega arith) high in

@@ -132,7 +132,7 @@ operands_of Nothing = 0
 abbrev pub enable_bit : SideRule → ℕ
 enable_bit rule = if rule.opt then 2 ^ 4 else 0
 
--- Bits 12 to 8 as a number: the side-set value stands above the delay, and under opt the enable bit above both
+-- Bits 12 to 8 as a number: the side-set value is above the delay, and under opt the enable bit above both
 -- (RP2040 Datasheet, section 3.5.1).
 unfoldable pub side_and_delay : SideRule → Option ℕ → ℕ → ℕ
 side_and_delay rule None delay = delay
@@ -261,7 +261,7 @@ act_of w =
 abbrev pub has_side : SideRule → ℕ → Bool
 has_side rule field = if rule.opt then field / 2 ^ 4 == 1 else nat_lt 0 rule.bits
 
--- the side-set value in bits 12 to 8: it stands above the delay
+-- the side-set value in bits 12 to 8: it is above the delay
 unfoldable pub side_of : SideRule → ℕ → Option ℕ
 side_of rule field = if has_side rule field then Some (field / 2 ^ delay_bits rule % 2 ^ rule.bits) else None
 

@@ -1,4 +1,4 @@
--- What a token does behind an operand.
+-- What a token does after an operand.
 use Rattle.std.proofs.Common.{◌≡◌, ℕ, true, List, [], ◌∷◌, ◌++◌, Option, Some, None, refl, ap, sym, ◌∙◌, rules, append_assoc, append-nil}
 use Rattle.pio_lex.specs.declared.token.Token.{Token}
 use Rattle.pio_expr.specs.declared.expr.Item.{Item}
@@ -13,7 +13,7 @@ use Rattle.pio_expr.specs.Waiting.{rest, left, begins_level, IsSound}
 use Rattle.pio_expr.specs.Turns.{item_before, unless_product, unless_operation, innermost, first_before, all_before, kept_before}
 use Rattle.pio_expr.proofs.Chains.{chain_ends}
 
--- at the beginning of a parenthesis, what is read behind a unary goes on with a product, then with a sum
+-- at the beginning of a parenthesis, what is read after a unary goes on with a product, then with a sum
 pub unary_of_level : (source : List ℕ) (tokens : List Token) (ws : List Waiting) (p : Place) → begins_level ws ≡ true → (rest source tokens ws).unary p ≡ then (product_goes_on tokens (readers source tokens (left ws)).unary p) (rest source tokens ws).product
 unfolding rest
 unary_of_level source tokens [] p begins = refl
@@ -46,7 +46,7 @@ no_operation mark.Plus i j e = cc
 no_operation mark.Minus i j e = cc
 no_operation _ i j e = (refl, refl, refl, search rules)
 
--- behind an operation of a sum
+-- after an operation of a sum
 sum_written : (source : List ℕ) (tokens : List Token) (below : List Waiting) (n : ℕ) (i : Item) (p : Place) → product_operation (mark_at tokens p.at) ≡ None → begins_level below ≡ true → then (product_goes_on tokens (readers source tokens n).unary p) (λ place. (rest source tokens below).product (written i place)) ≡ (rest source tokens below).unary (written i p)
 sum_written source tokens below n i p none begins =
     ap (λ read. then read (λ place. (rest source tokens below).product (written i place))) (chain_ends tokens product_operation (readers source tokens n).unary p none) ∙ sym (product_ends source tokens below (written i p) none begins)

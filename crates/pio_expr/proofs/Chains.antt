@@ -8,7 +8,7 @@ use Rattle.pio_expr.specs.declared.mark.Mark.TheVariants as mark
 use Rattle.pio_expr.specs.Marks.{mark_at, mark_by}
 use Rattle.pio_expr.specs.Grammar.{Place, Read, Reader, then, next, written, chain, chain_by}
 
--- what was read stands at this place or behind it
+-- what was read is at this place or after it
 abbrev pub Reaches : ℕ → Read → Type 0
 Reaches from (Ok place) = from ≤ place.at
 Reaches from (Err fault) = Unit {0}
@@ -39,7 +39,7 @@ chain_onward tokens operation_of operand zero on place = omega arith
 chain_onward tokens operation_of operand (suc n) on place =
     chain_step_onward operand (λ operation behind. chain tokens operation_of operand n (written operation behind)) (operation_of (mark_at tokens place.at)) place on (λ operation behind. chain_onward tokens operation_of operand n on (written operation behind))
 
--- behind the last token stands none
+-- after the last token is none
 pub no_mark : (tokens : List Token) (at : ℕ) → length tokens ≤ at → mark_at tokens at ≡ mark.Other
 unfolding mark_at
 no_mark tokens at h = ap mark_by (slice_get_past tokens at h)

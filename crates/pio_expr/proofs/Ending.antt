@@ -52,7 +52,7 @@ unkept_other kept p q v none h = by (nat_eq q p) refl where
   by false t = refl
   by true t = let no : Some v ≡ None = sym (pushed_own kept p v none) ∙ ap (λ x. kept_at (kept ++ (p, v) ∷ []) x) (sym (eqb-true q p t)) ∙ h in cc
 
--- the frames below stand as before, with one value more
+-- the frames below are as before, with one value more
 module _ (scope : Scope) (kept : Kept) (items : List Item) (p : ℕ) (v : ℤ) where
   more_kept : (under : List ℕ) → is_among under p ≡ false → IsMore kept (is_among under) (kept ++ (p, v) ∷ []) (is_among under)
   more_kept under out q = ((λ w e. pushed_some kept p q v w e), (λ none t. (pushed_none kept p q v none (other (nat_eq q p) refl t), t))) where

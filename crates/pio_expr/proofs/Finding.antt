@@ -1,4 +1,4 @@
--- What a look-up finds stands at its place.
+-- What a look-up finds is at its place.
 use Rattle.std.proofs.Common.{◌≡◌, ℕ, zero, suc, ◌+◌, ◌<◌, Bool, true, false, List, [], ◌∷◌, ◌++◌, length, Option, Some, None, refl, ap, ◌∙◌, arith, slice_get, option_map}
 use Rattle.std.proofs.lemmas.Option.{slice_get_within}
 use Rattle.std.proofs.lemmas.List.{length-append}
@@ -49,7 +49,7 @@ globally scope name place s h =
     let p : place ≡ there.0 = there.1 ∙ omega arith in
     rw p (in_front scope.globals (program_of scope) there.0 s there.2)
 
--- the symbol that is found stands at its place
+-- the symbol that is found is at its place
 pub found_stands : (scope : Scope) (local : Bool) (name : List ℕ) (place : ℕ) (s : Symbol) → found scope local name ≡ Some (place, s) → symbol_at scope place ≡ Some s
 unfolding symbol_in
 found_stands scope false name place s h = globally scope name place s h

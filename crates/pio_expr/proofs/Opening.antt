@@ -59,7 +59,7 @@ sign_is source tokens ws p is other = opened_is source tokens ws waiting.Negate 
       signed : (rest source tokens ws).wants p ≡ then (unary_by source tokens mark.Minus (deeper_of source tokens (left ws)) p) (rest source tokens ws).unary
       signed = wants_unary source tokens ws mark.Minus p is (λ e. cc) other ∙ ap (λ read. then read (rest source tokens ws).unary) (unary_at source tokens (left ws) mark.Minus p is)
 
--- a sign or a `::` behind a `::` is no value
+-- a sign or a `::` after a `::` is no value
 behind_reverse : (source : List ℕ) (tokens : List Token) (ws : List Waiting) (m : Mark) (p : Place) → mark_at tokens p.at ≡ m → value_by source tokens m (deeper_of source tokens (left ws)) p ≡ Err (misplaced p.at Syntax) → is_reverse (innermost ws) ≡ true → (rest source tokens ws).wants p ≡ Err (misplaced p.at Syntax)
 behind_reverse source tokens ws m p is none top = wants_value source tokens ws p top ∙ ap (λ read. then read (rest source tokens ws).unary) (value_at source tokens (left ws) m p is ∙ none)
 

@@ -39,7 +39,7 @@ pub opening_value : (source : List ℕ) (tokens : List Token) (ws : List Waiting
 unfolding value_read
 opening_value source tokens ws m p is e = subst (Opens source tokens ws p) e (opening_is source tokens ws m p (sym is))
 
--- a token that opens something, or is a value, stands among the tokens
+-- a token that opens something, or is a value, is among the tokens
 pub opening_inside : (tokens : List Token) (ws : List Waiting) (m : Mark) (at : ℕ) (found : Option Waiting) → m ≡ mark_at tokens at → opening m at ws ≡ Ok found → at < length tokens
 opening_inside tokens ws m at found is e = by_less (nat_lt at (length tokens)) refl where
   by_less : (b : Bool) → nat_lt at (length tokens) ≡ b → at < length tokens
@@ -99,7 +99,7 @@ unfolding goes_on_turn
 no_turn None at = refl
 no_turn (Some w) at = refl
 
--- an operation, or a `)`, stands among the tokens
+-- an operation, or a `)`, is among the tokens
 turn_inside : (tokens : List Token) (kept : List Waiting) (m : Mark) (at : ℕ) (turn : Result Turn Refusal) → mark_at tokens at ≡ m → turn ≡ turn_by (operation_of m) (innermost kept) m at → goes_on_turn turn ≡ true → at < length tokens
 turn_inside tokens kept m at turn is f goes = by_less (nat_lt at (length tokens)) refl where
   by_less : (b : Bool) → nat_lt at (length tokens) ≡ b → at < length tokens
@@ -130,7 +130,7 @@ token_items source tokens at t h = ap (items_by source) h
 pub token_of_all : (source : List ℕ) (tokens : List Token) (at : ℕ) (t : Token) → slice_get tokens at ≡ Some t → All (IsTokenOf source) tokens → IsTokenOf source t
 token_of_all source tokens at t h all = subst (IsTokenOf source) (get_or_from_slice_get tokens at t t h) (all at t (slice_get_within tokens at t h))
 
--- where no token stands there is no operand
+-- where no token is there is no operand
 pub opening_outside : (source : List ℕ) (tokens : List Token) (ws : List Waiting) (p : Place) → slice_get tokens p.at ≡ None → (rest source tokens ws).wants p ≡ Err (misplaced p.at Syntax)
 unfolding mark_at
 opening_outside source tokens ws p h = opening_is source tokens ws mark.Other p (ap mark_by h)

@@ -14,7 +14,7 @@ pub then_assoc : (read : Read) (f g : Reader) → then (then read f) g ≡ then 
 then_assoc (Ok place) f g = refl
 then_assoc (Err fault) f g = refl
 
--- the rules behind one more opening
+-- the rules after one more opening
 abbrev pub deeper_of : List ℕ → List Token → ℕ → Option Readers
 deeper_of source tokens zero = None
 deeper_of source tokens (suc n) = Some (readers source tokens n)
@@ -51,7 +51,7 @@ level_unary source tokens n level m p is other = ap (λ read. then read level) (
     by_read (Ok q) = then_assoc (product_goes_on tokens (readers source tokens n).unary q) (sum_goes_on tokens (readers source tokens n).unary) level
     by_read (Err fault) = refl
 
--- where an operand is wanted that isn't a `::`, a unary is read, but behind a `::`, where a value is
+-- where an operand is wanted that isn't a `::`, a unary is read, but after a `::`, where a value is
 pub wants_unary : (source : List ℕ) (tokens : List Token) (ws : List Waiting) (m : Mark) (p : Place) → mark_at tokens p.at ≡ m → m ≢ mark.Reverse → is_reverse (innermost ws) ≡ false → (rest source tokens ws).wants p ≡ then ((readers source tokens (left ws)).unary p) (rest source tokens ws).unary
 unfolding rest
 wants_unary source tokens [] m p is other not = level_unary source tokens most_open _ m p is other
@@ -69,7 +69,7 @@ wants_value source tokens (waiting.Reverse at ∷ below) p top = refl
 wants_value source tokens [] p top = cc
 wants_value source tokens (w ∷ below) p top = cc
 
--- where neither a sign nor a `::` stands, a value is wanted
+-- where neither a sign nor a `::` is, a value is wanted
 pub wants_plain : (source : List ℕ) (tokens : List Token) (ws : List Waiting) (m : Mark) (p : Place) → mark_at tokens p.at ≡ m → m ≢ mark.Reverse → m ≢ mark.Minus → (rest source tokens ws).wants p ≡ then (value_by source tokens m (deeper_of source tokens (left ws)) p) (rest source tokens ws).unary
 wants_plain source tokens ws m p is other plain = by_top (is_reverse (innermost ws)) refl where
   by_mark : (k : Mark) → k ≢ mark.Reverse → k ≢ mark.Minus → unary_by source tokens k (deeper_of source tokens (left ws)) p ≡ value_by source tokens k (deeper_of source tokens (left ws)) p

@@ -18,14 +18,14 @@ use Rattle.pio_expr.specs.Trees.{Tree, Number, Name, Add, Subtract, Multiply, Di
 
 -- ---- values
 
--- an operation, before what stands behind it
+-- an operation, before what comes after it
 both_behind : (xs ys rest : List Item) (op : Item) → (xs ++ ys ++ op ∷ []) ++ rest ≡ xs ++ (ys ++ op ∷ rest)
 both_behind xs ys rest op = append_assoc (xs ++ ys) (op ∷ []) rest ∙ append_assoc xs ys (op ∷ rest)
 
 one_behind : (xs rest : List Item) (op : Item) → (xs ++ op ∷ []) ++ rest ≡ xs ++ op ∷ rest
 one_behind xs rest op = append_assoc xs (op ∷ []) rest
 
--- an operation behind its two operands
+-- an operation after its two operands
 binary : (named : List ℕ → Result ℤ ValueKind) (f : ℤ → ℤ → Result ℤ ValueKind) (op : Item) (left right : Result ℤ ValueKind) (xs ys rest : List Item) (ns : List ℤ)
     → worked_out named (xs ++ (ys ++ op ∷ rest)) ns ≡ (left >>= λ m. worked_out named (ys ++ op ∷ rest) (m ∷ ns))
     → ((m : ℤ) → worked_out named (ys ++ op ∷ rest) (m ∷ ns) ≡ (right >>= λ n. worked_out named (op ∷ rest) (n ∷ m ∷ ns)))
@@ -39,7 +39,7 @@ binary named f op left right xs ys rest ns first second both =
       by (Ok m) (Err kind) second' = second' m
       by (Ok m) (Ok n) second' = second' m ∙ both m n
 
--- an operation behind its one operand
+-- an operation after its one operand
 unary : (named : List ℕ → Result ℤ ValueKind) (f : ℤ → Result ℤ ValueKind) (op : Item) (operand : Result ℤ ValueKind) (xs rest : List Item) (ns : List ℤ)
     → worked_out named (xs ++ op ∷ rest) ns ≡ (operand >>= λ n. worked_out named (op ∷ rest) (n ∷ ns))
     → ((n : ℤ) → worked_out named (op ∷ rest) (n ∷ ns) ≡ (f n >>= λ k. worked_out named rest (k ∷ ns)))
@@ -75,7 +75,7 @@ value_of_tree named t = ap (λ items. worked_out named items []) (sym (append-ni
 
 -- ---- the grammar
 
--- a tree was written behind these items
+-- a tree was written after these items
 abbrev Wrote : List Item → Read → Type 0
 Wrote before (Ok place) = (t : Tree) × (place.items ≡ before ++ postfix t)
 Wrote before (Err fault) = Unit {0}
@@ -84,7 +84,7 @@ Wrote before (Err fault) = Unit {0}
 abbrev Writes : Reader → Type 0
 Writes reader = (place : Place) → Wrote place.items (reader place)
 
--- a rule behind another
+-- a rule after another
 wrote_then : (before : List Item) (read : Read) (reader : Reader) → Wrote before read → ((place : Place) (t : Tree) → place.items ≡ before ++ postfix t → Wrote before (reader place)) → Wrote before (then read reader)
 wrote_then before (Ok place) reader h on = on place h.0 h.1
 wrote_then before (Err fault) reader h on = tt
@@ -123,7 +123,7 @@ sum_joins mark.Slash op e = cc
 sum_joins mark.Reverse op e = cc
 sum_joins mark.Other op e = cc
 
--- an operation behind two trees, which were written behind these items
+-- an operation after two trees, which were written after these items
 joined : (before items : List Item) (t u : Tree) (op : Item) → (j : Joins op) → items ≡ (before ++ postfix t) ++ postfix u → items ++ op ∷ [] ≡ before ++ postfix (j.0 t u)
 joined before items t u op j h =
     ap (λ xs. xs ++ op ∷ []) (h ∙ append_assoc before (postfix t) (postfix u)) ∙ append_assoc before (postfix t ++ postfix u) (op ∷ []) ∙ ap (λ xs. before ++ xs) (sym (j.1 t u))
@@ -137,7 +137,7 @@ chain_step before t place operand goes_on e writes on (Some op) joins = by_opera
   by_operand (Err fault) h j = tt
   by_operand (Ok behind) h j = on op (j.0 t h.0) behind (joined before behind.items t h.0 op j (h.1 ∙ ap (λ xs. xs ++ postfix h.0) e))
 
--- operations behind a first operand
+-- operations after a first operand
 chain_writes : (tokens : List Token) (operation_of : Mark → Option Item) (operand : Reader) → AllJoin operation_of → Writes operand → (n : ℕ) (before : List Item) (t : Tree) (place : Place) → place.items ≡ before ++ postfix t → Wrote before (chain tokens operation_of operand n place)
 unfolding chain
 chain_writes tokens operation_of operand joins writes zero before t place e = (t, e)

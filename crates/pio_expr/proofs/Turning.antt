@@ -1,4 +1,4 @@
--- What a token does behind an operand, where nothing is left to write before it.
+-- What a token does after an operand, where nothing is left to write before it.
 use Rattle.std.proofs.Common.{◌≡◌, ℕ, true, List, [], ◌∷◌, drop, Some, None, Result, Ok, Err, refl, ap, ◌∙◌}
 use Rattle.pio_lex.specs.declared.token.Token.{Token}
 use Rattle.pio_expr.specs.declared.expr.Item.{Item}
@@ -19,20 +19,20 @@ use Rattle.pio_expr.proofs.Onward.{readers_onward, product_onward}
 use Rattle.pio_expr.proofs.Steps.{then_assoc}
 use Rattle.pio_expr.proofs.Behind.{product_of_level, product_ends, sum_ends}
 
--- what is read on behind a turn
+-- what is read on after a turn
 abbrev pub Turns : List ℕ → List Token → List Waiting → Place → Result Turn Refusal → Type 0
 Turns source tokens ws p (Ok (Operation w)) = ((rest source tokens ws).unary p ≡ (rest source tokens (w ∷ ws)).wants (next p)) × IsSound (w ∷ ws)
 Turns source tokens ws p (Ok Closed) = ((rest source tokens ws).unary p ≡ (rest source tokens (drop 1 ws)).unary (next p)) × IsSound (drop 1 ws)
 Turns source tokens ws p (Ok End) = (rest source tokens ws).unary p ≡ Ok p
 Turns source tokens ws p (Err fault) = (rest source tokens ws).unary p ≡ Err fault
 
--- an operation of a product goes on behind its operand
+-- an operation of a product goes on after its operand
 product_more : (tokens : List Token) (unary : Reader) (k : Reader) (i : Item) (p : Place) → Onward unary → product_operation (mark_at tokens p.at) ≡ Some i → then (product_goes_on tokens unary p) k ≡ then (unary (next p)) (λ q. then (product_goes_on tokens unary (written i q)) k)
 product_more tokens unary k i p on e =
     ap (λ read. then read k) (chain_on tokens product_operation unary p refl on ∙ ap (λ o. chain_by unary (λ operation q. product_goes_on tokens unary (written operation q)) o p) e)
     ∙ then_assoc (unary (next p)) (λ q. product_goes_on tokens unary (written i q)) k
 
--- an operation of a sum goes on behind its operand
+-- an operation of a sum goes on after its operand
 sum_more : (tokens : List Token) (unary : Reader) (k : Reader) (i : Item) (p : Place) → Onward unary → sum_operation (mark_at tokens p.at) ≡ Some i → then (sum_goes_on tokens unary p) k ≡ then (unary (next p)) (λ q. then (product_goes_on tokens unary q) (λ r. then (sum_goes_on tokens unary (written i r)) k))
 sum_more tokens unary k i p on e =
     ap (λ read. then read k) (chain_on tokens sum_operation (product_by tokens unary) p refl (product_onward tokens unary on) ∙ ap (λ o. chain_by (product_by tokens unary) (λ operation q. sum_goes_on tokens unary (written operation q)) o p) e)
@@ -75,7 +75,7 @@ minus_is source tokens ws p is begins =
     product_ends source tokens ws p (ap product_operation is) begins ∙ product_of_level source tokens ws p begins
     ∙ sum_more tokens (readers source tokens (left ws)).unary (rest source tokens ws).level item.Subtract p (readers_onward source tokens (left ws)).unary (ap sum_operation is) ∙ minus_shape source tokens ws p begins
 
--- behind a sum, an operation of a product
+-- after a sum, an operation of a product
 inner_star : (source : List ℕ) (tokens : List Token) (below : List Waiting) (p : Place) → mark_at tokens p.at ≡ mark.Star → ((rest source tokens (waiting.Add ∷ below)).unary p ≡ (rest source tokens (waiting.Multiply ∷ waiting.Add ∷ below)).wants (next p)) × ((rest source tokens (waiting.Subtract ∷ below)).unary p ≡ (rest source tokens (waiting.Multiply ∷ waiting.Subtract ∷ below)).wants (next p))
 unfolding rest
 inner_star source tokens below p is = (
@@ -90,7 +90,7 @@ inner_slash source tokens below p is = (
   product_more tokens (readers source tokens (left below)).unary (rest source tokens (waiting.Subtract ∷ below)).product item.Divide p (readers_onward source tokens (left below)).unary (ap product_operation is),
 )
 
--- behind a whole expression
+-- after a whole expression
 level_ends : (source : List ℕ) (tokens : List Token) (ws : List Waiting) (m : Mark) (p : Place) → mark_at tokens p.at ≡ m → operation_of m ≡ None → begins_level ws ≡ true → (rest source tokens ws).unary p ≡ (rest source tokens ws).level p
 level_ends source tokens ws m p is none begins = product_ends source tokens ws p (no_product m none is) begins ∙ sum_ends source tokens ws p (no_sum m none is) begins where
   no_product : (m : Mark) → operation_of m ≡ None → mark_at tokens p.at ≡ m → product_operation (mark_at tokens p.at) ≡ None

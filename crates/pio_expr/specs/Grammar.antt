@@ -6,8 +6,8 @@
 --   level   := :: value | sum
 -- Each `{..}` takes what it can. misplaced most 64 of `(`, `-` before a unary, and `::` are open at once. A `::` beside a sign or an
 -- operation in its parenthesis is ambiguous. What is met first is the answer.
---   Place, Reader      where reading stands, and one rule of the grammar
---   chain              what goes on behind an operand, by operators of one rank
+--   Place, Reader      where reading is, and one rule of the grammar
+--   chain              what goes on after an operand, by operators of one rank
 --   Readers            the rules, by how many more openings are allowed
 --   expression_at      the expression that begins at a token
 use Rattle.std.specs.Prelude.{ℕ, zero, suc, ◌+◌, pos, List, [], ◌∷◌, ◌++◌, length, Option, Some, None, Result, Ok, Err, slice_get, slice_range}
@@ -29,7 +29,7 @@ pub record Place : Type 0 where
   pub at : ℕ
   pub items : List Item
 
--- what reading gives: the place behind what was read, or the first fault
+-- what reading gives: the place after what was read, or the first fault
 abbrev pub Read : Type 0
 Read = Result Place Refusal
 
@@ -37,7 +37,7 @@ Read = Result Place Refusal
 abbrev pub Reader : Type 0
 Reader = Place → Read
 
--- one rule behind another
+-- one rule after another
 abbrev pub then : Read → Reader → Read
 then read reader = read >>= reader
 
@@ -57,7 +57,7 @@ misplaced at kind = record { place = at; kind = kind }
 abbrev pub refused : ExprKind → Place → Read
 refused kind place = Err (misplaced place.at kind)
 
--- the item of a token that is a value by itself: a number, or a name as it stands in the source
+-- the item of a token that is a value by itself: a number, or a name as it is in the source
 abbrev pub item_by : List ℕ → TokenKind → ℕ → ℕ → Item
 item_by source (kind.Number value) first size = item.Number (pos value)
 item_by source _ first size = item.Name (slice_range source first (first + size))
@@ -83,18 +83,18 @@ sum_operation mark.Plus = Some item.Add
 sum_operation mark.Minus = Some item.Subtract
 sum_operation _ = None
 
--- the end, where no operation stands, or an operation, its right operand and what goes on behind
+-- the end, where no operation is, or an operation, its right operand and what goes on after
 abbrev pub chain_by : Reader → (Item → Reader) → Option Item → Reader
 chain_by operand rest None place = Ok place
 chain_by operand rest (Some operation) place = then (operand (next place)) (rest operation)
 
--- what stands behind an operand: operations, each with its right operand, and written behind it; at most this many
+-- what comes after an operand: operations, each with its right operand, and written after it; at most this many
 unfoldable pub chain : List Token → (Mark → Option Item) → Reader → ℕ → Reader
 chain tokens operation_of operand zero place = Ok place
 chain tokens operation_of operand (suc n) place =
     chain_by operand (λ operation behind. chain tokens operation_of operand n (written operation behind)) (operation_of (mark_at tokens place.at)) place
 
--- `{(*|/) unary}`, behind a first operand
+-- `{(*|/) unary}`, after a first operand
 abbrev pub product_goes_on : List Token → Reader → Reader
 product_goes_on tokens unary = chain tokens product_operation unary (length tokens)
 
@@ -102,7 +102,7 @@ product_goes_on tokens unary = chain tokens product_operation unary (length toke
 abbrev pub product_by : List Token → Reader → Reader
 product_by tokens unary place = then (unary place) (product_goes_on tokens unary)
 
--- `{(+|-) product}`, behind a first operand
+-- `{(+|-) product}`, after a first operand
 abbrev pub sum_goes_on : List Token → Reader → Reader
 sum_goes_on tokens unary = chain tokens sum_operation (product_by tokens unary) (length tokens)
 
@@ -115,11 +115,11 @@ abbrev pub closed_by : Mark → Reader
 closed_by mark.Close place = Ok (next place)
 closed_by _ place = refused Syntax place
 
--- the `)` that is to stand at a place
+-- the `)` that is to be at a place
 abbrev pub closed : List Token → Reader
 closed tokens place = closed_by (mark_at tokens place.at) place
 
--- a `::`, which stands at a token, is alone in its parenthesis: no operation follows
+-- a `::`, which is at a token, is alone in its parenthesis: no operation follows
 abbrev pub alone_by : Mark → ℕ → Reader
 alone_by mark.Star at place = Err (misplaced at Ambiguous)
 alone_by mark.Slash at place = Err (misplaced at Ambiguous)
@@ -127,7 +127,7 @@ alone_by mark.Plus at place = Err (misplaced at Ambiguous)
 alone_by mark.Minus at place = Err (misplaced at Ambiguous)
 alone_by _ at place = Ok place
 
--- the end of a `::` that stands at a token: its item, and no operation behind it
+-- the end of a `::` that is at a token: its item, and no operation after it
 abbrev pub alone : List Token → ℕ → Reader
 alone tokens at place = alone_by (mark_at tokens place.at) at (written item.Reverse place)
 
@@ -137,14 +137,14 @@ pub record Readers : Type 0 where
   pub unary : Reader
   pub level : Reader
 
--- `number | NAME | ( level )`; the rules behind one more opening are `None` where there may be none
+-- `number | NAME | ( level )`; the rules after one more opening are `None` where there may be none
 abbrev pub value_by : List ℕ → List Token → Mark → Option Readers → Reader
 value_by source tokens mark.Value deeper place = Ok (value_read source tokens place)
 value_by source tokens mark.Open None place = refused TooDeep place
 value_by source tokens mark.Open (Some rules) place = then (rules.level (next place)) (closed tokens)
 value_by source tokens _ deeper place = refused Syntax place
 
--- `- unary | value`; a `::` here stands beside a sign or an operation
+-- `- unary | value`; a `::` here is beside a sign or an operation
 abbrev pub unary_by : List ℕ → List Token → Mark → Option Readers → Reader
 unary_by source tokens mark.Minus None place = refused TooDeep place
 unary_by source tokens mark.Minus (Some rules) place = then (rules.unary (next place)) (λ behind. Ok (written item.Negate behind))
@@ -158,7 +158,7 @@ level_by source tokens mark.Reverse None unary place = refused TooDeep place
 level_by source tokens mark.Reverse (Some rules) unary place = then (rules.value (next place)) (alone tokens place.at)
 level_by source tokens mark deeper unary place = sum_by tokens unary place
 
--- the rules of the grammar, by those behind one more opening
+-- the rules of the grammar, by those after one more opening
 abbrev pub readers_by : List ℕ → List Token → Option Readers → Readers
 readers_by source tokens deeper =
     let unary : Reader = λ place. unary_by source tokens (mark_at tokens place.at) deeper place in
@@ -173,11 +173,11 @@ readers source tokens (suc n) = readers_by source tokens (Some (readers source t
 abbrev pub most_open : ℕ
 most_open = 64
 
--- the items of an expression, and the place behind it
+-- the items of an expression, and the place after it
 abbrev pub read_items : Read → Result (List Item × ℕ) Refusal
 read_items (Ok place) = Ok (place.items, place.at)
 read_items (Err fault) = Err fault
 
--- the expression that begins at a token, with the place of the token behind it, or its first fault
+-- the expression that begins at a token, with the place of the token after it, or its first fault
 unfoldable pub expression_at : List ℕ → List Token → ℕ → Result (List Item × ℕ) Refusal
 expression_at source tokens from = read_items ((readers source tokens most_open).level (record { at = from; items = [] }))

@@ -24,6 +24,6 @@ abbrev pub mark_by : Option Token → Mark
 mark_by (Some token) = mark_of token.kind
 mark_by None = Other
 
--- what stands at a place, counted from 0
+-- what is at a place, counted from 0
 unfoldable pub mark_at : List Token → ℕ → Mark
 mark_at tokens at = mark_by (slice_get tokens at)

@@ -1,4 +1,4 @@
--- An expression as a tree: what its postfix order stands for, and its value without a stack.
+-- An expression as a tree: what its postfix order is for, and its value without a stack.
 --   Tree          a number, a name, or an operation with its operands
 --   postfix       its items, operands before their operation
 --   tree_value    its value, operands from left to right, up to the first fault
@@ -20,7 +20,7 @@ pub data Tree : Type 0 where
   Negate : Tree → Tree
   Reverse : Tree → Tree
 
--- its items in postfix order: each operation behind its operands
+-- its items in postfix order: each operation after its operands
 unfoldable pub postfix : Tree → List Item
 postfix (Number n) = item.Number n ∷ []
 postfix (Name name) = item.Name name ∷ []

@@ -35,7 +35,7 @@ unless_operation mark.Plus written = None
 unless_operation mark.Minus written = None
 unless_operation _ written = Some written
 
--- what is written of something that waits, before a token behind its operand
+-- what is written of something that waits, before a token after its operand
 abbrev pub item_before : Waiting → Mark → Option Item
 item_before waiting.Paren m = None
 item_before waiting.Negate m = Some item.Negate
@@ -65,12 +65,12 @@ unfoldable pub all_before : List Waiting → Mark → List Item
 all_before [] m = []
 all_before (w ∷ below) m = written_by (item_before w m) (all_before below m)
 
--- what waits on behind an item that is written, or all where none is
+-- what waits on after an item that is written, or all where none is
 abbrev pub kept_by : Option Item → List Waiting → List Waiting → List Waiting
 kept_by (Some i) rest all = rest
 kept_by None rest all = all
 
--- what waits on behind all that is written before a token
+-- what waits on after all that is written before a token
 unfoldable pub kept_before : List Waiting → Mark → List Waiting
 kept_before [] m = []
 kept_before (w ∷ below) m = kept_by (item_before w m) (kept_before below m) (w ∷ below)
@@ -90,11 +90,11 @@ is_level _ = false
 abbrev pub opened : ℕ → List Waiting → Waiting → Result (Option Waiting) Refusal
 opened at ws w = if nat_lt (openings ws) most_open then Ok (Some w) else Err (misplaced at TooDeep)
 
--- a sign, which may not stand behind a `::`
+-- a sign, which may not come after a `::`
 abbrev pub sign_at : ℕ → List Waiting → Result (Option Waiting) Refusal
 sign_at at ws = if is_reverse (innermost ws) then Err (misplaced at Syntax) else opened at ws waiting.Negate
 
--- a `::`, which may not stand behind another, and only at the beginning of its parenthesis
+-- a `::`, which may not come after another, and only at the beginning of its parenthesis
 abbrev pub reverse_at : ℕ → List Waiting → Result (Option Waiting) Refusal
 reverse_at at ws =
     if is_reverse (innermost ws) then Err (misplaced at Syntax) else
@@ -114,13 +114,13 @@ abbrev pub close_by : Mark → ℕ → Result Turn Refusal
 close_by mark.Close at = Ok Closed
 close_by _ at = Err (misplaced at Syntax)
 
--- what a token does behind an operand where nothing is left to write before it: what waits innermost is
+-- what a token does after an operand where nothing is left to write before it: what waits innermost is
 -- a parenthesis or nothing, unless it is an operation
 abbrev pub turn_without : Option Waiting → Mark → ℕ → Result Turn Refusal
 turn_without None m at = Ok End
 turn_without (Some w) m at = close_by m at
 
--- the same where the token is an operation: it may not stand beside a `::`
+-- the same where the token is an operation: it may not be beside a `::`
 abbrev pub turn_with : Option Waiting → Waiting → Result Turn Refusal
 turn_with (Some (waiting.Reverse at)) operation = Err (misplaced at Ambiguous)
 turn_with _ operation = Ok (Operation operation)

@@ -62,7 +62,7 @@ found scope false name = found_in 0 scope.globals name
 abbrev pub symbol_of : Scope → List ℕ → Option Symbol
 symbol_of scope name = option_map (λ s. s.1) (found scope true name)
 
--- the symbol of this place stands in the program, so the names in its expression are looked up there first
+-- the symbol of this place is in the program, so the names in its expression are looked up there first
 abbrev pub in_program : Scope → ℕ → Bool
 in_program scope place = nat_le (length scope.globals) place
 
@@ -122,7 +122,7 @@ name_value (suc more) scope under local name =
 abbrev pub count_of : Scope → ℕ
 count_of scope = length scope.globals + length (program_of scope)
 
--- the value of an expression that stands at this place: of a symbol that is under way then, or of none
+-- the value of an expression that is at this place: of a symbol that is under way then, or of none
 abbrev pub value_at : Scope → Option ℕ → List Item → Result ℤ ValueKind
 value_at scope None items = worked_out (name_value (count_of scope) scope [] true) items []
 value_at scope (Some place) items = worked_out (name_value (count_of scope - 1) scope (place ∷ []) (in_program scope place)) items []
@@ -131,7 +131,7 @@ value_at scope (Some place) items = worked_out (name_value (count_of scope - 1) 
 abbrev pub place_of : Scope → List ℕ → Option ℕ
 place_of scope name = option_map (λ s. s.0) (found scope true name)
 
--- the place where an expression stands: that of the symbol whose own expression it is, if it is one's
+-- the place where an expression is: that of the symbol whose own expression it is, if it is one's
 abbrev pub own_place : Scope → Option (List ℕ) → Option ℕ
 own_place scope None = None
 own_place scope (Some name) = place_of scope name

@@ -1,5 +1,5 @@
 -- What is left to read while an expression is open in the middle: the words of this crate's private clauses.
---   Rest          what the grammar reads on, behind an operand or for one
+--   Rest          what the grammar reads on, after an operand or for one
 --   rest          the same, of the openings and operations that wait, the innermost first
 --   IsSound       what can wait for what
 use Rattle.std.specs.Prelude.{◌≡◌, ℕ, ◌+◌, ◌-◌, ◌<◌, length, Bool, true, false, List, [], ◌∷◌, Option, Some, None, Result, Ok, count_by}
@@ -15,7 +15,7 @@ use Rattle.pio_expr.specs.declared.waiting.Waiting.{Waiting}
 use Rattle.pio_expr.specs.declared.waiting.Waiting.TheVariants as waiting
 use Rattle.pio_expr.specs.Grammar.{Place, Read, Reader, then, written, alone, closed, product_goes_on, sum_goes_on, readers, most_open}
 
--- what is read on: behind a unary, behind a product, behind the whole parenthesis, and where an operand is wanted
+-- what is read on: after a unary, after a product, after the whole parenthesis, and where an operand is wanted
 pub record Rest : Type 0 where
   pub unary : Reader
   pub product : Reader
@@ -44,13 +44,13 @@ rest_of_level source tokens n level =
     let product : Reader = λ place. then (sum_goes_on tokens unary place) level in
     record { unary = λ place. then (product_goes_on tokens unary place) product; product = product; level = level; wants = λ place. then ((readers source tokens n).level place) level }
 
--- behind an operation that is written as soon as its operand, a unary, is read
+-- after an operation that is written as soon as its operand, a unary, is read
 abbrev pub rest_of_product : List ℕ → List Token → ℕ → Item → Rest → Rest
 rest_of_product source tokens n operation below =
     let unary : Reader = λ place. below.unary (written operation place) in
     record { unary = unary; product = below.product; level = below.level; wants = λ place. then ((readers source tokens n).unary place) unary }
 
--- behind an operation that is written as soon as its operand, a product, is read
+-- after an operation that is written as soon as its operand, a product, is read
 abbrev pub rest_of_sum : List ℕ → List Token → ℕ → Item → Rest → Rest
 rest_of_sum source tokens n operation below =
     let unary : Reader = (readers source tokens n).unary in
@@ -58,7 +58,7 @@ rest_of_sum source tokens n operation below =
     let behind : Reader = λ place. then (product_goes_on tokens unary place) product in
     record { unary = behind; product = product; level = below.level; wants = λ place. then (unary place) behind }
 
--- behind a `::` at a token
+-- after a `::` at a token
 abbrev pub rest_of_reverse : List ℕ → List Token → ℕ → ℕ → Rest → Rest
 rest_of_reverse source tokens n at below =
     let unary : Reader = λ place. then (alone tokens at place) below.level in
@@ -90,12 +90,12 @@ IsSound (waiting.Subtract ∷ below) = (begins_level below ≡ true) × IsSound 
 IsSound (waiting.Reverse at ∷ below) = (begins_level below ≡ true) × IsSound below
 IsSound (_ ∷ below) = IsSound below
 
--- what is read on, where an operand is wanted or behind one
+-- what is read on, where an operand is wanted or after one
 abbrev pub goes_on : Bool → Rest → Reader
 goes_on true what place = what.wants place
 goes_on false what place = what.unary place
 
--- where a reading stands
+-- where a reading is
 abbrev pub place_of : Reading → ℕ → Place
 place_of reading at = record { at = at; items = reading.items.items }
 
@@ -103,7 +103,7 @@ place_of reading at = record { at = at; items = reading.items.items }
 abbrev pub answer_of : List ℕ → List Token → Reading → Bool → ℕ → Read
 answer_of source tokens reading wanted at = goes_on wanted (rest source tokens reading.waiting.items) (place_of reading at)
 
--- behind one more token: what is read on, or that the whole ends before the token
+-- after one more token: what is read on, or that the whole ends before the token
 abbrev pub GoesOn : List ℕ → List Token → Reading → Bool → ℕ → Reading → Option Bool → Type 0
 GoesOn source tokens old wanted at new None = answer_of source tokens old wanted at ≡ Ok (place_of new at)
 GoesOn source tokens old wanted at new (Some next) =

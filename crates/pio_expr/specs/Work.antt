@@ -1,5 +1,5 @@
 -- What holds between the steps of working an expression out: more words of this crate's private clauses.
---   Stands             how the frames stand to one another, to what is kept, and to the value that is asked
+--   Stands             how the frames lie to one another, to what is kept, and to the value that is asked
 --   Steps              what one step gives
 --   left_to_do         a number that each step makes smaller
 use Rattle.std.specs.Prelude.{◌≡◌, ℕ, ◌+◌, ◌-◌, ◌*◌, ◌<◌, ℤ, Bool, true, List, [], ◌∷◌, ◌++◌, length, Option, Some, None, Result, Ok, Err, nat_eq, cond}
@@ -100,7 +100,7 @@ abbrev pub kept_of : Kept → Option ℕ → Option ℤ
 kept_of kept (Some place) = kept_at kept place
 kept_of kept None = None
 
--- a frame for the symbol of a place stands on the others
+-- a frame for the symbol of a place is on the others
 pub record Waited (scope : Scope) (place : ℕ) (items : List Item) (old new : Work) : Type 0 where
   pub below : new.below.items ≡ old.top ∷ old.below.items
   pub of_symbol : new.top.place ≡ Some place

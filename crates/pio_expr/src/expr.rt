@@ -4,7 +4,7 @@ ghost use Rattle.std.specs.Prelude.{◌≡◌};
 use pio_encode::Name;
 use std::marker::Model;
 
-/// One item of an expression in postfix order. An operation takes what stands before it.
+/// One item of an expression in postfix order. An operation takes what comes before it.
 #[derive(Drop)]
 pub enum Item {
     /// 0 to 2147483647, as it was written.
@@ -16,7 +16,7 @@ pub enum Item {
     Multiply,
     /// The quotient, cut off toward zero.
     Divide,
-    /// What a sign `-` makes of the value behind it.
+    /// What a sign `-` makes of the value after it.
     Negate,
     /// The 32 bits in the opposite order, `::`.
     Reverse,

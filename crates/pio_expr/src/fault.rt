@@ -13,7 +13,7 @@ pub enum ExprKind {
     Syntax,
     /// This token is the 65th parenthesis or sign that is open at once.
     TooDeep,
-    /// This `::` stands beside a sign or an operation in its parenthesis.
+    /// This `::` is beside a sign or an operation in its parenthesis.
     Ambiguous,
 }
 

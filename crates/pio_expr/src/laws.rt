@@ -18,7 +18,7 @@ pub fn own_value()
         → value_of scope (Some name) items ≡ value_of_name scope name }
 {}
 
-/// A name's bytes, as they stand in the source, are a text.
+/// A name's bytes, as they are in the source, are a text.
 pub fn a_name_is_a_text()
     ensures { (source : List ℕ) (token : Token) → IsTokenOf source token → token.kind ≡ kind.Name
         → IsUtf8 (slice_range source token.first (token.first + token.length)) }

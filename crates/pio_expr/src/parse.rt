@@ -10,7 +10,7 @@ use crate::{Expr, ExprFault};
 use pio_lex::Token;
 use std::alloc::Global;
 
-/// The expression that begins at the token `from`, and the place of the token behind it; or its first fault.
+/// The expression that begins at the token `from`, and the place of the token after it; or its first fault.
 ///
 /// It takes time in proportion to the tokens that it reads, and doesn't recurse.
 pub fn parse_expr(

@@ -25,7 +25,7 @@ pub const MOST_OPEN: usize = 64;
 pub struct Reading {
     /// What is written of it, in postfix order.
     pub items: Vec<Item>,
-    /// What waits for what stands behind it, the innermost in front.
+    /// What waits for what comes after it, the innermost in front.
     pub waiting: VecDeque<Waiting>,
 }
 
@@ -41,7 +41,7 @@ impl Reading {
         }
     }
 
-    /// Reads one more token; whether an operand is wanted behind it, or nothing where the expression ends before it.
+    /// Reads one more token; whether an operand is wanted after it, or nothing where the expression ends before it.
     pub fn step(
         &mut self,
         alloc: Global,
@@ -67,7 +67,7 @@ impl Reading {
         }
     }
 
-    /// Reads a token where an operand is wanted; whether another is wanted behind it.
+    /// Reads a token where an operand is wanted; whether another is wanted after it.
     fn operand(
         &mut self,
         alloc: Global,
@@ -102,7 +102,7 @@ impl Reading {
         }
     }
 
-    /// Reads a token behind an operand; whether an operand is wanted behind it, or nothing where the expression ends before it.
+    /// Reads a token after an operand; whether an operand is wanted after it, or nothing where the expression ends before it.
     fn behind(&mut self, mark: Mark, at: usize) -> Result<Option<bool>, ExprFault>
         requires sound { IsSound self.old.waiting.items }
         ensures ok { (source : List ℕ) (tokens : List Token) → mark_at tokens at ≡ mark
@@ -187,7 +187,7 @@ impl Reading {
         self.waiting.front().copied()
     }
 
-    /// Writes what is complete before a token behind an operand.
+    /// Writes what is complete before a token after an operand.
     fn write_before(&mut self, mark: Mark) -> Result<(), ExprFault>
         ensures items { OnOk result
             (self.new.items.items ≡ self.old.items.items ++ all_before self.old.waiting.items mark) }
@@ -201,7 +201,7 @@ impl Reading {
         Ok(())
     }
 
-    /// What a token does behind an operand, where nothing is left to write before it.
+    /// What a token does after an operand, where nothing is left to write before it.
     fn turn(&self, mark: Mark, at: usize) -> Result<Turn, Refusal>
         ensures { result ≡ turn_by (operation_of mark) (innermost self.now.waiting.items) mark at }
     {

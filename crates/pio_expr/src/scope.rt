@@ -45,7 +45,7 @@ impl Scope {
         }
     }
 
-    /// Begins a program without symbols, behind the globals. It takes no memory.
+    /// Begins a program without symbols, after the globals. It takes no memory.
     pub fn next_program(&mut self)
         ensures { self.new ≡ begun self.old }
     {
@@ -60,7 +60,7 @@ impl Scope {
         self.symbols.is_new(name)
     }
 
-    /// Adds a symbol behind the globals, or once a program has begun, behind those of the program. The error is want of
+    /// Adds a symbol after the globals, or once a program has begun, after those of the program. The error is want of
     /// memory.
     pub fn set(&mut self, name: Name, is: Symbol) -> Result<(), AllocError>
         requires { IsNew self.old name }

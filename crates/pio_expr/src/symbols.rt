@@ -99,7 +99,7 @@ impl Symbols {
         }
     }
 
-    /// The symbol at this place stands in the program.
+    /// The symbol at this place is in the program.
     pub fn in_program(&self, place: usize) -> bool
         ensures { result ≡ in_program self.now place }
     {

@@ -1,8 +1,8 @@
-//! What a token does behind an operand.
+//! What a token does after an operand.
 
 use crate::waiting::Waiting;
 
-/// What a token does behind an operand.
+/// What a token does after an operand.
 #[derive(Clone, Copy)]
 pub enum Turn {
     /// It is an operation; its right operand is wanted.

@@ -1,4 +1,4 @@
-//! What waits, while an expression is read, for what stands behind it.
+//! What waits, while an expression is read, for what comes after it.
 ghost use Rattle.std.specs.Prelude.{◌≡◌};
 ghost use Rattle.pio_expr.specs.Turns.{item_before, operation_of, unless_product};
 ghost use Rattle.pio_expr.specs.Waiting.{opens};
@@ -40,7 +40,7 @@ impl Waiting {
         matches!(self, Waiting::Paren | Waiting::Negate | Waiting::Reverse(_))
     }
 
-    /// What is written of it before a token behind its operand.
+    /// What is written of it before a token after its operand.
     pub fn item_before(self, mark: Mark) -> Option<Item>
         ensures { result ≡ item_before self mark }
     {

@@ -31,7 +31,7 @@ unfolding read_from
 at_fault source place kind lt e zero enough = absurd (omega arith)
 at_fault source place kind lt e (suc more) enough = rw (lt-ltb place.at (length source) lt) (rw e refl)
 
--- a piece is read, and what stands behind it
+-- a piece is read, and what comes after it
 at_piece : (source : List ℕ) (place : Place) (p : Piece) (r : Result (List Token) Refusal) → place.at < length source → piece_at (last_kind place.tokens) (drop place.at source) ≡ Ok p → Comes source (behind source place p) r → Comes source place r
 unfolding read_from
 at_piece source place p r lt e rest zero enough = absurd (omega arith)

@@ -28,7 +28,7 @@ IsAlone b = (b ≡ 10) ⊎ (byte_mark b ≢ None)
 abbrev IsPair : ℕ → List ℕ → Type 0
 IsPair b ws = ((b ≡ 58) × (ws ≡ 58 ∷ [])) ⊎ (((b ≡ 45) × (ws ≡ 45 ∷ [])) ⊎ ((b ≡ 33) × (ws ≡ 61 ∷ [])))
 
--- a byte with those behind it: letters, digits and `_`; a directive; a byte alone; a pair of marks
+-- a byte with those after it: letters, digits and `_`; a directive; a byte alone; a pair of marks
 abbrev Shape : ℕ → List ℕ → Type 0
 Shape b ws = (list_all is_name_byte (b ∷ ws) ≡ true) ⊎ (((b ≡ 46) × IsWord ws) ⊎ (((ws ≡ []) × IsAlone b) ⊎ IsPair b ws))
 
@@ -164,7 +164,7 @@ nothing_behind_dot b bs e isnt = longer b bs 0 (λ m lt le s. no_shape b (take m
     (λ h. other_pair 46 b (take m bs) e (λ f. absurd (omega arith)) (λ f. absurd (omega arith)) (λ f. absurd (omega arith)) h)
     s)
 
--- a pair stands
+-- a pair is
 longest_pair : (b c : ℕ) (bs : List ℕ) → b ≡ c → is_name_byte c ≡ false → c ≢ 46 → IsLongest (b ∷ bs) 2
 longest_pair b c bs e isnt dot = longer b bs 2 (λ m lt le s. no_shape b (take m bs)
     (λ h. no_word b (take m bs) (ap is_name_byte e ∙ isnt) h)
@@ -182,7 +182,7 @@ pair_begins b c d m bs le e f =
       alike : (c d : ℕ) → bytes_eq (c ∷ d ∷ []) (c ∷ d ∷ []) ≡ true
       alike c d = and_from (eqb c c) (eqb d d && true) (eq-eqb c c refl) (and_from (eqb d d) true (eq-eqb d d refl) refl)
 
--- no pair stands, nor a name, a number, a directive or a newline
+-- no pair is, nor a name, a number, a directive or a newline
 pub record Apart (b : ℕ) (bs : List ℕ) : Type 0 where
   pub newline : is_newline b ≡ false
   pub name_byte : is_name_byte b ≡ false

@@ -19,7 +19,7 @@ grows radix n (d ∷ ds) h =
     let step = le-mul_of_pos_right n h in
     omega arith
 
--- the digits behind i go on from the value n
+-- the digits after i go on from the value n
 pub record Reading (radix n : ℕ) (ds : List ℕ) (i : ℕ) : Type 0 where
   pub small : n ≤ 2147483647
   pub value : digits_value_after radix n (drop i ds) ≡ digits_value radix ds

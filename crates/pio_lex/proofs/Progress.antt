@@ -31,7 +31,7 @@ pub order_more : (tokens : List Token) (line at : ℕ) (p : Piece) → 0 < size 
 order_more tokens line at (piece.Gap n) some h = subst (λ (ts : List Token). AreInOrder 0 ts (at + n)) (sym (append-nil tokens)) (order_to 0 tokens at (at + n) (omega arith) h)
 order_more tokens line at (piece.Token kind n) some h = order_push 0 tokens _ at (at + n) h (omega arith) some (omega arith)
 
--- the line behind some bytes
+-- the line after some bytes
 line_more : (source : List ℕ) (at n : ℕ) → line_at source at + count_by is_newline (take n (drop at source)) ≡ line_at source (at + n)
 line_more source at n =
     let parts = sum_by-append (λ b. cond (is_newline b) 1 0) (take at source) (take n (drop at source)) in

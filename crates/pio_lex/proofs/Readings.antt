@@ -9,7 +9,7 @@ use Rattle.pio_lex.specs.Pieces.{piece_at, size, IsWithin}
 use Rattle.pio_lex.specs.Tokens.{line_at, Place, start, last_kind, StandsAt, behind, AreBetween, IsTokens, IsFirstFault, HasTokens, HasFault}
 use Rattle.pio_lex.proofs.Sizes.{piece_within}
 
--- no piece stands here
+-- no piece is here
 abbrev Stops : List ℕ → Place → Type 0
 Stops source place = (p : Piece) → StandsAt source place p → ⊥
 

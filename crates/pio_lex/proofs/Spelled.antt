@@ -56,7 +56,7 @@ named word (Some keyword) e is = (is, e)
 spelled_name : (text : List ℕ) → 0 < length text → is_letter (get_or text 0 0) ≡ true → Spells text (name_at text)
 spelled_name text lt e = named (word_of text) (keyword_of (word_of text)) refl (word_is text (begins text lt e))
 
--- the text behind one byte
+-- the text after one byte
 one_and : (n b : ℕ) (text : List ℕ) → 0 < length text → get_or text 0 0 ≡ b → take (1 + n) text ≡ b ∷ take n (drop 1 text)
 one_and n b [] lt e = absurd (omega arith)
 one_and n b (x ∷ xs) lt e = take-add 1 n (x ∷ xs) ∙ ap (λ (y : ℕ). y ∷ take n xs) e

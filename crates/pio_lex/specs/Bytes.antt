@@ -78,11 +78,11 @@ is_letter b = is_ascii_alphabetic b || b == underscore
 abbrev pub is_name_byte : ℕ → Bool
 is_name_byte b = is_letter b || is_ascii_digit b
 
--- a letter, a digit, `_` or `-`: of what stands between `%` and `{`
+-- a letter, a digit, `_` or `-`: of what is between `%` and `{`
 abbrev pub is_block_byte : ℕ → Bool
 is_block_byte b = is_name_byte b || b == hyphen
 
--- how many bytes stand before the first newline, or the end
+-- how many bytes come before the first newline, or the end
 abbrev pub line_length : List ℕ → ℕ
 line_length text = prefix_len (λ b. not (is_newline b)) text
 

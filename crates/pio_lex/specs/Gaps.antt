@@ -1,4 +1,4 @@
--- What stands between tokens (Pico SDK manual, section 3.3): blanks, comments, foreign blocks, and what follows
+-- What is between tokens (Pico SDK manual, section 3.3): blanks, comments, foreign blocks, and what follows
 -- `.lang_opt` on its line.
 use Rattle.std.specs.Prelude.{ℕ, ◌+◌, ◌==◌, ◌&&◌, ◌||◌, not, nat_lt, Bool, true, false, List, [], ◌∷◌, drop, Option, Some, None, option_map, Result, Ok, Err, slice_index, codes, if◌then◌else◌}
 use Rattle.std.specs.List.{prefix_len}
@@ -10,7 +10,7 @@ use Rattle.pio_lex.specs.declared.directive.Directive.TheVariants.{LangOpt}
 use Rattle.byte_lines.specs.Bytes.{is_blank}
 use Rattle.pio_lex.specs.Bytes.{semicolon, is_newline, is_block_byte, line_length, begins_with}
 
--- no token stands behind the last newline token, or behind the beginning; comments may
+-- no token comes after the last newline token, or after the beginning; comments may
 abbrev pub begins_line : Option TokenKind → Bool
 begins_line None = true
 begins_line (Some Newline) = true
@@ -30,7 +30,7 @@ unfoldable pub through_close : List ℕ → Option ℕ
 through_close [] = None
 through_close (b ∷ bs) = if begins_with (codes "*/") (b ∷ bs) then Some 2 else option_map (λ n. n + 1) (through_close bs)
 
--- the length of a comment, from its `/*` to the first `*/` behind these two bytes
+-- the length of a comment, from its `/*` to the first `*/` after these two bytes
 unfoldable pub comment_length : List ℕ → Option ℕ
 comment_length text = option_map (λ n. n + 2) (through_close (drop 2 text))
 
@@ -42,7 +42,7 @@ names_block text = nat_lt 0 (prefix_len is_block_byte text) && begins_with (code
 unfoldable pub opens_block : List ℕ → Bool
 opens_block text = begins_with (codes "%") text && names_block (behind_blanks (drop 1 text))
 
--- a line that closes a foreign block: its first bytes behind blanks are `%}`
+-- a line that closes a foreign block: its first bytes after blanks are `%}`
 abbrev pub closes_block : List ℕ → Bool
 closes_block line = begins_with (codes "%}") (behind_blanks line)
 
@@ -56,7 +56,7 @@ abbrev pub ended : LexKind → Option ℕ → Result (Option ℕ) LexKind
 ended open_kind (Some n) = Ok (Some n)
 ended open_kind None = Err open_kind
 
--- the gap that begins a text behind a token of the kind `last`, where there is one, each as long as it can be
+-- the gap that begins a text after a token of the kind `last`, where there is one, each as long as it can be
 unfoldable pub gap_at : Option TokenKind → List ℕ → Result (Option ℕ) LexKind
 gap_at last text =
     if is_lang_opt last && not (is_newline (slice_index text 0)) then Ok (Some (line_length text)) else

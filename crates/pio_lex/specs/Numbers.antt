@@ -26,7 +26,7 @@ is_hexadecimal word = begins_with (codes "0x") word || begins_with (codes "0X") 
 abbrev pub is_binary : List ℕ → Bool
 is_binary word = begins_with (codes "0b") word || begins_with (codes "0B") word
 
--- the number of a word: hexadecimal behind `0x`, binary behind `0b`, else decimal; leading zeros are right
+-- the number of a word: hexadecimal after `0x`, binary after `0b`, else decimal; leading zeros are right
 unfoldable pub word_number : List ℕ → Option ℕ
 word_number word =
     if is_hexadecimal word then numeral 16 (drop 2 word) else

@@ -1,4 +1,4 @@
--- The piece that stands at a place of a source: a gap, else a token.
+-- The piece that is at a place of a source: a gap, else a token.
 use Rattle.std.specs.Prelude.{ℕ, ◌<◌, ◌≤◌, length, List, Option, Some, None, Result, Ok, Err}
 use Rattle.pio_lex.specs.declared.fault.LexKind.{LexKind}
 use Rattle.pio_lex.specs.declared.token.TokenKind.{TokenKind}
@@ -18,7 +18,7 @@ piece_by (Ok (Some n)) text = Ok (Gap n)
 piece_by (Ok None) text = token_piece (token_at text)
 piece_by (Err fault) text = Err fault
 
--- the piece that begins a text, behind a token of the kind `last`
+-- the piece that begins a text, after a token of the kind `last`
 unfoldable pub piece_at : Option TokenKind → List ℕ → Result Piece LexKind
 piece_at last text = piece_by (gap_at last text) text
 

@@ -73,7 +73,7 @@ abbrev pub counted : ℕ → Option ℕ → Result (TokenKind × ℕ) LexKind
 counted length (Some value) = Ok (kind.Number value, length)
 counted length None = Err BadNumber
 
--- a digit, with all letters, digits and `_` behind it
+-- a digit, with all letters, digits and `_` after it
 abbrev pub number_at : List ℕ → Result (TokenKind × ℕ) LexKind
 number_at text = counted (prefix_len is_name_byte text) (word_number (word_of text))
 

@@ -27,7 +27,7 @@ start = record { at = 0; tokens = [] }
 abbrev pub last_kind : List Token → Option TokenKind
 last_kind tokens = option_map (λ token. token.kind) (slice_get tokens (length tokens - 1))
 
--- this piece stands at a place
+-- this piece is at a place
 pub record StandsAt (source : List ℕ) (place : Place) (piece : Piece) : Type 0 where
   pub before_end : place.at < length source
   pub stands : piece_at (last_kind place.tokens) (drop place.at source) ≡ Ok piece
@@ -37,11 +37,11 @@ abbrev pub tokens_of : ℕ → ℕ → Piece → List Token
 tokens_of line at (piece.Gap n) = []
 tokens_of line at (piece.Token kind n) = record { kind = kind; line = line; first = at; length = n } ∷ []
 
--- the place behind a piece
+-- the place after a piece
 abbrev pub behind : List ℕ → Place → Piece → Place
 behind source place piece = record { at = place.at + size piece; tokens = place.tokens ++ tokens_of (line_at source place.at) place.at piece }
 
--- these pieces stand one behind the other, from one place to another
+-- these pieces are one after the other, from one place to another
 abbrev pub AreBetween : List ℕ → Place → List Piece → Place → Type 0
 AreBetween source from [] to = from ≡ to
 AreBetween source from (piece ∷ pieces) to = StandsAt source from piece × AreBetween source (behind source from piece) pieces to
@@ -51,7 +51,7 @@ pub record IsTokens (source : List ℕ) (tokens : List Token) : Type 0 where
   pub pieces : List Piece
   pub whole : AreBetween source start pieces (record { at = length source; tokens = tokens })
 
--- behind some pieces nothing stands, for this cause
+-- after some pieces nothing is, for this cause
 pub record IsFirstFault (source : List ℕ) (line : ℕ) (kind : LexKind) : Type 0 where
   pub pieces : List Piece
   pub place : Place
@@ -60,7 +60,7 @@ pub record IsFirstFault (source : List ℕ) (line : ℕ) (kind : LexKind) : Type
   pub fault : piece_at (last_kind place.tokens) (drop place.at source) ≡ Err kind
   pub at_line : line ≡ line_at source place.at
 
--- the tokens stand in order, each of at least one byte, within these bounds
+-- the tokens are in order, each of at least one byte, within these bounds
 abbrev pub AreInOrder : ℕ → List Token → ℕ → Type 0
 AreInOrder from [] to = from ≤ to
 AreInOrder from (token ∷ tokens) to = (from ≤ token.first) × (0 < token.length) × AreInOrder (token.first + token.length) tokens to

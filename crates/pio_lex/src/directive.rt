@@ -4,7 +4,7 @@ ghost use Rattle.pio_lex.specs.Words.{directive_of};
 
 use crate::table::beside;
 
-/// The name behind the `.` of a directive.
+/// The name after the `.` of a directive.
 #[derive(Clone, Copy, Debug)]
 pub enum Directive {
     Program,

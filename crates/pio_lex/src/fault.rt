@@ -46,7 +46,7 @@ impl fmt::Display for LexKind {
 pub enum LexFault {
     /// Memory ran out.
     Memory,
-    /// The first fault of the source stands on this line, counted from 1: that of its byte, or where a comment or a
+    /// The first fault of the source is on this line, counted from 1: that of its byte, or where a comment or a
     /// block without end opens.
     Found { line: usize, kind: LexKind },
 }

@@ -1,4 +1,4 @@
-//! What stands between tokens: blanks, comments, foreign blocks, and what follows `.lang_opt` on its line.
+//! What is between tokens: blanks, comments, foreign blocks, and what follows `.lang_opt` on its line.
 ghost use Rattle.std.specs.Prelude.{◌≡◌, ◌<◌, length};
 ghost use Rattle.pio_lex.specs.Gaps as spec;
 
@@ -6,7 +6,7 @@ use crate::bytes::{blanks, block_name_length, line_length};
 use crate::{Directive, LexKind, TokenKind};
 use byte_lines::is_blank;
 
-/// How many bytes of a gap the text begins with, behind a token of the kind `last`; `None` where a token begins.
+/// How many bytes of a gap the text begins with, after a token of the kind `last`; `None` where a token begins.
 #[tactic(auto, unfolding(crate::specs::Gaps::gap_at))]
 pub fn gap(text: &[u8], last: Option<TokenKind>) -> Result<Option<usize>, LexKind>
     requires { 0 < length text.now }

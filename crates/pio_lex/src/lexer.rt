@@ -27,7 +27,7 @@ pub fn tokens(alloc: Global, source: &[u8]) -> Result<Vec<Token>, LexFault>
         → Gives (λ v. v.items) result (Err (record { line = line; kind = kind })) }
     // The tokens or the fault are those of the source's reading, unless memory runs out.
     ensures value { Gives (λ v. v.items) result (reading_of source.now) }
-    // Each token stands behind the one before.
+    // Each token comes after the one before.
     ensures in_order { IfOk result (λ v. AreInOrder 0 v.items (length source.now)) }
     // Each token is what its text spells, within the source and on its line.
     ensures each { IfOk result (λ v. All (IsTokenOf source.now) v.items) }

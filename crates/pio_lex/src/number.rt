@@ -1,4 +1,4 @@
-//! Numbers: decimal, or hexadecimal behind `0x`, or binary behind `0b`.
+//! Numbers: decimal, or hexadecimal after `0x`, or binary after `0b`.
 ghost use Rattle.std.specs.Prelude.{◌≡◌, ◌≤◌, ◌+◌, ◌*◌, IsTrue, length};
 ghost use Rattle.pio_lex.specs.Numbers as spec;
 
@@ -50,7 +50,7 @@ fn numeral(digits: &[u8], radix: u32) -> Option<u32>
     Some(value)
 }
 
-/// The value with one digit more behind it, if it is not too large.
+/// The value with one digit more after it, if it is not too large.
 fn extended(value: u32, radix: u32, digit: u32) -> Option<u32>
     requires value { value ≤ 0x7fff_ffff }
     requires radix { radix ≤ 16 }

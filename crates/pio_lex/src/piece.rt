@@ -1,4 +1,4 @@
-//! The pieces of a source, of which it is made one behind the other.
+//! The pieces of a source, of which it is made one after the other.
 ghost use Rattle.std.specs.Prelude.{◌≡◌, ◌<◌, length, IfOk};
 ghost use Rattle.pio_lex.specs.Pieces as spec;
 ghost use Rattle.pio_lex.specs.Pieces.{IsWithin, size};
@@ -7,10 +7,10 @@ use crate::gap::gap;
 use crate::spelling::token;
 use crate::{LexKind, TokenKind};
 
-/// What stands at a place of a source, and how many bytes it has.
+/// What is at a place of a source, and how many bytes it has.
 #[derive(Clone, Copy)]
 pub enum Piece {
-    /// A blank, a comment, a foreign block, or the rest of a line behind `.lang_opt`.
+    /// A blank, a comment, a foreign block, or the rest of a line after `.lang_opt`.
     Gap(usize),
     Token(TokenKind, usize),
 }
@@ -27,7 +27,7 @@ impl Piece {
     }
 }
 
-/// The piece that the text begins with, behind a token of the kind `last`.
+/// The piece that the text begins with, after a token of the kind `last`.
 #[tactic(auto, unfolding(crate::specs::Pieces::piece_at))]
 pub fn next_piece(text: &[u8], last: Option<TokenKind>) -> Result<Piece, LexKind>
     requires { 0 < length text.now }

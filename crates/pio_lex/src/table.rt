@@ -4,7 +4,7 @@ ghost use Rattle.pio_lex.specs.Words.{row_of};
 
 use crate::bytes::is_same_but_case;
 
-/// What stands beside the text, in any case of letters, in the first row that has it.
+/// What is beside the text, in any case of letters, in the first row that has it.
 #[tactic(auto, unfolding(crate::specs::Words::row_of))]
 pub fn beside<T: Copy>(rows: &[(&str, T)], text: &[u8]) -> Option<T>
     ensures { result ≡ row_of (λ row. row.0.now) (λ row. row.1) rows.now text.now }

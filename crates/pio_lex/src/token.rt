@@ -1,4 +1,4 @@
-//! A token: what it is, and where it stands in its source.
+//! A token: what it is, and where it is in its source.
 
 use crate::{Directive, Keyword};
 
@@ -7,7 +7,7 @@ use crate::{Directive, Keyword};
 pub enum TokenKind {
     /// A line ends here.
     Newline,
-    /// A symbol, in the case in which it stands.
+    /// A symbol, in the case in which it is.
     Name,
     Keyword(Keyword),
     Directive(Directive),

@@ -17,8 +17,8 @@ use Rattle.pio_statement.specs.declared.fault.StatementKind.TheVariants as fault
 use Rattle.answers.specs.Answers.{◌>>=◌}
 use Rattle.pio_statement.specs.Tokens.{kind_at, ends_at, keyword_at, past_open, past_side, past_colon, past_close, past_colon_by, past_close_by, name_of, name_by, name_at, kind_of, of_line, expression}
 use Rattle.pio_statement.specs.Operands.{operand_by, placed, wait_source_at, wait_source_of, in_source_at, in_source_of, out_destination_at, out_destination_of, mov_destination_at, mov_destination_of, mov_source_at, mov_source_of, set_destination_at, set_destination_of}
-use Rattle.pio_statement.specs.Conditions.{inverted_of, inverted_at, differs_of, differs_at, behind_x_by, behind_x, behind_y_by, behind_y, behind_word, condition_by, condition_at}
-use Rattle.pio_statement.specs.Forms.{jmp_at, wait_at, in_at, out_at, mov_at, irq_at, set_at, form_by, form_behind, form_at}
+use Rattle.pio_statement.specs.Conditions.{inverted_of, inverted_at, differs_of, differs_at, after_x_by, after_x, after_y_by, after_y, after_word, condition_by, condition_at}
+use Rattle.pio_statement.specs.Forms.{jmp_at, wait_at, in_at, out_at, mov_at, irq_at, set_at, form_by, form_after, form_at}
 use Rattle.pio_statement.specs.Instructions.{delay_at, with_delay, with_side, side_first, delay_first, suffix_by, suffix_at, instruction_at, word_at, code_directive, instruction_code, code_by, code_at}
 use Rattle.pio_statement.specs.Statements.{program_at, define_at, origin_at, side_set_at, pio_version_at, lone_word_at, directive_at, some_code, labelled_at, label_at, lone_code_at, worded_at, statement_by, statement_from}
 
@@ -30,7 +30,7 @@ Known (Err fault.Syntax) = Unit {0}
 Known (Err fault.TooDeep) = Unit {0}
 Known (Err fault.Ambiguous) = Unit {0}
 
--- one reader behind another
+-- one reader after another
 pub onward : {X Y : Type 0} (read : Result X StatementKind) (next : X → Result Y StatementKind) → Known read → ((x : X) → Known (next x)) → Known (read >>= next)
 onward (Ok x) next known all = all x
 onward (Err fault.Directive) next known all = absurd known
@@ -43,7 +43,7 @@ placed_known (Some word) at = tt
 placed_known None at = tt
 
 operand_known : {X : Type 0} (table : Keyword → Option X) (word : Option (Keyword × ℕ)) → Known (operand_by table word)
-operand_known table (Some (word, behind)) = placed_known (table word) behind
+operand_known table (Some (word, after)) = placed_known (table word) after
 operand_known table None = tt
 
 kind_known : (X : Type 0) (kind : ExprKind) → Known {X = X} (Err (kind_of kind))
@@ -119,33 +119,33 @@ differs_known : (tokens : List Token) (at : ℕ) → Known (differs_at tokens at
 unfolding differs_at
 differs_known tokens at = operand_known differs_of (keyword_at tokens at)
 
-behind_x_by_known : (tokens : List Token) (k : Option TokenKind) (at : ℕ) → Known (behind_x_by tokens k at)
-behind_x_by_known tokens (Some kind.MinusMinus) at = tt
-behind_x_by_known tokens (Some kind.NotEqual) at = differs_known tokens (at + 1)
-behind_x_by_known tokens _ at = tt
+after_x_by_known : (tokens : List Token) (k : Option TokenKind) (at : ℕ) → Known (after_x_by tokens k at)
+after_x_by_known tokens (Some kind.MinusMinus) at = tt
+after_x_by_known tokens (Some kind.NotEqual) at = differs_known tokens (at + 1)
+after_x_by_known tokens _ at = tt
 
-behind_x_known : (tokens : List Token) (at : ℕ) → Known (behind_x tokens at)
-unfolding behind_x
-behind_x_known tokens at = behind_x_by_known tokens (kind_at tokens at) at
+after_x_known : (tokens : List Token) (at : ℕ) → Known (after_x tokens at)
+unfolding after_x
+after_x_known tokens at = after_x_by_known tokens (kind_at tokens at) at
 
-behind_y_by_known : (k : Option TokenKind) (at : ℕ) → Known (behind_y_by k at)
-behind_y_by_known (Some kind.MinusMinus) at = tt
-behind_y_by_known _ at = tt
+after_y_by_known : (k : Option TokenKind) (at : ℕ) → Known (after_y_by k at)
+after_y_by_known (Some kind.MinusMinus) at = tt
+after_y_by_known _ at = tt
 
-behind_y_known : (tokens : List Token) (at : ℕ) → Known (behind_y tokens at)
-unfolding behind_y
-behind_y_known tokens at = behind_y_by_known (kind_at tokens at) at
+after_y_known : (tokens : List Token) (at : ℕ) → Known (after_y tokens at)
+unfolding after_y
+after_y_known tokens at = after_y_by_known (kind_at tokens at) at
 
-behind_word_known : (tokens : List Token) (word : Keyword) (at : ℕ) → Known (behind_word tokens word at)
-behind_word_known tokens keyword.X at = behind_x_known tokens at
-behind_word_known tokens keyword.Y at = behind_y_known tokens at
-behind_word_known tokens keyword.Pin at = tt
-behind_word_known tokens _ at = tt
+after_word_known : (tokens : List Token) (word : Keyword) (at : ℕ) → Known (after_word tokens word at)
+after_word_known tokens keyword.X at = after_x_known tokens at
+after_word_known tokens keyword.Y at = after_y_known tokens at
+after_word_known tokens keyword.Pin at = tt
+after_word_known tokens _ at = tt
 
 condition_by_known : (tokens : List Token) (k : Option TokenKind) (at : ℕ) → Known (condition_by tokens k at)
 condition_by_known tokens (Some kind.Bang) at = inverted_known tokens (at + 1)
 condition_by_known tokens (Some kind.Tilde) at = inverted_known tokens (at + 1)
-condition_by_known tokens (Some (kind.Keyword word)) at = behind_word_known tokens word (at + 1)
+condition_by_known tokens (Some (kind.Keyword word)) at = after_word_known tokens word (at + 1)
 condition_by_known tokens _ at = tt
 
 condition_known : (tokens : List Token) (at : ℕ) → Known (condition_at tokens at)
@@ -214,27 +214,27 @@ form_by_known source tokens keyword.Irq at = irq_known source tokens at
 form_by_known source tokens keyword.Set at = set_known source tokens at
 form_by_known source tokens _ at = tt
 
-form_behind_known : (source : List ℕ) (tokens : List Token) (word : Option (Keyword × ℕ)) → Known (form_behind source tokens word)
-form_behind_known source tokens (Some (word, behind)) = form_by_known source tokens word behind
-form_behind_known source tokens None = tt
+form_after_known : (source : List ℕ) (tokens : List Token) (word : Option (Keyword × ℕ)) → Known (form_after source tokens word)
+form_after_known source tokens (Some (word, after)) = form_by_known source tokens word after
+form_after_known source tokens None = tt
 
 form_known : (source : List ℕ) (tokens : List Token) (at : ℕ) → Known (form_at source tokens at)
 unfolding form_at
-form_known source tokens at = form_behind_known source tokens (keyword_at tokens at)
+form_known source tokens at = form_after_known source tokens (keyword_at tokens at)
 
 delay_known : (source : List ℕ) (tokens : List Token) (at : ℕ) → Known (delay_at source tokens at)
 unfolding delay_at
 delay_known source tokens at =
     onward _ _ (expression_known source tokens at) λ delay.
-    onward _ _ (past_close_known tokens _) λ behind.
+    onward _ _ (past_close_known tokens _) λ after.
     tt
 
 with_delay_known : (source : List ℕ) (tokens : List Token) (side : List Item) (bracket : Option ℕ) (at : ℕ) → Known (with_delay source tokens side bracket at)
-with_delay_known source tokens side (Some behind) at = onward _ _ (delay_known source tokens behind) λ delay. tt
+with_delay_known source tokens side (Some after) at = onward _ _ (delay_known source tokens after) λ delay. tt
 with_delay_known source tokens side None at = tt
 
 with_side_known : (source : List ℕ) (tokens : List Token) (delay : List Item) (word : Option ℕ) (at : ℕ) → Known (with_side source tokens delay word at)
-with_side_known source tokens delay (Some behind) at = onward _ _ (expression_known source tokens behind) λ side. tt
+with_side_known source tokens delay (Some after) at = onward _ _ (expression_known source tokens after) λ side. tt
 with_side_known source tokens delay None at = tt
 
 side_first_known : (source : List ℕ) (tokens : List Token) (at : ℕ) → Known (side_first source tokens at)
@@ -250,8 +250,8 @@ delay_first_known source tokens at =
     with_side_known source tokens delay.0 (past_side tokens delay.1) delay.1
 
 suffix_by_known : (source : List ℕ) (tokens : List Token) (word bracket : Option ℕ) (at : ℕ) → Known (suffix_by source tokens word bracket at)
-suffix_by_known source tokens (Some behind) bracket at = side_first_known source tokens behind
-suffix_by_known source tokens None (Some behind) at = delay_first_known source tokens behind
+suffix_by_known source tokens (Some after) bracket at = side_first_known source tokens after
+suffix_by_known source tokens None (Some after) at = delay_first_known source tokens after
 suffix_by_known source tokens None None at = tt
 
 suffix_known : (source : List ℕ) (tokens : List Token) (at : ℕ) → Known (suffix_at source tokens at)
@@ -354,7 +354,7 @@ label_known : (source : List ℕ) (tokens : List Token) (public : Bool) (at : �
 unfolding label_at
 label_known source tokens public at =
     onward _ _ (name_known source tokens at) λ name.
-    onward _ _ (past_colon_known tokens _) λ behind.
+    onward _ _ (past_colon_known tokens _) λ after.
     onward _ _ (labelled_known source tokens _) λ code.
     tt
 

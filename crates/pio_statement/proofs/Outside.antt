@@ -1,4 +1,4 @@
--- Behind the last token there is no expression.
+-- After the last token there is no expression.
 use Rattle.std.proofs.Common.{◌≡◌, ℕ, zero, suc, ◌≤◌, List, [], length, refl, ap, Option, Some, None, Err}
 use Rattle.std.proofs.lemmas.Option.{slice_get_past}
 use Rattle.pio_lex.specs.declared.token.Token.{Token}

@@ -1,4 +1,4 @@
--- A statement takes its whole line, and an unknown directive is told exactly where one stands on the line.
+-- A statement takes its whole line, and an unknown directive is told exactly where one is on the line.
 use Rattle.std.proofs.Common.{◌≡◌, ℕ, List, Bool, true, false, if◌then◌else◌, Ok, Err, ap, sym, refl}
 use Rattle.pio_lex.specs.declared.token.Token.{Token}
 use Rattle.pio_statement.specs.declared.fault.StatementKind.TheVariants as fault
@@ -22,9 +22,9 @@ abbrev place_of : Read Statement → ℕ
 place_of (Ok read) = read.1
 place_of (Err kind) = 0
 
-whole_behind : (ends : Bool) (read : Statement × ℕ) (end to : ℕ) (s : Statement) → whole_by ends read end ≡ Ok (s, to) → to ≡ end
-whole_behind true read end to s e = sym (ap place_of e)
-whole_behind false read end to s e = cc
+whole_after : (ends : Bool) (read : Statement × ℕ) (end to : ℕ) (s : Statement) → whole_by ends read end ≡ Ok (s, to) → to ≡ end
+whole_after true read end to s e = sym (ap place_of e)
+whole_after false read end to s e = cc
 
 line_known : (source : List ℕ) (tokens : List Token) (from : ℕ) → Known (known_at source tokens from)
 unfolding known_at
@@ -39,20 +39,20 @@ not_unknown (Err fault.Ambiguous) known e = cc
 
 -- a statement that goes on to its line's end
 goes_on : (tokens : List Token) (end to : ℕ) (s : Statement) (read : Read Statement) → (read >>= λ found. whole tokens found end) ≡ Ok (s, to) → to ≡ end
-goes_on tokens end to s (Ok found) e = whole_behind (ends_at tokens found.1) found end to s e
+goes_on tokens end to s (Ok found) e = whole_after (ends_at tokens found.1) found end to s e
 goes_on tokens end to s (Err kind) e = cc
 
-known_behind : (source : List ℕ) (tokens : List Token) (from to : ℕ) (s : Statement) → known_at source tokens from ≡ Ok (s, to) → to ≡ line_end tokens from
+known_after : (source : List ℕ) (tokens : List Token) (from to : ℕ) (s : Statement) → known_at source tokens from ≡ Ok (s, to) → to ≡ line_end tokens from
 unfolding known_at
-known_behind source tokens from to s e = goes_on tokens (line_end tokens from) to s (statement_from source tokens from) e
+known_after source tokens from to s e = goes_on tokens (line_end tokens from) to s (statement_from source tokens from) e
 
-behind_by : (unknown : Bool) (read : Read Statement) (end to : ℕ) (s : Statement) → (read ≡ Ok (s, to) → to ≡ end) → (if unknown then Err fault.Directive else read) ≡ Ok (s, to) → to ≡ end
-behind_by true read end to s known e = cc
-behind_by false read end to s known e = known e
+after_by : (unknown : Bool) (read : Read Statement) (end to : ℕ) (s : Statement) → (read ≡ Ok (s, to) → to ≡ end) → (if unknown then Err fault.Directive else read) ≡ Ok (s, to) → to ≡ end
+after_by true read end to s known e = cc
+after_by false read end to s known e = known e
 
-pub behind : (source : List ℕ) (tokens : List Token) (from to : ℕ) (s : Statement) → statement_at source tokens from ≡ Ok (s, to) → to ≡ line_end tokens from
+pub after : (source : List ℕ) (tokens : List Token) (from to : ℕ) (s : Statement) → statement_at source tokens from ≡ Ok (s, to) → to ≡ line_end tokens from
 unfolding statement_at
-behind source tokens from to s e = behind_by (has_unknown tokens from) (known_at source tokens from) (line_end tokens from) to s (known_behind source tokens from to s) e
+after source tokens from to s e = after_by (has_unknown tokens from) (known_at source tokens from) (line_end tokens from) to s (known_after source tokens from to s) e
 
 pub unknown : (source : List ℕ) (tokens : List Token) (from : ℕ) → has_unknown tokens from ≡ true → statement_at source tokens from ≡ Err fault.Directive
 unfolding statement_at

@@ -1,4 +1,4 @@
--- The forms of the instructions, behind their first word (Pico SDK manual, section 3.3.6). E is an expression.
+-- The forms of the instructions, after their first word (Pico SDK manual, section 3.3.6). E is an expression.
 use Rattle.std.specs.Prelude.{ℕ, List, false, Bool, Option, Some, None, Ok, Err}
 use Rattle.pio_lex.specs.declared.keyword.Keyword.{Keyword}
 use Rattle.pio_lex.specs.declared.keyword.Keyword.TheVariants as keyword
@@ -21,7 +21,7 @@ jmp_at source tokens at = do
   target ← expression source tokens (past_condition tokens condition.0 condition.1)
   Ok (form.Jmp condition.0 target.0, target.1)
 
--- `[rel]`, behind an IRQ flag alone
+-- `[rel]`, after an IRQ flag alone
 abbrev pub wait_relative : List Token → WaitSource → ℕ → Bool × ℕ
 wait_relative tokens wait_source.Irq at = relative_at tokens at
 wait_relative tokens _ at = (false, at)
@@ -100,11 +100,11 @@ form_by source tokens keyword.Irq at = irq_at source tokens at
 form_by source tokens keyword.Set at = set_at source tokens at
 form_by source tokens _ at = Err Syntax
 
--- a form, if a word stands there
-abbrev pub form_behind : List ℕ → List Token → Option (Keyword × ℕ) → Read Form
-form_behind source tokens (Some (word, behind)) = form_by source tokens word behind
-form_behind source tokens None = Err Syntax
+-- a form, if a word is there
+abbrev pub form_after : List ℕ → List Token → Option (Keyword × ℕ) → Read Form
+form_after source tokens (Some (word, after)) = form_by source tokens word after
+form_after source tokens None = Err Syntax
 
 -- an instruction without its side-set and its delay
 unfoldable pub form_at : List ℕ → List Token → ℕ → Read Form
-form_at source tokens at = form_behind source tokens (keyword_at tokens at)
+form_at source tokens at = form_after source tokens (keyword_at tokens at)

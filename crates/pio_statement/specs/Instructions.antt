@@ -17,34 +17,34 @@ use Rattle.pio_statement.specs.Answer.{Read}
 use Rattle.pio_statement.specs.Tokens.{kind_at, past_open, past_close, past_side, expression}
 use Rattle.pio_statement.specs.Forms.{form_at}
 
--- a delay behind its `[`: `E ]`
+-- a delay after its `[`: `E ]`
 unfoldable pub delay_at : List ℕ → List Token → ℕ → Read (List Item)
 delay_at source tokens at = do
   delay ← expression source tokens at
-  behind ← past_close tokens delay.1
-  Ok (delay.0, behind)
+  after ← past_close tokens delay.1
+  Ok (delay.0, after)
 
--- what stands behind a side-set: `[E]`, or nothing
+-- what comes after a side-set: `[E]`, or nothing
 abbrev pub with_delay : List ℕ → List Token → List Item → Option ℕ → ℕ → Read Suffix
-with_delay source tokens side (Some behind) at = do
-  delay ← delay_at source tokens behind
+with_delay source tokens side (Some after) at = do
+  delay ← delay_at source tokens after
   Ok (suffix.SideDelay side delay.0, delay.1)
 with_delay source tokens side None at = Ok (suffix.Side side, at)
 
--- what stands behind a delay: `side E`, or nothing
+-- what comes after a delay: `side E`, or nothing
 abbrev pub with_side : List ℕ → List Token → List Item → Option ℕ → ℕ → Read Suffix
-with_side source tokens delay (Some behind) at = do
-  side ← expression source tokens behind
+with_side source tokens delay (Some after) at = do
+  side ← expression source tokens after
   Ok (suffix.DelaySide delay side.0, side.1)
 with_side source tokens delay None at = Ok (suffix.Delay delay, at)
 
--- `side E` or `side E [E]`, behind the word
+-- `side E` or `side E [E]`, after the word
 unfoldable pub side_first : List ℕ → List Token → ℕ → Read Suffix
 side_first source tokens at = do
   side ← expression source tokens at
   with_delay source tokens side.0 (past_open tokens side.1) side.1
 
--- `[E]` or `[E] side E`, behind the `[`
+-- `[E]` or `[E] side E`, after the `[`
 unfoldable pub delay_first : List ℕ → List Token → ℕ → Read Suffix
 delay_first source tokens at = do
   delay ← delay_at source tokens at
@@ -52,8 +52,8 @@ delay_first source tokens at = do
 
 -- side-set and delay, by which of the two begins
 abbrev pub suffix_by : List ℕ → List Token → Option ℕ → Option ℕ → ℕ → Read Suffix
-suffix_by source tokens (Some behind) bracket at = side_first source tokens behind
-suffix_by source tokens None (Some behind) at = delay_first source tokens behind
+suffix_by source tokens (Some after) bracket at = side_first source tokens after
+suffix_by source tokens None (Some after) at = delay_first source tokens after
 suffix_by source tokens None None at = Ok (suffix.None, at)
 
 -- at most one `side E` and one `[E]`, in either order
@@ -67,7 +67,7 @@ instruction_at source tokens at = do
   suffix ← suffix_at source tokens form.1
   Ok (record { form = form.0; suffix = suffix.0 }, suffix.1)
 
--- `.word E`, behind the directive
+-- `.word E`, after the directive
 unfoldable pub word_at : List ℕ → List Token → ℕ → Read Code
 word_at source tokens at = do
   value ← expression source tokens at

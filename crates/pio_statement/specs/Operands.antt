@@ -100,7 +100,7 @@ blocking_of keyword.Block = Some true
 blocking_of keyword.NoBlock = Some false
 blocking_of _ = None
 
--- the words that stand alone or are left out
+-- the words that are alone or are left out
 abbrev pub if_full_of : Keyword → Option Bool
 if_full_of keyword.IfFull = Some true
 if_full_of _ = None
@@ -132,33 +132,33 @@ public_of _ = None
 
 -- an operand, if the word is one
 abbrev pub placed : {X : Type 0} → Option X → ℕ → Read X
-placed (Some word) behind = Ok (word, behind)
-placed None behind = Err Syntax
+placed (Some word) after = Ok (word, after)
+placed None after = Err Syntax
 
--- an operand by the word that stands there, if one does
+-- an operand by the word that is there, if one does
 abbrev pub operand_by : {X : Type 0} → (Keyword → Option X) → Option (Keyword × ℕ) → Read X
-operand_by table (Some (word, behind)) = placed (table word) behind
+operand_by table (Some (word, after)) = placed (table word) after
 operand_by table None = Err Syntax
 
 -- a word of a table
 abbrev pub operand : {X : Type 0} → (Keyword → Option X) → List Token → ℕ → Read X
 operand table tokens at = operand_by table (keyword_at tokens at)
 
--- an operand, or what stands for it where it is left out
+-- an operand, or what is for it where it is left out
 abbrev pub taken : {X : Type 0} → Option X → ℕ → X → ℕ → X × ℕ
-taken (Some word) behind default at = (word, behind)
-taken None behind default at = (default, at)
+taken (Some word) after default at = (word, after)
+taken None after default at = (default, at)
 
 -- the same of a word that may be left out
 abbrev pub optional_by : {X : Type 0} → (Keyword → Option X) → X → Option (Keyword × ℕ) → ℕ → X × ℕ
-optional_by table default (Some (word, behind)) at = taken (table word) behind default at
+optional_by table default (Some (word, after)) at = taken (table word) after default at
 optional_by table default None at = (default, at)
 
 -- a word of a table, which may be left out
 abbrev pub optional : {X : Type 0} → (Keyword → Option X) → X → List Token → ℕ → X × ℕ
 optional table default tokens at = optional_by table default (keyword_at tokens at) at
 
--- each of these, with the place behind it
+-- each of these, with the place after it
 unfoldable pub wait_source_at : List Token → ℕ → Read WaitSource
 wait_source_at tokens at = operand wait_source_of tokens at
 

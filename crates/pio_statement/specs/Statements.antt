@@ -57,7 +57,7 @@ lone_word_at source tokens at = do
   word ← word_at source tokens at
   Ok (statement.Code word.0, word.1)
 
--- a directive's statement, behind its name; the rest of a line behind `.lang_opt` is no token, and an unknown directive is
+-- a directive's statement, after its name; the rest of a line after `.lang_opt` is no token, and an unknown directive is
 -- told of the whole line
 abbrev pub directive_at : List ℕ → List Token → Directive → ℕ → Read Statement
 directive_at source tokens directive.Program at = program_at source tokens at
@@ -77,16 +77,16 @@ some_code source tokens at = do
   code ← code_at source tokens at
   Ok (Some code.0, code.1)
 
--- what stands behind a label: code, or nothing
+-- what comes after a label: code, or nothing
 unfoldable pub labelled_at : List ℕ → List Token → ℕ → Read (Option Code)
 labelled_at source tokens at = if ends_at tokens at then Ok (None, at) else some_code source tokens at
 
--- `NAME :`, alone or with code behind it
+-- `NAME :`, alone or with code after it
 unfoldable pub label_at : List ℕ → List Token → Bool → ℕ → Read Statement
 label_at source tokens public at = do
   name ← name_at source tokens at
-  behind ← past_colon tokens name.1
-  code ← labelled_at source tokens behind
+  after ← past_colon tokens name.1
+  code ← labelled_at source tokens after
   Ok (statement.Label public name.0 code.0, code.1)
 
 -- code without a label
@@ -109,6 +109,6 @@ statement_by source tokens (Some (kind.Keyword word)) at = worded_at source toke
 statement_by source tokens (Some kind.Name) at = label_at source tokens false at
 statement_by source tokens _ at = Err Syntax
 
--- what stands at a place, whatever stands behind it
+-- what is at a place, whatever comes after it
 unfoldable pub statement_from : List ℕ → List Token → ℕ → Read Statement
 statement_from source tokens at = statement_by source tokens (kind_at tokens at) at

@@ -27,13 +27,13 @@ pub fn code(
         Some(TokenKind::Directive(Directive::Word)) => word(alloc, source, tokens, at + 1),
         Some(TokenKind::Directive(_)) => Err(StatementFault::SYNTAX),
         _ => {
-            let (instruction, behind) = instruction(alloc, source, tokens, at)?;
-            Ok((Code::Instruction(instruction), behind))
+            let (instruction, after) = instruction(alloc, source, tokens, at)?;
+            Ok((Code::Instruction(instruction), after))
         }
     }
 }
 
-/// `.word E`, behind the directive.
+/// `.word E`, after the directive.
 #[tactic(auto, unfolding(crate::specs::Instructions::word_at))]
 pub fn word(
     alloc: Global,
@@ -44,8 +44,8 @@ pub fn word(
     requires { All (IsTokenOf source.now) tokens.now }
     ensures { Answers result (spec.word_at source.now tokens.now at) }
 {
-    let (value, behind) = expression(alloc, source, tokens, at)?;
-    Ok((Code::Word(value), behind))
+    let (value, after) = expression(alloc, source, tokens, at)?;
+    Ok((Code::Word(value), after))
 }
 
 /// An instruction.
@@ -59,9 +59,9 @@ fn instruction(
     requires { All (IsTokenOf source.now) tokens.now }
     ensures { Answers result (spec.instruction_at source.now tokens.now at) }
 {
-    let (form, behind) = form(alloc, source, tokens, at)?;
-    let (suffix, behind) = suffix(alloc, source, tokens, behind)?;
-    Ok((Instruction { form, suffix }, behind))
+    let (form, after) = form(alloc, source, tokens, at)?;
+    let (suffix, after) = suffix(alloc, source, tokens, after)?;
+    Ok((Instruction { form, suffix }, after))
 }
 
 /// At most one `side E` and one `[E]`, in either order.
@@ -75,16 +75,16 @@ fn suffix(
     requires { All (IsTokenOf source.now) tokens.now }
     ensures { Answers result (spec.suffix_at source.now tokens.now at) }
 {
-    if let Some(behind) = past_side(tokens, at) {
-        return side_first(alloc, source, tokens, behind);
+    if let Some(after) = past_side(tokens, at) {
+        return side_first(alloc, source, tokens, after);
     }
-    if let Some(behind) = past_open(tokens, at) {
-        return delay_first(alloc, source, tokens, behind);
+    if let Some(after) = past_open(tokens, at) {
+        return delay_first(alloc, source, tokens, after);
     }
     Ok((Suffix::None, at))
 }
 
-/// `side E` or `side E [E]`, behind the word.
+/// `side E` or `side E [E]`, after the word.
 #[tactic(auto, unfolding(crate::specs::Instructions::side_first))]
 fn side_first(
     alloc: Global,
@@ -95,15 +95,15 @@ fn side_first(
     requires { All (IsTokenOf source.now) tokens.now }
     ensures { Answers result (spec.side_first source.now tokens.now at) }
 {
-    let (side, behind) = expression(alloc, source, tokens, at)?;
-    let Some(inside) = past_open(tokens, behind) else {
-        return Ok((Suffix::Side(side), behind));
+    let (side, after) = expression(alloc, source, tokens, at)?;
+    let Some(inside) = past_open(tokens, after) else {
+        return Ok((Suffix::Side(side), after));
     };
-    let (delay, behind) = delay(alloc, source, tokens, inside)?;
-    Ok((Suffix::SideDelay { side, delay }, behind))
+    let (delay, after) = delay(alloc, source, tokens, inside)?;
+    Ok((Suffix::SideDelay { side, delay }, after))
 }
 
-/// `[E]` or `[E] side E`, behind the `[`.
+/// `[E]` or `[E] side E`, after the `[`.
 #[tactic(auto, unfolding(crate::specs::Instructions::delay_first))]
 fn delay_first(
     alloc: Global,
@@ -114,15 +114,15 @@ fn delay_first(
     requires { All (IsTokenOf source.now) tokens.now }
     ensures { Answers result (spec.delay_first source.now tokens.now at) }
 {
-    let (delay, behind) = delay(alloc, source, tokens, at)?;
-    let Some(value) = past_side(tokens, behind) else {
-        return Ok((Suffix::Delay(delay), behind));
+    let (delay, after) = delay(alloc, source, tokens, at)?;
+    let Some(value) = past_side(tokens, after) else {
+        return Ok((Suffix::Delay(delay), after));
     };
-    let (side, behind) = expression(alloc, source, tokens, value)?;
-    Ok((Suffix::DelaySide { delay, side }, behind))
+    let (side, after) = expression(alloc, source, tokens, value)?;
+    Ok((Suffix::DelaySide { delay, side }, after))
 }
 
-/// A delay behind its `[`: `E ]`.
+/// A delay after its `[`: `E ]`.
 #[tactic(auto, unfolding(crate::specs::Instructions::delay_at))]
 fn delay(
     alloc: Global,
@@ -133,7 +133,7 @@ fn delay(
     requires { All (IsTokenOf source.now) tokens.now }
     ensures { Answers result (spec.delay_at source.now tokens.now at) }
 {
-    let (delay, behind) = expression(alloc, source, tokens, at)?;
-    let behind = past_close(tokens, behind)?;
-    Ok((delay, behind))
+    let (delay, after) = expression(alloc, source, tokens, at)?;
+    let after = past_close(tokens, after)?;
+    Ok((delay, after))
 }

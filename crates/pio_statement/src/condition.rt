@@ -15,12 +15,12 @@ pub fn condition(tokens: &[Token], at: usize) -> Result<(Condition, usize), Stat
 {
     match kind_at(tokens, at) {
         Some(TokenKind::Bang | TokenKind::Tilde) => inverted(tokens, at + 1),
-        Some(TokenKind::Keyword(word)) => behind_word(tokens, word, at + 1),
+        Some(TokenKind::Keyword(word)) => after_word(tokens, word, at + 1),
         _ => Ok((Condition::Always, at)),
     }
 }
 
-/// The place behind the comma of a condition, which may be left out; without a condition there is no comma.
+/// The place after the comma of a condition, which may be left out; without a condition there is no comma.
 pub fn past_condition(tokens: &[Token], condition: Condition, at: usize) -> usize
     ensures { result ≡ spec.past_condition tokens.now condition at }
 {
@@ -30,12 +30,12 @@ pub fn past_condition(tokens: &[Token], condition: Condition, at: usize) -> usiz
     }
 }
 
-/// A condition behind its `!` or `~`.
+/// A condition after its `!` or `~`.
 #[tactic(auto, unfolding(crate::specs::Conditions::inverted_at))]
 fn inverted(tokens: &[Token], at: usize) -> Result<(Condition, usize), StatementFault>
     ensures { Answers result (spec.inverted_at tokens.now at) }
 {
-    let Some((word, behind)) = keyword_at(tokens, at) else {
+    let Some((word, after)) = keyword_at(tokens, at) else {
         return Err(StatementFault::SYNTAX);
     };
     let condition = match word {
@@ -44,29 +44,29 @@ fn inverted(tokens: &[Token], at: usize) -> Result<(Condition, usize), Statement
         Keyword::Osre => Condition::OsrNotEmpty,
         _ => return Err(StatementFault::SYNTAX),
     };
-    Ok((condition, behind))
+    Ok((condition, after))
 }
 
-/// A condition behind its first word; no expression begins with a word.
-fn behind_word(
+/// A condition after its first word; no expression begins with a word.
+fn after_word(
     tokens: &[Token],
     word: Keyword,
     at: usize,
 ) -> Result<(Condition, usize), StatementFault>
-    ensures { Answers result (spec.behind_word tokens.now word at) }
+    ensures { Answers result (spec.after_word tokens.now word at) }
 {
     match word {
-        Keyword::X => behind_x(tokens, at),
-        Keyword::Y => behind_y(tokens, at),
+        Keyword::X => after_x(tokens, at),
+        Keyword::Y => after_y(tokens, at),
         Keyword::Pin => Ok((Condition::Pin, at)),
         _ => Err(StatementFault::SYNTAX),
     }
 }
 
-/// Behind `x`: `--`, or `!=` and `y`.
-#[tactic(auto, unfolding(crate::specs::Conditions::behind_x))]
-fn behind_x(tokens: &[Token], at: usize) -> Result<(Condition, usize), StatementFault>
-    ensures { Answers result (spec.behind_x tokens.now at) }
+/// After `x`: `--`, or `!=` and `y`.
+#[tactic(auto, unfolding(crate::specs::Conditions::after_x))]
+fn after_x(tokens: &[Token], at: usize) -> Result<(Condition, usize), StatementFault>
+    ensures { Answers result (spec.after_x tokens.now at) }
 {
     match kind_at(tokens, at) {
         Some(TokenKind::MinusMinus) => Ok((Condition::XDecrement, at + 1)),
@@ -75,21 +75,21 @@ fn behind_x(tokens: &[Token], at: usize) -> Result<(Condition, usize), Statement
     }
 }
 
-/// Behind `x!=`: `y`.
+/// After `x!=`: `y`.
 #[tactic(auto, unfolding(crate::specs::Conditions::differs_at))]
 fn differs(tokens: &[Token], at: usize) -> Result<(Condition, usize), StatementFault>
     ensures { Answers result (spec.differs_at tokens.now at) }
 {
     match keyword_at(tokens, at) {
-        Some((Keyword::Y, behind)) => Ok((Condition::XNotY, behind)),
+        Some((Keyword::Y, after)) => Ok((Condition::XNotY, after)),
         _ => Err(StatementFault::SYNTAX),
     }
 }
 
-/// Behind `y`: `--`.
-#[tactic(auto, unfolding(crate::specs::Conditions::behind_y))]
-fn behind_y(tokens: &[Token], at: usize) -> Result<(Condition, usize), StatementFault>
-    ensures { Answers result (spec.behind_y tokens.now at) }
+/// After `y`: `--`.
+#[tactic(auto, unfolding(crate::specs::Conditions::after_y))]
+fn after_y(tokens: &[Token], at: usize) -> Result<(Condition, usize), StatementFault>
+    ensures { Answers result (spec.after_y tokens.now at) }
 {
     match kind_at(tokens, at) {
         Some(TokenKind::MinusMinus) => Ok((Condition::YDecrement, at + 1)),

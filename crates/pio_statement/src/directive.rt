@@ -1,4 +1,4 @@
-//! The directives of a line, behind their names. E is an expression.
+//! The directives of a line, after their names. E is an expression.
 ghost use Rattle.std.specs.List.{All};
 ghost use Rattle.pio_lex.specs.Tokens.{IsTokenOf};
 ghost use Rattle.pio_statement.specs.Answer.{Answers};
@@ -11,7 +11,7 @@ use crate::{Statement, StatementFault};
 use pio_lex::{Directive, Token};
 use std::alloc::Global;
 
-/// A directive's statement, behind its name.
+/// A directive's statement, after its name.
 pub fn directive(
     alloc: Global,
     source: &[u8],
@@ -47,8 +47,8 @@ fn program(
     requires { All (IsTokenOf source.now) tokens.now }
     ensures { Answers result (spec.program_at source.now tokens.now at) }
 {
-    let (name, behind) = name(alloc, source, tokens, at)?;
-    Ok((Statement::Program(name), behind))
+    let (name, after) = name(alloc, source, tokens, at)?;
+    Ok((Statement::Program(name), after))
 }
 
 /// `.define [public] NAME E`
@@ -62,15 +62,15 @@ fn define(
     requires { All (IsTokenOf source.now) tokens.now }
     ensures { Answers result (spec.define_at source.now tokens.now at) }
 {
-    let (public, behind) = public(tokens, at);
-    let (name, behind) = name(alloc, source, tokens, behind)?;
-    let (value, behind) = expression(alloc, source, tokens, behind)?;
+    let (public, after) = public(tokens, at);
+    let (name, after) = name(alloc, source, tokens, after)?;
+    let (value, after) = expression(alloc, source, tokens, after)?;
     let statement = Statement::Define {
         public,
         name,
         value,
     };
-    Ok((statement, behind))
+    Ok((statement, after))
 }
 
 /// `.origin E`
@@ -84,8 +84,8 @@ fn origin(
     requires { All (IsTokenOf source.now) tokens.now }
     ensures { Answers result (spec.origin_at source.now tokens.now at) }
 {
-    let (address, behind) = expression(alloc, source, tokens, at)?;
-    Ok((Statement::Origin(address), behind))
+    let (address, after) = expression(alloc, source, tokens, at)?;
+    Ok((Statement::Origin(address), after))
 }
 
 /// `.side_set E [opt] [pindirs]`
@@ -99,11 +99,11 @@ fn side_set(
     requires { All (IsTokenOf source.now) tokens.now }
     ensures { Answers result (spec.side_set_at source.now tokens.now at) }
 {
-    let (bits, behind) = expression(alloc, source, tokens, at)?;
-    let (opt, behind) = opt(tokens, behind);
-    let (pindirs, behind) = pindirs(tokens, behind);
+    let (bits, after) = expression(alloc, source, tokens, at)?;
+    let (opt, after) = opt(tokens, after);
+    let (pindirs, after) = pindirs(tokens, after);
     let statement = Statement::SideSet { bits, opt, pindirs };
-    Ok((statement, behind))
+    Ok((statement, after))
 }
 
 /// `.pio_version E`
@@ -117,8 +117,8 @@ fn pio_version(
     requires { All (IsTokenOf source.now) tokens.now }
     ensures { Answers result (spec.pio_version_at source.now tokens.now at) }
 {
-    let (version, behind) = expression(alloc, source, tokens, at)?;
-    Ok((Statement::PioVersion(version), behind))
+    let (version, after) = expression(alloc, source, tokens, at)?;
+    Ok((Statement::PioVersion(version), after))
 }
 
 /// `.word E` without a label.
@@ -132,6 +132,6 @@ fn lone_word(
     requires { All (IsTokenOf source.now) tokens.now }
     ensures { Answers result (spec.lone_word_at source.now tokens.now at) }
 {
-    let (word, behind) = word(alloc, source, tokens, at)?;
-    Ok((Statement::Code(word), behind))
+    let (word, after) = word(alloc, source, tokens, at)?;
+    Ok((Statement::Code(word), after))
 }

@@ -7,13 +7,13 @@ use std::alloc::{AllocError, AllocFailed};
 /// What is wrong with a line: its first fault, from left to right.
 #[derive(Clone, Copy, Debug)]
 pub enum StatementKind {
-    /// An unknown directive stands anywhere on the line; it goes before any other fault.
+    /// An unknown directive is anywhere on the line; it goes before any other fault.
     Directive,
     /// No statement goes on with a token, or the line ends too early.
     Syntax,
     /// More than 64 parentheses and signs are open at once in an expression.
     TooDeep,
-    /// A `::` stands beside a sign or an operation in its parenthesis.
+    /// A `::` is beside a sign or an operation in its parenthesis.
     Ambiguous,
 }
 

@@ -1,4 +1,4 @@
-//! The forms of the instructions, behind their first word. E is an expression.
+//! The forms of the instructions, after their first word. E is an expression.
 ghost use Rattle.std.specs.Prelude.{◌≡◌};
 ghost use Rattle.std.specs.List.{All};
 ghost use Rattle.pio_lex.specs.Tokens.{IsTokenOf};
@@ -28,20 +28,20 @@ pub fn form(
     requires { All (IsTokenOf source.now) tokens.now }
     ensures { Answers result (spec.form_at source.now tokens.now at) }
 {
-    let Some((word, behind)) = keyword_at(tokens, at) else {
+    let Some((word, after)) = keyword_at(tokens, at) else {
         return Err(StatementFault::SYNTAX);
     };
     match word {
-        Keyword::Nop => Ok((Form::Nop, behind)),
-        Keyword::Jmp => jmp(alloc, source, tokens, behind),
-        Keyword::Wait => wait(alloc, source, tokens, behind),
-        Keyword::In => in_bits(alloc, source, tokens, behind),
-        Keyword::Out => out_bits(alloc, source, tokens, behind),
-        Keyword::Push => Ok(push(tokens, behind)),
-        Keyword::Pull => Ok(pull(tokens, behind)),
-        Keyword::Mov => mov(tokens, behind),
-        Keyword::Irq => irq(alloc, source, tokens, behind),
-        Keyword::Set => set(alloc, source, tokens, behind),
+        Keyword::Nop => Ok((Form::Nop, after)),
+        Keyword::Jmp => jmp(alloc, source, tokens, after),
+        Keyword::Wait => wait(alloc, source, tokens, after),
+        Keyword::In => in_bits(alloc, source, tokens, after),
+        Keyword::Out => out_bits(alloc, source, tokens, after),
+        Keyword::Push => Ok(push(tokens, after)),
+        Keyword::Pull => Ok(pull(tokens, after)),
+        Keyword::Mov => mov(tokens, after),
+        Keyword::Irq => irq(alloc, source, tokens, after),
+        Keyword::Set => set(alloc, source, tokens, after),
         _ => Err(StatementFault::SYNTAX),
     }
 }
@@ -57,10 +57,10 @@ fn jmp(
     requires { All (IsTokenOf source.now) tokens.now }
     ensures { Answers result (spec.jmp_at source.now tokens.now at) }
 {
-    let (condition, behind) = condition(tokens, at)?;
-    let behind = past_condition(tokens, condition, behind);
-    let (target, behind) = expression(alloc, source, tokens, behind)?;
-    Ok((Form::Jmp { condition, target }, behind))
+    let (condition, after) = condition(tokens, at)?;
+    let after = past_condition(tokens, condition, after);
+    let (target, after) = expression(alloc, source, tokens, after)?;
+    Ok((Form::Jmp { condition, target }, after))
 }
 
 /// `wait E gpio, E`, `wait E pin, E`, `wait E irq, E [rel]`
@@ -74,20 +74,20 @@ fn wait(
     requires { All (IsTokenOf source.now) tokens.now }
     ensures { Answers result (spec.wait_at source.now tokens.now at) }
 {
-    let (polarity, behind) = expression(alloc, source, tokens, at)?;
-    let (looked_at, behind) = wait_source(tokens, behind)?;
-    let (index, behind) = expression(alloc, source, tokens, past_comma(tokens, behind))?;
-    let (relative, behind) = wait_relative(tokens, looked_at, behind);
+    let (polarity, after) = expression(alloc, source, tokens, at)?;
+    let (looked_at, after) = wait_source(tokens, after)?;
+    let (index, after) = expression(alloc, source, tokens, past_comma(tokens, after))?;
+    let (relative, after) = wait_relative(tokens, looked_at, after);
     let form = Form::Wait {
         polarity,
         source: looked_at,
         index,
         relative,
     };
-    Ok((form, behind))
+    Ok((form, after))
 }
 
-/// `[rel]`, behind an IRQ flag alone.
+/// `[rel]`, after an IRQ flag alone.
 fn wait_relative(tokens: &[Token], looked_at: WaitSource, at: usize) -> (bool, usize)
     ensures { result ≡ spec.wait_relative tokens.now looked_at at }
 {
@@ -108,14 +108,14 @@ fn in_bits(
     requires { All (IsTokenOf source.now) tokens.now }
     ensures { Answers result (spec.in_at source.now tokens.now at) }
 {
-    let (from, behind) = in_source(tokens, at)?;
-    let (count, behind) = expression(alloc, source, tokens, past_comma(tokens, behind))?;
+    let (from, after) = in_source(tokens, at)?;
+    let (count, after) = expression(alloc, source, tokens, past_comma(tokens, after))?;
     Ok((
         Form::In {
             source: from,
             count,
         },
-        behind,
+        after,
     ))
 }
 
@@ -130,9 +130,9 @@ fn out_bits(
     requires { All (IsTokenOf source.now) tokens.now }
     ensures { Answers result (spec.out_at source.now tokens.now at) }
 {
-    let (destination, behind) = out_destination(tokens, at)?;
-    let (count, behind) = expression(alloc, source, tokens, past_comma(tokens, behind))?;
-    Ok((Form::Out { destination, count }, behind))
+    let (destination, after) = out_destination(tokens, at)?;
+    let (count, after) = expression(alloc, source, tokens, past_comma(tokens, after))?;
+    Ok((Form::Out { destination, count }, after))
 }
 
 /// `push [iffull] [block or noblock]`
@@ -140,9 +140,9 @@ fn out_bits(
 fn push(tokens: &[Token], at: usize) -> (Form, usize)
     ensures { result ≡ spec.push_at tokens.now at }
 {
-    let (if_full, behind) = if_full(tokens, at);
-    let (block, behind) = blocking(tokens, behind);
-    (Form::Push { if_full, block }, behind)
+    let (if_full, after) = if_full(tokens, at);
+    let (block, after) = blocking(tokens, after);
+    (Form::Push { if_full, block }, after)
 }
 
 /// `pull [ifempty] [block or noblock]`
@@ -150,9 +150,9 @@ fn push(tokens: &[Token], at: usize) -> (Form, usize)
 fn pull(tokens: &[Token], at: usize) -> (Form, usize)
     ensures { result ≡ spec.pull_at tokens.now at }
 {
-    let (if_empty, behind) = if_empty(tokens, at);
-    let (block, behind) = blocking(tokens, behind);
-    (Form::Pull { if_empty, block }, behind)
+    let (if_empty, after) = if_empty(tokens, at);
+    let (block, after) = blocking(tokens, after);
+    (Form::Pull { if_empty, block }, after)
 }
 
 /// `mov dst, [! or ~ or ::] src`
@@ -160,15 +160,15 @@ fn pull(tokens: &[Token], at: usize) -> (Form, usize)
 fn mov(tokens: &[Token], at: usize) -> Result<(Form, usize), StatementFault>
     ensures { Answers result (spec.mov_at tokens.now at) }
 {
-    let (destination, behind) = mov_destination(tokens, at)?;
-    let (operation, behind) = operation(tokens, past_comma(tokens, behind));
-    let (source, behind) = mov_source(tokens, behind)?;
+    let (destination, after) = mov_destination(tokens, at)?;
+    let (operation, after) = operation(tokens, past_comma(tokens, after));
+    let (source, after) = mov_source(tokens, after)?;
     let form = Form::Mov {
         destination,
         operation,
         source,
     };
-    Ok((form, behind))
+    Ok((form, after))
 }
 
 /// `irq [set or nowait or wait or clear] E [rel]`
@@ -182,15 +182,15 @@ fn irq(
     requires { All (IsTokenOf source.now) tokens.now }
     ensures { Answers result (spec.irq_at source.now tokens.now at) }
 {
-    let (mode, behind) = irq_mode(tokens, at);
-    let (index, behind) = expression(alloc, source, tokens, behind)?;
-    let (relative, behind) = relative(tokens, behind);
+    let (mode, after) = irq_mode(tokens, at);
+    let (index, after) = expression(alloc, source, tokens, after)?;
+    let (relative, after) = relative(tokens, after);
     let form = Form::Irq {
         mode,
         index,
         relative,
     };
-    Ok((form, behind))
+    Ok((form, after))
 }
 
 /// `set dst, E`
@@ -204,7 +204,7 @@ fn set(
     requires { All (IsTokenOf source.now) tokens.now }
     ensures { Answers result (spec.set_at source.now tokens.now at) }
 {
-    let (destination, behind) = set_destination(tokens, at)?;
-    let (value, behind) = expression(alloc, source, tokens, past_comma(tokens, behind))?;
-    Ok((Form::Set { destination, value }, behind))
+    let (destination, after) = set_destination(tokens, at)?;
+    let (value, after) = expression(alloc, source, tokens, past_comma(tokens, after))?;
+    Ok((Form::Set { destination, value }, after))
 }

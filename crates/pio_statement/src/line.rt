@@ -11,7 +11,7 @@ use crate::{Statement, StatementFault, StatementKind};
 use pio_lex::{Directive, Token, TokenKind};
 use std::alloc::Global;
 
-/// The statement of the line that begins at the token `from`, and the place behind the line; or the line's fault.
+/// The statement of the line that begins at the token `from`, and the place after the line; or the line's fault.
 ///
 /// An unknown directive anywhere on the line is told before any other fault. Memory is taken for names and expressions
 /// alone, and time in proportion to the line.
@@ -35,7 +35,7 @@ pub fn read_statement(
     known(alloc, source, tokens, from)
 }
 
-/// The place behind the line that begins at the token `from`: behind its `Newline`, or the number of tokens.
+/// The place after the line that begins at the token `from`: after its `Newline`, or the number of tokens.
 #[tactic(auto, unfolding(crate::specs::Lines::line_end))]
 pub fn line_end(tokens: &[Token], from: usize) -> usize
     requires { from ≤ length tokens.now }
@@ -64,7 +64,7 @@ fn is_newline(kind: TokenKind) -> bool
     matches!(kind, TokenKind::Newline)
 }
 
-/// Whether an unknown directive stands on the line.
+/// Whether an unknown directive is on the line.
 #[tactic(auto, unfolding(crate::specs::Lines::has_unknown))]
 fn has_unknown(tokens: &[Token], from: usize) -> bool
     requires { from ≤ length tokens.now }
@@ -94,8 +94,8 @@ fn known(
     ensures onward { IfOk result (λ read. from < length tokens.now → from < read.1) }
     ensures within { IfOk result (λ read. read.1 ≤ length tokens.now) }
 {
-    let (statement, behind) = statement(alloc, source, tokens, from)?;
-    if ends_at(tokens, behind) {
+    let (statement, after) = statement(alloc, source, tokens, from)?;
+    if ends_at(tokens, after) {
         Ok((statement, line_end(tokens, from)))
     } else {
         drop(statement);

@@ -13,7 +13,7 @@ use pio_lex::{Keyword, Token};
 pub fn wait_source(tokens: &[Token], at: usize) -> Result<(WaitSource, usize), StatementFault>
     ensures { Answers result (spec.wait_source_at tokens.now at) }
 {
-    let Some((word, behind)) = keyword_at(tokens, at) else {
+    let Some((word, after)) = keyword_at(tokens, at) else {
         return Err(StatementFault::SYNTAX);
     };
     let source = match word {
@@ -22,7 +22,7 @@ pub fn wait_source(tokens: &[Token], at: usize) -> Result<(WaitSource, usize), S
         Keyword::Irq => WaitSource::Irq,
         _ => return Err(StatementFault::SYNTAX),
     };
-    Ok((source, behind))
+    Ok((source, after))
 }
 
 /// What an IN reads: `pins x y null isr osr`.
@@ -30,7 +30,7 @@ pub fn wait_source(tokens: &[Token], at: usize) -> Result<(WaitSource, usize), S
 pub fn in_source(tokens: &[Token], at: usize) -> Result<(InSource, usize), StatementFault>
     ensures { Answers result (spec.in_source_at tokens.now at) }
 {
-    let Some((word, behind)) = keyword_at(tokens, at) else {
+    let Some((word, after)) = keyword_at(tokens, at) else {
         return Err(StatementFault::SYNTAX);
     };
     let source = match word {
@@ -42,7 +42,7 @@ pub fn in_source(tokens: &[Token], at: usize) -> Result<(InSource, usize), State
         Keyword::Osr => InSource::Osr,
         _ => return Err(StatementFault::SYNTAX),
     };
-    Ok((source, behind))
+    Ok((source, after))
 }
 
 /// Where an OUT writes: `pins x y null pindirs pc isr exec`.
@@ -53,7 +53,7 @@ pub fn out_destination(
 ) -> Result<(OutDestination, usize), StatementFault>
     ensures { Answers result (spec.out_destination_at tokens.now at) }
 {
-    let Some((word, behind)) = keyword_at(tokens, at) else {
+    let Some((word, after)) = keyword_at(tokens, at) else {
         return Err(StatementFault::SYNTAX);
     };
     let destination = match word {
@@ -67,7 +67,7 @@ pub fn out_destination(
         Keyword::Exec => OutDestination::Exec,
         _ => return Err(StatementFault::SYNTAX),
     };
-    Ok((destination, behind))
+    Ok((destination, after))
 }
 
 /// Where a MOV writes: `pins x y exec pc isr osr`.
@@ -78,7 +78,7 @@ pub fn mov_destination(
 ) -> Result<(MovDestination, usize), StatementFault>
     ensures { Answers result (spec.mov_destination_at tokens.now at) }
 {
-    let Some((word, behind)) = keyword_at(tokens, at) else {
+    let Some((word, after)) = keyword_at(tokens, at) else {
         return Err(StatementFault::SYNTAX);
     };
     let destination = match word {
@@ -91,7 +91,7 @@ pub fn mov_destination(
         Keyword::Osr => MovDestination::Osr,
         _ => return Err(StatementFault::SYNTAX),
     };
-    Ok((destination, behind))
+    Ok((destination, after))
 }
 
 /// What a MOV reads: `pins x y null status isr osr`.
@@ -99,7 +99,7 @@ pub fn mov_destination(
 pub fn mov_source(tokens: &[Token], at: usize) -> Result<(MovSource, usize), StatementFault>
     ensures { Answers result (spec.mov_source_at tokens.now at) }
 {
-    let Some((word, behind)) = keyword_at(tokens, at) else {
+    let Some((word, after)) = keyword_at(tokens, at) else {
         return Err(StatementFault::SYNTAX);
     };
     let source = match word {
@@ -112,7 +112,7 @@ pub fn mov_source(tokens: &[Token], at: usize) -> Result<(MovSource, usize), Sta
         Keyword::Osr => MovSource::Osr,
         _ => return Err(StatementFault::SYNTAX),
     };
-    Ok((source, behind))
+    Ok((source, after))
 }
 
 /// Where a SET writes: `pins x y pindirs`.
@@ -123,7 +123,7 @@ pub fn set_destination(
 ) -> Result<(SetDestination, usize), StatementFault>
     ensures { Answers result (spec.set_destination_at tokens.now at) }
 {
-    let Some((word, behind)) = keyword_at(tokens, at) else {
+    let Some((word, after)) = keyword_at(tokens, at) else {
         return Err(StatementFault::SYNTAX);
     };
     let destination = match word {
@@ -133,5 +133,5 @@ pub fn set_destination(
         Keyword::Pindirs => SetDestination::Pindirs,
         _ => return Err(StatementFault::SYNTAX),
     };
-    Ok((destination, behind))
+    Ok((destination, after))
 }

@@ -1,4 +1,4 @@
-//! The words that may be left out, each with the place behind it; the same place where it is left out.
+//! The words that may be left out, each with the place after it; the same place where it is left out.
 ghost use Rattle.std.specs.Prelude.{◌≡◌};
 ghost use Rattle.pio_statement.specs.Operands as spec;
 
@@ -13,9 +13,9 @@ pub fn irq_mode(tokens: &[Token], at: usize) -> (IrqMode, usize)
     ensures { result ≡ spec.irq_mode_at tokens.now at }
 {
     match keyword_at(tokens, at) {
-        Some((Keyword::Set | Keyword::NoWait, behind)) => (IrqMode::Raise, behind),
-        Some((Keyword::Wait, behind)) => (IrqMode::RaiseAndWait, behind),
-        Some((Keyword::Clear, behind)) => (IrqMode::Lower, behind),
+        Some((Keyword::Set | Keyword::NoWait, after)) => (IrqMode::Raise, after),
+        Some((Keyword::Wait, after)) => (IrqMode::RaiseAndWait, after),
+        Some((Keyword::Clear, after)) => (IrqMode::Lower, after),
         _ => (IrqMode::Raise, at),
     }
 }
@@ -26,8 +26,8 @@ pub fn blocking(tokens: &[Token], at: usize) -> (bool, usize)
     ensures { result ≡ spec.blocking_at tokens.now at }
 {
     match keyword_at(tokens, at) {
-        Some((Keyword::Block, behind)) => (true, behind),
-        Some((Keyword::NoBlock, behind)) => (false, behind),
+        Some((Keyword::Block, after)) => (true, after),
+        Some((Keyword::NoBlock, after)) => (false, after),
         _ => (true, at),
     }
 }
@@ -38,7 +38,7 @@ pub fn if_full(tokens: &[Token], at: usize) -> (bool, usize)
     ensures { result ≡ spec.if_full_at tokens.now at }
 {
     match keyword_at(tokens, at) {
-        Some((Keyword::IfFull, behind)) => (true, behind),
+        Some((Keyword::IfFull, after)) => (true, after),
         _ => (false, at),
     }
 }
@@ -49,7 +49,7 @@ pub fn if_empty(tokens: &[Token], at: usize) -> (bool, usize)
     ensures { result ≡ spec.if_empty_at tokens.now at }
 {
     match keyword_at(tokens, at) {
-        Some((Keyword::IfEmpty, behind)) => (true, behind),
+        Some((Keyword::IfEmpty, after)) => (true, after),
         _ => (false, at),
     }
 }
@@ -60,7 +60,7 @@ pub fn relative(tokens: &[Token], at: usize) -> (bool, usize)
     ensures { result ≡ spec.relative_at tokens.now at }
 {
     match keyword_at(tokens, at) {
-        Some((Keyword::Rel, behind)) => (true, behind),
+        Some((Keyword::Rel, after)) => (true, after),
         _ => (false, at),
     }
 }
@@ -71,7 +71,7 @@ pub fn opt(tokens: &[Token], at: usize) -> (bool, usize)
     ensures { result ≡ spec.opt_at tokens.now at }
 {
     match keyword_at(tokens, at) {
-        Some((Keyword::Opt, behind)) => (true, behind),
+        Some((Keyword::Opt, after)) => (true, after),
         _ => (false, at),
     }
 }
@@ -82,7 +82,7 @@ pub fn pindirs(tokens: &[Token], at: usize) -> (bool, usize)
     ensures { result ≡ spec.pindirs_at tokens.now at }
 {
     match keyword_at(tokens, at) {
-        Some((Keyword::Pindirs, behind)) => (true, behind),
+        Some((Keyword::Pindirs, after)) => (true, after),
         _ => (false, at),
     }
 }
@@ -93,7 +93,7 @@ pub fn public(tokens: &[Token], at: usize) -> (bool, usize)
     ensures { result ≡ spec.public_at tokens.now at }
 {
     match keyword_at(tokens, at) {
-        Some((Keyword::Public, behind)) => (true, behind),
+        Some((Keyword::Public, after)) => (true, after),
         _ => (false, at),
     }
 }

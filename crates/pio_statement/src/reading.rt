@@ -1,4 +1,4 @@
-//! What stands at a token, by the first token.
+//! What is at a token, by the first token.
 ghost use Rattle.std.specs.List.{All};
 ghost use Rattle.pio_lex.specs.Tokens.{IsTokenOf};
 ghost use Rattle.pio_statement.specs.Answer.{Answers};
@@ -12,7 +12,7 @@ use crate::{Code, Statement, StatementFault};
 use pio_lex::{Keyword, Token, TokenKind};
 use std::alloc::Global;
 
-/// The statement at a place, whatever stands behind it.
+/// The statement at a place, whatever comes after it.
 #[tactic(auto, unfolding(crate::specs::Statements::statement_from))]
 pub fn statement(
     alloc: Global,
@@ -33,7 +33,7 @@ pub fn statement(
     }
 }
 
-/// `NAME :`, alone or with code behind it.
+/// `NAME :`, alone or with code after it.
 #[tactic(auto, unfolding(crate::specs::Statements::label_at))]
 fn label(
     alloc: Global,
@@ -45,14 +45,14 @@ fn label(
     requires { All (IsTokenOf source.now) tokens.now }
     ensures { Answers result (spec.label_at source.now tokens.now public at) }
 {
-    let (name, behind) = name(alloc, source, tokens, at)?;
-    let behind = past_colon(tokens, behind)?;
-    let (code, behind) = labelled(alloc, source, tokens, behind)?;
+    let (name, after) = name(alloc, source, tokens, at)?;
+    let after = past_colon(tokens, after)?;
+    let (code, after) = labelled(alloc, source, tokens, after)?;
     let statement = Statement::Label { public, name, code };
-    Ok((statement, behind))
+    Ok((statement, after))
 }
 
-/// The code behind a label, if the line goes on.
+/// The code after a label, if the line goes on.
 #[tactic(auto, unfolding(crate::specs::Statements::labelled_at))]
 fn labelled(
     alloc: Global,
@@ -66,8 +66,8 @@ fn labelled(
     if ends_at(tokens, at) {
         return Ok((None, at));
     }
-    let (code, behind) = code(alloc, source, tokens, at)?;
-    Ok((Some(code), behind))
+    let (code, after) = code(alloc, source, tokens, at)?;
+    Ok((Some(code), after))
 }
 
 /// Code without a label.
@@ -81,6 +81,6 @@ fn lone_code(
     requires { All (IsTokenOf source.now) tokens.now }
     ensures { Answers result (spec.lone_code_at source.now tokens.now at) }
 {
-    let (code, behind) = code(alloc, source, tokens, at)?;
-    Ok((Statement::Code(code), behind))
+    let (code, after) = code(alloc, source, tokens, at)?;
+    Ok((Statement::Code(code), after))
 }

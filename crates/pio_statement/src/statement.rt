@@ -37,11 +37,11 @@ pub enum Statement {
     WrapTarget,
     /// `.wrap`
     Wrap,
-    /// `.lang_opt`, whatever stands behind it.
+    /// `.lang_opt`, whatever comes after it.
     LangOpt,
     /// `.pio_version E`
     PioVersion(Expr),
-    /// `[public] NAME :`, alone or with code behind it.
+    /// `[public] NAME :`, alone or with code after it.
     Label {
         public: bool,
         name: Name,

@@ -1,4 +1,4 @@
-//! Single tokens, each with the place behind it.
+//! Single tokens, each with the place after it.
 ghost use Rattle.std.specs.Prelude.{◌≡◌, ◌<◌, length, IfSome};
 ghost use Rattle.pio_statement.specs.Answer.{Answers};
 ghost use Rattle.pio_statement.specs.Tokens as spec;
@@ -26,7 +26,7 @@ pub fn ends_at(tokens: &[Token], at: usize) -> bool
     matches!(kind_at(tokens, at), None | Some(TokenKind::Newline))
 }
 
-/// The keyword at a place, if one stands there.
+/// The keyword at a place, if one is there.
 #[tactic(auto, unfolding(crate::specs::Tokens::keyword_at))]
 pub fn keyword_at(tokens: &[Token], at: usize) -> Option<(Keyword, usize)>
     ensures { result ≡ spec.keyword_at tokens.now at }
@@ -37,7 +37,7 @@ pub fn keyword_at(tokens: &[Token], at: usize) -> Option<(Keyword, usize)>
     }
 }
 
-/// The place behind a comma, which may be left out.
+/// The place after a comma, which may be left out.
 #[tactic(auto, unfolding(crate::specs::Tokens::past_comma))]
 pub fn past_comma(tokens: &[Token], at: usize) -> usize
     ensures { result ≡ spec.past_comma tokens.now at }
@@ -48,7 +48,7 @@ pub fn past_comma(tokens: &[Token], at: usize) -> usize
     }
 }
 
-/// The place behind a `:`.
+/// The place after a `:`.
 #[tactic(auto, unfolding(crate::specs::Tokens::past_colon))]
 pub fn past_colon(tokens: &[Token], at: usize) -> Result<usize, StatementFault>
     ensures { Answers result (spec.past_colon tokens.now at) }
@@ -59,7 +59,7 @@ pub fn past_colon(tokens: &[Token], at: usize) -> Result<usize, StatementFault>
     }
 }
 
-/// The place behind a `]`.
+/// The place after a `]`.
 #[tactic(auto, unfolding(crate::specs::Tokens::past_close))]
 pub fn past_close(tokens: &[Token], at: usize) -> Result<usize, StatementFault>
     ensures { Answers result (spec.past_close tokens.now at) }
@@ -70,7 +70,7 @@ pub fn past_close(tokens: &[Token], at: usize) -> Result<usize, StatementFault>
     }
 }
 
-/// The place behind a `[`, if one stands there.
+/// The place after a `[`, if one is there.
 #[tactic(auto, unfolding(crate::specs::Tokens::past_open))]
 pub fn past_open(tokens: &[Token], at: usize) -> Option<usize>
     ensures { result ≡ spec.past_open tokens.now at }
@@ -81,13 +81,13 @@ pub fn past_open(tokens: &[Token], at: usize) -> Option<usize>
     }
 }
 
-/// The place behind the word `side`, if it stands there.
+/// The place after the word `side`, if it is there.
 #[tactic(auto, unfolding(crate::specs::Tokens::past_side))]
 pub fn past_side(tokens: &[Token], at: usize) -> Option<usize>
     ensures { result ≡ spec.past_side tokens.now at }
 {
     match keyword_at(tokens, at) {
-        Some((Keyword::Side, behind)) => Some(behind),
+        Some((Keyword::Side, after)) => Some(after),
         _ => None,
     }
 }

@@ -1,4 +1,4 @@
-//! Names and expressions, each with the place behind it: all that takes memory.
+//! Names and expressions, each with the place after it: all that takes memory.
 ghost use Rattle.std.specs.Prelude.{◌≡◌, ◌+◌, slice_get, slice_range, IfOk, IfErr};
 ghost use Rattle.std.specs.List.{All};
 ghost use Rattle.pio_lex.specs.Tokens.{IsTokenOf};
@@ -32,7 +32,7 @@ pub fn name(
     }
 }
 
-/// A name as it stands in the source.
+/// A name as it is in the source.
 fn text(alloc: Global, source: &[u8], token: &Token) -> Result<Name, StatementFault>
     requires token { IsTokenOf source.now token.now }
     requires name { token.now.kind ≡ kind.Name }

@@ -4,6 +4,7 @@
 
 ghost use Rattle.std.specs.Prelude.{◌≡◌};
 
+use command_line::advice;
 use commands::piotool;
 use fault_lines::{Ended, Fault, end_with};
 use pio_edge::{ErrSink, FileShelf, OutSink};
@@ -21,7 +22,7 @@ fn main(rt: HostRuntime) -> ExitCode {
 }
 
 /// The call over the real outside, which counts its steps in one ledger.
-fn counted<L: Ledger, R: Env + Files + Print + AllocGlobal, W: Write + Drop>(
+fn counted<L: Ledger, R: Env + Files + Print + Eprint + AllocGlobal, W: Write + Drop>(
     rt: &R,
     err: W,
     blank: Blank,
@@ -33,7 +34,11 @@ fn counted<L: Ledger, R: Env + Files + Print + AllocGlobal, W: Write + Drop>(
     let mut steps = Steps::<L>::new(blank);
     let mut err = ErrSink::new(err);
     match words_of(rt) {
-        Ok(words) => over_outside(rt, &words, &mut err, &mut steps),
+        Ok(words) => {
+            let ended = over_outside(rt, &words, &mut err, &mut steps);
+            advise(rt, &words, &ended);
+            ended
+        }
         Err(fault) => end_with(&mut err, Some(fault)),
     }
 }
@@ -63,5 +68,15 @@ fn over_outside<L: Ledger, R: Files + Print + AllocGlobal, W: Write + Drop>(
     match OutSink::new(rt.alloc(), io::writer(rt)) {
         Ok(mut out) => piotool(rt.alloc(), words, &mut shelf, &mut out, err, steps),
         Err(_) => end_with(err, Some(Fault::Memory)),
+    }
+}
+
+/// After words that ask for nothing, what there is to say of them: the help, or the mistake with its usage. It is told as far
+/// as memory and standard error allow, since the call's line is already there.
+fn advise<R: Eprint + AllocGlobal>(rt: &R, words: &[String], ended: &Ended) {
+    if let Some(Fault::Usage) = ended.fault {
+        if let Ok(Some(text)) = advice(rt.alloc(), words) {
+            let _ = rt.eprint(&text);
+        }
     }
 }

@@ -4,7 +4,7 @@ use Rattle.std.specs.List.{concat}
 use Rattle.pio_assemble.specs.Program.{Assembled}
 use Rattle.program_listing.specs.Listing.{origin_text, opt_text, pindirs_text, program_line}
 
--- the pieces one behind the other
+-- the pieces one after the other
 unfoldable pub joined : (name origin bits opt pindirs bottom top : List ℕ) → List ℕ
 joined name origin bits opt pindirs bottom top =
     concat (codes "program " ∷ name ∷ codes " origin " ∷ origin ∷ codes " side " ∷ bits ∷ opt ∷ pindirs ∷ codes " wrap " ∷ bottom ∷ codes " " ∷ top ∷ codes "\n" ∷ [])

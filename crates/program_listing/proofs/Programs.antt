@@ -27,7 +27,7 @@ ends_third o m n q p symbols words r is are line lines h =
     let h' : Takes n (word_lines p.side p.words) q r = rw (sym are) h in
     takes_on o n q (program_line p ++ public_lines p.symbols) (word_lines p.side p.words) r front h'
 
--- the texts from a program on are its own and those behind it
+-- the texts from a program on are its own and those after it
 pub listing_text-turn : (programs : List Program) (place : ℕ) (p : Program) → place < length programs → p ≡ get_or programs place p → listing_text (map assembled_of (drop place programs)) ≡ program_text (assembled_of p) ++ listing_text (map assembled_of (drop (place + 1) programs))
 listing_text-turn programs place p lt e =
     at_drop_more (λ ps. listing_text (map assembled_of ps)) programs place p lt

@@ -10,7 +10,7 @@ use Rattle.program_listing.specs.Listing.{public_line, public_lines}
 abbrev listed : List Symbol → List Symbol
 listed symbols = filter (λ s. s.public) symbols
 
--- the lines from a public symbol on are its own and those behind it
+-- the lines from a public symbol on are its own and those after it
 pub public_lines-turn : (symbols : List Symbol) (place : ℕ) (s : Symbol) → place < length symbols → s ≡ get_or symbols place s → s.public ≡ true → public_lines (drop place symbols) ≡ public_line s ++ public_lines (drop (place + 1) symbols)
 public_lines-turn symbols place s lt e is =
     let rest = drop (place + 1) symbols in
@@ -18,7 +18,7 @@ public_lines-turn symbols place s lt e is =
     ∙ ap (λ x. public_lines (x ∷ rest)) (sym e)
     ∙ ap (λ b. flat_map public_line (cond b (s ∷ listed rest) (listed rest))) is
 
--- the lines from another symbol on are those behind it
+-- the lines from another symbol on are those after it
 pub public_lines-skip : (symbols : List Symbol) (place : ℕ) (s : Symbol) → place < length symbols → s ≡ get_or symbols place s → s.public ≡ false → public_lines (drop place symbols) ≡ public_lines (drop (place + 1) symbols)
 public_lines-skip symbols place s lt e is =
     let rest = drop (place + 1) symbols in

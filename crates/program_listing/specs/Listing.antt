@@ -2,7 +2,7 @@
 --     program_line p       its name, its origin, its side-set rule and its wrap
 --     public_lines ss      a line for each symbol that the source calls public
 --     program_text p       the line of the program, those of its public symbols, those of its words
---     listing_text ps      the programs one behind the other
+--     listing_text ps      the programs one after the other
 use Rattle.std.specs.Prelude.{ℕ, Bool, true, false, Option, Some, None, List, [], ◌++◌, codes, decimal, flat_map}
 use Rattle.std.specs.List.{filter}
 use Rattle.std.specs.Fmt.{signed_decimal}
@@ -26,7 +26,7 @@ abbrev pub pindirs_text : Bool → List ℕ
 pindirs_text true = codes " pindirs"
 pindirs_text false = []
 
--- a side-set rule: its bits without the enable bit, then `opt` and `pindirs` where they stand (choice of this profile)
+-- a side-set rule: its bits without the enable bit, then `opt` and `pindirs` where they are (choice of this profile)
 abbrev pub side_text : SideRule → List ℕ
 side_text rule = decimal rule.bits ++ opt_text rule.opt ++ pindirs_text rule.pindirs
 
@@ -48,6 +48,6 @@ public_lines symbols = flat_map public_line (filter (λ s. s.public) symbols)
 abbrev pub program_text : Assembled → List ℕ
 program_text p = program_line p ++ public_lines p.symbols ++ word_lines p.side p.words
 
--- the text of programs, one behind the other (choice of this profile)
+-- the text of programs, one after the other (choice of this profile)
 abbrev pub listing_text : List Assembled → List ℕ
 listing_text programs = flat_map program_text programs

@@ -49,14 +49,14 @@ fn origin_text(digits: &mut Buffer, origin: Option<u8>) -> &str
     }
 }
 
-/// `opt` with a blank in front, where it stands.
+/// `opt` with a blank in front, where it is.
 fn opt_text(side: &SideRule) -> &str
     ensures { result.now ≡ spec.opt_text side.now.opt }
 {
     if side.opt { " opt" } else { "" }
 }
 
-/// `pindirs` with a blank in front, where it stands.
+/// `pindirs` with a blank in front, where it is.
 fn pindirs_text(side: &SideRule) -> &str
     ensures { result.now ≡ spec.pindirs_text side.now.pindirs }
 {

@@ -10,7 +10,7 @@ use pio_assemble::Program;
 use pio_edge::{Sink, SinkFailed};
 use word_file::put_words;
 
-/// Puts the text of programs, one behind the other, piece by piece. It takes no memory.
+/// Puts the text of programs, one after the other, piece by piece. It takes no memory.
 ///
 /// A word's line has its address in the program, from 0 on, and its text under the program's own side-set rule.
 pub fn put_listing<S: Sink>(sink: &mut S, programs: &[Program]) -> Result<(), SinkFailed>

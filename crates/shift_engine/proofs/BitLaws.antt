@@ -31,7 +31,7 @@ when b x y v holds e = rw holds e
 unless : (b : Bool) (x y v : ℕ) → b ≡ false → v ≡ y → v ≡ cond b x y
 unless b x y v fails e = rw fails e
 
--- An IN to the right: the ISR comes down by n, and the source stands above it.
+-- An IN to the right: the ISR comes down by n, and the source is above it.
 pub bit_at-in_right : (isr source n i : ℕ) → isr < 2 ^ 32 → n ≤ 32 → i < 32 → bit_at (shifted_in isr source n true) i ≡ cond (nat_lt (i + n) 32) (bit_at isr (i + n)) (bit_at source (i + n - 32))
 bit_at-in_right isr source n i word count inside =
     elim (cases_lt (i + n) 32) [
@@ -47,7 +47,7 @@ bit_at-in_right isr source n i word count inside =
           ∙ bit_at-low source n (i - (32 - n)) (omega arith) ∙ ap (bit_at source) place)
     ]
 
--- An IN to the left: the ISR goes up by n, and the source stands below it.
+-- An IN to the left: the ISR goes up by n, and the source is below it.
 pub bit_at-in_left : (isr source n i : ℕ) → i < 32 → bit_at (shifted_in isr source n false) i ≡ cond (nat_lt i n) (bit_at source i) (bit_at isr (i - n))
 bit_at-in_left isr source n i inside =
     let cut = bit_at-low (isr * 2 ^ n + source % 2 ^ n) 32 i inside in

@@ -33,7 +33,7 @@ pub bit_at-reversed_bits : (word i : ℕ) → i < 32 → bit_at (reversed_bits w
 unfolding reversed_bits
 bit_at-reversed_bits word i h = bit_at-reversed_low 32 word i (31 - i) (omega arith)
 
--- std puts the reversed bits behind those that it has.
+-- std puts the reversed bits after those that it has.
 pub reverse_bits_onto-reversed_low : (n word above : ℕ) → reverse_bits_onto n word above ≡ above * 2 ^ n + reversed_low n word
 unfolding reverse_bits_onto reversed_low
 reverse_bits_onto-reversed_low zero word above = omega arith

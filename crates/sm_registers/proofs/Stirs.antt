@@ -1,7 +1,8 @@
 -- Ticks that don't stir, one and many, and which tick is the next that does.
-use Rattle.std.proofs.Common.{◌≡◌, ℕ, zero, suc, ◌-◌, ◌<◌, Bool, true, false, cond, ◌&&◌, ◌||◌, refl, sym, ap, ◌∙◌, inl, inr, arith}
+use Rattle.std.proofs.Common.{◌≡◌, ℕ, zero, suc, ◌-◌, ◌<◌, ◌==◌, Bool, true, false, cond, not, ◌&&◌, ◌||◌, refl, sym, ap, ◌∙◌, inl, inr, arith}
 use Rattle.std.proofs.Math.Nat.{sub-zero}
 use Rattle.std.proofs.lemmas.Bool.{cases_lt}
+use Rattle.std.proofs.lemmas.Bool.Decides.{nat_tests}
 use Rattle.pin_matrix.specs.declared.machine.MachineSetup.{MachineSetup}
 use Rattle.sm_registers.specs.declared.idle.Idle.TheVariants.{Ticks, Never}
 use Rattle.sm_registers.specs.declared.registers.Registers.{Registers}
@@ -12,7 +13,7 @@ use Rattle.sm_registers.specs.declared.intent.Kind.TheVariants.{First, Late, Del
 use Rattle.sm_registers.specs.Ranges.{IsPlaced}
 use Rattle.sm_registers.specs.Effects.{Effect, no_intent}
 use Rattle.sm_registers.specs.Tick.{after_effect, refills, tick_delay, tick_by, tick_of}
-use Rattle.sm_registers.specs.Idling.{begins, finishes, stirs, only_counts, only_waits, after_ticks, stirs_at, undelayed, stays, idle_of, IsIdle, IsSoon}
+use Rattle.sm_registers.specs.Idling.{begins, begins_next, finishes, stirs, only_counts, only_waits, after_ticks, stirs_at, undelayed, stays, idle_of, IsIdle, IsSoon}
 use Rattle.sm_registers.specs.Rules.{current_act}
 use Rattle.sm_registers.proofs.Ticks.{op_now, effect_now, in_delay, at_rest, stalled_is}
 use Rattle.sm_registers.proofs.Calm.{IsStill, delay_counts, late_stall_waits, still_effect}
@@ -162,6 +163,19 @@ wakes :
 wakes s v q r h =
     let z : Registers = record r { delay = 0 } in
     stirs_word s v q z refl ∙ woken r.begun _ _ h
+
+not_begun : (begun stalled : Bool) → not begun ≡ true → (begun && stalled) ≡ false
+not_begun true stalled h = cc
+not_begun false stalled h = refl
+
+-- so does the first of an instruction
+pub first_stirs :
+    (s : MachineSetup) (v : View) (q : Queues) (r : Registers) → begins_next r ≡ true → stirs (tick_of s v q r).1 ≡ true
+first_stirs s v q r h =
+    let parts = both (r.delay == 0) (not r.begun) h in
+    let zero : (r.delay == 0) ≡ true = parts.0 in
+    let none : r.delay ≡ 0 = grind (arith, nat_tests) in
+    stirs_word s v q r none ∙ woken r.begun _ _ (not_begun r.begun _ parts.1)
 
 filled_by : (begun stalled take : Bool) → (begun ≡ true → stalled ≡ true → take ≡ true) → stirs_by begun stalled take ≡ true
 filled_by true true true h = refl

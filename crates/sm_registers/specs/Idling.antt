@@ -1,16 +1,18 @@
 -- Which ticks stir, and how long a machine idles while nothing outside it changes.
 --   begins, finishes   a tick is the first of its instruction, or its last
 --   stirs              a tick begins or finishes an instruction, or refills the OSR
+--   is_counting        the next tick only counts a delay
 --   only_counts        the registers after a tick that doesn't stir
 --   only_waits         what such a tick wants of its block
 --   after_ticks        the registers after some ticks
 --   stirs_at           whether the tick after so many others stirs
+--   begins_next        the next tick begins an instruction
 --   undelayed          what the current instruction does, without the delay that is left
 --   stays              a stall that nothing but the outside ends
 --   idle_of            the ticks until one stirs
 --   IsIdle             what this number means
 --   IsSoon             it is below 32
-use Rattle.std.specs.Prelude.{◌≡◌, ℕ, zero, suc, ◌-◌, ◌<◌, Bool, true, false, not, ◌&&◌, ◌||◌, if◌then◌else◌}
+use Rattle.std.specs.Prelude.{◌≡◌, ℕ, zero, suc, ◌-◌, ◌<◌, ◌==◌, nat_lt, Bool, true, false, not, ◌&&◌, ◌||◌, if◌then◌else◌}
 use Rattle.pin_matrix.specs.declared.machine.MachineSetup.{MachineSetup}
 use Rattle.sm_registers.specs.declared.idle.Idle.{Idle}
 use Rattle.sm_registers.specs.declared.idle.Idle.TheVariants.{Ticks, Never}
@@ -43,6 +45,10 @@ finishes Delay stalled = false
 abbrev pub stirs : Intent → Bool
 stirs i = begins i.kind || (finishes i.kind i.stalled || i.take)
 
+-- the next tick is one of a delay, and refills nothing
+abbrev pub is_counting : MachineSetup → Queues → Registers → Bool
+is_counting s q r = nat_lt 0 r.delay && not (refills s q r)
+
 -- the registers after a tick that doesn't stir: the delay counts, and a stall has none
 abbrev pub only_counts : Registers → Registers
 only_counts r = record r { delay = r.delay - 1 }
@@ -59,6 +65,10 @@ after_ticks s v q (suc n) r = (tick_of s v q (after_ticks s v q n r)).0
 -- whether the tick after n others stirs, where all see the same
 abbrev pub stirs_at : MachineSetup → View → Queues → Registers → ℕ → Bool
 stirs_at s v q r n = stirs (tick_of s v q (after_ticks s v q n r)).1
+
+-- the next tick is the first of its instruction, by the registers alone: no delay is left, and the instruction has not stalled
+abbrev pub begins_next : Registers → Bool
+begins_next r = (r.delay == 0) && not r.begun
 
 -- what the current instruction does as soon as no delay is left
 abbrev pub undelayed : MachineSetup → View → Queues → Registers → Effect

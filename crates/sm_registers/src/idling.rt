@@ -41,7 +41,7 @@ pub(crate) fn idle_of<F: Fifo>(
 }
 
 /// Whether autopull is due and TX has a word.
-fn refills<F: Fifo>(setup: &MachineSetup, fifos: &Pair<F>, registers: &Registers) -> bool
+pub(crate) fn refills<F: Fifo>(setup: &MachineSetup, fifos: &Pair<F>, registers: &Registers) -> bool
     ensures { result ≡ spec_tick.refills setup.now (queues_of fifos.now) registers.now }
 {
     setup.autopull && setup.pull_threshold <= registers.out_count && fifos.tx_front().is_some()

@@ -8,7 +8,7 @@ ghost use Rattle.sm_registers.specs.declared.view.View as view;
 ghost use Rattle.sm_registers.specs.Queues as queues;
 ghost use Rattle.sm_registers.specs.declared.intent.Kind.TheVariants as kind;
 ghost use Rattle.sm_registers.specs.Effects.{no_intent};
-ghost use Rattle.sm_registers.specs.Idling.{IsIdle, after_ticks, idle_of, only_counts, only_waits, stirs, stirs_at};
+ghost use Rattle.sm_registers.specs.Idling.{IsIdle, after_ticks, begins_next, idle_of, only_counts, only_waits, stirs, stirs_at};
 ghost use Rattle.sm_registers.specs.Laws.{AreWords, AreWordsSeen, IsAlike, IsFair, TakesInto, GivesAll, WritesPins};
 ghost use Rattle.sm_registers.specs.Ranges.{IsPlaced};
 ghost use Rattle.sm_registers.specs.Rules.{holds};
@@ -89,6 +89,12 @@ pub fn a_calm_tick_only_counts()
     ensures often { (s : setup.MachineSetup) (v : view.View) (q : queues.Queues) (r : registers.Registers) (n : ℕ)
         → ((k : ℕ) → k < n → stirs_at s v q r k ≡ false)
         → after_ticks s v q n r ≡ record r { delay = r.delay - n } }
+{}
+
+/// A tick that begins an instruction stirs, whatever it sees.
+pub fn a_first_tick_stirs()
+    ensures { (s : setup.MachineSetup) (v : view.View) (q : queues.Queues) (r : registers.Registers)
+        → begins_next r ≡ true → stirs (tick_of s v q r).1 ≡ true }
 {}
 
 /// While nothing outside a machine changes, `idle_of` is exactly how many ticks pass before the next one that stirs.

@@ -28,7 +28,7 @@ pub use fifo_laws::{
 pub use idle::Idle;
 pub use intent::{Intent, Kind, RX_STALL, RX_UNDER, TX_OVER, TX_STALL};
 pub use laws::{
-    a_calm_tick_only_counts, a_delay_only_counts, a_late_stall_only_waits,
+    a_calm_tick_only_counts, a_delay_only_counts, a_first_tick_stirs, a_late_stall_only_waits,
     a_machine_idles_until_it_stirs, a_tick_sees_what_it_reads, a_tick_writes_its_own_pins,
     moves_are_fair, no_word_is_lost, ranges_are_kept, writes_are_of_pins,
 };

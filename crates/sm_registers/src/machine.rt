@@ -1,9 +1,9 @@
 //! A state machine with its FIFOs. In a clock it ticks or doesn't, and then settles what it and the system want.
-ghost use Rattle.std.specs.Prelude.{◌≡◌, ℕ, ◌-◌, ◌<◌, false, length, IsTrue, IsSome, IfOk};
+ghost use Rattle.std.specs.Prelude.{◌≡◌, ℕ, ◌-◌, ◌<◌, false, true, length, IsTrue, IsSome, IfOk};
 ghost use Rattle.std.specs.List.{AllByRecursion};
 ghost use Rattle.pin_matrix.specs.Pins.{IsWrite};
 ghost use Rattle.sm_registers.specs.Effects.{no_intent};
-ghost use Rattle.sm_registers.specs.Idling.{IsIdle, IsSoon, after_ticks, idle_of, stirs_at};
+ghost use Rattle.sm_registers.specs.Idling.{IsIdle, IsSoon, after_ticks, begins_next, idle_of, is_counting, only_counts, stirs_at};
 ghost use Rattle.sm_registers.specs.State.{IsKept, first_machine, queues_of, settled_ports, shown_of, uses_fifos};
 ghost use Rattle.sm_registers.specs.State as spec;
 ghost use Rattle.sm_registers.specs.Tick as spec_tick;
@@ -11,6 +11,7 @@ ghost use Rattle.sm_registers.specs.Tick as spec_tick;
 use crate::decoded::Decoded;
 use crate::idle::Idle;
 use crate::idling;
+use crate::idling::refills;
 use crate::intent::{Intent, RX_UNDER, TX_OVER};
 use crate::registers::Registers;
 use crate::shown::Shown;
@@ -109,6 +110,32 @@ impl<F: Fifo> Machine<F> {
             &mut self.registers,
             intent,
         );
+    }
+
+    /// Makes its next tick where that only counts a delay, and else does nothing. True where it made it. Outside the registers
+    /// such a tick does nothing (`a_delay_only_counts`).
+    #[inline(always)]
+    pub fn count(&mut self) -> bool
+        ensures made { result ≡ is_counting self.old.setup (queues_of self.old.ports.fifos) self.old.registers }
+        ensures counted { result ≡ true → self.new ≡ record self.old { registers = only_counts self.old.registers } }
+        ensures kept { result ≡ false → self.new ≡ self.old }
+    {
+        if self.registers.delay == 0 {
+            return false;
+        }
+        if refills(&self.setup, &self.fifos, &self.registers) {
+            return false;
+        }
+        self.registers.delay -= 1;
+        true
+    }
+
+    /// Whether its next tick begins an instruction. Such a tick stirs, whatever it sees (`a_first_tick_stirs`).
+    #[inline(always)]
+    pub fn begins_next(&self) -> bool
+        ensures { result ≡ begins_next self.now.registers }
+    {
+        self.registers.delay == 0 && !self.registers.begun
     }
 
     /// When it next has a tick that stirs, if nothing outside it changes: in each tick it sees the same view, and its FIFOs

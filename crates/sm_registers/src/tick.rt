@@ -84,7 +84,7 @@ fn tick_current<F: Fifo>(
 }
 
 /// A tick of an instruction. The intent, of nothing so far, gets what it does outside the registers.
-#[inline(never)]
+#[inline(always)]
 #[tactic(auto, unfolding(crate::specs::Tick::tick_word, crate::specs::Tick::tick_by))]
 fn tick_op<F: Fifo>(
     op: &Op,

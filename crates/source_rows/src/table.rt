@@ -38,7 +38,7 @@ fn row_holds(
     Some(text.as_bytes() == wanted.as_slice())
 }
 
-/// Adds the bytes that a text of a row stands for: a `|` is a newline, `^0d` the byte 0x0d, and `` `3 nop|` `` three times
+/// Adds the bytes that a text of a row is for: a `|` is a newline, `^0d` the byte 0x0d, and `` `3 nop|` `` three times
 /// `nop|`, with the number from 0 on in the place of `#`, and the next number in that of `@`.
 fn spell(alloc: Global, text: &str, bytes: &mut Vec<u8>) -> Option<()> {
     let mut plain = String::new(alloc);

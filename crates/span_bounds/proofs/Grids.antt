@@ -13,7 +13,7 @@ same_number n m e = grind (arith, nat_tests)
 other_number : (n m : ℕ) → n ≢ m → (n == m) ≡ false
 other_number n m e = grind (arith, nat_tests)
 
--- no row stands before the first
+-- no row comes before the first
 before : (n : ℕ) (g : List Entry) (i : ℕ) → i < n → entry_at (rows_from n g) i ≡ Absent
 before n [] i l = refl
 before n (Absent ∷ g) i l = before (n + 1) g i (omega arith)

@@ -150,7 +150,7 @@ wider u sp g w v k near s = record {
   least = s.least;
 }
 
--- the next that stands at a place is raised
+-- the next that is at a place is raised
 pub Visit-raised : (u : Setup) (sp : Span) (g g' : List Entry) (w w' : List ℕ) (i : ℕ) (a : Ages) (k : ℕ) (d : Next) → i < 139392 → k < length (nexts_at u sp i a) → spot (get_or (nexts_at u sp i a) k d) < 139392 →
     Visit u sp g w i a (take k (nexts_at u sp i a)) →
     Raised (spot (get_or (nexts_at u sp i a) k d)) (get_or (nexts_at u sp i a) k d).ages g g' w w' →

@@ -5,7 +5,7 @@ use Rattle.span_bounds.specs.declared.entry.Entry.TheVariants as entry
 use Rattle.span_bounds.specs.declared.marks.Mark.{Mark}
 use Rattle.span_bounds.specs.declared.marks.Mark.TheVariants.{Absent, Closed, Open}
 
--- the entry that a mark stands for, with the age 0 for any
+-- the entry that a mark is for, with the age 0 for any
 abbrev pub marked : Mark → Entry
 marked Absent = entry.Absent
 marked Closed = entry.Present Empty

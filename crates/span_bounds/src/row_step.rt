@@ -22,6 +22,6 @@ pub(crate) fn row_step<L: Ledger>(
     ensures value { result ≡ context_steps setup.now span.now (context_at number) ages }
     ensures steps { steps.new ≡ steps.old + 1 }
 {
-    steps.tick();
+    steps.count();
     step(setup, span, &number::context_at(number), &ages)
 }

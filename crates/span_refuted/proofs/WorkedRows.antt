@@ -22,7 +22,7 @@ use Rattle.span_refuted.specs.Visits.{visit, cause_at}
 abbrev pin_0 : Mapping
 pin_0 = record { base = 0; count = 1; base_is_a_pin = omega arith; count_fits = omega arith }
 
--- machine 0, which sets pin 0 and wraps behind address 1
+-- machine 0, which sets pin 0 and wraps after address 1
 abbrev machine : MachineSetup
 machine = record {
   id = 0;

@@ -14,7 +14,7 @@ use Rattle.span_step.specs.declared.levels.Write.{Write}
 use Rattle.span_step.specs.Contexts.{Context, is_open}
 use Rattle.span_step.specs.Outcomes.{Outcome}
 
--- a later write stands over an earlier one; side-set stands over the instruction's own (RP2040 Datasheet, section 3.5.6.1)
+-- a later write replaces an earlier one, and side-set's replaces the instruction's own (RP2040 Datasheet, section 3.5.6.1)
 abbrev pub over : Option Bool → Option Bool → Option Bool
 over (Some level) below = Some level
 over None below = below
@@ -33,7 +33,7 @@ prompt side o delay =
     record { late = false; from = over side.from o.from; to = over side.to o.to } ∷ delay_ticks delay
 
 -- The delayed course of an instruction that may stall: side-set in the first tick, the other effects in the last late tick,
--- then the delay. One late tick stands for any number, since those before the last write nothing and don't count.
+-- then the delay. One late tick counts for any number, since those before the last write nothing and don't count.
 unfoldable pub delayed : Write → Outcome → ℕ → List Tick
 delayed side o delay =
     record { late = false; from = side.from; to = side.to }

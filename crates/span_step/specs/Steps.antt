@@ -26,7 +26,7 @@ use Rattle.span_step.specs.Contexts.{Context}
 use Rattle.span_step.specs.Outcomes.{Outcome, level_at, outcomes, is_wild, may_stall}
 use Rattle.span_step.specs.Courses.{Rules, courses, no_causes, joined, start, followed}
 
--- the clocks of 256 ticks, at least 256; a divider of 0 stands for 65,536 (RP2040 Datasheet, section 3.5.5)
+-- the clocks of 256 ticks, at least 256; a divider of 0 means 65,536 (RP2040 Datasheet, section 3.5.5)
 abbrev pub period_of : MachineSetup → ℕ
 period_of s = 256 * (if s.int == 0 then 65536 else s.int) + s.frac
 
@@ -54,7 +54,7 @@ rules_of s sp address = let bounds = bounds_of sp s in record {
   named = is_named sp address;
 }
 
--- the address that follows: the program wraps behind wrap_top, and the memory behind 31 (section 3.5.2)
+-- the address that follows: the program wraps after wrap_top, and the memory after 31 (section 3.5.2)
 abbrev pub next_address : MachineSetup → ℕ → ℕ
 next_address s address = if address == s.wrap_top then s.wrap_bottom else (address + 1) % 32
 

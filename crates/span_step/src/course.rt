@@ -145,7 +145,7 @@ fn is_edge(rise: bool, old: bool, new: bool) -> bool
     if rise { !old && new } else { old && !new }
 }
 
-/// The write that stands.
+/// The write that counts.
 fn over(above: Option<bool>, below: Option<bool>) -> Option<bool>
     ensures { result ≡ spec.over above below }
 {

@@ -25,7 +25,7 @@ abbrev pub InAges : ℕ → Ages → Type 0
 InAges n Empty = ⊥
 InAges n (Between lo hi) = (lo ≤ n) × (n ≤ hi)
 
--- a pin's level after writes, of which a later one stands over an earlier one
+-- a pin's level after writes, of which a later one replaces an earlier one
 abbrev pub level_after : ℕ → List (ℕ × ℕ) → Bool → Bool
 level_after p writes level = fold (λ old w. unwrap_or (level_at p w) old) level writes
 

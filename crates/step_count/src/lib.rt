@@ -1,4 +1,4 @@
-//! A count of steps that takes no memory and no code: only `tick` raises it, one step a call.
+//! A count of steps that takes no memory and no code: only `count` raises it, one step a call.
 #![tactic(auto)]
 
 ghost use Rattle.std.specs.Prelude.{◌≡◌, ◌+◌};
@@ -36,7 +36,7 @@ impl<L: Ledger> Steps<L> {
     }
 
     /// Counts one step.
-    pub fn tick(&mut self)
+    pub fn count(&mut self)
         ensures { self.new ≡ self.old + 1 }
     {
         self.book.add(&mut self.share, 1);

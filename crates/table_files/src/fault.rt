@@ -9,7 +9,7 @@ use std::fmt;
 /// What is wrong with a line of a table file.
 #[derive(Clone, Copy, Debug, PartialEq, Eq)]
 pub enum TableKind {
-    /// `B1`: it isn't what may stand there, or it comes after `end`, or it has no newline.
+    /// `B1`: it isn't what may be there, or it comes after `end`, or it has no newline.
     BadLine,
     /// `B2`: a number outside its range, or a least age above the greatest.
     Range,

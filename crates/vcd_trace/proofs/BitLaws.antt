@@ -28,7 +28,7 @@ lowest_within n k h f w =
       | inr above ↦ let none : bit_at n (trailing_zeros w32 n) ≡ 0 = bit_at_above n k (trailing_zeros w32 n) w above in absurd (omega (arith, none, lowest.1))
     ]
 
--- no bit below p is set, so p zeros stand there
+-- no bit below p is set, so p zeros are there
 low_zeros : (n p : ℕ) → ((j : ℕ) → j < p → bit_at n j ≡ 0) → n % 2 ^ p ≡ 0
 low_zeros n p below =
     same_from_bits_below p (n % 2 ^ p) 0 (mod_below n (2 ^ p) (pow_pos p)) (pow_pos p)
@@ -72,7 +72,7 @@ lowest_stays id more a now h =
     bit_changes-step id more a now
     ∙ ap (λ x. x ++ bit_changes (id + 1) more (a / 2) (now / 2)) (no_line (a % 2) (now % 2) (bit_line id (now % 2)) (sym (bit_at_lowest a) ∙ h ∙ bit_at_lowest now))
 
--- the first bit that differs, at p, has its line, and behind it the text is that of any word b that differs behind it only, and as a does
+-- the first bit that differs, at p, has its line, and after it the text is that of any word b that differs after it only, and as a does
 line_at : (p id count a b now : ℕ) → p < count → ((i : ℕ) → i < p → bit_at a i ≡ bit_at now i) → (bit_at a p ≡ bit_at now p → ⊥) → ((i : ℕ) → i ≤ p → bit_at b i ≡ bit_at now i) → ((i : ℕ) → p < i → bit_at b i ≡ bit_at a i) → bit_changes id count a now ≡ bit_line (id + p) (bit_at now p) ++ bit_changes id count b now
 line_at p id zero a b now h below at passed kept = absurd (omega arith)
 line_at zero id (suc more) a b now h below at passed kept =

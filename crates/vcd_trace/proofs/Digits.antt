@@ -12,7 +12,7 @@ onto-cond : (b : Bool) (x y t : List ℕ) → cond b (x ++ t) (y ++ t) ≡ cond 
 onto-cond true x y t = refl
 onto-cond false x y t = refl
 
--- what stands behind the digits may be put behind them afterwards
+-- what comes after the digits may be put after them afterwards
 onto-append : (k n : ℕ) (acc t : List ℕ) → digits_onto k 2 false n (acc ++ t) ≡ digits_onto k 2 false n acc ++ t
 onto-append zero n acc t = refl
 onto-append (suc k) n acc t =

@@ -18,7 +18,7 @@ declarations-append id (x ∷ xs) ys =
     ap (λ t. declaration id x ++ t) (declarations-append (id + 1) xs ys ∙ ap (λ i. declarations (id + 1) xs ++ declarations i ys) (let e : id + 1 + length xs ≡ id + suc (length xs) = omega arith in e))
     ∙ sym (append_assoc (declaration id x) (declarations (id + 1) xs) (declarations (id + suc (length xs)) ys))
 
--- the variables of a group from one on: its declaration, then those behind it
+-- the variables of a group from one on: its declaration, then those after it
 pub numbered-turn : (first letter width count number : ℕ) → number < count → declarations (first + number) (numbered letter width number (count - number)) ≡ declaration (first + number) (variable letter width number) ++ declarations (first + (number + 1)) (numbered letter width (number + 1) (count - (number + 1)))
 numbered-turn first letter width count number h =
     ap (λ k. declarations (first + number) (numbered letter width number k)) (let e : count - number ≡ suc (count - (number + 1)) = omega arith in e)
@@ -55,7 +55,7 @@ groups_text-none id i groups h = ap (λ x. declarations id (variables_of x)) (dr
 drop_group : (groups : List Group) (i : ℕ) → i < length groups → drop i groups ≡ get_or groups i no_group ∷ drop (i + 1) groups
 drop_group groups i h = drop-cons groups i no_group h ∙ ap (λ j. get_or groups i no_group ∷ drop j groups) (let e : suc i ≡ i + 1 = omega arith in e)
 
--- the declarations of a group, then those of the groups behind it
+-- the declarations of a group, then those of the groups after it
 pub groups_text-turn : (id i : ℕ) (groups : List Group) → i < length groups → groups_text id groups i ≡ declarations id (numbered (get_or groups i no_group).letter (get_or groups i no_group).width 0 (get_or groups i no_group).count) ++ groups_text (id + (get_or groups i no_group).count) groups (i + 1)
 unfolding groups_text
 groups_text-turn id i groups h =

@@ -16,7 +16,7 @@ held_to-last clock (s ∷ rest) last h =
     let last_is : last_of s rest ≡ last = cc in
     ap (λ t. (s ∷ rest) ++ replicate (clock - length (s ∷ rest)) t) last_is
 
--- one more copy stands behind the others
+-- one more copy comes after the others
 pub replicate-push : (n : ℕ) (s : Sample) → replicate n s ++ s ∷ [] ≡ replicate (suc n) s
 replicate-push zero s = refl
 replicate-push (suc n) s = ap (λ t. s ∷ t) (replicate-push n s)

@@ -1,4 +1,4 @@
--- Puts one behind the other: the last step of a row, where one fails or all passed.
+-- Puts one after the other: the last step of a row, where one fails or all passed.
 use Rattle.std.proofs.Common.{◌≡◌, ℕ, Option, List, [], ◌++◌, Result, Ok, Err, IsErr, sym, append-nil}
 use Rattle.pio_edge.specs.Edge.{TakesPrefix, Takes}
 use Rattle.pio_edge.specs.Puts.{Going}

@@ -60,16 +60,16 @@ pub bit_changes-step : (id more before now : ℕ) → bit_changes id (suc more) 
 unfolding bit_changes bits_of
 bit_changes-step id more before now = refl
 
--- the elements from a place on are the one there and those behind it
+-- the elements from a place on are the one there and those after it
 drop_at : (xs : List ℕ) (i : ℕ) → i < length xs → drop i xs ≡ get_or xs i 0 ∷ drop (i + 1) xs
 drop_at xs i h = drop-cons xs i 0 h ∙ ap (λ j. get_or xs i 0 ∷ drop j xs) (let e : suc i ≡ i + 1 = omega arith in e)
 
--- the values at a place, then those behind it
+-- the values at a place, then those after it
 pub vector_changes-step : (id i : ℕ) (before now : List ℕ) → i < length before → i < length now → vector_changes id (drop i before) (drop i now) ≡ cond (eqb (get_or before i 0) (get_or now i 0)) [] (vector_line id (get_or now i 0)) ++ vector_changes (id + 1) (drop (i + 1) before) (drop (i + 1) now)
 vector_changes-step id i before now h k =
     ap (λ t. vector_changes id t (drop i now)) (drop_at before i h) ∙ ap (vector_changes id (get_or before i 0 ∷ drop (i + 1) before)) (drop_at now i k)
 
--- the values from one on: its line where it changes, then those behind it
+-- the values from one on: its line where it changes, then those after it
 pub vector_changes-turn : (first i : ℕ) (before now : List ℕ) → i < length before → i < length now → vector_changes (first + i) (drop i before) (drop i now) ≡ cond (eqb (get_or before i 0) (get_or now i 0)) [] (vector_line (first + i) (get_or now i 0)) ++ vector_changes (first + (i + 1)) (drop (i + 1) before) (drop (i + 1) now)
 vector_changes-turn first i before now h k =
     vector_changes-step (first + i) i before now h k
@@ -83,14 +83,14 @@ bit_lines-step : (id more now : ℕ) → bit_lines id (suc more) now ≡ bit_lin
 unfolding bit_lines bits_of
 bit_lines-step id more now = refl
 
--- the bits from one on: its line, then those behind it
+-- the bits from one on: its line, then those after it
 pub bit_lines-turn : (first count step now : ℕ) → step < count → bit_lines (first + step) (count - step) now ≡ bit_line (first + step) (now % 2) ++ bit_lines (first + (step + 1)) (count - (step + 1)) (now / 2)
 bit_lines-turn first count step now h =
     ap (λ k. bit_lines (first + step) k now) (let e : count - step ≡ suc (count - (step + 1)) = omega arith in e)
     ∙ bit_lines-step (first + step) (count - (step + 1)) now
     ∙ ap (λ i. bit_line (first + step) (now % 2) ++ bit_lines i (count - (step + 1)) (now / 2)) (let e : first + step + 1 ≡ first + (step + 1) = omega arith in e)
 
--- the values from one on: its line, then those behind it
+-- the values from one on: its line, then those after it
 pub vector_lines-turn : (first i : ℕ) (now : List ℕ) → i < length now → vector_lines (first + i) (drop i now) ≡ vector_line (first + i) (get_or now i 0) ++ vector_lines (first + (i + 1)) (drop (i + 1) now)
 vector_lines-turn first i now k =
     ap (vector_lines (first + i)) (drop_at now i k)

@@ -137,7 +137,7 @@ vcd_text-held clock (s ∷ rest) h =
     ap (λ x. x ++ closing_text (held_to clock (s ∷ rest))) (open_text-held clock (s ∷ rest))
     ∙ ap (λ c. open_text (s ∷ rest) ++ clock_line c) (length-held clock s rest h.after)
 
--- bytes behind a text that was taken
+-- bytes after a text that was taken
 taken_more : (b taken taken' : Option (List ℕ)) (text more whole : List ℕ) → taken ≡ with_bytes b text → taken' ≡ with_bytes taken more → whole ≡ text ++ more → taken' ≡ with_bytes b whole
 taken_more b taken taken' text more whole h k e = k ∙ ap (λ x. with_bytes x more) h ∙ with_bytes-append b text more ∙ ap (with_bytes b) (sym e)
 

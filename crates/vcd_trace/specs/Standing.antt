@@ -10,17 +10,17 @@ abbrev pub last_sample : List Sample → Option Sample
 last_sample [] = None
 last_sample (s ∷ rest) = Some (last_of s rest)
 
--- behind what was taken before, the sink has taken the text of these samples, and their last one is remembered
+-- after what was taken before, the sink has taken the text of these samples, and their last one is remembered
 pub record Standing (before : Option (List ℕ)) (told : List Sample) (ended : Bool) (taken : Option (List ℕ)) (last : Option Sample) : Type 0 where
   pub text : taken ≡ with_bytes before (text_of told ended)
   pub remembered : last ≡ last_sample told
 
--- what a sample adds to the text, behind the last one
+-- what a sample adds to the text, after the last one
 abbrev pub added_text : ℕ → Option Sample → Sample → List ℕ
 added_text clock None now = dump_text now
 added_text clock (Some before) now = step_text clock before now
 
--- what the end adds to the text, behind the last sample
+-- what the end adds to the text, after the last sample
 abbrev pub ended_text : ℕ → Option Sample → List ℕ
 ended_text clock None = []
 ended_text clock (Some before) = clock_line clock

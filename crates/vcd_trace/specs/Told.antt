@@ -2,12 +2,12 @@
 use Rattle.std.specs.Prelude.{◌≡◌, ℕ, ◌-◌, ◌≤◌, List, [], ◌∷◌, ◌++◌, length, replicate}
 use Rattle.block_core.specs.declared.sample.Sample.{Sample}
 
--- the clock stands behind all samples told, and is 0 where none was
+-- the clock comes after all samples told, and is 0 where none was
 pub record IsNext (told : List Sample) (clock : ℕ) : Type 0 where
   pub after : length told ≤ clock
   pub first : length told ≡ 0 → clock ≡ 0
 
--- the last of a sample and those behind it
+-- the last of a sample and those after it
 abbrev pub last_of : Sample → List Sample → Sample
 last_of s [] = s
 last_of s (t ∷ rest) = last_of t rest

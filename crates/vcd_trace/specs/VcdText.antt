@@ -84,7 +84,7 @@ changes_text before now = change_lines first_identifier widths (values_of before
 abbrev pub step_text : ℕ → Sample → Sample → List ℕ
 step_text clock before now = if same_sample before now then [] else clock_line clock ++ changes_text before now
 
--- what these samples add from this clock on, behind the sample of the clock before
+-- what these samples add from this clock on, after the sample of the clock before
 abbrev pub steps_text : ℕ → Sample → List Sample → List ℕ
 steps_text clock before [] = []
 steps_text clock before (now ∷ rest) = step_text clock before now ++ steps_text (clock + 1) now rest
@@ -94,7 +94,7 @@ abbrev pub open_text : List Sample → List ℕ
 open_text [] = header_text ++ clock_line 0
 open_text (s ∷ rest) = header_text ++ clock_line 0 ++ dump_text s ++ steps_text 1 s rest
 
--- the clock that closes the text: the one behind the last sample, where there is a sample
+-- the clock that closes the text: the one after the last sample, where there is a sample
 abbrev pub closing_text : List Sample → List ℕ
 closing_text [] = []
 closing_text (s ∷ rest) = clock_line (length (s ∷ rest))

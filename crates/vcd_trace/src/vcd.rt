@@ -99,7 +99,7 @@ fn put_opening<S: Sink>(sink: &mut S) -> Result<(), SinkFailed>
     put_clock(sink, 0)
 }
 
-// What a sample adds behind the one that was told last.
+// What a sample adds after the one that was told last.
 fn put_sample<S: Sink>(
     sink: &mut S,
     clock: u64,
@@ -116,7 +116,7 @@ fn put_sample<S: Sink>(
     }
 }
 
-// What the end adds behind the sample that was told last.
+// What the end adds after the sample that was told last.
 fn put_end<S: Sink>(sink: &mut S, clock: u64, last: Option<Sample>) -> Result<(), SinkFailed>
     ensures bytes { Takes (S.taken sink.old) (ended_text clock last) (S.taken sink.new) result }
     ensures cause { PutCounts (S.faults sink.old) (S.faults sink.new) result }
@@ -127,7 +127,7 @@ fn put_end<S: Sink>(sink: &mut S, clock: u64, last: Option<Sample>) -> Result<()
     }
 }
 
-// What a clock adds behind the one before it.
+// What a clock adds after the one before it.
 fn put_step<S: Sink>(
     sink: &mut S,
     clock: u64,

@@ -29,7 +29,7 @@ abbrev pub word_or_bad : Option ℕ → Line
 word_or_bad None = Bad
 word_or_bad (Some w) = Word w
 
--- what a line says that begins with no blank: nothing, or four digits with blanks alone behind them
+-- what a line says that begins with no blank: nothing, or four digits with blanks alone after them
 abbrev pub said : List ℕ → Line
 said [] = Blank
 said (a ∷ b ∷ c ∷ d ∷ rest) = if list_all is_blank rest then word_or_bad (word_of a b c d) else Bad

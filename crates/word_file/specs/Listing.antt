@@ -22,7 +22,7 @@ abbrev pub lines_from : SideRule → ℕ → List ℕ → List ℕ
 lines_from rule place [] = []
 lines_from rule place (w ∷ words) = word_line rule place w ++ lines_from rule (place + 1) words
 
--- the lines of words that stand from address 0 on
+-- the lines of words that are from address 0 on
 abbrev pub word_lines : SideRule → List ℕ → List ℕ
 word_lines rule words = lines_from rule 0 words
 

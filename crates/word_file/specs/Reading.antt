@@ -17,7 +17,7 @@ with_front front (Ok words) = Ok (front ++ words)
 with_front front (Err fault) = Err fault
 
 -- The words of lines that say this, or the first fault. The first of them has this number, and so many words
--- stand before it.
+-- come before it.
 abbrev pub words_from : ℕ → ℕ → List Line → Result (List ℕ) WordFault
 words_from number count [] = Ok []
 words_from number count (Blank ∷ rest) = words_from (number + 1) count rest

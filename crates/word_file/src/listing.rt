@@ -9,7 +9,7 @@ use arrayvec::ArrayString;
 use pio_edge::{Sink, SinkFailed};
 use pio_encode::{SideRule, spell};
 
-/// Puts the lines of at most 32 words that stand from address 0 on, each as one piece. It takes no memory.
+/// Puts the lines of at most 32 words that are from address 0 on, each as one piece. It takes no memory.
 pub fn put_words<S: Sink>(sink: &mut S, words: &[u16], rule: &SideRule) -> Result<(), SinkFailed>
     requires { length words.now ≤ 32 }
     ensures bytes { Takes (S.taken sink.old) (spec.word_lines rule.now words.now) (S.taken sink.new) result }

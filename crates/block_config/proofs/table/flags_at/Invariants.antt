@@ -5,7 +5,7 @@ use Rattle.block_config.specs.Tables.{each_at, flag_at}
 use Rattle.block_config.proofs.Each.{before}
 use Rattle.block_config.proofs.table.flags_at.Given as goal
 
--- the flags so far stand before those of the keys that are left
+-- the flags so far come before those of the keys that are left
 abbrev pub invariant-loop-key : goal.invariant-loop-key
 invariant-loop-key l =
     let read = flag_at (table_view l.table) in

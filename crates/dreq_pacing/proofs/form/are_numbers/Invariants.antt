@@ -2,7 +2,7 @@ use Rattle.std.proofs.Common.{◌≡◌, length}
 use Rattle.dreq_pacing.specs.Form.{are_numbers}
 use Rattle.dreq_pacing.proofs.form.are_numbers.Given as goal
 
--- those left behind are numbers
+-- those left after are numbers
 abbrev pub invariant-loop-field : goal.invariant-loop-field
 invariant-loop-field l = are_numbers l.rest ≡ are_numbers l.fields
 

@@ -26,6 +26,17 @@ returns-then-clock-until-clause-run g c = after_none c.args.block.now.run (c.arg
 pub returns-then-clock-until-clause-calm : goal.returns-then-clock-until-clause-calm
 returns-then-clock-until-clause-calm g c = calm_none c.args.block.now.run (c.args.clock - c.args.clock) (omega arith)
 
+-- a clock that plainly stirs
+pub returns-then-plainly_moves_on-clause-run : goal.returns-then-plainly_moves_on-clause-run
+returns-then-plainly_moves_on-clause-run g c = after_none c.args.block.now.run (c.args.clock - c.args.clock) (omega arith)
+
+pub returns-then-plainly_moves_on-clause-calm : goal.returns-then-plainly_moves_on-clause-calm
+returns-then-plainly_moves_on-clause-calm g c = calm_none c.args.block.now.run (c.args.clock - c.args.clock) (omega arith)
+
+pub returns-then-plainly_moves_on-clause-stirs : goal.returns-then-plainly_moves_on-clause-stirs
+returns-then-plainly_moves_on-clause-stirs g c = λ before early.
+    c.what_begins_moves_on.ensures c.args.block.now.run (sym c.plainly_moves_on.ensures ∙ c.if-plainly_moves_on.true)
+
 pub returns-in-Some-eq0-clause-run : goal.returns-in-Some-eq0-clause-run
 returns-in-Some-eq0-clause-run g c = after_none c.args.block.now.run (c.args.clock - c.args.clock) (omega arith)
 

@@ -128,8 +128,8 @@ clocks-preserved g c =
       count = search rules;
       name = search rules;
       steps = search rules;
-      most = omega (arith, inv.most, c.tick.ensures, c.rest-clock.ensures.from);
-      few = subst (λ (k : ℕ). k ≤ c.args.steps.now + stirring start lines later + 1) (sym c.tick.ensures)
+      most = omega (arith, inv.most, c.count.ensures, c.rest-clock.ensures.from);
+      few = subst (λ (k : ℕ). k ≤ c.args.steps.now + stirring start lines later + 1) (sym c.count.ensures)
           (counted start lines c.args.steps.now c.clocks.steps n later c.rest-clock.ensures.from inv.most inv.few (λ some. inv.stirs some c.clocks-test.true));
     }
 
@@ -138,7 +138,7 @@ returns-in_err-sample-clause-stirring g c =
     let inv = c.clocks.invariant in
     let start = c.args.block.now.run in
     let lines = c.args.schedule.now in
-    subst (λ (k : ℕ). k ≤ c.args.steps.now + stirring start lines c.args.clocks + 1) (sym c.tick.ensures)
+    subst (λ (k : ℕ). k ≤ c.args.steps.now + stirring start lines c.args.clocks + 1) (sym c.count.ensures)
     (counted start lines c.args.steps.now c.clocks.steps c.clocks.clock c.args.clocks (omega arith) inv.most inv.few (λ some. inv.stirs some c.clocks-test.true))
 
 pub returns-clause-ok : goal.returns-clause-ok

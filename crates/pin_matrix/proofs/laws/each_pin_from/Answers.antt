@@ -1,4 +1,4 @@
--- Where each pin counted from a base stands.
+-- Where each pin counted from a base is.
 use Rattle.pin_matrix.proofs.Rotations.{bit_at-counted}
 use Rattle.pin_matrix.proofs.laws.each_pin_from.Goals as goal
 

@@ -1,4 +1,4 @@
--- What moves down and what comes to stand above it make one word.
+-- What moves down and what comes to be above it make one word.
 use Rattle.std.proofs.Common.{rules}
 use Rattle.pin_matrix.proofs.Bounds.{joined_wide-lt}
 use Rattle.pin_matrix.proofs.rotation.rotate_right.Goals as goal

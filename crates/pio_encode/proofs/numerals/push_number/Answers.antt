@@ -1,4 +1,4 @@
--- A number of two digits is its two digits, one behind the other.
+-- A number of two digits is its two digits, one after the other.
 use Rattle.std.proofs.Common.{arith, refl, append_assoc}
 use Rattle.pio_encode.proofs.numerals.push_number.Goals as goal
 use Rattle.pio_encode.proofs.TwoDigits.{two_digits}

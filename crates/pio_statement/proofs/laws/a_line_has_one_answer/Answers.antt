@@ -1,8 +1,8 @@
-use Rattle.pio_statement.proofs.Whole.{behind, unknown, unknown_only}
+use Rattle.pio_statement.proofs.Whole.{after, unknown, unknown_only}
 use Rattle.pio_statement.proofs.laws.a_line_has_one_answer.Goals as goal
 
-pub returns-clause-behind : goal.returns-clause-behind
-returns-clause-behind c = behind
+pub returns-clause-after : goal.returns-clause-after
+returns-clause-after c = after
 
 pub returns-clause-unknown : goal.returns-clause-unknown
 returns-clause-unknown c = unknown

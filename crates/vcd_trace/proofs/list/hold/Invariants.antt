@@ -2,7 +2,7 @@ use Rattle.std.proofs.Common.{◌≡◌, ◌-◌, ◌≤◌, ◌++◌, length, v
 use Rattle.std.specs.Prelude.{replicate}
 use Rattle.vcd_trace.proofs.list.hold.Given as goal
 
--- so many copies of the last sample stand behind the list
+-- so many copies of the last sample come after the list
 abbrev pub invariant-loop : goal.invariant-loop
 invariant-loop l = record {
   items : l.samples.items ≡ l.initial.samples.items ++ replicate (l.counter - length l.initial.samples.items) l.last;

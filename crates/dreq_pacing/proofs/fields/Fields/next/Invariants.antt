@@ -2,7 +2,7 @@ use Rattle.std.proofs.Common.{◌≡◌, length}
 use Rattle.dreq_pacing.specs.Fields.{parted}
 use Rattle.dreq_pacing.proofs.fields.Fields.next.Given as goal
 
--- only blanks were left behind
+-- only blanks were left after
 abbrev pub invariant-loop-rest : goal.invariant-loop-rest
 invariant-loop-rest l = parted l.rest ≡ parted l.initial.rest
 
