@@ -17,8 +17,8 @@ const QUIET: Failing<'static> = Failing {
 
 /// A call, and what it leaves where nothing fails.
 #[derive(Drop)]
-struct Whole<'a> {
-    words: &'a str,
+struct Whole {
+    words: String,
     held: Held,
     status: u8,
     err: Vec<u8>,
@@ -79,8 +79,8 @@ fn holds(alloc: Global, line: &str, fails: Fails) -> Option<bool> {
 }
 
 /// The call of a row, and what the row says that it leaves.
-fn whole_of<'a>(alloc: Global, fields: &mut Split<'a, &str>) -> Option<Whole<'a>> {
-    let words = fields.next()?;
+fn whole_of(alloc: Global, fields: &mut Split<'_, &str>) -> Option<Whole> {
+    let words = String::from_str(alloc, fields.next()?).ok()?;
     let held = Held {
         source: spelled(alloc, fields.next()?)?,
         config: spelled(alloc, fields.next()?)?,
@@ -100,7 +100,7 @@ fn whole_of<'a>(alloc: Global, fields: &mut Split<'a, &str>) -> Option<Whole<'a>
 
 /// Whether the call ends as the row says where nothing fails.
 fn is_whole(alloc: Global, whole: &Whole) -> Option<bool> {
-    let found = seen(alloc, whole.words, &whole.held, QUIET).ok()?;
+    let found = seen(alloc, whole.words.as_str(), &whole.held, QUIET).ok()?;
     Some(
         found.status == whole.status
             && found.out.bytes() == whole.text.as_slice()
@@ -174,7 +174,7 @@ fn failing_put(alloc: Global, whole: &Whole, call: u64, taken: usize) -> Option<
         out: &[(call, taken)],
         ..QUIET
     };
-    seen(alloc, whole.words, &whole.held, failing).ok()
+    seen(alloc, whole.words.as_str(), &whole.held, failing).ok()
 }
 
 /// The call ended since the output failed.
@@ -202,7 +202,7 @@ fn fetch_fails(alloc: Global, whole: &Whole, file: &str, number: u64) -> Option<
         fetches: &[number],
         ..QUIET
     };
-    let found = seen(alloc, whole.words, &whole.held, failing).ok()?;
+    let found = seen(alloc, whole.words.as_str(), &whole.held, failing).ok()?;
     let line = format!(in alloc; "piotool: shelf {file}\n").ok()?;
     Some(found.status == 4 && found.out.bytes().is_empty() && found.err.bytes() == line.as_bytes())
 }
@@ -229,7 +229,7 @@ fn is_cut(alloc: Global, whole: &Whole, call: u64, taken: usize) -> Option<bool>
         err: &[(call, taken)],
         ..QUIET
     };
-    let found = seen(alloc, whole.words, &whole.held, failing).ok()?;
+    let found = seen(alloc, whole.words.as_str(), &whole.held, failing).ok()?;
     let has = found.err.bytes();
     let first = call > 1 || taken > 8 || has.len() == taken;
     Some(

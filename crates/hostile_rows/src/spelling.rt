@@ -92,12 +92,17 @@ fn add_letters(text: &str, number: u32, bytes: &mut Vec<u8>) -> Result<(), Alloc
 /// A number below 10,000 in decimal digits.
 fn add_number(number: u32, bytes: &mut Vec<u8>) -> Result<(), AllocError> {
     let mut is_begun = false;
-    for place in [1000, 100, 10, 1] {
-        let digit = number / place % 10;
-        is_begun = is_begun || digit > 0 || place == 1;
+    for digit in [number / 1000, number / 100, number / 10] {
+        is_begun = is_begun || digit > 0;
         if is_begun {
-            bytes.push(b'0' + digit as u8)?;
+            add_digit(digit, bytes)?;
         }
     }
+    add_digit(number, bytes)
+}
+
+/// The last digit of a number.
+fn add_digit(number: u32, bytes: &mut Vec<u8>) -> Result<(), AllocError> {
+    bytes.push(b'0' + (number % 10) as u8)?;
     Ok(())
 }
