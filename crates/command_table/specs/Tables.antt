@@ -1,0 +1,51 @@
+-- What it means that a table is told, and that a table was rechecked.
+--   TellsTable    the text of the least closed table was taken and handed on, or why not
+--   TellsRecheck  the line of a table that proves a span was taken and handed on, or why not
+use Rattle.std.specs.Prelude.{◌≡◌, List, Result, Ok, Err}
+use Rattle.pin_matrix.specs.declared.setup.Setup.{Setup}
+use Rattle.pin_matrix.specs.declared.span.Span.{Span}
+use Rattle.span_bounds.specs.declared.row.Row.{Row}
+use Rattle.span_check.specs.Proved.{HoldsInEveryRun}
+use Rattle.span_verdict.specs.declared.table_flaw.Flaw.{Flaw}
+use Rattle.verdict_lines.specs.declared.refusal.Refusal.{Refusal}
+use Rattle.fault_lines.specs.declared.fault.Fault.{Fault}
+use Rattle.fault_lines.specs.declared.fault.Fault.TheVariants as fault
+use Rattle.fault_lines.specs.Output.{Output}
+use Rattle.table_files.specs.FlawLines.{rechecked_line}
+use Rattle.span_stage.specs.Spans.{IsProvableAlone, IsRefused}
+use Rattle.call_ends.specs.Needs.{HasFlaw, IsProvedBy, IsSharedBy}
+use Rattle.call_ends.specs.Tasks.{HasTable}
+use Rattle.call_ends.specs.Written.{HasTaken, TakesPart}
+
+-- the fault is that of a span that is refused, or want of memory
+abbrev pub IsRefusalOf : Span → Refusal → Fault → Type 0
+IsRefusalOf sp refusal (fault.Unproved name r) = (name ≡ sp.name) × (r ≡ refusal)
+IsRefusalOf sp refusal fault.Memory = Unit {0}
+IsRefusalOf sp refusal e = ⊥
+
+-- the fault is that of a table that has this flaw, or want of memory
+abbrev pub IsFlawOf : Span → Flaw → Fault → Type 0
+IsFlawOf sp flaw (fault.Flaw name f) = (name ≡ sp.name) × (f ≡ flaw)
+IsFlawOf sp flaw fault.Memory = Unit {0}
+IsFlawOf sp flaw e = ⊥
+
+-- The span is provable and holds in every run, and the text of its least closed table was taken and handed on, or a first part of
+-- it where the output failed; or the span isn't provable, and this is why; or memory ran out. Of the last two nothing is written.
+abbrev pub TellsTable : Setup → Span → Output → Output → Result (Unit {0}) Fault → Type 0
+TellsTable u sp before after (Ok _) = IsProvableAlone u sp × (HoldsInEveryRun u sp × HasTable u sp (λ text. HasTaken before text after))
+TellsTable u sp before after (Err fault.Out) = IsProvableAlone u sp × HasTable u sp (λ text. TakesPart before text after)
+TellsTable u sp before after (Err fault.Memory) = after ≡ before
+TellsTable u sp before after (Err (fault.Unproved name refusal)) = ((sp.name ≡ name) × IsRefused u sp refusal) × (after ≡ before)
+TellsTable u sp before after (Err e) = ⊥
+
+-- The table proves the span, which holds in every run, and its line was taken and handed on, or a first part of it where the output
+-- failed; or another machine may write a pin of the span; or the table has a flaw first; or memory ran out. Of the last three
+-- nothing is written.
+abbrev pub TellsRecheck : Setup → Span → List Row → Output → Output → Result (Unit {0}) Fault → Type 0
+TellsRecheck u sp rows before after (Ok _) = IsProvedBy u sp rows × (HoldsInEveryRun u sp × HasTaken before (rechecked_line sp.name) after)
+TellsRecheck u sp rows before after (Err fault.Out) = IsProvedBy u sp rows × TakesPart before (rechecked_line sp.name) after
+TellsRecheck u sp rows before after (Err fault.Memory) = after ≡ before
+TellsRecheck u sp rows before after (Err (fault.Unproved name refusal)) = ((sp.name ≡ name) × IsSharedBy u sp refusal) × (after ≡ before)
+TellsRecheck u sp rows before after (Err (fault.Flaw name flaw)) =
+    ((sp.name ≡ name) × HasFlaw u sp rows flaw) × (after ≡ before)
+TellsRecheck u sp rows before after (Err e) = ⊥

@@ -1,0 +1,9 @@
+//! The commands of table files: `table` writes the table that proves a span, and `recheck` tells whether a table does.
+#![tactic(auto)]
+
+mod fault;
+mod rechecking;
+mod writing;
+
+pub use rechecking::recheck;
+pub use writing::table;
