@@ -113,10 +113,10 @@ pub static TABLES: [Row; 9] = [
     Row {
         name: "the source comes before the configuration",
         words: TABLE,
-        source: Some(".program p\nnop side 9\n"),
+        source: Some(".define MASK 0xffffffff\n"),
         config: Some("load = 1\n"),
         status: 1,
-        err: "piotool: source line 2: S8\n",
+        err: "piotool: source line 1: L2\n",
         ..PLAIN
     },
     Row {

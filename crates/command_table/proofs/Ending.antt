@@ -1,6 +1,6 @@
 -- What was told of a span ends its command.
-use Rattle.std.proofs.Common.{◌≡◌, ◌∙◌, ℕ, Option, Some, None, IfSome, List, Result, Ok, Err, refl, sym, ap, subst}
-use Rattle.pio_edge.specs.Count.{Faults}
+use Rattle.std.proofs.Common.{◌≡◌, ◌∙◌, ℕ, Bool, true, Option, Some, None, IfSome, List, Result, Ok, Err, refl, sym, ap, subst}
+use Rattle.pio_edge.specs.Count.{Faults, failed_at}
 use Rattle.pio_edge.specs.Edge.{Files}
 use Rattle.pin_matrix.specs.declared.setup.Setup.{Setup}
 use Rattle.pin_matrix.specs.declared.span.Span.{Span}
@@ -8,15 +8,17 @@ use Rattle.span_bounds.specs.declared.row.Row.{Row}
 use Rattle.dreq_pacing.specs.declared.line.Line.{Line}
 use Rattle.span_stage.specs.Named.{span_named}
 use Rattle.fault_lines.specs.Output.{Output}
+use Rattle.fault_lines.specs.declared.fault.File.{File}
 use Rattle.fault_lines.specs.declared.fault.File.TheVariants as file
 use Rattle.fault_lines.specs.declared.fault.Fault.{Fault}
 use Rattle.fault_lines.specs.declared.fault.Fault.TheVariants as fault
-use Rattle.command_line.specs.Words.{table, recheck}
+use Rattle.command_line.specs.Words.{Asked, table, recheck}
 use Rattle.file_stages.specs.Judged.{Judged, right, wrong, and_then, IfRight, is_right, prepared_at, judged_span, span_at, table_at, recheck_at}
-use Rattle.file_stages.specs.Stages.{ReadFails, shelved, run_plan, table_plan}
+use Rattle.file_stages.specs.Roles.{run_files, run_reaches, table_alone}
+use Rattle.file_stages.specs.Stages.{HasSuch, Plan, ReadFails, shelved, run_plan, table_plan}
 use Rattle.call_ends.specs.Outside.{call_of}
-use Rattle.call_ends.specs.Promise.{CommandEnds}
-use Rattle.call_ends.specs.Tasks.{Task, tabled, rechecked, judge}
+use Rattle.call_ends.specs.Promise.{CommandEnds, ShelfFails}
+use Rattle.call_ends.specs.Tasks.{Task, tabled, rechecked, judge, file_in, reaches}
 use Rattle.command_table.specs.Tables.{TellsTable, TellsRecheck}
 
 -- what follows of told files from one fact, and from two
@@ -32,6 +34,66 @@ both_told (Some f) P Q R so p q = so f p q
 if_right : (j : Judged Task) (task : Task) (P : Task → Type 0) → j ≡ right task → P task → IfRight j P
 if_right j task P e p = subst (λ (k : Judged Task). IfRight k P) (sym e) p
 
+-- a command ends where it does so with the shelf as it is after a stage that left it alone
+ends_later : (a : Asked) (files mid_files : Option Files) (before mid after : Faults) (out_before out_after : Output) (r : Result (Unit {0}) Fault)
+    → mid_files ≡ files → mid ≡ before → CommandEnds a (call_of mid_files mid after out_before out_after) r → CommandEnds a (call_of files before after out_before out_after) r
+ends_later a files mid_files before mid after out_before out_after r same e h =
+    subst (λ (x : Faults). CommandEnds a (call_of files x after out_before out_after) r) e
+    (subst (λ (x : Option Files). CommandEnds a (call_of x mid after out_before out_after) r) same h)
+
+-- ---- what the commands come to where a stage has a fault
+
+span_wrong : (f : Files) (source : List ℕ) (config : Option (List ℕ)) (name : List ℕ) (e : Fault) → prepared_at f source config None ≡ wrong e → span_at f source config name ≡ wrong e
+unfolding span_at
+span_wrong f source config name e h = ap (λ (j : Judged (Setup × List Line)). and_then j (λ prepared. judged_span prepared.0 (span_named name prepared.0.spans))) h
+
+table_wrong : (f : Files) (source : List ℕ) (config : Option (List ℕ)) (name : List ℕ) (e : Fault) → span_at f source config name ≡ wrong e → judge f (table source config name) ≡ wrong e
+unfolding judge
+table_wrong f source config name e h = ap (λ (j : Judged (Setup × Span)). and_then j (λ asked. right (tabled asked.0 asked.1))) h
+
+recheck_wrong : (f : Files) (source : List ℕ) (config : Option (List ℕ)) (name table_name : List ℕ) (e : Fault) → span_at f source config name ≡ wrong e → judge f (recheck source config name table_name) ≡ wrong e
+unfolding judge recheck_at
+recheck_wrong f source config name table_name e h =
+    ap (λ (j : Judged (Setup × Span)). and_then (and_then j (λ asked. and_then (table_at f table_name) (λ rows. right (asked, rows)))) (λ asked. right (rechecked asked.0.0 asked.0.1 asked.1))) h
+
+-- ---- the span of a name
+
+found_at : (f : Files) (source : List ℕ) (config : Option (List ℕ)) (name : List ℕ) (u : Setup) (lines : List Line) (sp : Span)
+    → prepared_at f source config None ≡ right (u, lines) → Some sp ≡ span_named name u.spans → span_at f source config name ≡ right (u, sp)
+unfolding span_at
+found_at f source config name u lines sp e found =
+    ap (λ (j : Judged (Setup × List Line)). and_then j (λ prepared. judged_span prepared.0 (span_named name prepared.0.spans))) e
+    ∙ ap (judged_span u) (sym found)
+
+-- where the files come to a setup and a span of it has the name, they come to this span
+span_told : (files : Option Files) (source : List ℕ) (config : Option (List ℕ)) (name : List ℕ) (u : Setup) (lines : List Line) (sp : Span)
+    → IfSome files (λ f. prepared_at f source config None ≡ right (u, lines)) → Some sp ≡ span_named name u.spans → IfSome files (λ f. span_at f source config name ≡ right (u, sp))
+span_told files source config name u lines sp t found = told files _ _ (λ f e. found_at f source config name u lines sp e found) t
+
+no_span : (f : Files) (source : List ℕ) (config : Option (List ℕ)) (name : List ℕ) (u : Setup) (lines : List Line)
+    → prepared_at f source config None ≡ right (u, lines) → None ≡ span_named name u.spans → span_at f source config name ≡ wrong fault.NoSpan
+unfolding span_at
+no_span f source config name u lines e found =
+    ap (λ (j : Judged (Setup × List Line)). and_then j (λ prepared. judged_span prepared.0 (span_named name prepared.0.spans))) e
+    ∙ ap (judged_span u) (sym found)
+
+-- where no span has the name, this is the first fault of both commands
+pub no_span_ends : (files : Option Files) (before after : Faults) (out : Output) (source : List ℕ) (config : Option (List ℕ)) (name : List ℕ) (u : Setup) (lines : List Line)
+    → after ≡ before → IfSome files (λ f. prepared_at f source config None ≡ right (u, lines)) → None ≡ span_named name u.spans
+    → CommandEnds (table source config name) (call_of files before after out out) (Err fault.NoSpan)
+no_span_ends files before after out source config name u lines same t found = record {
+  judged = told files _ _ (λ f e. table_wrong f source config name fault.NoSpan (no_span f source config name u lines e found)) t;
+  untouched = record { shelf = same; out = refl };
+}
+
+pub no_span_recheck_ends : (files : Option Files) (before after : Faults) (out : Output) (source : List ℕ) (config : Option (List ℕ)) (name table_name : List ℕ) (u : Setup) (lines : List Line)
+    → after ≡ before → IfSome files (λ f. prepared_at f source config None ≡ right (u, lines)) → None ≡ span_named name u.spans
+    → CommandEnds (recheck source config name table_name) (call_of files before after out out) (Err fault.NoSpan)
+no_span_recheck_ends files before after out source config name table_name u lines same t found = record {
+  judged = told files _ _ (λ f e. recheck_wrong f source config name table_name fault.NoSpan (no_span f source config name u lines e found)) t;
+  untouched = record { shelf = same; out = refl };
+}
+
 -- ---- the table of a span
 
 judged_tabled : (f : Files) (source : List ℕ) (config : Option (List ℕ)) (name : List ℕ) (u : Setup) (sp : Span) → span_at f source config name ≡ right (u, sp) → judge f (table source config name) ≡ right (tabled u sp)
@@ -39,7 +101,7 @@ unfolding judge
 judged_tabled f source config name u sp e = ap (λ (j : Judged (Setup × Span)). and_then j (λ asked. right (tabled asked.0 asked.1))) e
 
 -- where the files come to this span, what was told of it ends the command `table`
-pub tabled_ends : (files : Option Files) (faults : Faults) (before after : Output) (source : List ℕ) (config : Option (List ℕ)) (name : List ℕ) (u : Setup) (sp : Span) (r : Result (Unit {0}) Fault)
+tabled_ends : (files : Option Files) (faults : Faults) (before after : Output) (source : List ℕ) (config : Option (List ℕ)) (name : List ℕ) (u : Setup) (sp : Span) (r : Result (Unit {0}) Fault)
     → IfSome files (λ f. span_at f source config name ≡ right (u, sp)) → TellsTable u sp before after r → CommandEnds (table source config name) (call_of files faults faults before after) r
 tabled_ends files faults before after source config name u sp (Ok done) t h = record {
   writes = record {
@@ -91,7 +153,7 @@ judged_wrong f source config name file u sp e s g =
     ∙ ap (λ (j : Judged (List Row)). and_then (and_then j (λ rows. right ((u, sp), rows))) (λ asked. right (rechecked asked.0.0 asked.0.1 asked.1))) g
 
 -- where the files come to this span and this table, what was told of them ends the command `recheck`
-pub rechecked_ends : (files : Option Files) (faults : Faults) (before after : Output) (source : List ℕ) (config : Option (List ℕ)) (name file : List ℕ) (u : Setup) (sp : Span) (rows : List Row) (r : Result (Unit {0}) Fault)
+rechecked_ends : (files : Option Files) (faults : Faults) (before after : Output) (source : List ℕ) (config : Option (List ℕ)) (name file : List ℕ) (u : Setup) (sp : Span) (rows : List Row) (r : Result (Unit {0}) Fault)
     → IfSome files (λ f. span_at f source config name ≡ right (u, sp)) → IfSome files (λ f. table_at f file ≡ right rows) → TellsRecheck u sp rows before after r → CommandEnds (recheck source config name file) (call_of files faults faults before after) r
 rechecked_ends files faults before after source config name file u sp rows (Ok done) s t h = record {
   writes = record {
@@ -129,51 +191,123 @@ rechecked_ends files faults before after source config name file u sp rows (Err 
 rechecked_ends files faults before after source config name file u sp rows (Err (fault.Stim line kind)) s t h = absurd h
 rechecked_ends files faults before after source config name file u sp rows (Err (fault.Table line kind)) s t h = absurd h
 
--- ---- what the reads of a recheck fail with
+-- ---- what the stages that read fail with
 
--- what the table file fails with, where the files come to this span
-pub table_fails : (files : Option Files) (before after : Faults) (out : Output) (source : List ℕ) (config : Option (List ℕ)) (name table_name : List ℕ) (u : Setup) (sp : Span) (e : Fault)
-    → IfSome files (λ f. span_at f source config name ≡ right (u, sp)) → ReadFails (shelved files before after) (table_plan table_name) e → CommandEnds (recheck source config name table_name) (call_of files before after out out) (Err e)
-table_fails files before after out source config name table_name u sp (fault.Shelf file.Source) t h = absurd h.0
-table_fails files before after out source config name table_name u sp (fault.Shelf file.Words) t h = absurd h.0
-table_fails files before after out source config name table_name u sp (fault.Shelf file.Config) t h = absurd h.0
-table_fails files before after out source config name table_name u sp (fault.Shelf file.Stimulus) t h = absurd h.0
-table_fails files before after out source config name table_name u sp (fault.Shelf file.Table) t h = record { named = h.0; reached = told files _ _ (λ f e. ap is_right e) t; out = refl }
-table_fails files before after out source config name table_name u sp fault.Memory t h = record { shelf = h; out = refl }
-table_fails files before after out source config name table_name u sp fault.Usage t h = absurd h
-table_fails files before after out source config name table_name u sp fault.Out t h = absurd h
-table_fails files before after out source config name table_name u sp (fault.Unproved n refusal) t h = absurd h
-table_fails files before after out source config name table_name u sp (fault.Flaw n flaw) t h = absurd h
-table_fails files before after out source config name table_name u sp (fault.TooLong role) t h = record { judged = both_told files _ _ _ (λ f s g. judged_wrong f source config name table_name u sp (fault.TooLong role) s g) t h.1; untouched = record { shelf = h.0; out = refl } }
-table_fails files before after out source config name table_name u sp (fault.Words line kind) t h = record { judged = both_told files _ _ _ (λ f s g. judged_wrong f source config name table_name u sp (fault.Words line kind) s g) t h.1; untouched = record { shelf = h.0; out = refl } }
-table_fails files before after out source config name table_name u sp (fault.Source line kind) t h = record { judged = both_told files _ _ _ (λ f s g. judged_wrong f source config name table_name u sp (fault.Source line kind) s g) t h.1; untouched = record { shelf = h.0; out = refl } }
-table_fails files before after out source config name table_name u sp (fault.Config key kind) t h = record { judged = both_told files _ _ _ (λ f s g. judged_wrong f source config name table_name u sp (fault.Config key kind) s g) t h.1; untouched = record { shelf = h.0; out = refl } }
-table_fails files before after out source config name table_name u sp (fault.Stim line kind) t h = record { judged = both_told files _ _ _ (λ f s g. judged_wrong f source config name table_name u sp (fault.Stim line kind) s g) t h.1; untouched = record { shelf = h.0; out = refl } }
-table_fails files before after out source config name table_name u sp (fault.Table line kind) t h = record { judged = both_told files _ _ _ (λ f s g. judged_wrong f source config name table_name u sp (fault.Table line kind) s g) t h.1; untouched = record { shelf = h.0; out = refl } }
-table_fails files before after out source config name table_name u sp fault.NoSpan t h = record { judged = both_told files _ _ _ (λ f s g. judged_wrong f source config name table_name u sp fault.NoSpan s g) t h.1; untouched = record { shelf = h.0; out = refl } }
+-- the file of a failed fetch is one of the command's
+shelf_fails : (a : Asked) (files : Option Files) (before after : Faults) (out : Output) (role : File) (at : Option (List ℕ)) (Reached : Files → Type 0)
+    → ((name : List ℕ) → at ≡ Some name → file_in a role ≡ Some name)
+    → ((name : List ℕ) → at ≡ Some name → IfSome files Reached → IfSome files (λ f. reaches f a role ≡ true))
+    → HasSuch at (λ name. after ≡ failed_at name before) → IfSome files Reached → ShelfFails (call_of files before after out out) a role
+shelf_fails a files before after out role None Reached named reached h r = absurd h
+shelf_fails a files before after out role (Some name) Reached named reached h r = record {
+  named = subst (λ (o : Option (List ℕ)). HasSuch o (λ n. after ≡ failed_at n before)) (sym (named name refl)) h;
+  reached = reached name refl r;
+  out = refl;
+}
 
-prepared_wrong : (f : Files) (source : List ℕ) (config : Option (List ℕ)) (name table_name : List ℕ) (e : Fault) → prepared_at f source config None ≡ wrong e → judge f (recheck source config name table_name) ≡ wrong e
-unfolding judge recheck_at span_at
-prepared_wrong f source config name table_name e h =
-    ap (λ (j : Judged (Setup × List Line)). and_then (and_then (and_then j (λ prepared. judged_span prepared.0 (span_named name prepared.0.spans))) (λ asked. and_then (table_at f table_name) (λ rows. right (asked, rows)))) (λ asked. right (rechecked asked.0.0 asked.0.1 asked.1))) h
+-- A stage that reads files of a command, and comes to them only where the command does, ends it where it fails. What its files
+-- come to is what the command's do.
+read_fails : {X : Type 0} (a : Asked) (files : Option Files) (before after : Faults) (out : Output) (plan : Plan X) (e : Fault)
+    → ((role : File) (name : List ℕ) → plan.file_in role ≡ Some name → file_in a role ≡ Some name)
+    → ((role : File) (name : List ℕ) → plan.file_in role ≡ Some name → IfSome files (λ f. plan.reaches f role ≡ true) → IfSome files (λ f. reaches f a role ≡ true))
+    → (IfSome files (λ f. plan.comes_to f ≡ wrong e) → IfSome files (λ f. judge f a ≡ wrong e))
+    → ReadFails (shelved files before after) plan e → CommandEnds a (call_of files before after out out) (Err e)
+read_fails a files before after out plan (fault.Shelf role) named reached wrongs h =
+    shelf_fails a files before after out role (plan.file_in role) (λ f. plan.reaches f role ≡ true) (named role) (reached role) h.0 h.1
+read_fails a files before after out plan fault.Memory named reached wrongs h = record { shelf = h; out = refl }
+read_fails a files before after out plan fault.Usage named reached wrongs h = absurd h
+read_fails a files before after out plan fault.Out named reached wrongs h = absurd h
+read_fails a files before after out plan (fault.Unproved n refusal) named reached wrongs h = absurd h
+read_fails a files before after out plan (fault.Flaw n flaw) named reached wrongs h = absurd h
+read_fails a files before after out plan (fault.TooLong role) named reached wrongs h = record { judged = wrongs h.1; untouched = record { shelf = h.0; out = refl } }
+read_fails a files before after out plan (fault.Words line kind) named reached wrongs h = record { judged = wrongs h.1; untouched = record { shelf = h.0; out = refl } }
+read_fails a files before after out plan (fault.Source line kind) named reached wrongs h = record { judged = wrongs h.1; untouched = record { shelf = h.0; out = refl } }
+read_fails a files before after out plan (fault.Config key kind) named reached wrongs h = record { judged = wrongs h.1; untouched = record { shelf = h.0; out = refl } }
+read_fails a files before after out plan (fault.Stim line kind) named reached wrongs h = record { judged = wrongs h.1; untouched = record { shelf = h.0; out = refl } }
+read_fails a files before after out plan (fault.Table line kind) named reached wrongs h = record { judged = wrongs h.1; untouched = record { shelf = h.0; out = refl } }
+read_fails a files before after out plan fault.NoSpan named reached wrongs h = record { judged = wrongs h.1; untouched = record { shelf = h.0; out = refl } }
 
--- what source and configuration fail with
-pub prepare_fails : (files : Option Files) (before after : Faults) (out : Output) (source : List ℕ) (config : Option (List ℕ)) (name table_name : List ℕ) (e : Fault)
+none_named : (name : List ℕ) → ◌≡◌ {A = Option (List ℕ)} None (Some name) → ⊥
+none_named name e = cc
+
+no_name : {T : Type 0} (name : List ℕ) → ◌≡◌ {A = Option (List ℕ)} None (Some name) → T
+no_name name e = absurd (none_named name e)
+
+-- what source and configuration fail with ends the command `table`
+pub table_unread : (files : Option Files) (before after : Faults) (out : Output) (source : List ℕ) (config : Option (List ℕ)) (name : List ℕ) (e : Fault)
+    → ReadFails (shelved files before after) (run_plan source config None) e → CommandEnds (table source config name) (call_of files before after out out) (Err e)
+table_unread files before after out source config name e h =
+    read_fails (table source config name) files before after out (run_plan source config None) e
+    (λ role n at. at) (λ role n at r. r) (λ w. told files _ _ (λ f g. table_wrong f source config name e (span_wrong f source config name e g)) w) h
+
+-- and the command `recheck`
+pub recheck_unread : (files : Option Files) (before after : Faults) (out : Output) (source : List ℕ) (config : Option (List ℕ)) (name table_name : List ℕ) (e : Fault)
     → ReadFails (shelved files before after) (run_plan source config None) e → CommandEnds (recheck source config name table_name) (call_of files before after out out) (Err e)
-prepare_fails files before after out source config name table_name (fault.Shelf file.Source) h = record { named = h.0; reached = h.1; out = refl }
-prepare_fails files before after out source config name table_name (fault.Shelf file.Config) h = record { named = h.0; reached = h.1; out = refl }
-prepare_fails files before after out source config name table_name (fault.Shelf file.Words) h = absurd h.0
-prepare_fails files before after out source config name table_name (fault.Shelf file.Stimulus) h = absurd h.0
-prepare_fails files before after out source config name table_name (fault.Shelf file.Table) h = absurd h.0
-prepare_fails files before after out source config name table_name fault.Memory h = record { shelf = h; out = refl }
-prepare_fails files before after out source config name table_name fault.Usage h = absurd h
-prepare_fails files before after out source config name table_name fault.Out h = absurd h
-prepare_fails files before after out source config name table_name (fault.Unproved n refusal) h = absurd h
-prepare_fails files before after out source config name table_name (fault.Flaw n flaw) h = absurd h
-prepare_fails files before after out source config name table_name (fault.TooLong role) h = record { judged = told files _ _ (λ f g. prepared_wrong f source config name table_name (fault.TooLong role) g) h.1; untouched = record { shelf = h.0; out = refl } }
-prepare_fails files before after out source config name table_name (fault.Words line kind) h = record { judged = told files _ _ (λ f g. prepared_wrong f source config name table_name (fault.Words line kind) g) h.1; untouched = record { shelf = h.0; out = refl } }
-prepare_fails files before after out source config name table_name (fault.Source line kind) h = record { judged = told files _ _ (λ f g. prepared_wrong f source config name table_name (fault.Source line kind) g) h.1; untouched = record { shelf = h.0; out = refl } }
-prepare_fails files before after out source config name table_name (fault.Config key kind) h = record { judged = told files _ _ (λ f g. prepared_wrong f source config name table_name (fault.Config key kind) g) h.1; untouched = record { shelf = h.0; out = refl } }
-prepare_fails files before after out source config name table_name (fault.Stim line kind) h = record { judged = told files _ _ (λ f g. prepared_wrong f source config name table_name (fault.Stim line kind) g) h.1; untouched = record { shelf = h.0; out = refl } }
-prepare_fails files before after out source config name table_name (fault.Table line kind) h = record { judged = told files _ _ (λ f g. prepared_wrong f source config name table_name (fault.Table line kind) g) h.1; untouched = record { shelf = h.0; out = refl } }
-prepare_fails files before after out source config name table_name fault.NoSpan h = record { judged = told files _ _ (λ f g. prepared_wrong f source config name table_name fault.NoSpan g) h.1; untouched = record { shelf = h.0; out = refl } }
+recheck_unread files before after out source config name table_name e h =
+    read_fails (recheck source config name table_name) files before after out (run_plan source config None) e
+    named reached (λ w. told files _ _ (λ f g. recheck_wrong f source config name table_name e (span_wrong f source config name e g)) w) h
+  where
+    named : (role : File) (n : List ℕ) → run_files source config None role ≡ Some n → file_in (recheck source config name table_name) role ≡ Some n
+    named file.Source n at = at
+    named file.Words n at = at
+    named file.Config n at = at
+    named file.Stimulus n at = at
+    named file.Table n at = no_name n at
+    reached : (role : File) (n : List ℕ) → run_files source config None role ≡ Some n → IfSome files (λ f. run_reaches f source config role ≡ true)
+        → IfSome files (λ f. reaches f (recheck source config name table_name) role ≡ true)
+    reached file.Source n at r = r
+    reached file.Words n at r = r
+    reached file.Config n at r = r
+    reached file.Stimulus n at r = r
+    reached file.Table n at r = no_name n at
+
+-- what the table file fails with ends `recheck`, where the files come to this span
+pub recheck_unread_table : (files : Option Files) (before after : Faults) (out : Output) (source : List ℕ) (config : Option (List ℕ)) (name table_name : List ℕ) (u : Setup) (sp : Span) (e : Fault)
+    → IfSome files (λ f. span_at f source config name ≡ right (u, sp)) → ReadFails (shelved files before after) (table_plan table_name) e
+    → CommandEnds (recheck source config name table_name) (call_of files before after out out) (Err e)
+recheck_unread_table files before after out source config name table_name u sp e s h =
+    read_fails (recheck source config name table_name) files before after out (table_plan table_name) e
+    named reached (λ w. both_told files _ _ _ (λ f k g. judged_wrong f source config name table_name u sp e k g) s w) h
+  where
+    named : (role : File) (n : List ℕ) → table_alone table_name role ≡ Some n → file_in (recheck source config name table_name) role ≡ Some n
+    named file.Source n at = no_name n at
+    named file.Words n at = no_name n at
+    named file.Config n at = no_name n at
+    named file.Stimulus n at = no_name n at
+    named file.Table n at = at
+    reached : (role : File) (n : List ℕ) → table_alone table_name role ≡ Some n → IfSome files (λ f. ◌≡◌ {A = Bool} true true)
+        → IfSome files (λ f. reaches f (recheck source config name table_name) role ≡ true)
+    reached file.Source n at r = no_name n at
+    reached file.Words n at r = no_name n at
+    reached file.Config n at r = no_name n at
+    reached file.Stimulus n at r = no_name n at
+    reached file.Table n at r = told files _ _ (λ f k. ap is_right k) s
+
+-- ---- the same where the shelf after a stage is told by equations
+
+-- what was told of the span of a name ends `table`
+pub table_found_ends : (files : Option Files) (before after : Faults) (out_before out_after : Output) (source : List ℕ) (config : Option (List ℕ)) (name : List ℕ)
+    (u : Setup) (lines : List Line) (sp : Span) (r : Result (Unit {0}) Fault) → after ≡ before → IfSome files (λ f. prepared_at f source config None ≡ right (u, lines))
+    → Some sp ≡ span_named name u.spans → TellsTable u sp out_before out_after r → CommandEnds (table source config name) (call_of files before after out_before out_after) r
+table_found_ends files before after out_before out_after source config name u lines sp r same t found h =
+    subst (λ (x : Faults). CommandEnds (table source config name) (call_of files before x out_before out_after) r) (sym same)
+    (tabled_ends files before out_before out_after source config name u sp r (span_told files source config name u lines sp t found) h)
+
+-- what was told of it and of a table file ends `recheck`
+pub recheck_found_ends : (files mid_files : Option Files) (before mid after : Faults) (out_before out_after : Output) (source : List ℕ) (config : Option (List ℕ)) (name table_name : List ℕ)
+    (u : Setup) (lines : List Line) (sp : Span) (r : Result (Unit {0}) Fault) → mid_files ≡ files → mid ≡ before → IfSome files (λ f. prepared_at f source config None ≡ right (u, lines))
+    → Some sp ≡ span_named name u.spans
+    → (IfSome mid_files (λ f. span_at f source config name ≡ right (u, sp)) → CommandEnds (recheck source config name table_name) (call_of mid_files mid after out_before out_after) r)
+    → CommandEnds (recheck source config name table_name) (call_of files before after out_before out_after) r
+recheck_found_ends files mid_files before mid after out_before out_after source config name table_name u lines sp r same e t found h =
+    ends_later (recheck source config name table_name) files mid_files before mid after out_before out_after r same e
+    (h (subst (λ (x : Option Files). IfSome x (λ f. span_at f source config name ≡ right (u, sp))) (sym same) (span_told files source config name u lines sp t found)))
+
+-- what was told of a table ends `recheck`
+pub recheck_read_ends : (files : Option Files) (before after : Faults) (out_before out_after : Output) (source : List ℕ) (config : Option (List ℕ)) (name table_name : List ℕ)
+    (u : Setup) (sp : Span) (rows : List Row) (r : Result (Unit {0}) Fault) → after ≡ before → IfSome files (λ f. span_at f source config name ≡ right (u, sp))
+    → IfSome files (λ f. table_at f table_name ≡ right rows) → TellsRecheck u sp rows out_before out_after r
+    → CommandEnds (recheck source config name table_name) (call_of files before after out_before out_after) r
+recheck_read_ends files before after out_before out_after source config name table_name u sp rows r same s t h =
+    subst (λ (x : Faults). CommandEnds (recheck source config name table_name) (call_of files before x out_before out_after) r) (sym same)
+    (rechecked_ends files before out_before out_after source config name table_name u sp rows r s t h)

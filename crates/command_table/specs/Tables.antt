@@ -1,7 +1,7 @@
 -- What it means that a table is told, and that a table was rechecked.
 --   TellsTable    the text of the least closed table was taken and handed on, or why not
 --   TellsRecheck  the line of a table that proves a span was taken and handed on, or why not
-use Rattle.std.specs.Prelude.{◌≡◌, List, Result, Ok, Err}
+use Rattle.std.specs.Prelude.{◌≡◌, ◌⊎◌, List, Result, Ok, Err}
 use Rattle.pin_matrix.specs.declared.setup.Setup.{Setup}
 use Rattle.pin_matrix.specs.declared.span.Span.{Span}
 use Rattle.span_bounds.specs.declared.row.Row.{Row}
@@ -19,15 +19,11 @@ use Rattle.call_ends.specs.Written.{HasTaken, TakesPart}
 
 -- the fault is that of a span that is refused, or want of memory
 abbrev pub IsRefusalOf : Span → Refusal → Fault → Type 0
-IsRefusalOf sp refusal (fault.Unproved name r) = (name ≡ sp.name) × (r ≡ refusal)
-IsRefusalOf sp refusal fault.Memory = Unit {0}
-IsRefusalOf sp refusal e = ⊥
+IsRefusalOf sp refusal e = (e ≡ fault.Unproved sp.name refusal) ⊎ (e ≡ fault.Memory)
 
 -- the fault is that of a table that has this flaw, or want of memory
 abbrev pub IsFlawOf : Span → Flaw → Fault → Type 0
-IsFlawOf sp flaw (fault.Flaw name f) = (name ≡ sp.name) × (f ≡ flaw)
-IsFlawOf sp flaw fault.Memory = Unit {0}
-IsFlawOf sp flaw e = ⊥
+IsFlawOf sp flaw e = (e ≡ fault.Flaw sp.name flaw) ⊎ (e ≡ fault.Memory)
 
 -- The span is provable and holds in every run, and the text of its least closed table was taken and handed on, or a first part of
 -- it where the output failed; or the span isn't provable, and this is why; or memory ran out. Of the last two nothing is written.

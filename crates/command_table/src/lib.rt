@@ -2,8 +2,10 @@
 #![tactic(auto)]
 
 mod fault;
+mod laws;
 mod rechecking;
 mod writing;
 
+pub use laws::a_written_table_is_a_proof;
 pub use rechecking::recheck;
 pub use writing::table;
