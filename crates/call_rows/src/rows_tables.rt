@@ -283,14 +283,8 @@ pub static FAULTY_TABLES: [(&str, &str); 25] = [
     ("pio table 1\n32 0 0 0 0 -\nend\n", "2: B2"),
     ("pio table 1\n0 0 0 2 0 -\nend\n", "2: B2"),
     ("pio table 1\n0 0 0 0 0 0 16777217\nend\n", "2: B2"),
-    (
-        "pio table 1\n0 0 0 0 0 -\n0 0 0 0 0 0 1\nend\n",
-        "3: B3",
-    ),
-    (
-        "pio table 1\n0 any 0 0 0 -\n0 31 0 0 0 -\nend\n",
-        "3: B3",
-    ),
+    ("pio table 1\n0 0 0 0 0 -\n0 0 0 0 0 0 1\nend\n", "3: B3"),
+    ("pio table 1\n0 any 0 0 0 -\n0 31 0 0 0 -\nend\n", "3: B3"),
 ];
 
 /// The call of `recheck` whose table file is this one.

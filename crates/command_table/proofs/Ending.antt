@@ -253,6 +253,7 @@ recheck_unread files before after out source config name table_name e h =
     named file.Config n at = at
     named file.Stimulus n at = at
     named file.Table n at = no_name n at
+
     reached : (role : File) (n : List ℕ) → run_files source config None role ≡ Some n → IfSome files (λ f. run_reaches f source config role ≡ true)
         → IfSome files (λ f. reaches f (recheck source config name table_name) role ≡ true)
     reached file.Source n at r = r
@@ -275,6 +276,7 @@ recheck_unread_table files before after out source config name table_name u sp e
     named file.Config n at = no_name n at
     named file.Stimulus n at = no_name n at
     named file.Table n at = at
+
     reached : (role : File) (n : List ℕ) → table_alone table_name role ≡ Some n → IfSome files (λ f. ◌≡◌ {A = Bool} true true)
         → IfSome files (λ f. reaches f (recheck source config name table_name) role ≡ true)
     reached file.Source n at r = no_name n at

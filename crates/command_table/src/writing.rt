@@ -51,12 +51,7 @@ pub fn table<'a, F: Shelf, O: Sink>(
 }
 
 /// Writes the table of a span, whose machine is configured, where it is provable.
-fn tell_table<O: Sink>(
-    alloc: Global,
-    setup: &Setup,
-    span: &Span,
-    out: &mut O,
-) -> Result<(), Fault>
+fn tell_table<O: Sink>(alloc: Global, setup: &Setup, span: &Span, out: &mut O) -> Result<(), Fault>
     requires { IsSome (slice_index_or setup.now.machines span.now.machine None) }
     ensures { TellsTable setup.now span.now (output_of (O.taken out.old) (O.waiting out.old) (O.faults out.old))
         (output_of (O.taken out.new) (O.waiting out.new) (O.faults out.new)) result }
