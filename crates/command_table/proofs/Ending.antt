@@ -43,6 +43,13 @@ ends_later a files mid_files before mid after out_before out_after r same e h =
 
 -- ---- what the commands come to where a stage has a fault
 
+-- a span and the rows of a table file; and what `recheck` comes to from both
+abbrev with_rows : Judged (List Row) → Setup × Span → Judged ((Setup × Span) × List Row)
+with_rows read asked = and_then read (λ rows. right (asked, rows))
+
+abbrev as_task : Judged ((Setup × Span) × List Row) → Judged Task
+as_task j = and_then j (λ asked. right (rechecked asked.0.0 asked.0.1 asked.1))
+
 span_wrong : (f : Files) (source : List ℕ) (config : Option (List ℕ)) (name : List ℕ) (e : Fault) → prepared_at f source config None ≡ wrong e → span_at f source config name ≡ wrong e
 unfolding span_at
 span_wrong f source config name e h = ap (λ (j : Judged (Setup × List Line)). and_then j (λ prepared. judged_span prepared.0 (span_named name prepared.0.spans))) h
@@ -54,7 +61,7 @@ table_wrong f source config name e h = ap (λ (j : Judged (Setup × Span)). and_
 recheck_wrong : (f : Files) (source : List ℕ) (config : Option (List ℕ)) (name table_name : List ℕ) (e : Fault) → span_at f source config name ≡ wrong e → judge f (recheck source config name table_name) ≡ wrong e
 unfolding judge recheck_at
 recheck_wrong f source config name table_name e h =
-    ap (λ (j : Judged (Setup × Span)). and_then (and_then j (λ asked. and_then (table_at f table_name) (λ rows. right (asked, rows)))) (λ asked. right (rechecked asked.0.0 asked.0.1 asked.1))) h
+    ap (λ (j : Judged (Setup × Span)). as_task (and_then j (λ asked. with_rows (table_at f table_name) asked))) h
 
 -- ---- the span of a name
 
@@ -105,18 +112,18 @@ tabled_ends : (files : Option Files) (faults : Faults) (before after : Output) (
     → IfSome files (λ f. span_at f source config name ≡ right (u, sp)) → TellsTable u sp before after r → CommandEnds (table source config name) (call_of files faults faults before after) r
 tabled_ends files faults before after source config name u sp (Ok done) t h = record {
   writes = record {
-    text = told files _ _ (λ f e. if_right _ _ _ (judged_tabled f source config name u sp e) (h.1.1.0, h.1.1.1.0, h.1.1.1.1.taken)) t;
-    handed = h.1.1.1.1.handed;
-    out = h.1.1.1.1.faults;
+    text = told files _ _ (λ f e. if_right _ _ _ (judged_tabled f source config name u sp e) (h.1.1.0, h.1.1.1, h.1.1.2.taken)) t;
+    handed = h.1.1.2.handed;
+    out = h.1.1.2.faults;
   };
   spans = told files _ _ (λ f e. if_right _ _ _ (judged_tabled f source config name u sp e) h.0) t;
   holds = told files _ _ (λ f e. if_right _ _ _ (judged_tabled f source config name u sp e) h.1.0) t;
   shelf = refl;
 }
 tabled_ends files faults before after source config name u sp (Err fault.Out) t h = record {
-  part = told files _ _ (λ f e. if_right _ _ _ (judged_tabled f source config name u sp e) (h.1.0, h.1.1.0, h.1.1.1.part)) t;
+  part = told files _ _ (λ f e. if_right _ _ _ (judged_tabled f source config name u sp e) (h.1.0, h.1.1, h.1.2.part)) t;
   spans = told files _ _ (λ f e. if_right _ _ _ (judged_tabled f source config name u sp e) h.0) t;
-  rose = h.1.1.1.rose;
+  rose = h.1.2.rose;
   shelf = refl;
 }
 tabled_ends files faults before after source config name u sp (Err fault.Memory) t h = record { shelf = refl; out = h }
@@ -142,15 +149,15 @@ judged_rechecked : (f : Files) (source : List ℕ) (config : Option (List ℕ)) 
     → judge f (recheck source config name file) ≡ right (rechecked u sp rows)
 unfolding judge recheck_at
 judged_rechecked f source config name file u sp rows e g =
-    ap (λ (j : Judged (Setup × Span)). and_then (and_then j (λ asked. and_then (table_at f file) (λ rows. right (asked, rows)))) (λ asked. right (rechecked asked.0.0 asked.0.1 asked.1))) e
-    ∙ ap (λ (j : Judged (List Row)). and_then (and_then j (λ rows. right ((u, sp), rows))) (λ asked. right (rechecked asked.0.0 asked.0.1 asked.1))) g
+    ap (λ (j : Judged (Setup × Span)). as_task (and_then j (λ asked. with_rows (table_at f file) asked))) e
+    ∙ ap (λ (j : Judged (List Row)). as_task (with_rows j (u, sp))) g
 
 judged_wrong : (f : Files) (source : List ℕ) (config : Option (List ℕ)) (name file : List ℕ) (u : Setup) (sp : Span) (e : Fault) → span_at f source config name ≡ right (u, sp) → table_at f file ≡ wrong e
     → judge f (recheck source config name file) ≡ wrong e
 unfolding judge recheck_at
 judged_wrong f source config name file u sp e s g =
-    ap (λ (j : Judged (Setup × Span)). and_then (and_then j (λ asked. and_then (table_at f file) (λ rows. right (asked, rows)))) (λ asked. right (rechecked asked.0.0 asked.0.1 asked.1))) s
-    ∙ ap (λ (j : Judged (List Row)). and_then (and_then j (λ rows. right ((u, sp), rows))) (λ asked. right (rechecked asked.0.0 asked.0.1 asked.1))) g
+    ap (λ (j : Judged (Setup × Span)). as_task (and_then j (λ asked. with_rows (table_at f file) asked))) s
+    ∙ ap (λ (j : Judged (List Row)). as_task (with_rows j (u, sp))) g
 
 -- where the files come to this span and this table, what was told of them ends the command `recheck`
 rechecked_ends : (files : Option Files) (faults : Faults) (before after : Output) (source : List ℕ) (config : Option (List ℕ)) (name file : List ℕ) (u : Setup) (sp : Span) (rows : List Row) (r : Result (Unit {0}) Fault)

@@ -1,11 +1,12 @@
 //! The command `table`: the table that proves a span, as a text that anyone can recheck.
-ghost use Rattle.std.specs.Prelude.{◌≡◌, IsSome, None, option_map, slice_index_or};
+ghost use Rattle.std.specs.Prelude.{◌≡◌, IfOk, IsSome, None, option_map, slice_index_or};
 ghost use Rattle.command_line.specs.Words.{table as table_asked};
 ghost use Rattle.table_files.specs.Rows.{table_text};
 ghost use Rattle.call_ends.specs.Outside.{call_of};
 ghost use Rattle.call_ends.specs.Promise.{CommandEnds};
 ghost use Rattle.call_ends.specs.Written.{Writes};
-ghost use Rattle.command_table.specs.Tables.{TellsTable};
+ghost use Rattle.command_table.specs.Tables as spec;
+ghost use Rattle.command_table.specs.Tables.{IsFound, TellsTable};
 ghost use Rattle.fault_lines.specs.Output.{output_of};
 
 use crate::fault::unproved;
@@ -17,7 +18,7 @@ use span_bounds::Table;
 use span_check::check;
 use span_stage::span_named;
 use span_verdict::Verdict;
-use std::alloc::Global;
+use std::alloc::{AllocError, Global};
 use table_files::put_table;
 use verdict_lines::Refusal;
 
@@ -56,13 +57,36 @@ fn tell_table<O: Sink>(alloc: Global, setup: &Setup, span: &Span, out: &mut O) -
     ensures { TellsTable setup.now span.now (output_of (O.taken out.old) (O.waiting out.old) (O.faults out.old))
         (output_of (O.taken out.new) (O.waiting out.new) (O.faults out.new)) result }
 {
-    match check(alloc, setup, span) {
-        Ok(Verdict::Proved { table, .. }) => write_table(out, &table),
-        Ok(Verdict::Unproved(context, cause)) => {
-            Err(unproved(alloc, span, Refusal::Unproved(context, cause)))
-        }
-        Ok(Verdict::Shared(machine)) => Err(unproved(alloc, span, Refusal::Shared(machine))),
+    match found_table(alloc, setup, span) {
+        Ok(Ok(table)) => write_table(out, &table),
+        Ok(Err(refusal)) => Err(unproved(alloc, span, refusal)),
         Err(_) => Err(Fault::Memory),
+    }
+}
+
+/// The table of a span, whose machine is configured, or why it isn't provable. The error is want of memory.
+fn found_table(
+    alloc: Global,
+    setup: &Setup,
+    span: &Span,
+) -> Result<Result<Table, Refusal>, AllocError>
+    requires { IsSome (slice_index_or setup.now.machines span.now.machine None) }
+    ensures { IfOk result (λ found. IsFound setup.now span.now found) }
+{
+    match check(alloc, setup, span) {
+        Ok(verdict) => Ok(table_or(verdict)),
+        Err(error) => Err(error),
+    }
+}
+
+/// The table of a verdict that is proved, or why it isn't.
+fn table_or(verdict: Verdict) -> Result<Table, Refusal>
+    ensures { result ≡ spec.table_or verdict }
+{
+    match verdict {
+        Verdict::Proved { table, .. } => Ok(table),
+        Verdict::Unproved(context, cause) => Err(Refusal::Unproved(context, cause)),
+        Verdict::Shared(machine) => Err(Refusal::Shared(machine)),
     }
 }
 
