@@ -1,4 +1,5 @@
 pub mod Outside
+pub mod Needs
 pub mod Tasks
 pub mod Promise
 pub mod Written

@@ -5,13 +5,14 @@ use Rattle.pio_edge.specs.Edge.{Rose, with_bytes, TakesPrefix}
 use Rattle.fault_lines.specs.declared.fault.File.{File}
 use Rattle.fault_lines.specs.declared.fault.Fault.{Fault}
 use Rattle.fault_lines.specs.declared.fault.Fault.TheVariants as fault
+use Rattle.span_verdict.specs.declared.table_flaw.Flaw.{Flaw}
 use Rattle.verdict_lines.specs.declared.refusal.Refusal.{Refusal}
-use Rattle.command_line.specs.Words.{Asked, asm, run, check, shares, gen, dis}
-use Rattle.span_stage.specs.Spans.{AreProvable, AllHold, IsFirstRefused}
+use Rattle.command_line.specs.Words.{Asked, asm, run, check, table, recheck, shares, gen, dis}
 use Rattle.file_stages.specs.Judged.{wrong}
 use Rattle.file_stages.specs.Stages.{HasSuch}
 use Rattle.call_ends.specs.Outside.{Call, Untouched, SameShelf, SameOut}
-use Rattle.call_ends.specs.Tasks.{judge, ComesTo, HasText, asked_setup, AskedBefore, file_in, reaches}
+use Rattle.call_ends.specs.Needs.{IsMet, AllRunsHold, IsRefusedBy, IsFlawed}
+use Rattle.call_ends.specs.Tasks.{judge, ComesTo, HasText, need_of, AskedBefore, file_in, reaches}
 
 -- the output took exactly the text, and handed all of it on
 pub record Writes (c : Call) (a : Asked) : Type 0 where
@@ -19,27 +20,35 @@ pub record Writes (c : Call) (a : Asked) : Type 0 where
   pub handed : c.out_after.waiting ≡ []
   pub out : c.out_after.faults ≡ c.out_before.faults
 
--- all was done: the text was written, each span that was asked is provable, so it holds in every run; nothing failed
+-- all was done: the text was written, each span that was asked is provable or proved by a table, so it holds in every run; nothing
+-- failed
 pub record Passes (c : Call) (a : Asked) : Type 0 where
   pub writes : Writes c a
-  pub spans : ComesTo c a (λ task. IfSome (asked_setup task) AreProvable)
-  pub holds : ComesTo c a (λ task. IfSome (asked_setup task) AllHold)
+  pub spans : ComesTo c a (λ task. IsMet (need_of task))
+  pub holds : ComesTo c a (λ task. AllRunsHold (need_of task))
   pub shelf : SameShelf c
 
--- what is written where a span isn't provable: nothing by `run`, and the whole text by `check`
+-- what is written where a span isn't provable: the whole text by `check`, and nothing by the other commands that ask spans
 abbrev pub WritesRefused : Asked → Call → Type 0
 WritesRefused (asm name) c = ⊥
 WritesRefused (run source config stimulus clocks) c = SameOut c
 WritesRefused (check source config) c = Writes c (check source config)
+WritesRefused (table source config name) c = SameOut c
+WritesRefused (recheck source config name file) c = SameOut c
 WritesRefused (shares source config) c = ⊥
 WritesRefused (gen seed clocks) c = ⊥
 WritesRefused (dis name side opt) c = ⊥
 
 -- this is the first span that isn't provable, and why; nothing failed
 pub record Refuses (c : Call) (a : Asked) (name : List ℕ) (refusal : Refusal) : Type 0 where
-  pub first : ComesTo c a (λ task. HasSuch (asked_setup task) (λ u. IsFirstRefused u u.spans name refusal))
+  pub first : ComesTo c a (λ task. IsRefusedBy (need_of task) name refusal)
   pub out : WritesRefused a c
   pub shelf : SameShelf c
+
+-- this is wrong first with the table, and nothing was written
+pub record Flawed (c : Call) (a : Asked) (name : List ℕ) (flaw : Flaw) : Type 0 where
+  pub first : ComesTo c a (λ task. IsFlawed (need_of task) name flaw)
+  pub untouched : Untouched c
 
 -- one fetch failed, and it was that of the command's file of this role, to which it comes
 pub record ShelfFails (c : Call) (a : Asked) (role : File) : Type 0 where
@@ -66,6 +75,7 @@ Ends None c (Some fault.Usage) = Untouched c
 Ends asked c (Some fault.Memory) = Untouched c
 Ends (Some a) c (Some (fault.Shelf role)) = ShelfFails c a role
 Ends (Some a) c (Some (fault.Unproved name refusal)) = Refuses c a name refusal
+Ends (Some a) c (Some (fault.Flaw name flaw)) = Flawed c a name flaw
 Ends (Some a) c (Some fault.Out) = OutFails c a
 Ends None c found = ⊥
 Ends (Some a) c (Some fault.Usage) = ⊥

@@ -2,8 +2,9 @@
 --   Task        what the files have a command do
 --   judge       what a command comes to
 --   HasText     the text of a task is such; ComesTo: the told files come to a task that is such
+--   need_of     what a task needs of spans, beside its text
 --   file_in     which file a command reads in a role; reaches: when it comes to it
-use Rattle.std.specs.Prelude.{ℕ, Bool, true, Option, Some, None, IfSome, List}
+use Rattle.std.specs.Prelude.{ℕ, Bool, true, Option, None, IfSome, List}
 use Rattle.pio_edge.specs.Edge.{Files}
 use Rattle.fault_lines.specs.declared.fault.File.{File}
 use Rattle.vcd_trace.specs.VcdText.{vcd_text}
@@ -11,34 +12,45 @@ use Rattle.dreq_pacing.specs.declared.line.Line.{Line}
 use Rattle.block_core.specs.Block.{Run, first_run}
 use Rattle.block_core.specs.Hosted.{samples}
 use Rattle.pin_matrix.specs.declared.setup.Setup.{Setup}
-use Rattle.block_shares.specs.Report.{shares_text}
-use Rattle.load_summary.specs.Summaries.{summary_of, summary_text}
-use Rattle.command_line.specs.Words.{Asked, asm, run, check, shares, gen, dis}
+use Rattle.pin_matrix.specs.declared.span.Span.{Span}
+use Rattle.span_bounds.specs.declared.row.Row.{Row}
+use Rattle.span_bounds.specs.Answers.{IsGoodLeast}
+use Rattle.table_files.specs.Rows.{table_text}
+use Rattle.table_files.specs.FlawLines.{rechecked_line}
+use Rattle.command_line.specs.Words.{Asked, asm, run, check, table, recheck, shares, gen, dis}
 use Rattle.program_listing.specs.Listing.{listing_text}
 use Rattle.word_file.specs.Listing.{word_lines, rule_for}
-use Rattle.span_stage.specs.Spans.{AreProvable, HasVerdicts}
-use Rattle.file_stages.specs.Judged.{Judged, right, and_then, IfRight, source_at, words_at, prepared_at}
-use Rattle.file_stages.specs.Roles.{source_alone, words_alone, run_files, no_file, run_reaches}
+use Rattle.block_shares.specs.Report.{shares_text}
+use Rattle.load_summary.specs.Summaries.{summary_of, summary_text}
+use Rattle.span_stage.specs.Spans.{HasVerdicts}
+use Rattle.file_stages.specs.Judged.{Judged, right, and_then, IfRight, source_at, words_at, prepared_at, span_at, recheck_at}
+use Rattle.file_stages.specs.Roles.{source_alone, words_alone, run_files, no_file, run_reaches, recheck_files, recheck_reaches}
 use Rattle.call_ends.specs.Outside.{Call}
+use Rattle.call_ends.specs.Needs.{Need, nothing, all_spans, one_span, by_table, IsMet}
 
--- What the files have a command do: write a text; write a text where each span of a setup is provable; or write the lines of
--- the verdicts on the spans of a setup.
+-- What the files have a command do: write a text; write a text where each span of a setup is provable; write the lines of the
+-- verdicts on the spans of a setup; write the table of a span where it is provable; or tell that a table proves a span.
 pub data Task : Type 0 where
   listing : List ℕ → Task
   trace : Setup → List ℕ → Task
   verdicts : Setup → Task
+  tabled : Setup → Span → Task
+  rechecked : Setup → Span → List Row → Task
 
 -- the text of so many clocks from a start, beside the lines of a stimulus
 unfoldable pub trace_text : Run → List Line → ℕ → List ℕ
 trace_text start lines clocks = vcd_text (samples start lines clocks)
 
--- what a command comes to; `check` and `shares` read what a run without a stimulus reads
+-- what a command comes to; `check`, `table` and `shares` read what a run without a stimulus reads
 unfoldable pub judge : Files → Asked → Judged Task
 judge files (asm name) = and_then (source_at files name) (λ programs. right (listing (listing_text programs)))
 judge files (run source config stimulus clocks) =
     and_then (prepared_at files source config stimulus)
     (λ prepared. right (trace prepared.0 (trace_text (first_run prepared.0) prepared.1 clocks)))
 judge files (check source config) = and_then (prepared_at files source config None) (λ prepared. right (verdicts prepared.0))
+judge files (table source config name) = and_then (span_at files source config name) (λ asked. right (tabled asked.0 asked.1))
+judge files (recheck source config name file) =
+    and_then (recheck_at files source config name file) (λ asked. right (rechecked asked.0.0 asked.0.1 asked.1))
 judge files (shares source config) =
     and_then (prepared_at files source config None) (λ prepared. right (listing (shares_text prepared.0)))
 judge files (gen seed clocks) = right (listing (summary_text (summary_of seed clocks)))
@@ -48,29 +60,38 @@ judge files (dis name side opt) = and_then (words_at files name) (λ words. righ
 abbrev pub ComesTo : Call → Asked → (Task → Type 0) → Type 0
 ComesTo c a P = IfSome c.files (λ f. IfRight (judge f a) P)
 
+-- the text of the least closed table of a span, which is good, is such
+abbrev pub HasTable : Setup → Span → (List ℕ → Type 0) → Type 0
+HasTable u sp P = (rows : List Row) × IsGoodLeast u sp rows × P (table_text rows)
+
 -- the text that a task writes is such
 abbrev pub HasText : Task → (List ℕ → Type 0) → Type 0
 HasText (listing text) P = P text
 HasText (trace u text) P = P text
 HasText (verdicts u) P = HasVerdicts u P
+HasText (tabled u sp) P = HasTable u sp P
+HasText (rechecked u sp rows) P = P (rechecked_line sp.name)
 
--- the setup whose spans are asked
-abbrev pub asked_setup : Task → Option Setup
-asked_setup (listing text) = None
-asked_setup (trace u text) = Some u
-asked_setup (verdicts u) = Some u
+-- what a task needs, beside its text
+abbrev pub need_of : Task → Need
+need_of (listing text) = nothing
+need_of (trace u text) = all_spans u
+need_of (verdicts u) = all_spans u
+need_of (tabled u sp) = one_span u sp
+need_of (rechecked u sp rows) = by_table u sp rows
 
--- the spans that are asked before anything is written are provable
+-- what is asked before anything is written is met; `check` asks its spans, and writes before it ends with the first refusal
 abbrev pub AskedBefore : Task → Type 0
-AskedBefore (listing text) = Unit {0}
-AskedBefore (trace u text) = AreProvable u
 AskedBefore (verdicts u) = Unit {0}
+AskedBefore task = IsMet (need_of task)
 
 -- the name of the file that a command reads in this role, where it reads one
 abbrev pub file_in : Asked → File → Option (List ℕ)
 file_in (asm name) role = source_alone name role
 file_in (run source config stimulus clocks) role = run_files source config stimulus role
 file_in (check source config) role = run_files source config None role
+file_in (table source config name) role = run_files source config None role
+file_in (recheck source config name file) role = recheck_files source config file role
 file_in (shares source config) role = run_files source config None role
 file_in (gen seed clocks) role = no_file role
 file_in (dis name side opt) role = words_alone name role
@@ -80,6 +101,8 @@ abbrev pub reaches : Files → Asked → File → Bool
 reaches files (asm name) role = true
 reaches files (run source config stimulus clocks) role = run_reaches files source config role
 reaches files (check source config) role = run_reaches files source config role
+reaches files (table source config name) role = run_reaches files source config role
+reaches files (recheck source config name file) role = recheck_reaches files source config name role
 reaches files (shares source config) role = run_reaches files source config role
 reaches files (gen seed clocks) role = true
 reaches files (dis name side opt) role = true

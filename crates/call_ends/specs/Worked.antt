@@ -9,7 +9,7 @@ use Rattle.block_core.specs.Stirring.{stirring}
 use Rattle.pin_matrix.specs.declared.setup.Setup.{Setup}
 use Rattle.drawn_load.specs.Loads.{lines_of}
 use Rattle.load_summary.specs.Summaries.{start_of}
-use Rattle.command_line.specs.Words.{Asked, asm, run, check, shares, gen, dis}
+use Rattle.command_line.specs.Words.{Asked, asm, run, check, table, recheck, shares, gen, dis}
 use Rattle.file_stages.specs.Judged.{Judged, right, wrong, prepared_at}
 
 -- the clocks of a run that stir, and one more; none where its files have a fault
@@ -24,5 +24,7 @@ most_worked None (run source config stimulus clocks) = clocks
 most_worked files (gen seed clocks) = stirring (start_of seed) (lines_of seed) clocks + 1
 most_worked files (asm name) = 0
 most_worked files (check source config) = 0
+most_worked files (table source config name) = 0
+most_worked files (recheck source config name file) = 0
 most_worked files (shares source config) = 0
 most_worked files (dis name side opt) = 0

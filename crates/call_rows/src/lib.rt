@@ -22,8 +22,12 @@ mod rows_sources;
 #[cfg(test)]
 mod rows_spans;
 #[cfg(test)]
+mod rows_tables;
+#[cfg(test)]
 mod rows_verdicts;
 #[cfg(test)]
 mod span_tests;
+#[cfg(test)]
+mod table_tests;
 #[cfg(test)]
 mod tests;

@@ -28,7 +28,7 @@ pub struct Row<'a> {
     pub source: Option<&'a str>,
     /// What it holds under the name `c`.
     pub config: Option<&'a str>,
-    /// What it holds under the name `t`.
+    /// What it holds under the name `t`: a stimulus, or a table file.
     pub stimulus: Option<&'a str>,
     /// The calls of the output that fail, with what they take.
     pub out_fails: &'a [(u64, usize)],

@@ -20,7 +20,10 @@ tells_fails u found before after (fault.Words line kind) v h = absurd h
 tells_fails u found before after (fault.Source line kind) v h = absurd h
 tells_fails u found before after (fault.Config key kind) v h = absurd h
 tells_fails u found before after (fault.Stim line kind) v h = absurd h
+tells_fails u found before after fault.NoSpan v h = absurd h
+tells_fails u found before after (fault.Table line kind) v h = absurd h
 tells_fails u found before after (fault.Unproved name refusal) v h = absurd h
+tells_fails u found before after (fault.Flaw name flaw) v h = absurd h
 
 -- the same where spans and verdicts are seen by equations
 pub tells_failing : (u : Setup) (spans : List Span) (seen found : List (Result Bool Refusal)) (before after : Output) (e : Fault) → spans ≡ u.spans → seen ≡ found → AreVerdicts u u.spans found → Writes before after (verdict_text spans seen) (Err e) → TellsVerdicts u before after (Err e)

@@ -8,7 +8,7 @@ use Rattle.verdict_lines.specs.declared.refusal.Refusal.TheVariants.{Unproved, S
 use Rattle.span_stage.specs.Spans.{IsProvableAlone, IsRefused, IsFirstRefused}
 
 -- a span isn't both
-not_both : (u : Setup) (sp : Span) (r : Refusal) → IsProvableAlone u sp → IsRefused u sp r → ⊥
+pub not_both : (u : Setup) (sp : Span) (r : Refusal) → IsProvableAlone u sp → IsRefused u sp r → ⊥
 not_both u sp (Unproved k cause) p h = h.unprovable p.provable
 not_both u sp (Shared m) p h = let e = p.alone m in let f = h.sharing in cc
 

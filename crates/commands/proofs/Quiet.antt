@@ -1,7 +1,11 @@
 -- Completeness: what a quiet call comes to, end by end.
-use Rattle.std.proofs.Common.{◌≡◌, ◌≢◌, ℕ, Option, Some, None, List, IfSome, refl, sym, subst, le_refl}
+use Rattle.std.proofs.Common.{◌≡◌, ◌≢◌, ◌∙◌, ℕ, ◌<◌, Option, Some, None, List, IfSome, arith, refl, sym, ap, subst, le_refl}
 use Rattle.pin_matrix.specs.declared.setup.Setup.{Setup}
+use Rattle.pin_matrix.specs.declared.span.Span.{Span}
+use Rattle.span_verdict.specs.Sharing.{IsUnshared, IsLeastSharer}
+use Rattle.span_verdict.specs.declared.table_flaw.Flaw.{Flaw}
 use Rattle.verdict_lines.specs.declared.refusal.Refusal.{Refusal}
+use Rattle.verdict_lines.specs.declared.refusal.Refusal.TheVariants.{Unproved, Shared}
 use Rattle.pio_edge.specs.Count.{Faults, failed_at, one_more}
 use Rattle.pio_edge.specs.Edge.{Files, Rose, with_bytes}
 use Rattle.fault_lines.specs.declared.fault.Fault.{Fault}
@@ -10,14 +14,14 @@ use Rattle.clap.specs.Walk.{Text}
 use Rattle.command_line.specs.Words.{Asked, IsTaken}
 use Rattle.file_stages.specs.Judged.{Judged, right, wrong, IfRight}
 use Rattle.file_stages.specs.Stages.{HasSuch}
-use Rattle.span_stage.specs.Spans.{AreProvable, IsFirstRefused}
-use Rattle.call_ends.specs.Tasks.{Task, asked_setup, judge, file_in, HasText}
+use Rattle.call_ends.specs.Tasks.{Task, need_of, judge, file_in, HasText}
+use Rattle.call_ends.specs.Needs.{Need, nothing, all_spans, one_span, by_table, IsMet, IsRefusedBy, IsFlawed}
 use Rattle.call_ends.specs.Outside.{Call}
 use Rattle.call_ends.specs.Promise.{Ends}
 use Rattle.commands.specs.Ends.{EndsAs}
 use Rattle.commands.specs.Wanted.{wanted}
 use Rattle.commands.specs.Complete.{EndsByTask, EndsByFiles, FilesDecide}
-use Rattle.commands.proofs.NeverBoth.{never_both}
+use Rattle.commands.proofs.NeverBoth.{not_both, never_both}
 
 -- of files that are told, what holds of them holds
 of_told : (P : Files → Type 0) (files : Option Files) (f : Files) → files ≡ Some f → IfSome files P → P f
@@ -29,26 +33,71 @@ of_told P files f e h =
 abbrev TookText : Call → Task → Type 0
 TookText c task = HasText task (λ text. c.out_after.taken ≡ with_bytes c.out_before.taken text)
 
--- all was done where the spans that are asked are provable
-of_done : (c : Call) (task : Task) (asked : Option Setup) → TookText c task → IfSome asked AreProvable → EndsByTask c task None asked
-of_done c task None h p = (refl, h)
-of_done c task (Some u) h p = record { provable = λ all. (refl, h); unprovable = λ not. absurd (not p) }
+-- another machine may write a pin of a span, or none
+not_shared : (u : Setup) (sp : Span) (m : ℕ) → IsUnshared u sp → IsLeastSharer u sp m → ⊥
+not_shared u sp m alone least = let e = alone m in let f = least.sharing in cc
 
-of_right : (c : Call) (j : Judged Task) → IfRight j (TookText c) → IfRight j (λ task. IfSome (asked_setup task) AreProvable) → EndsByFiles c j None
-of_right c (right task) h p = of_done c task (asked_setup task) h p
+-- the least such machine is one
+least_same : (u : Setup) (sp : Span) (m n : ℕ) → IsLeastSharer u sp m → IsLeastSharer u sp n → m ≡ n
+least_same u sp m n p q =
+    let up = not_below u sp m n p q in
+    let down = not_below u sp n m q p in
+    omega (arith, up, down)
+  where
+    not_below : (u : Setup) (sp : Span) (m n : ℕ) → IsLeastSharer u sp m → IsLeastSharer u sp n → n < m → ⊥
+    not_below u sp m n p q lt = let e = p.first n lt in let f = q.sharing in cc
+
+-- all was done where what the task needs is met
+of_done : (c : Call) (task : Task) (need : Need) → TookText c task → IsMet need → EndsByTask c task None need
+of_done c task nothing h p = (refl, h)
+of_done c task (all_spans u) h p = record { provable = λ all. (refl, h); unprovable = λ not. absurd (not p) }
+of_done c task (one_span u sp) h p = record { provable = λ here. (refl, h); unprovable = λ not. absurd (not p) }
+of_done c task (by_table u sp rows) h p = record {
+  shared = λ m least. absurd (not_shared u sp m p.alone least);
+  proved = λ here. (refl, h);
+  unproved = λ alone not. absurd (not p.closed p.good);
+}
+
+of_right : (c : Call) (j : Judged Task) → IfRight j (TookText c) → IfRight j (λ task. IsMet (need_of task)) → EndsByFiles c j None
+of_right c (right task) h p = of_done c task (need_of task) h p
 of_right c (wrong e) h p = absurd h
 
 -- the first span that isn't provable
-of_first : (c : Call) (task : Task) (asked : Option Setup) (name : List ℕ) (r : Refusal) → HasSuch asked (λ u. IsFirstRefused u u.spans name r) → EndsByTask c task (Some (fault.Unproved name r)) asked
-of_first c task None name r h = absurd h
-of_first c task (Some u) name r h = record {
+of_first : (c : Call) (task : Task) (need : Need) (name : List ℕ) (r : Refusal) → IsRefusedBy need name r → EndsByTask c task (Some (fault.Unproved name r)) need
+of_first c task nothing name r h = absurd h
+of_first c task (all_spans u) name r h = record {
   provable = λ all. absurd (never_both u u.spans name r all h);
   unprovable = λ not. record { name = name; refusal = r; fault = refl; first = h };
 }
+of_first c task (one_span u sp) name r h = record {
+  provable = λ here. absurd (not_both u sp r here h.1);
+  unprovable = λ not. (r, h.1, ap (λ (n : List ℕ). Some (fault.Unproved n r)) (sym h.0));
+}
+of_first c task (by_table u sp rows) name (Unproved k cause) h = absurd h.1
+of_first c task (by_table u sp rows) name (Shared m) h = record {
+  shared = λ n least. ap (λ (t : List ℕ). Some (fault.Unproved t (Shared m))) (sym h.0) ∙ ap (λ (k : ℕ). Some (fault.Unproved sp.name (Shared k))) (least_same u sp m n h.1 least);
+  proved = λ here. absurd (not_shared u sp m here.alone h.1);
+  unproved = λ alone not. absurd (not_shared u sp m alone h.1);
+}
 
-of_refused : (c : Call) (j : Judged Task) (name : List ℕ) (r : Refusal) → IfRight j (λ task. HasSuch (asked_setup task) (λ u. IsFirstRefused u u.spans name r)) → EndsByFiles c j (Some (fault.Unproved name r))
-of_refused c (right task) name r h = of_first c task (asked_setup task) name r h
+of_refused : (c : Call) (j : Judged Task) (name : List ℕ) (r : Refusal) → IfRight j (λ task. IsRefusedBy (need_of task) name r) → EndsByFiles c j (Some (fault.Unproved name r))
+of_refused c (right task) name r h = of_first c task (need_of task) name r h
 of_refused c (wrong e) name r h = absurd h
+
+-- the first flaw of a table
+of_flaw : (c : Call) (task : Task) (need : Need) (name : List ℕ) (flaw : Flaw) → IsFlawed need name flaw → EndsByTask c task (Some (fault.Flaw name flaw)) need
+of_flaw c task nothing name flaw h = absurd h
+of_flaw c task (all_spans u) name flaw h = absurd h
+of_flaw c task (one_span u sp) name flaw h = absurd h
+of_flaw c task (by_table u sp rows) name flaw h = record {
+  shared = λ m least. absurd (not_shared u sp m h.1.alone least);
+  proved = λ here. absurd (h.1.unproved here.closed here.good);
+  unproved = λ alone not. record { flaw = flaw; first = h.1.first; fault = ap (λ (t : List ℕ). Some (fault.Flaw t flaw)) (sym h.0) };
+}
+
+of_flawed : (c : Call) (j : Judged Task) (name : List ℕ) (flaw : Flaw) → IfRight j (λ task. IsFlawed (need_of task) name flaw) → EndsByFiles c j (Some (fault.Flaw name flaw))
+of_flawed c (right task) name flaw h = of_flaw c task (need_of task) name flaw h
+of_flawed c (wrong e) name flaw h = absurd h
 
 -- a fault of the files
 of_wrong : (c : Call) (j : Judged Task) (e : Fault) → j ≡ wrong e → EndsByFiles c j (Some e)
@@ -67,28 +116,35 @@ failed_rose (Some n) before after h = subst (λ (a : Faults). Rose before.count 
 ends_by_files : (asked : Option Asked) (c : Call) (f : Files) (found : Option Fault) → Ends asked c found → c.files ≡ Some f → found ≢ Some fault.Usage → found ≢ Some fault.Memory → (Rose c.shelf_before.count c.shelf_after.count → ⊥) → (Rose c.out_before.faults c.out_after.faults → ⊥) → HasSuch asked (λ a. EndsByFiles c (judge f a) found)
 ends_by_files (Some a) c f None h told usage memory shelf out =
     of_right c (judge f a) (of_told (λ g. IfRight (judge g a) (TookText c)) c.files f told h.writes.text)
-    (of_told (λ g. IfRight (judge g a) (λ task. IfSome (asked_setup task) AreProvable)) c.files f told h.spans)
+    (of_told (λ g. IfRight (judge g a) (λ task. IsMet (need_of task))) c.files f told h.spans)
 ends_by_files None c f None h told usage memory shelf out = absurd h
 ends_by_files asked c f (Some fault.Usage) h told usage memory shelf out = absurd (usage refl)
 ends_by_files asked c f (Some fault.Memory) h told usage memory shelf out = absurd (memory refl)
 ends_by_files (Some a) c f (Some (fault.Shelf role)) h told usage memory shelf out =
     absurd (shelf (failed_rose (file_in a role) c.shelf_before c.shelf_after h.named))
 ends_by_files (Some a) c f (Some (fault.Unproved name r)) h told usage memory shelf out =
-    of_refused c (judge f a) name r (of_told (λ g. IfRight (judge g a) (λ task. HasSuch (asked_setup task) (λ u. IsFirstRefused u u.spans name r))) c.files f told h.first)
+    of_refused c (judge f a) name r (of_told (λ g. IfRight (judge g a) (λ task. IsRefusedBy (need_of task) name r)) c.files f told h.first)
+ends_by_files (Some a) c f (Some (fault.Flaw name flaw)) h told usage memory shelf out =
+    of_flawed c (judge f a) name flaw (of_told (λ g. IfRight (judge g a) (λ task. IsFlawed (need_of task) name flaw)) c.files f told h.first)
 ends_by_files (Some a) c f (Some fault.Out) h told usage memory shelf out = absurd (out h.rose)
 ends_by_files (Some a) c f (Some (fault.TooLong role)) h told usage memory shelf out = of_faulty c f a _ told h.judged
 ends_by_files (Some a) c f (Some (fault.Words line kind)) h told usage memory shelf out = of_faulty c f a _ told h.judged
 ends_by_files (Some a) c f (Some (fault.Source line kind)) h told usage memory shelf out = of_faulty c f a _ told h.judged
 ends_by_files (Some a) c f (Some (fault.Config key kind)) h told usage memory shelf out = of_faulty c f a _ told h.judged
 ends_by_files (Some a) c f (Some (fault.Stim line kind)) h told usage memory shelf out = of_faulty c f a _ told h.judged
+ends_by_files (Some a) c f (Some (fault.Table line kind)) h told usage memory shelf out = of_faulty c f a _ told h.judged
+ends_by_files (Some a) c f (Some fault.NoSpan) h told usage memory shelf out = of_faulty c f a _ told h.judged
 ends_by_files None c f (Some (fault.Shelf role)) h told usage memory shelf out = absurd h
 ends_by_files None c f (Some (fault.Unproved name r)) h told usage memory shelf out = absurd h
+ends_by_files None c f (Some (fault.Flaw name flaw)) h told usage memory shelf out = absurd h
 ends_by_files None c f (Some fault.Out) h told usage memory shelf out = absurd h
 ends_by_files None c f (Some (fault.TooLong role)) h told usage memory shelf out = absurd h
 ends_by_files None c f (Some (fault.Words line kind)) h told usage memory shelf out = absurd h
 ends_by_files None c f (Some (fault.Source line kind)) h told usage memory shelf out = absurd h
 ends_by_files None c f (Some (fault.Config key kind)) h told usage memory shelf out = absurd h
 ends_by_files None c f (Some (fault.Stim line kind)) h told usage memory shelf out = absurd h
+ends_by_files None c f (Some (fault.Table line kind)) h told usage memory shelf out = absurd h
+ends_by_files None c f (Some fault.NoSpan) h told usage memory shelf out = absurd h
 
 -- the files decide how a call ends that ends as promised, and not with Usage where its words are taken
 pub files_decide : (words : List Text) (c : Call) (found : Option Fault) → EndsAs words c found → (IsTaken words → found ≢ Some fault.Usage) → FilesDecide words c found

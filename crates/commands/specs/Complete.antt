@@ -6,11 +6,19 @@ use Rattle.fault_lines.specs.declared.fault.Fault.TheVariants as fault
 use Rattle.clap.specs.Walk.{Text}
 use Rattle.command_line.specs.Words.{IsTaken}
 use Rattle.verdict_lines.specs.declared.refusal.Refusal.{Refusal}
+use Rattle.verdict_lines.specs.declared.refusal.Refusal.TheVariants.{Shared}
 use Rattle.pin_matrix.specs.declared.setup.Setup.{Setup}
+use Rattle.pin_matrix.specs.declared.span.Span.{Span}
+use Rattle.span_bounds.specs.declared.row.Row.{Row}
+use Rattle.span_bounds.specs.Tables.{IsClosed, IsGood}
+use Rattle.span_verdict.specs.Flaws.{first_flaw}
+use Rattle.span_verdict.specs.Sharing.{IsUnshared, IsLeastSharer}
+use Rattle.span_verdict.specs.declared.table_flaw.Flaw.{Flaw}
 use Rattle.file_stages.specs.Judged.{Judged, right, wrong}
 use Rattle.file_stages.specs.Stages.{HasSuch}
-use Rattle.span_stage.specs.Spans.{AreProvable, IsFirstRefused}
-use Rattle.call_ends.specs.Tasks.{Task, asked_setup, judge, HasText}
+use Rattle.span_stage.specs.Spans.{IsProvableAlone, AreProvable, IsRefused, IsFirstRefused}
+use Rattle.call_ends.specs.Needs.{Need, IsProvedBy, nothing, all_spans, one_span, by_table}
+use Rattle.call_ends.specs.Tasks.{Task, need_of, judge, HasText}
 use Rattle.call_ends.specs.Outside.{Call}
 use Rattle.commands.specs.Wanted.{wanted}
 
@@ -38,14 +46,34 @@ pub record EndsBySpans (c : Call) (task : Task) (found : Option Fault) (u : Setu
   pub provable : AreProvable u → IsDone c task found
   pub unprovable : (AreProvable u → ⊥) → IsUndone u found
 
--- the spans decide where some are asked, and else all is done
-abbrev pub EndsByTask : Call → Task → Option Fault → Option Setup → Type 0
-EndsByTask c task found None = IsDone c task found
-EndsByTask c task found (Some u) = EndsBySpans c task found u
+-- where the span is provable, all is done; where it isn't, the fault tells why
+pub record EndsBySpan (c : Call) (task : Task) (found : Option Fault) (u : Setup) (sp : Span) : Type 0 where
+  pub provable : IsProvableAlone u sp → IsDone c task found
+  pub unprovable : (IsProvableAlone u sp → ⊥) → (refusal : Refusal) × IsRefused u sp refusal × (found ≡ Some (fault.Unproved sp.name refusal))
+
+-- the first flaw of a table is told
+pub record IsFlawTold (found : Option Fault) (u : Setup) (sp : Span) (rows : List Row) : Type 0 where
+  pub flaw : Flaw
+  pub first : first_flaw u sp rows ≡ Some flaw
+  pub fault : found ≡ Some (fault.Flaw sp.name flaw)
+
+-- Where another machine may write a pin of the span, the least one is told. Where none may, all is done if the table is closed and
+-- good, and else its first flaw is told.
+pub record EndsByTable (c : Call) (task : Task) (found : Option Fault) (u : Setup) (sp : Span) (rows : List Row) : Type 0 where
+  pub shared : (m : ℕ) → IsLeastSharer u sp m → found ≡ Some (fault.Unproved sp.name (Shared m))
+  pub proved : IsProvedBy u sp rows → IsDone c task found
+  pub unproved : IsUnshared u sp → (IsClosed u sp rows → IsGood u sp rows → ⊥) → IsFlawTold found u sp rows
+
+-- what the task needs of spans decides, and where it needs nothing all is done
+abbrev pub EndsByTask : Call → Task → Option Fault → Need → Type 0
+EndsByTask c task found nothing = IsDone c task found
+EndsByTask c task found (all_spans u) = EndsBySpans c task found u
+EndsByTask c task found (one_span u sp) = EndsBySpan c task found u sp
+EndsByTask c task found (by_table u sp rows) = EndsByTable c task found u sp rows
 
 -- the task decides where the files come to one, else exactly their fault ends the call
 abbrev pub EndsByFiles : Call → Judged Task → Option Fault → Type 0
-EndsByFiles c (right task) found = EndsByTask c task found (asked_setup task)
+EndsByFiles c (right task) found = EndsByTask c task found (need_of task)
 EndsByFiles c (wrong e) found = found ≡ Some e
 
 -- the words of a quiet call ask for something, and the files decide its end

@@ -17,6 +17,7 @@ use command_line::{Order, WordsFault, read};
 use command_listing::{asm, dis};
 use command_run::run;
 use command_shares::shares;
+use command_table::{recheck, table};
 use fault_lines::{Ended, Fault, end_with};
 use file_stages::RunFiles;
 use pio_edge::{Shelf, Sink};
@@ -116,6 +117,17 @@ fn obey<F: Shelf, O: Sink, L: Ledger>(
             run(alloc, files, clocks, shelf, out, steps)
         }
         Order::Check { source, config } => check(alloc, source, config, shelf, out),
+        Order::Table {
+            source,
+            config,
+            span,
+        } => table(alloc, source, config, span, shelf, out),
+        Order::Recheck {
+            source,
+            config,
+            span,
+            table,
+        } => recheck(alloc, source, config, span, table, shelf, out),
         Order::Shares { source, config } => shares(alloc, source, config, shelf, out),
         Order::Gen { seed, clocks } => generate(alloc, seed, clocks, shelf, out, steps),
         Order::Dis { file, side, opt } => dis(alloc, file, side, opt, shelf, out),

@@ -10,6 +10,9 @@ use Rattle.word_file.specs.Fault.{code_of as word_code}
 use Rattle.dreq_pacing.specs.declared.fault.StimKind.{StimKind}
 use Rattle.dreq_pacing.specs.Fault.{code_of as stim_code}
 use Rattle.verdict_lines.specs.Lines.{refusal_line}
+use Rattle.table_files.specs.declared.fault.TableKind.{TableKind}
+use Rattle.table_files.specs.Faults.{code_of as table_code}
+use Rattle.table_files.specs.FlawLines.{flaw_line}
 use Rattle.fault_lines.specs.Output.{Output}
 use Rattle.fault_lines.specs.declared.fault.File.{File}
 use Rattle.fault_lines.specs.declared.fault.File.TheVariants as file
@@ -26,7 +29,10 @@ status_of (Some (fault.Words line kind)) = 1
 status_of (Some (fault.Source line kind)) = 1
 status_of (Some (fault.Config key kind)) = 1
 status_of (Some (fault.Stim line kind)) = 1
+status_of (Some fault.NoSpan) = 1
+status_of (Some (fault.Table line kind)) = 1
 status_of (Some (fault.Unproved name refusal)) = 3
+status_of (Some (fault.Flaw name flaw)) = 3
 status_of (Some fault.Out) = 5
 status_of (Some fault.Memory) = 6
 
@@ -36,6 +42,7 @@ file_word file.Source = codes "source"
 file_word file.Words = codes "words"
 file_word file.Config = codes "config"
 file_word file.Stimulus = codes "stimulus"
+file_word file.Table = codes "table"
 
 -- the line of a file that wasn't fetched
 abbrev pub shelf_line : File → List ℕ
@@ -73,6 +80,10 @@ config_line key kind = key_line key (kind_text kind)
 abbrev pub stimulus_line : ℕ → StimKind → List ℕ
 stimulus_line line kind = line_fault (codes "piotool: stimulus line ") line (stim_code kind)
 
+-- the line of a table file's fault
+abbrev pub table_line : ℕ → TableKind → List ℕ
+table_line line kind = line_fault (codes "piotool: table line ") line (table_code kind)
+
 -- the line of a fault
 unfoldable pub fault_line : Fault → List ℕ
 fault_line fault.Usage = codes "piotool: usage\n"
@@ -82,7 +93,10 @@ fault_line (fault.Words line kind) = words_line line kind
 fault_line (fault.Source line kind) = source_line line kind
 fault_line (fault.Config key kind) = config_line key kind
 fault_line (fault.Stim line kind) = stimulus_line line kind
+fault_line fault.NoSpan = codes "piotool: nospan\n"
+fault_line (fault.Table line kind) = table_line line kind
 fault_line (fault.Unproved name refusal) = refusal_line (codes "piotool: ") name refusal
+fault_line (fault.Flaw name flaw) = flaw_line (codes "piotool: ") name flaw
 fault_line fault.Out = codes "piotool: out\n"
 fault_line fault.Memory = codes "piotool: memory\n"
 

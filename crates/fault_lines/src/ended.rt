@@ -11,7 +11,7 @@ use pio_edge::{Sink, SinkFailed};
 /// How a call ended.
 #[derive(Drop)]
 pub struct Ended {
-    /// The status with which a program ends: 0 all was done, 1 a file is faulty, 2 usage, 3 a span isn't provable, 4 the
+    /// The status with which a program ends: 0 all was done, 1 a file is faulty, 2 usage, 3 a span isn't provable or a table doesn't prove it, 4 the
     /// shelf, 5 the output, 6 memory.
     pub status: u8,
     /// Why, where not all was done.

@@ -4,6 +4,8 @@ use block_config::ConfigKind;
 use dreq_pacing::StimKind;
 use pio_assemble::SourceKind;
 use pio_encode::Name;
+use span_verdict::Flaw;
+use table_files::TableKind;
 use verdict_lines::Refusal;
 use word_file::WordKind;
 
@@ -18,6 +20,8 @@ pub enum File {
     Config,
     /// The stimulus.
     Stimulus,
+    /// A table file.
+    Table,
 }
 
 /// Why a command didn't do all that was asked.
@@ -37,8 +41,14 @@ pub enum Fault {
     Config(Name, ConfigKind),
     /// The first fault of the stimulus: its line, from 1 on, and its kind.
     Stim(usize, StimKind),
+    /// No span has the name that was given.
+    NoSpan,
+    /// The first fault of a table file: its line, from 1 on, and its kind.
+    Table(usize, TableKind),
     /// The first span that isn't provable: its name, and why (choice of this profile).
     Unproved(Name, Refusal),
+    /// A table doesn't prove the span with this name: what is wrong with it first (choice of this profile).
+    Flaw(Name, Flaw),
     /// The output failed.
     Out,
     /// Memory ran out.

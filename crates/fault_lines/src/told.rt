@@ -10,6 +10,7 @@ use dreq_pacing::StimKind;
 use itoa::Buffer;
 use pio_assemble::{Quantity, SourceKind};
 use pio_edge::{Sink, SinkFailed, put_all};
+use table_files::{TableKind, put_flaw};
 use verdict_lines::put_refusal;
 use word_file::WordKind;
 
@@ -21,8 +22,9 @@ pub fn status_of(fault: &Option<Fault>) -> u8
         None => 0,
         Some(Fault::TooLong(_) | Fault::Words(..) | Fault::Source(..)) => 1,
         Some(Fault::Config(..) | Fault::Stim(..)) => 1,
+        Some(Fault::NoSpan | Fault::Table(..)) => 1,
         Some(Fault::Usage) => 2,
-        Some(Fault::Unproved(..)) => 3,
+        Some(Fault::Unproved(..) | Fault::Flaw(..)) => 3,
         Some(Fault::Shelf(_)) => 4,
         Some(Fault::Out) => 5,
         Some(Fault::Memory) => 6,
@@ -43,7 +45,10 @@ pub fn put_fault<E: Sink>(err: &mut E, fault: &Fault) -> Result<(), SinkFailed>
         Fault::Source(line, kind) => put_source_fault(err, *line, kind),
         Fault::Config(key, kind) => put_config_fault(err, key.as_bytes(), *kind),
         Fault::Stim(line, kind) => put_stimulus_fault(err, *line, *kind),
+        Fault::NoSpan => put_text(err, "piotool: nospan\n"),
+        Fault::Table(line, kind) => put_table_fault(err, *line, *kind),
         Fault::Unproved(name, refusal) => put_refusal(err, "piotool: ", name, refusal),
+        Fault::Flaw(name, flaw) => put_flaw(err, "piotool: ", name, flaw),
         Fault::Out => put_text(err, "piotool: out\n"),
         Fault::Memory => put_text(err, "piotool: memory\n"),
     }
@@ -214,6 +219,14 @@ fn put_stimulus_fault<E: Sink>(err: &mut E, line: usize, kind: StimKind) -> Resu
     put_line_fault(err, "piotool: stimulus line ", line, kind.code())
 }
 
+/// Puts the line of a table file's fault.
+fn put_table_fault<E: Sink>(err: &mut E, line: usize, kind: TableKind) -> Result<(), SinkFailed>
+    ensures bytes { Takes (E.taken err.old) (spec.table_line line kind) (E.taken err.new) result }
+    ensures cause { PutCounts (E.faults err.old) (E.faults err.new) result }
+{
+    put_line_fault(err, "piotool: table line ", line, kind.code())
+}
+
 /// Puts the line of a fault that has a place in a file: what stands before its number, the number, and its code.
 fn put_line_fault<E: Sink>(
     err: &mut E,
@@ -246,5 +259,6 @@ fn word_of(file: File) -> &'static str
         File::Words => "words",
         File::Config => "config",
         File::Stimulus => "stimulus",
+        File::Table => "table",
     }
 }

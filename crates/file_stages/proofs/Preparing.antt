@@ -59,15 +59,19 @@ source_fails files before after source config stimulus (fault.Shelf file.Source)
 source_fails files before after source config stimulus (fault.Shelf file.Words) h = absurd h.0
 source_fails files before after source config stimulus (fault.Shelf file.Config) h = absurd h.0
 source_fails files before after source config stimulus (fault.Shelf file.Stimulus) h = absurd h.0
+source_fails files before after source config stimulus (fault.Shelf file.Table) h = absurd h.0
 source_fails files before after source config stimulus fault.Memory h = h
 source_fails files before after source config stimulus fault.Usage h = absurd h
 source_fails files before after source config stimulus fault.Out h = absurd h
 source_fails files before after source config stimulus (fault.Unproved name refusal) h = absurd h
+source_fails files before after source config stimulus (fault.Flaw name flaw) h = absurd h
 source_fails files before after source config stimulus (fault.TooLong role) h = (h.0, told files _ _ (λ f k. source_wrong f source config stimulus (fault.TooLong role) k) h.1)
 source_fails files before after source config stimulus (fault.Words line kind) h = (h.0, told files _ _ (λ f k. source_wrong f source config stimulus (fault.Words line kind) k) h.1)
 source_fails files before after source config stimulus (fault.Source line kind) h = (h.0, told files _ _ (λ f k. source_wrong f source config stimulus (fault.Source line kind) k) h.1)
 source_fails files before after source config stimulus (fault.Config key kind) h = (h.0, told files _ _ (λ f k. source_wrong f source config stimulus (fault.Config key kind) k) h.1)
 source_fails files before after source config stimulus (fault.Stim line kind) h = (h.0, told files _ _ (λ f k. source_wrong f source config stimulus (fault.Stim line kind) k) h.1)
+source_fails files before after source config stimulus (fault.Table line kind) h = (h.0, told files _ _ (λ f k. source_wrong f source config stimulus (fault.Table line kind) k) h.1)
+source_fails files before after source config stimulus fault.NoSpan h = (h.0, told files _ _ (λ f k. source_wrong f source config stimulus fault.NoSpan k) h.1)
 
 -- the source came out right
 IsRead : Option Files → List ℕ → List Assembled → Type 0
@@ -80,15 +84,19 @@ setup_fails_here files before after source config stimulus programs (fault.Shelf
 setup_fails_here files before after source config stimulus programs (fault.Shelf file.Words) p h = absurd h.0
 setup_fails_here files before after source config stimulus programs (fault.Shelf file.Config) p h = (h.0, told files _ _ (λ f k. ap is_right k) p)
 setup_fails_here files before after source config stimulus programs (fault.Shelf file.Stimulus) p h = absurd h.0
+setup_fails_here files before after source config stimulus programs (fault.Shelf file.Table) p h = absurd h.0
 setup_fails_here files before after source config stimulus programs fault.Memory p h = h
 setup_fails_here files before after source config stimulus programs fault.Usage p h = absurd h
 setup_fails_here files before after source config stimulus programs fault.Out p h = absurd h
 setup_fails_here files before after source config stimulus programs (fault.Unproved name refusal) p h = absurd h
+setup_fails_here files before after source config stimulus programs (fault.Flaw name flaw) p h = absurd h
 setup_fails_here files before after source config stimulus programs (fault.TooLong role) p h = (h.0, both_told files _ _ _ (λ f k m. setup_wrong f source config stimulus programs (fault.TooLong role) k m) p h.1)
 setup_fails_here files before after source config stimulus programs (fault.Words line kind) p h = (h.0, both_told files _ _ _ (λ f k m. setup_wrong f source config stimulus programs (fault.Words line kind) k m) p h.1)
 setup_fails_here files before after source config stimulus programs (fault.Source line kind) p h = (h.0, both_told files _ _ _ (λ f k m. setup_wrong f source config stimulus programs (fault.Source line kind) k m) p h.1)
 setup_fails_here files before after source config stimulus programs (fault.Config key kind) p h = (h.0, both_told files _ _ _ (λ f k m. setup_wrong f source config stimulus programs (fault.Config key kind) k m) p h.1)
 setup_fails_here files before after source config stimulus programs (fault.Stim line kind) p h = (h.0, both_told files _ _ _ (λ f k m. setup_wrong f source config stimulus programs (fault.Stim line kind) k m) p h.1)
+setup_fails_here files before after source config stimulus programs (fault.Table line kind) p h = (h.0, both_told files _ _ _ (λ f k m. setup_wrong f source config stimulus programs (fault.Table line kind) k m) p h.1)
+setup_fails_here files before after source config stimulus programs fault.NoSpan p h = (h.0, both_told files _ _ _ (λ f k m. setup_wrong f source config stimulus programs fault.NoSpan k m) p h.1)
 
 -- the same where the shelf after the source is told by equations
 pub setup_fails : (files mid_files : Option Files) (before mid after : Faults) (source : List ℕ) (config stimulus : Option (List ℕ)) (programs : List Assembled) (e : Fault) → mid_files ≡ files → mid ≡ before → IfSome files (λ f. source_at f source ≡ right programs) → ReadFails (shelved mid_files mid after) (setup_plan config programs) e → ReadFails (shelved files before after) (run_plan source config stimulus) e
@@ -114,17 +122,21 @@ unfolding AreRead
 lines_fail_here files before after source config stimulus programs setup (fault.Shelf file.Source) p h = absurd h.0
 lines_fail_here files before after source config stimulus programs setup (fault.Shelf file.Words) p h = absurd h.0
 lines_fail_here files before after source config stimulus programs setup (fault.Shelf file.Config) p h = absurd h.0
+lines_fail_here files before after source config stimulus programs setup (fault.Shelf file.Table) p h = absurd h.0
 lines_fail_here files before after source config stimulus programs setup (fault.Shelf file.Stimulus) p h =
     (h.0, told files _ _ (λ f k. stimulus_reached f source config programs setup k.0 k.1) p)
 lines_fail_here files before after source config stimulus programs setup fault.Memory p h = h
 lines_fail_here files before after source config stimulus programs setup fault.Usage p h = absurd h
 lines_fail_here files before after source config stimulus programs setup fault.Out p h = absurd h
 lines_fail_here files before after source config stimulus programs setup (fault.Unproved name refusal) p h = absurd h
+lines_fail_here files before after source config stimulus programs setup (fault.Flaw name flaw) p h = absurd h
 lines_fail_here files before after source config stimulus programs setup (fault.TooLong role) p h = (h.0, both_told files _ _ _ (λ f k m. lines_wrong f source config stimulus programs setup (fault.TooLong role) k.0 k.1 m) p h.1)
 lines_fail_here files before after source config stimulus programs setup (fault.Words line kind) p h = (h.0, both_told files _ _ _ (λ f k m. lines_wrong f source config stimulus programs setup (fault.Words line kind) k.0 k.1 m) p h.1)
 lines_fail_here files before after source config stimulus programs setup (fault.Source line kind) p h = (h.0, both_told files _ _ _ (λ f k m. lines_wrong f source config stimulus programs setup (fault.Source line kind) k.0 k.1 m) p h.1)
 lines_fail_here files before after source config stimulus programs setup (fault.Config key kind) p h = (h.0, both_told files _ _ _ (λ f k m. lines_wrong f source config stimulus programs setup (fault.Config key kind) k.0 k.1 m) p h.1)
 lines_fail_here files before after source config stimulus programs setup (fault.Stim line kind) p h = (h.0, both_told files _ _ _ (λ f k m. lines_wrong f source config stimulus programs setup (fault.Stim line kind) k.0 k.1 m) p h.1)
+lines_fail_here files before after source config stimulus programs setup (fault.Table line kind) p h = (h.0, both_told files _ _ _ (λ f k m. lines_wrong f source config stimulus programs setup (fault.Table line kind) k.0 k.1 m) p h.1)
+lines_fail_here files before after source config stimulus programs setup fault.NoSpan p h = (h.0, both_told files _ _ _ (λ f k m. lines_wrong f source config stimulus programs setup fault.NoSpan k.0 k.1 m) p h.1)
 
 -- the same where the shelf after source and setup is told by equations
 pub lines_fail : (files first_files mid_files : Option Files) (before first mid after : Faults) (source : List ℕ) (config stimulus : Option (List ℕ)) (programs : List Assembled) (setup : Setup) (e : Fault) → first_files ≡ files → first ≡ before → mid_files ≡ first_files → mid ≡ first → IfSome files (λ f. source_at f source ≡ right programs) → IfSome first_files (λ f. setup_at f config programs ≡ right setup) → ReadFails (shelved mid_files mid after) (schedule_plan stimulus) e → ReadFails (shelved files before after) (run_plan source config stimulus) e

@@ -19,6 +19,11 @@ use Rattle.block_config.specs.Config.{config_setup_of}
 use Rattle.block_config.specs.Default.{default_setup_of}
 use Rattle.word_file.specs.declared.fault.WordFault.{WordFault}
 use Rattle.word_file.specs.Reading.{word_file}
+use Rattle.pin_matrix.specs.declared.span.Span.{Span}
+use Rattle.span_bounds.specs.declared.row.Row.{Row}
+use Rattle.table_files.specs.Faults as table_file
+use Rattle.table_files.specs.Reading.{table_of}
+use Rattle.span_stage.specs.Named.{span_named}
 
 -- a value, or the first fault on the way to it
 pub data Judged (X : Type 0) : Type 0 where
@@ -46,6 +51,7 @@ limit file.Source = 262144
 limit file.Words = 262144
 limit file.Config = 262144
 limit file.Stimulus = 33554432
+limit file.Table = 8388608
 
 -- a file's bytes, if it is there and within its limit
 abbrev pub read_at : File → Option (List ℕ) → Judged (List ℕ)
@@ -103,3 +109,27 @@ unfoldable pub prepared_at : Files → List ℕ → Option (List ℕ) → Option
 prepared_at files source config stimulus =
     and_then (source_at files source) (λ programs. and_then (setup_at files config programs) (λ setup.
     and_then (schedule_at files stimulus) (λ lines. right (setup, lines))))
+
+-- a span of a setup, or the fault that none has the name
+abbrev pub judged_span : Setup → Option Span → Judged (Setup × Span)
+judged_span u None = wrong fault.NoSpan
+judged_span u (Some sp) = right (u, sp)
+
+-- the setup of a source's programs, and the first span of it with this name
+unfoldable pub span_at : Files → List ℕ → Option (List ℕ) → List ℕ → Judged (Setup × Span)
+span_at files source config name =
+    and_then (prepared_at files source config None) (λ prepared. judged_span prepared.0 (span_named name prepared.0.spans))
+
+-- a reading of a table file, or its fault
+abbrev pub judged_table : Result (List Row) table_file.Refusal → Judged (List Row)
+judged_table (Ok rows) = right rows
+judged_table (Err refusal) = wrong (fault.Table refusal.line refusal.kind)
+
+-- the rows of the table file with this name
+unfoldable pub table_at : Files → List ℕ → Judged (List Row)
+table_at files name = and_then (read_at file.Table (get files name)) (λ bytes. judged_table (table_of bytes))
+
+-- the setup and its span of this name, and then the rows of a table file
+unfoldable pub recheck_at : Files → List ℕ → Option (List ℕ) → List ℕ → List ℕ → Judged ((Setup × Span) × List Row)
+recheck_at files source config name table =
+    and_then (span_at files source config name) (λ asked. and_then (table_at files table) (λ rows. right (asked, rows)))

@@ -3,7 +3,7 @@ use Rattle.std.specs.Prelude.{ℕ, Bool, true, Option, Some, None, List}
 use Rattle.pio_edge.specs.Edge.{Files}
 use Rattle.fault_lines.specs.declared.fault.File.{File}
 use Rattle.fault_lines.specs.declared.fault.File.TheVariants as file
-use Rattle.file_stages.specs.Judged.{is_right, and_then, source_at, setup_at}
+use Rattle.file_stages.specs.Judged.{is_right, and_then, source_at, setup_at, span_at}
 
 -- no file at all
 abbrev pub no_file : File → Option (List ℕ)
@@ -29,6 +29,11 @@ abbrev pub stimulus_alone : Option (List ℕ) → File → Option (List ℕ)
 stimulus_alone name file.Stimulus = name
 stimulus_alone name role = None
 
+-- the table file, and no other
+abbrev pub table_alone : List ℕ → File → Option (List ℕ)
+table_alone name file.Table = Some name
+table_alone name role = None
+
 -- the files of a run: a configuration and a stimulus where they are named
 abbrev pub run_files : List ℕ → Option (List ℕ) → Option (List ℕ) → File → Option (List ℕ)
 run_files source config stimulus file.Source = Some source
@@ -41,3 +46,13 @@ abbrev pub run_reaches : Files → List ℕ → Option (List ℕ) → File → B
 run_reaches files source config file.Config = is_right (source_at files source)
 run_reaches files source config file.Stimulus = is_right (and_then (source_at files source) (setup_at files config))
 run_reaches files source config role = true
+
+-- the files of a recheck: a configuration where it is named, and a table
+abbrev pub recheck_files : List ℕ → Option (List ℕ) → List ℕ → File → Option (List ℕ)
+recheck_files source config table file.Table = Some table
+recheck_files source config table role = run_files source config None role
+
+-- a recheck comes to the file of this role: what it reads before is right, and of a table, that a span has the name
+abbrev pub recheck_reaches : Files → List ℕ → Option (List ℕ) → List ℕ → File → Bool
+recheck_reaches files source config name file.Table = is_right (span_at files source config name)
+recheck_reaches files source config name role = run_reaches files source config role

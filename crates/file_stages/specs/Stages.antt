@@ -9,12 +9,13 @@ use Rattle.pio_edge.specs.Edge.{Files}
 use Rattle.pio_assemble.specs.Program.{Assembled}
 use Rattle.pin_matrix.specs.declared.setup.Setup.{Setup}
 use Rattle.dreq_pacing.specs.declared.line.Line.{Line}
+use Rattle.span_bounds.specs.declared.row.Row.{Row}
 use Rattle.fault_lines.specs.declared.fault.File.{File}
 use Rattle.fault_lines.specs.declared.fault.File.TheVariants as file
 use Rattle.fault_lines.specs.declared.fault.Fault.{Fault}
 use Rattle.fault_lines.specs.declared.fault.Fault.TheVariants as fault
-use Rattle.file_stages.specs.Judged.{Judged, right, wrong, read_at, source_at, words_at, setup_at, schedule_at, prepared_at}
-use Rattle.file_stages.specs.Roles.{source_alone, words_alone, config_alone, stimulus_alone, run_files, run_reaches}
+use Rattle.file_stages.specs.Judged.{Judged, right, wrong, read_at, source_at, words_at, setup_at, schedule_at, prepared_at, table_at}
+use Rattle.file_stages.specs.Roles.{source_alone, words_alone, config_alone, stimulus_alone, table_alone, run_files, run_reaches}
 
 -- there is one, and it is such
 abbrev pub HasSuch : {X : Type 0} → Option X → (X → Type 0) → Type 0
@@ -46,6 +47,7 @@ ReadFails shelf plan fault.Memory = shelf.after ≡ shelf.before
 ReadFails shelf plan fault.Usage = ⊥
 ReadFails shelf plan fault.Out = ⊥
 ReadFails shelf plan (fault.Unproved name refusal) = ⊥
+ReadFails shelf plan (fault.Flaw name flaw) = ⊥
 ReadFails shelf plan e = (shelf.after ≡ shelf.before) × IfSome shelf.files (λ files. plan.comes_to files ≡ wrong e)
 
 -- a stage that reads gives what the files come to, seen by a view, without a fault of the shelf; else it ends with its cause
@@ -60,6 +62,7 @@ alone file.Source name role = source_alone name role
 alone file.Words name role = words_alone name role
 alone file.Config name role = config_alone (Some name) role
 alone file.Stimulus name role = stimulus_alone (Some name) role
+alone file.Table name role = table_alone name role
 
 -- ---- what each stage reads
 
@@ -86,6 +89,10 @@ setup_plan name programs = plan_of (λ files. setup_at files name programs) (con
 -- the lines of a stimulus, or of none
 abbrev pub schedule_plan : Option (List ℕ) → Plan (List Line)
 schedule_plan name = plan_of (λ files. schedule_at files name) (stimulus_alone name)
+
+-- a table file's rows
+abbrev pub table_plan : List ℕ → Plan (List Row)
+table_plan name = plan_of (λ files. table_at files name) (table_alone name)
 
 -- a setup and the lines of a stimulus
 abbrev pub run_plan : List ℕ → Option (List ℕ) → Option (List ℕ) → Plan (Setup × List Line)

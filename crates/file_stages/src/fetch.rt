@@ -37,5 +37,6 @@ fn limit_of(role: File) -> usize
     match role {
         File::Source | File::Words | File::Config => 262_144,
         File::Stimulus => 33_554_432,
+        File::Table => 8_388_608,
     }
 }

@@ -6,6 +6,7 @@ mod preparation;
 mod setup;
 mod source;
 mod stimulus;
+mod table;
 mod words;
 
 pub use fetch::fetch_file;
@@ -13,4 +14,5 @@ pub use preparation::{RunFiles, prepare};
 pub use setup::read_setup;
 pub use source::read_source;
 pub use stimulus::read_schedule;
+pub use table::fetch_table;
 pub use words::fetch_words;
