@@ -1,6 +1,6 @@
 //! What word lists ask for. A row has the words after the program's name, and what they give, worked by hand from the
 //! usage of the subcommands and the rules of Rust's crate clap, version 4.
-use command_line::{Order, WordsFault, read};
+use command_line::{Order, WordsFault, advice, read};
 use std::alloc::{AllocError, Global};
 use std::test::Fail;
 
@@ -311,6 +311,29 @@ fn refused(rt: HostRuntime) -> Result<(), Fail> {
     Ok(())
 }
 
+/// Words that ask for nothing, and a part of what is said of them.
+static SAID: [(&[&str], &str); 4] = [
+    (&["--help"], "Usage: piotool"),
+    (&["run", "--help"], "Example: piotool run"),
+    (&["run", "--sorce", "a.pio", "--clocks", "8"], "'--source'"),
+    (&["dis", "a", "--side", "5", "--opt"], "five side-set bits"),
+];
+
+#[test]
+fn what_is_said_of_refused_words(rt: HostRuntime) -> Result<(), Fail> {
+    for &(words, part) in &SAID {
+        assert!(rt; is_said(rt.alloc(), words, part)?, "{words:?}");
+    }
+    Ok(())
+}
+
+#[test]
+fn nothing_is_said_of_an_order(rt: HostRuntime) -> Result<(), Fail> {
+    let call = call_of(rt.alloc(), &["asm", "a.pio"])?;
+    assert!(rt; advice(rt.alloc(), &call)?.is_none());
+    Ok(())
+}
+
 #[test]
 fn no_words_at_all(rt: HostRuntime) {
     assert!(rt; read(rt.alloc(), &[]) == Err(WordsFault::Usage));
@@ -322,10 +345,25 @@ fn gives(
     words: &[&str],
     want: Result<Order<'_>, WordsFault>,
 ) -> Result<bool, AllocError> {
+    let call = call_of(alloc, words)?;
+    Ok(read(alloc, &call) == want)
+}
+
+/// Whether this is a part of what is said of a call with these words after the program's name.
+fn is_said(alloc: Global, words: &[&str], part: &str) -> Result<bool, AllocError> {
+    let call = call_of(alloc, words)?;
+    match advice(alloc, &call)? {
+        Some(said) => Ok(said.contains(part)),
+        None => Ok(false),
+    }
+}
+
+/// The words of a call.
+fn call_of(alloc: Global, words: &[&str]) -> Result<Vec<String>, AllocError> {
     let mut call = Vec::new(alloc);
     call.push(String::from_str(alloc, "piotool")?)?;
     for word in words {
         call.push(String::from_str(alloc, word)?)?;
     }
-    Ok(read(alloc, &call) == want)
+    Ok(call)
 }
