@@ -8,7 +8,7 @@ use Rattle.std.specs.Prelude.{◌≡◌, ℕ, suc, ◌+◌, ◌-◌, ◌<◌, �
 use Rattle.block_core.specs.declared.sample.Sample.{Sample}
 use Rattle.pio_edge.specs.Edge.{with_bytes}
 use Rattle.serial_receiver.specs.declared.frame.Frame.{Frame}
-use Rattle.serial_receiver.specs.declared.line.Open.{Open}
+use Rattle.serial_receiver.specs.declared.begun.Begun.{Begun}
 use Rattle.serial_receiver.specs.declared.line.Line.{Line}
 use Rattle.serial_receiver.specs.declared.line.Progress.{Progress}
 use Rattle.serial_receiver.specs.declared.line.Progress.TheVariants.{Reads, Ends}
@@ -33,7 +33,7 @@ first_told pin bit level taken = Some (pin ∷ bit ∷ level_code level ∷ take
 
 -- Of a frame the level was read in the middle of the bits that are known, and of no other, where the levels of so many clocks from
 -- its fall on are known.
-pub record IsReading (bit : ℕ) (at : ℕ → Bool) (reached : ℕ) (o : Open) : Type 0 where
+pub record IsReading (bit : ℕ) (at : ℕ → Bool) (reached : ℕ) (o : Begun) : Type 0 where
   pub byte : o.byte ≡ bits_read at bit o.known
   pub next : reached ≤ middle bit o.known
 
@@ -47,14 +47,14 @@ Proceeds bit at start reached (Reads o) = (o.start ≡ start) × IsReading bit a
 Proceeds bit at start reached (Ends f) = (f ≡ frame_at at bit start) × (middle bit 8 < reached)
 
 -- a frame begins in a clock, by the level before and after it, or none does
-abbrev pub Opens : (clock : ℕ) → (before level : Bool) → Option Open → Type 0
+abbrev pub Opens : (clock : ℕ) → (before level : Bool) → Option Begun → Type 0
 Opens clock before level None = falls before level ≡ false
 Opens clock before level (Some o) = (falls before level ≡ true) × (o.start ≡ clock) × (o.known ≡ 0) × (o.byte ≡ 0)
 
 -- a line after a frame's progress
 abbrev pub heard_of : Progress → (last : Bool) → Heard
-heard_of (Reads o) last = record { line = record { last = last; open = Some o }; frame = None }
-heard_of (Ends f) last = record { line = record { last = last; open = None }; frame = Some f }
+heard_of (Reads o) last = record { line = record { last = last; frame = Some o }; frame = None }
+heard_of (Ends f) last = record { line = record { last = last; frame = None }; frame = Some f }
 
 -- the last of some levels, with this level before them
 abbrev pub level_after : Bool → List Bool → Bool
@@ -67,21 +67,21 @@ IsIdle bit before levels = (rest : List Bool) → frames bit before (levels ++ r
   ≡ frames bit before levels ++ frames_from bit 0 (length levels) (level_after before levels) rest
 
 -- A frame is open after these levels: `seen` are those after its fall.
-pub record IsOpen (bit : ℕ) (before : Bool) (levels : List Bool) (o : Open) : Type 0 where
+pub record IsOpen (bit : ℕ) (before : Bool) (levels : List Bool) (o : Begun) : Type 0 where
   pub seen : List Bool
   pub place : o.start + suc (length seen) ≡ length levels
   pub going : (rest : List Bool) → frames bit before (levels ++ rest)
     ≡ frames bit before levels ++ frames_from bit 0 o.start true (false ∷ (seen ++ rest))
   pub reading : (rest : List Bool) → IsReading bit (level_in (false ∷ (seen ++ rest))) (suc (length seen)) o
 
-abbrev pub IsPhase : (bit : ℕ) (before : Bool) → List Bool → Option Open → Type 0
+abbrev pub IsPhase : (bit : ℕ) (before : Bool) → List Bool → Option Begun → Type 0
 IsPhase bit before levels None = IsIdle bit before levels
 IsPhase bit before levels (Some o) = IsOpen bit before levels o
 
 -- the state of a line after these levels
 pub record Hears (bit : ℕ) (before : Bool) (levels : List Bool) (line : Line) : Type 0 where
   pub last : line.last ≡ level_after before levels
-  pub phase : IsPhase bit before levels line.open
+  pub phase : IsPhase bit before levels line.frame
 
 -- a frame, where there is one
 abbrev pub frame_list : Option Frame → List Frame
@@ -99,4 +99,4 @@ pub record Receives (pin bit : ℕ) (level : Bool) (taken : Option (List ℕ)) (
   pub own_pin : p ≡ pin
   pub own_bit : b ≡ bit
   pub text : now ≡ with_bytes taken (frames_text (frames bit level (levels_of pin told)))
-  pub line : Hears bit level (levels_of pin told) line
+  pub heard : Hears bit level (levels_of pin told) line

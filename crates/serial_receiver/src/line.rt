@@ -1,33 +1,22 @@
-//! What is heard on a line: the frame that is open, and how more levels end it.
-ghost use Rattle.std.specs.Prelude.{◌≡◌, ℕ, ◌+◌, ◌-◌, ◌*◌, ◌/◌, ◌^◌, ◌<◌, ◌≤◌, Bool, List, [], ◌∷◌, length, replicate};
-ghost use Rattle.serial_receiver.specs.Frames as spec;
+//! What is heard on a line: the frame that is begun, and how more levels end it.
+ghost use Rattle.std.specs.Prelude.{◌≡◌, ℕ, ◌-◌, ◌≤◌, Bool, List, [], ◌∷◌, length, replicate};
 ghost use Rattle.serial_receiver.specs.Hearing.{Brings, Hears, IsReading, Opens, Proceeds, Stays, heard_of};
 
+use crate::begun::Begun;
+use crate::bits::middle;
 use crate::frame::Frame;
-
-/// A frame that isn't ended: the clock of its fall, and its first data bits.
-#[derive(Clone, Copy)]
-pub(crate) struct Open {
-    start: u64,
-    /// How many data bits are known.
-    known: u8,
-    /// What they come to.
-    byte: u8,
-    ghost eight_bits: { known ≤ 8 },
-    ghost fits: { byte < 2 ^ known },
-}
 
 /// A line after some clocks.
 #[derive(Clone, Copy)]
 pub(crate) struct Line {
     last: bool,
-    open: Option<Open>,
+    frame: Option<Begun>,
 }
 
 /// How a frame is after more clocks.
 #[derive(Clone, Copy)]
 pub(crate) enum Progress {
-    Reads(Open),
+    Reads(Begun),
     Ends(Frame),
 }
 
@@ -45,7 +34,7 @@ impl Line {
     {
         Line {
             last: level,
-            open: None,
+            frame: None,
         }
     }
 
@@ -56,13 +45,13 @@ impl Line {
             → length levels ≤ clock
             → Brings bit before levels (replicate (clock - length levels) self.last) result }
     {
-        match self.open {
+        match self.frame {
             None => Heard {
                 line: self,
                 frame: None,
             },
-            Some(open) => heard(
-                proceed(open, bit, clock.saturating_sub(open.start), self.last),
+            Some(begun) => heard_of(
+                proceed(begun, bit, clock.saturating_sub(begun.start), self.last),
                 self.last,
             ),
         }
@@ -74,19 +63,19 @@ impl Line {
         ensures { (before : Bool) (levels : List Bool) → Hears bit before levels self
             → length levels ≡ clock → Brings bit before levels (level ∷ []) result }
     {
-        match self.open {
+        match self.frame {
             None => Heard {
                 line: Line {
                     last: level,
-                    open: opened(clock, self.last, level),
+                    frame: opened(clock, self.last, level),
                 },
                 frame: None,
             },
-            Some(open) => heard(
+            Some(begun) => heard_of(
                 proceed(
-                    open,
+                    begun,
                     bit,
-                    clock.saturating_sub(open.start).saturating_add(1),
+                    clock.saturating_sub(begun.start).saturating_add(1),
                     level,
                 ),
                 level,
@@ -96,11 +85,11 @@ impl Line {
 }
 
 /// The frame that begins in this clock, where the level falls in it.
-fn opened(clock: u64, before: bool, level: bool) -> Option<Open>
+fn opened(clock: u64, before: bool, level: bool) -> Option<Begun>
     ensures { Opens clock before level result }
 {
     if before && !level {
-        Some(Open {
+        Some(Begun {
             start: clock,
             known: 0,
             byte: 0,
@@ -111,73 +100,42 @@ fn opened(clock: u64, before: bool, level: bool) -> Option<Open>
 }
 
 /// What a frame's progress is to its line, whose last level is this one.
-fn heard(progress: Progress, last: bool) -> Heard
+fn heard_of(progress: Progress, last: bool) -> Heard
     ensures { result ≡ heard_of progress last }
 {
     match progress {
-        Progress::Reads(open) => Heard {
+        Progress::Reads(begun) => Heard {
             line: Line {
                 last,
-                open: Some(open),
+                frame: Some(begun),
             },
             frame: None,
         },
         Progress::Ends(frame) => Heard {
-            line: Line { last, open: None },
+            line: Line { last, frame: None },
             frame: Some(frame),
         },
     }
 }
 
 /// The frame where this level holds up to so many clocks after its fall, from the last clock on that is known.
-fn proceed(open: Open, bit: u16, reached: u64, level: bool) -> Progress
+fn proceed(begun: Begun, bit: u16, reached: u64, level: bool) -> Progress
     requires { 2 ≤ bit }
-    ensures { (at : ℕ → Bool) (old : ℕ) → IsReading bit at old open → old ≤ reached
-        → Stays at old reached level → Proceeds bit at open.start reached result }
+    ensures { (at : ℕ → Bool) (old : ℕ) → IsReading bit at old begun → old ≤ reached
+        → Stays at old reached level → Proceeds bit at begun.start reached result }
 {
-    let mut open = open;
-    while open.known < 8 && middle(bit, open.known) < reached {
-        open = open.with_bit(level);
-    }
-    if open.known == 8 && middle(bit, 8) < reached {
-        return Progress::Ends(Frame {
-            start: open.start,
-            byte: open.byte,
-            good: level,
-        });
-    }
-    Progress::Reads(open)
-}
-
-impl Open {
-    /// One data bit more is known.
-    fn with_bit(self, level: bool) -> Open
-        requires { self.known < 8 }
-        ensures start { result.start ≡ self.start }
-        ensures known { result.known ≡ self.known + 1 }
-        ensures byte { result.byte ≡ self.byte + spec.bit_value level self.known }
-    {
-        Open {
-            start: self.start,
-            known: self.known + 1,
-            byte: self.byte + bit_value(level, self.known),
+    let mut begun = begun;
+    loop {
+        if reached <= middle(bit, begun.known) {
+            return Progress::Reads(begun);
         }
+        if begun.known == 8 {
+            return Progress::Ends(Frame {
+                start: begun.start,
+                byte: begun.byte,
+                good: level,
+            });
+        }
+        begun = begun.with_bit(level);
     }
-}
-
-/// What a data bit adds to the byte.
-fn bit_value(level: bool, place: u8) -> u8
-    requires { place < 8 }
-    ensures { result ≡ spec.bit_value level place }
-{
-    if level { 1 << place } else { 0 }
-}
-
-/// The clocks from a frame's fall up to the middle of a bit; bit 8 is the stop bit.
-fn middle(bit: u16, place: u8) -> u64
-    requires { place ≤ 8 }
-    ensures { result ≡ spec.middle bit place }
-{
-    let bit = u64::from(bit);
-    bit / 2 + bit * (1 + u64::from(place))
 }

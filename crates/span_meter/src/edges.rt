@@ -1,9 +1,7 @@
 //! The edges that a span goes between.
 ghost use Rattle.std.specs.Prelude.{◌≡◌, ◌<◌};
-ghost use Rattle.span_meter.specs.Measured as spec;
-ghost use Rattle.span_meter.specs.Measured.{ends_in};
-ghost use Rattle.span_meter.specs.Meters.{ends_of};
 
+use crate::levels::has_edge;
 use pin_matrix::Span;
 
 /// The edges of a span: each a rise of a pin, else a fall.
@@ -18,6 +16,10 @@ pub(crate) struct Edges {
 }
 
 impl Edges {
+    ghost use Rattle.span_meter.specs.Measured as spec;
+    ghost use Rattle.span_meter.specs.Measured.{ends_in};
+    ghost use Rattle.span_meter.specs.Kept.{ends_of};
+
     /// The edges of a span.
     pub(crate) fn of(span: &Span) -> Edges
         ensures { ends_of result ≡ ends_in span.now }
@@ -43,21 +45,4 @@ impl Edges {
     {
         has_edge(self.to_pin, self.to_rise, before, after)
     }
-}
-
-/// Whether the pin rises, or falls.
-fn has_edge(pin: u8, rise: bool, before: u32, after: u32) -> bool
-    requires { pin < 32 }
-    ensures { result ≡ spec.has_edge pin rise before after }
-{
-    let (was, is) = (is_high(before, pin), is_high(after, pin));
-    if rise { !was && is } else { was && !is }
-}
-
-/// A pin's level.
-fn is_high(levels: u32, pin: u8) -> bool
-    requires { pin < 32 }
-    ensures { result ≡ spec.is_high levels pin }
-{
-    (levels >> pin) & 1 == 1
 }

@@ -2,9 +2,12 @@
 #![tactic(auto)]
 
 mod edges;
+mod levels;
+mod line;
 mod meter;
 mod seen;
 mod trace;
 
+pub use line::put_seen;
 pub use seen::Seen;
 pub use trace::SpanMeter;

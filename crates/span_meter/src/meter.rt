@@ -15,7 +15,7 @@ pub(crate) struct Meter {
     least: u64,
     most: u64,
     /// How many from-edges have no to-edge after them yet, up to `u64::MAX`.
-    open: u64,
+    begun: u64,
     /// The clocks of the first and the last one of these.
     first: u64,
     last: u64,
@@ -31,7 +31,7 @@ impl Meter {
             pairs: 0,
             least: 0,
             most: 0,
-            open: 0,
+            begun: 0,
             first: 0,
             last: 0,
         }
@@ -48,34 +48,29 @@ impl Meter {
         }
     }
 
-    /// The meter after a clock, by the output levels before and after it. A pair has its to-edge after the clock of its
-    /// from-edge, so the to-edge is looked for first.
+    /// The meter after a clock, by the output levels before and after it.
     #[tactic(auto, unfolding(crate::specs::Meters::after_clock))]
     pub(crate) fn after(self, clock: u64, before: u32, level: u32) -> Meter
         ensures { result ≡ spec.after_clock clock before level self }
     {
-        self.after_to(clock, before, level)
-            .after_from(clock, before, level)
+        let to = self.edges.is_to(before, level);
+        let from = self.edges.is_from(before, level);
+        self.moved(to, from, clock)
     }
 
-    fn after_to(self, clock: u64, before: u32, level: u32) -> Meter
-        ensures { result ≡ spec.after_to clock before level self }
+    /// The meter after a clock, by whether its edges come. A pair has its to-edge after the clock of its from-edge, so the to-edge
+    /// goes first.
+    fn moved(self, to: bool, from: bool, clock: u64) -> Meter
+        ensures { result ≡ spec.moved to from clock self }
     {
-        if self.edges.is_to(before, level) {
-            self.closed(clock)
-        } else {
-            self
-        }
+        let ended = self.ended(to, clock);
+        if from { ended.opened(clock) } else { ended }
     }
 
-    fn after_from(self, clock: u64, before: u32, level: u32) -> Meter
-        ensures { result ≡ spec.after_from clock before level self }
+    fn ended(self, to: bool, clock: u64) -> Meter
+        ensures { result ≡ spec.ended_where to clock self }
     {
-        if self.edges.is_from(before, level) {
-            self.opened(clock)
-        } else {
-            self
-        }
+        if to { self.closed(clock) } else { self }
     }
 
     /// The meter after a to-edge, which ends each pair that is open.
@@ -83,23 +78,21 @@ impl Meter {
     fn closed(self, clock: u64) -> Meter
         ensures { result ≡ spec.closed_at clock self }
     {
-        if self.open == 0 {
+        if self.begun == 0 {
             return self;
         }
         let nearest = clock.saturating_sub(self.last);
         let farthest = clock.saturating_sub(self.first);
         Meter {
-            edges: self.edges,
-            pairs: self.pairs.saturating_add(self.open),
+            pairs: self.pairs.saturating_add(self.begun),
             least: if self.pairs == 0 {
                 nearest
             } else {
                 self.least.min(nearest)
             },
             most: self.most.max(farthest),
-            open: 0,
-            first: self.first,
-            last: self.last,
+            begun: 0,
+            ..self
         }
     }
 
@@ -109,13 +102,10 @@ impl Meter {
         ensures { result ≡ spec.opened_at clock self }
     {
         Meter {
-            edges: self.edges,
-            pairs: self.pairs,
-            least: self.least,
-            most: self.most,
-            open: self.open.saturating_add(1),
-            first: if self.open == 0 { clock } else { self.first },
+            begun: self.begun.saturating_add(1),
+            first: if self.begun == 0 { clock } else { self.first },
             last: clock,
+            ..self
         }
     }
 }
