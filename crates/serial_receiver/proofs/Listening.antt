@@ -19,50 +19,53 @@ hears_none bit before = record { last = refl; phase = λ rest. refl }
 
 -- more levels of an idle line, among which it doesn't fall
 idle_more : (bit : ℕ) (before : Bool) (levels more : List Bool) → ((rest : List Bool) → frames_from bit 0 (length levels) (level_after before levels) (more ++ rest)
-      ≡ frames_from bit 0 (length (levels ++ more)) (level_after before (levels ++ more)) rest)
+    ≡ frames_from bit 0 (length (levels ++ more)) (level_after before (levels ++ more)) rest)
     → IsIdle bit before levels → (frames bit before (levels ++ more) ≡ frames bit before levels) × IsIdle bit before (levels ++ more)
 unfolding frames_from
 idle_more bit before levels more go h =
     let none : frames bit before (levels ++ more) ≡ frames bit before levels =
     h more ∙ ap (λ x. frames bit before levels ++ frames_from bit 0 (length levels) (level_after before levels) x) (sym (append-nil more))
-    ∙ ap (λ x. frames bit before levels ++ x) (go []) ∙ append-nil (frames bit before levels) in
-    (none, λ rest.
-        ap (frames bit before) (append_assoc levels more rest) ∙ h (more ++ rest)
-        ∙ ap (λ x. frames bit before levels ++ x) (go rest)
-        ∙ ap (λ x. x ++ frames_from bit 0 (length (levels ++ more)) (level_after before (levels ++ more)) rest) (sym none))
+    ∙ ap (λ x. frames bit before levels ++ x) (go []) ∙ append-nil (frames bit before levels) in (
+      none,
+      λ rest.
+          ap (frames bit before) (append_assoc levels more rest) ∙ h (more ++ rest)
+          ∙ ap (λ x. frames bit before levels ++ x) (go rest)
+          ∙ ap (λ x. x ++ frames_from bit 0 (length (levels ++ more)) (level_after before (levels ++ more)) rest) (sym none),
+    )
 
 -- a level that stays keeps a line idle
 pub idle_held : (bit : ℕ) (before : Bool) (levels : List Bool) (n : ℕ) (v : Bool) → v ≡ level_after before levels → IsIdle bit before levels
     → (frames bit before (levels ++ replicate n v) ≡ frames bit before levels) × IsIdle bit before (levels ++ replicate n v)
 idle_held bit before levels n v same h =
     idle_more bit before levels (replicate n v) (λ rest.
-        ap (λ x. frames_from bit 0 (length levels) x (replicate n v ++ rest)) (sym same)
-        ∙ level_stays bit (length levels) v n rest
-        ∙ ap (λ c. frames_from bit 0 c v rest) (let e : length levels + n ≡ length (levels ++ replicate n v) = omega (arith, length-append levels (replicate n v), length-replicate n v) in e)
-        ∙ ap (λ x. frames_from bit 0 (length (levels ++ replicate n v)) x rest)
-        (sym (level_after-append before levels (replicate n v) ∙ ap (λ x. level_after x (replicate n v)) (sym same) ∙ level_after-same v n))) h
+    ap (λ x. frames_from bit 0 (length levels) x (replicate n v ++ rest)) (sym same)
+    ∙ level_stays bit (length levels) v n rest
+    ∙ ap (λ c. frames_from bit 0 c v rest) (let e : length levels + n ≡ length (levels ++ replicate n v) = omega (arith, length-append levels (replicate n v), length-replicate n v) in e)
+    ∙ ap (λ x. frames_from bit 0 (length (levels ++ replicate n v)) x rest)
+    (sym (level_after-append before levels (replicate n v) ∙ ap (λ x. level_after x (replicate n v)) (sym same) ∙ level_after-same v n))) h
 
 -- so does one that doesn't fall
 idle_one : (bit : ℕ) (before : Bool) (levels : List Bool) (v : Bool) → falls (level_after before levels) v ≡ false → IsIdle bit before levels
     → (frames bit before (levels ++ v ∷ []) ≡ frames bit before levels) × IsIdle bit before (levels ++ v ∷ [])
 idle_one bit before levels v none h =
     idle_more bit before levels (v ∷ []) (λ rest.
-        no_fall bit (length levels) (level_after before levels) v rest none
-        ∙ ap (λ c. frames_from bit 0 c v rest) (let e : length levels + 1 ≡ length (levels ++ v ∷ []) = omega (arith, length-append levels (v ∷ [])) in e)
-        ∙ ap (λ x. frames_from bit 0 (length (levels ++ v ∷ [])) x rest) (sym (level_after-append before levels (v ∷ [])))) h
+    no_fall bit (length levels) (level_after before levels) v rest none
+    ∙ ap (λ c. frames_from bit 0 c v rest) (let e : length levels + 1 ≡ length (levels ++ v ∷ []) = omega (arith, length-append levels (v ∷ [])) in e)
+    ∙ ap (λ x. frames_from bit 0 (length (levels ++ v ∷ [])) x rest) (sym (level_after-append before levels (v ∷ [])))) h
 
 -- one that falls opens a frame
 opens_one : (bit : ℕ) (before : Bool) (levels : List Bool) (o : Begun) → 2 ≤ bit → level_after before levels ≡ true → o.start ≡ length levels → o.known ≡ 0 → o.byte ≡ 0
     → IsIdle bit before levels → (frames bit before (levels ++ false ∷ []) ≡ frames bit before levels) × IsOpen bit before (levels ++ false ∷ []) o
 opens_one bit before levels o two high at known byte h =
     let go : (rest : List Bool) → frames bit before (levels ++ false ∷ rest) ≡ frames bit before levels ++ frames_from bit 0 o.start true (false ∷ rest) = λ rest.
-        h (false ∷ rest)
-        ∙ ap (λ x. frames bit before levels ++ frames_from bit 0 (length levels) x (false ∷ rest)) high
-        ∙ ap (λ c. frames bit before levels ++ frames_from bit 0 c true (false ∷ rest)) (sym at) in
+    h (false ∷ rest)
+    ∙ ap (λ x. frames bit before levels ++ frames_from bit 0 (length levels) x (false ∷ rest)) high
+    ∙ ap (λ c. frames bit before levels ++ frames_from bit 0 c true (false ∷ rest)) (sym at) in
     let least = middle-least bit 8 in
     let none : frames bit before (levels ++ false ∷ []) ≡ frames bit before levels =
-    go [] ∙ ap (λ x. frames bit before levels ++ x) (not_given bit o.start [] (omega arith)) ∙ append-nil (frames bit before levels) in
-    (none, record {
+    go [] ∙ ap (λ x. frames bit before levels ++ x) (not_given bit o.start [] (omega arith)) ∙ append-nil (frames bit before levels) in (
+      none,
+      record {
         seen = [];
         place = omega (arith, length-append levels (false ∷ []));
         going = λ rest. ap (frames bit before) (append_assoc levels (false ∷ []) rest) ∙ go rest ∙ ap (λ x. x ++ frames_from bit 0 o.start true (false ∷ rest)) (sym none);
@@ -70,7 +73,8 @@ opens_one bit before levels o two high at known byte h =
           byte = byte ∙ ap (bits_read (level_in (false ∷ rest)) bit) (sym known);
           next = let l = middle-least bit o.known in omega arith;
         };
-      })
+      },
+    )
 
 -- the levels from the fall on, with more that stay
 ahead : (seen : List Bool) (n : ℕ) (v : Bool) (rest : List Bool) → (seen ++ replicate n v) ++ rest ≡ seen ++ (replicate n v ++ rest)
@@ -88,13 +92,14 @@ open_more bit before levels o p n v h reads =
     let next = (reads []).1.next in
     let most = middle-most bit p.known p.eight_bits in
     let go : (rest : List Bool) → frames bit before (levels ++ (more ++ rest)) ≡ frames bit before levels ++ frames_from bit 0 p.start true (false ∷ (seen ++ rest)) = λ rest.
-        h.going (more ++ rest)
-        ∙ ap (λ c. frames bit before levels ++ frames_from bit 0 c true (false ∷ (h.seen ++ (more ++ rest)))) (sym start)
-        ∙ ap (λ x. frames bit before levels ++ frames_from bit 0 p.start true (false ∷ x)) (sym (ahead h.seen n v rest)) in
+    h.going (more ++ rest)
+    ∙ ap (λ c. frames bit before levels ++ frames_from bit 0 c true (false ∷ (h.seen ++ (more ++ rest)))) (sym start)
+    ∙ ap (λ x. frames bit before levels ++ frames_from bit 0 p.start true (false ∷ x)) (sym (ahead h.seen n v rest)) in
     let none : frames bit before (levels ++ more) ≡ frames bit before levels =
     ap (λ x. frames bit before (levels ++ x)) (sym (append-nil more)) ∙ go [] ∙ ap (λ x. frames bit before levels ++ frames_from bit 0 p.start true (false ∷ x)) (append-nil seen)
-    ∙ ap (λ x. frames bit before levels ++ x) (not_given bit p.start seen (omega arith)) ∙ append-nil (frames bit before levels) in
-    (none, record {
+    ∙ ap (λ x. frames bit before levels ++ x) (not_given bit p.start seen (omega arith)) ∙ append-nil (frames bit before levels) in (
+      none,
+      record {
         seen = seen;
         place = let e = h.place in omega (arith, length-append levels more, length-replicate n v);
         going = λ rest. ap (frames bit before) (append_assoc levels more rest) ∙ go rest ∙ ap (λ x. x ++ frames_from bit 0 p.start true (false ∷ (seen ++ rest))) (sym none);
@@ -102,7 +107,8 @@ open_more bit before levels o p n v h reads =
             let r = reads rest in
             subst (λ (xs : List Bool). IsReading bit (level_in (false ∷ xs)) (suc (length seen)) p) (sym (ahead h.seen n v rest))
             (subst (λ k. IsReading bit (level_in (false ∷ (h.seen ++ (replicate n v ++ rest)))) k p) (sym long) r.1);
-      })
+      },
+    )
 
 -- a frame that ends
 open_ends : (bit : ℕ) (before : Bool) (levels : List Bool) (o : Begun) (f : Frame) (n : ℕ) (v : Bool) → (h : IsOpen bit before levels o) → v ≡ level_after before (levels ++ replicate n v)
@@ -116,16 +122,18 @@ open_ends bit before levels o f n v h last ends =
     let begun : suc (length h.seen) ≤ middle bit 8 = let m = middle-most bit o.known o.eight_bits in omega arith in
     let place : o.start + suc (length h.seen) + n ≡ length (levels ++ more) = let e = h.place in omega (arith, length-append levels more, length-replicate n v) in
     let go : (rest : List Bool) → frames bit before (levels ++ (more ++ rest)) ≡ frames bit before levels ++ f ∷ frames_from bit 0 (length (levels ++ more)) (level_after before (levels ++ more)) rest = λ rest.
-        h.going (more ++ rest)
-        ∙ ap (λ x. frames bit before levels ++ x) (given bit o.start (h.seen ++ (more ++ rest)) (omega (arith, length-append h.seen (more ++ rest), length-append more rest, length-replicate n v)))
-        ∙ ap (λ x. frames bit before levels ++ x ∷ frames_from bit (o.start + middle bit 8 + 1) (o.start + 1) false (h.seen ++ (more ++ rest))) (sym (ends rest).0)
-        ∙ ap (λ x. frames bit before levels ++ f ∷ x) (after_stop bit o.start h.seen n v rest begun reached
-            ∙ ap (λ c. frames_from bit 0 c v rest) place ∙ ap (λ x. frames_from bit 0 (length (levels ++ more)) x rest) last) in
-    let one : frames bit before (levels ++ more) ≡ frames bit before levels ++ f ∷ [] = ap (λ x. frames bit before (levels ++ x)) (sym (append-nil more)) ∙ go [] in
-    (one, λ rest.
-        ap (frames bit before) (append_assoc levels more rest) ∙ go rest
-        ∙ sym (append_assoc (frames bit before levels) (f ∷ []) (frames_from bit 0 (length (levels ++ more)) (level_after before (levels ++ more)) rest))
-        ∙ ap (λ x. x ++ frames_from bit 0 (length (levels ++ more)) (level_after before (levels ++ more)) rest) (sym one))
+    h.going (more ++ rest)
+    ∙ ap (λ x. frames bit before levels ++ x) (given bit o.start (h.seen ++ (more ++ rest)) (omega (arith, length-append h.seen (more ++ rest), length-append more rest, length-replicate n v)))
+    ∙ ap (λ x. frames bit before levels ++ x ∷ frames_from bit (o.start + middle bit 8 + 1) (o.start + 1) false (h.seen ++ (more ++ rest))) (sym (ends rest).0)
+    ∙ ap (λ x. frames bit before levels ++ f ∷ x) (after_stop bit o.start h.seen n v rest begun reached
+    ∙ ap (λ c. frames_from bit 0 c v rest) place ∙ ap (λ x. frames_from bit 0 (length (levels ++ more)) x rest) last) in
+    let one : frames bit before (levels ++ more) ≡ frames bit before levels ++ f ∷ [] = ap (λ x. frames bit before (levels ++ x)) (sym (append-nil more)) ∙ go [] in (
+      one,
+      λ rest.
+          ap (frames bit before) (append_assoc levels more rest) ∙ go rest
+          ∙ sym (append_assoc (frames bit before levels) (f ∷ []) (frames_from bit 0 (length (levels ++ more)) (level_after before (levels ++ more)) rest))
+          ∙ ap (λ x. x ++ frames_from bit 0 (length (levels ++ more)) (level_after before (levels ++ more)) rest) (sym one),
+    )
 
 -- An open frame, where a level stays so many clocks: by how it proceeds.
 pub open_brings : (bit : ℕ) (before : Bool) (levels : List Bool) (o : Begun) (n : ℕ) (v : Bool) (progress : Progress) → (h : IsOpen bit before levels o)
@@ -165,8 +173,10 @@ pub idle_next : (bit : ℕ) (before : Bool) (levels : List Bool) (v : Bool) (lin
 idle_next bit before levels v line begun two none h opens = on begun opens where
   idle : IsIdle bit before levels
   idle = subst (IsPhase bit before levels) none h.phase
+
   last : v ≡ level_after before (levels ++ v ∷ [])
   last = sym (level_after-append before levels (v ∷ []))
+
   on : (o : Option Begun) → Opens (length levels) line.last v o → Brings bit before levels (v ∷ []) (record { line = record { last = v; frame = o }; frame = None })
   on None stays =
       let both = idle_one bit before levels v (ap (λ x. falls x v) (sym h.last) ∙ stays) idle in
@@ -176,9 +186,9 @@ idle_next bit before levels v line begun two none h opens = on begun opens where
       let both = opens_one bit before levels o two (sym h.last ∙ fall.0) begins.1 begins.2 begins.3 idle in
       let P : Bool → Type 0 = λ x. Brings bit before levels (x ∷ []) (record { line = record { last = x; frame = Some o }; frame = None }) in
       subst P (sym fall.1) (record {
-          state = record { last = sym (level_after-append before levels (false ∷ [])); phase = both.1 };
-          ended = both.0 ∙ sym (append-nil (frames bit before levels));
-        })
+        state = record { last = sym (level_after-append before levels (false ∷ [])); phase = both.1 };
+        ended = both.0 ∙ sym (append-nil (frames bit before levels));
+      })
 
 -- a line with an open frame, where its level stays up to a clock
 pub held_open : (bit clock reached : ℕ) (line : Line) (b : Begun) (progress : Progress) (heard : Heard) → line.frame ≡ Some b → reached ≡ clock - b.start

@@ -31,8 +31,8 @@ known_more bit reached level first now next low start known byte h =
           ∙ ap (bits_read at bit) (sym step);
       later = λ at old r. later old (middle bit k) (middle bit (suc k)) bit (middle bit next.known) (h.later at old r) (middle-suc bit k) (ap (middle bit) step);
     } where
-  later : (old a b bit c : ℕ) → old ≤ a → b ≡ a + bit → c ≡ b → old ≤ c
-  later old a b bit c h e f = omega arith
+      later : (old a b bit c : ℕ) → old ≤ a → b ≡ a + bit → c ≡ b → old ≤ c
+      later old a b bit c h e f = omega arith
 
 -- the frame goes on
 pub goes_on : (bit reached m : ℕ) (level : Bool) (first now : Begun) → m ≡ middle bit now.known → reached ≤ m → Known bit reached level first now
@@ -47,7 +47,8 @@ unfolding frame_at
 ends_so bit reached m level first now e h eight known = λ at old r low s.
     let mk : ℕ → ℕ → Bool → Frame = λ a b c. record { start = a; byte = b; good = c } in
     let within : middle bit now.known < reached = subst (λ k. k < reached) e h in
-    let good : level ≡ at (middle bit now.known) = sym (s (middle bit now.known) (known.later at old r) within) in
-    (ap (λ x. mk x now.byte level) known.start ∙ ap (λ x. mk first.start x level) (known.bits at old r s ∙ ap (bits_read at bit) eight)
-        ∙ ap (λ x. mk first.start (bits_read at bit 8) x) (good ∙ ap (λ k. at (middle bit k)) eight),
-        subst (λ k. middle bit k < reached) eight within)
+    let good : level ≡ at (middle bit now.known) = sym (s (middle bit now.known) (known.later at old r) within) in (
+      ap (λ x. mk x now.byte level) known.start ∙ ap (λ x. mk first.start x level) (known.bits at old r s ∙ ap (bits_read at bit) eight)
+          ∙ ap (λ x. mk first.start (bits_read at bit 8) x) (good ∙ ap (λ k. at (middle bit k)) eight),
+      subst (λ k. middle bit k < reached) eight within,
+    )

@@ -32,8 +32,8 @@ levels-held pin clock before (s ∷ rest) next =
     let n = clock - length (s ∷ rest) in
     map-append (λ (x : Sample). is_high x.level pin) (s ∷ rest) (replicate n (last_of s rest))
     ∙ ap (λ x. levels_of pin (s ∷ rest) ++ x) (levels-replicate pin n (last_of s rest)
-        ∙ ap (λ v. replicate n v) (sym (last-level pin before s rest))
-        ∙ ap (λ k. replicate (clock - k) (level_after before (levels_of pin (s ∷ rest)))) (sym (length-map (s ∷ rest) (λ (x : Sample). is_high x.level pin))))
+    ∙ ap (λ v. replicate n v) (sym (last-level pin before s rest))
+    ∙ ap (λ k. replicate (clock - k) (level_after before (levels_of pin (s ∷ rest)))) (sym (length-map (s ∷ rest) (λ (x : Sample). is_high x.level pin))))
 
 length-held : (pin clock : ℕ) (before : Bool) (told : List Sample) → IsNext told clock
     → length (levels_of pin told ++ replicate (clock - length (levels_of pin told)) (level_after before (levels_of pin told))) ≡ clock

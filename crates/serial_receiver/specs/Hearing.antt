@@ -64,14 +64,14 @@ level_after before (level ∷ rest) = level_after level rest
 -- No frame is open after these levels: the frames of more levels are those so far and those that begin in the new ones.
 abbrev pub IsIdle : (bit : ℕ) (before : Bool) → List Bool → Type 0
 IsIdle bit before levels = (rest : List Bool) → frames bit before (levels ++ rest)
-  ≡ frames bit before levels ++ frames_from bit 0 (length levels) (level_after before levels) rest
+    ≡ frames bit before levels ++ frames_from bit 0 (length levels) (level_after before levels) rest
 
 -- A frame is open after these levels: `seen` are those after its fall.
 pub record IsOpen (bit : ℕ) (before : Bool) (levels : List Bool) (o : Begun) : Type 0 where
   pub seen : List Bool
   pub place : o.start + suc (length seen) ≡ length levels
   pub going : (rest : List Bool) → frames bit before (levels ++ rest)
-    ≡ frames bit before levels ++ frames_from bit 0 o.start true (false ∷ (seen ++ rest))
+      ≡ frames bit before levels ++ frames_from bit 0 o.start true (false ∷ (seen ++ rest))
   pub reading : (rest : List Bool) → IsReading bit (level_in (false ∷ (seen ++ rest))) (suc (length seen)) o
 
 abbrev pub IsPhase : (bit : ℕ) (before : Bool) → List Bool → Option Begun → Type 0

@@ -55,11 +55,7 @@ fn put_bad<S: Sink>(sink: &mut S, frame: Frame) -> Result<(), SinkFailed>
     let mut number = Buffer::new();
     put_all(
         sink,
-        &[
-            b"bad at ",
-            number.format(frame.start).as_bytes(),
-            b"\n",
-        ],
+        &[b"bad at ", number.format(frame.start).as_bytes(), b"\n"],
     )
 }
 
