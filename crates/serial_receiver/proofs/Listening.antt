@@ -1,5 +1,5 @@
 -- A line as more levels come.
-use Rattle.std.proofs.Common.{◌≡◌, ℕ, zero, suc, ◌+◌, ◌-◌, ◌*◌, ◌/◌, ◌^◌, ◌<◌, ◌≤◌, Bool, true, false, cond, Option, Some, None, List, [], ◌∷◌, ◌++◌, length, refl, sym, ap, ◌∙◌, subst, arith, append-nil, append_assoc, length-append, min, replicate}
+use Rattle.std.proofs.Common.{◌≡◌, ℕ, suc, ◌+◌, ◌-◌, ◌^◌, ◌<◌, ◌≤◌, Bool, true, false, Option, Some, None, List, [], ◌∷◌, ◌++◌, length, refl, sym, ap, ◌∙◌, subst, arith, append-nil, append_assoc, length-append, min, replicate}
 use Rattle.std.proofs.lemmas.List.{length-replicate}
 use Rattle.serial_receiver.specs.declared.frame.Frame.{Frame}
 use Rattle.serial_receiver.specs.declared.begun.Begun.{Begun}
@@ -8,7 +8,7 @@ use Rattle.serial_receiver.specs.declared.line.Progress.{Progress}
 use Rattle.serial_receiver.specs.declared.line.Progress.TheVariants.{Reads, Ends}
 use Rattle.serial_receiver.specs.declared.line.Heard.{Heard}
 use Rattle.serial_receiver.specs.Frames.{bits_read, falls, frame_at, frames, frames_from, level_in, middle}
-use Rattle.serial_receiver.specs.Hearing.{Brings, Hears, IsIdle, IsOpen, IsPhase, IsReading, Opens, Proceeds, Stays, frame_list, heard_of, level_after}
+use Rattle.serial_receiver.specs.Hearing.{Brings, Hears, IsIdle, IsOpen, IsPhase, IsReading, Opens, Proceeds, Stays, heard_of, level_after}
 use Rattle.serial_receiver.proofs.Levels.{level_after-append, level_after-same, middle-least, middle-most, middle-small, stays}
 use Rattle.serial_receiver.proofs.Framing.{after_stop, given, level_stays, no_fall, not_given}
 

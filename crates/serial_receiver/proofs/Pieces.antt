@@ -1,8 +1,8 @@
 -- The lines of frames, from the pieces that are put.
-use Rattle.std.proofs.Common.{◌≡◌, ◌∙◌, ap, ℕ, ◌/◌, ◌%◌, List, [], ◌∷◌, ◌++◌, codes, decimal, append_assoc, append-nil}
+use Rattle.std.proofs.Common.{◌≡◌, ◌∙◌, ap, ℕ, List, [], ◌∷◌, ◌++◌, codes, decimal, append_assoc, append-nil}
 use Rattle.std.specs.List.{concat}
 use Rattle.serial_receiver.specs.declared.frame.Frame.{Frame}
-use Rattle.serial_receiver.specs.FrameText.{byte_line, bad_line, hexadecimal, hexadecimal_digit}
+use Rattle.serial_receiver.specs.FrameText.{byte_line, bad_line, hexadecimal}
 
 -- the pieces of the line of a good frame, one after the other
 unfoldable pub byte_pieces : (digits start : List ℕ) → List ℕ

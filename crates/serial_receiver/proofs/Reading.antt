@@ -1,8 +1,7 @@
 -- The bits of a frame, one by one.
-use Rattle.std.proofs.Common.{◌≡◌, ℕ, suc, ◌+◌, ◌*◌, ◌/◌, ◌<◌, ◌≤◌, Bool, refl, sym, ap, ◌∙◌, subst, arith}
+use Rattle.std.proofs.Common.{◌≡◌, ℕ, suc, ◌+◌, ◌<◌, ◌≤◌, Bool, refl, sym, ap, ◌∙◌, subst, arith}
 use Rattle.serial_receiver.specs.declared.frame.Frame.{Frame}
 use Rattle.serial_receiver.specs.declared.begun.Begun.{Begun}
-use Rattle.serial_receiver.specs.declared.line.Progress.{Progress}
 use Rattle.serial_receiver.specs.declared.line.Progress.TheVariants.{Reads, Ends}
 use Rattle.serial_receiver.specs.Frames.{bit_value, bits_read, frame_at, middle}
 use Rattle.serial_receiver.specs.Hearing.{IsReading, Proceeds, Stays}

@@ -1,5 +1,5 @@
 -- The text that a sink takes as frames end.
-use Rattle.std.proofs.Common.{◌≡◌, ℕ, zero, suc, ◌+◌, ◌-◌, ◌≤◌, Bool, true, false, Option, Some, None, List, [], ◌∷◌, ◌++◌, length, map, refl, sym, ap, ◌∙◌, subst, arith, append-nil, append_assoc, length-append, replicate, flat_map, Result, IsErr}
+use Rattle.std.proofs.Common.{◌≡◌, ℕ, zero, suc, ◌-◌, ◌≤◌, Bool, true, false, Option, Some, None, List, [], ◌∷◌, ◌++◌, length, refl, sym, ap, ◌∙◌, subst, arith, append-nil, append_assoc, length-append, replicate, Result, IsErr}
 use Rattle.std.proofs.lemmas.List.{length-map, map-append, length-replicate}
 use Rattle.block_core.specs.declared.sample.Sample.{Sample}
 use Rattle.pio_edge.specs.Edge.{with_bytes, Takes, TakesPrefix}

@@ -1,6 +1,5 @@
 -- Worked rows: the frames in levels that were written by hand.
-use Rattle.std.proofs.Common.{◌≡◌, ℕ, Bool, true, false, List, [], ◌∷◌, ◌++◌, codes, refl, replicate}
-use Rattle.serial_receiver.specs.declared.frame.Frame.{Frame}
+use Rattle.std.proofs.Common.{◌≡◌, Bool, true, false, List, [], ◌∷◌, ◌++◌, codes, refl, replicate}
 use Rattle.serial_receiver.specs.Frames.{frame_at, frames, frames_from}
 use Rattle.serial_receiver.specs.FrameText.{hexadecimal}
 

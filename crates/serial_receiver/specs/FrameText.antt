@@ -1,5 +1,5 @@
 -- The text of frames, a line each.
-use Rattle.std.specs.Prelude.{ℕ, ◌+◌, ◌-◌, ◌/◌, ◌%◌, List, [], ◌∷◌, ◌++◌, codes, decimal, nat_lt, if◌then◌else◌}
+use Rattle.std.specs.Prelude.{ℕ, ◌+◌, ◌/◌, ◌%◌, List, [], ◌∷◌, ◌++◌, codes, decimal, nat_lt, if◌then◌else◌}
 use Rattle.std.specs.List.{flat_map}
 use Rattle.serial_receiver.specs.declared.frame.Frame.{Frame}
 

@@ -6,7 +6,7 @@
 --   frame_at       the frame that begins with a fall
 --   frames_from    the frames that begin at a clock or later
 --   frames         all frames
-use Rattle.std.specs.Prelude.{ℕ, zero, suc, ◌+◌, ◌*◌, ◌/◌, ◌^◌, ◌==◌, ◌&&◌, Bool, true, false, not, List, [], ◌∷◌, if◌then◌else◌, length, map, nat_le, nat_lt, slice_index_or}
+use Rattle.std.specs.Prelude.{ℕ, zero, suc, ◌+◌, ◌*◌, ◌/◌, ◌^◌, ◌==◌, ◌&&◌, Bool, false, not, List, [], ◌∷◌, if◌then◌else◌, length, map, nat_le, nat_lt, slice_index_or}
 use Rattle.std.specs.Int.{bit_at}
 use Rattle.block_core.specs.declared.sample.Sample.{Sample}
 use Rattle.serial_receiver.specs.declared.frame.Frame.{Frame}

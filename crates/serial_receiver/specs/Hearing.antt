@@ -4,7 +4,7 @@
 --   Hears          the state of a line after some levels
 --   Heard          what more levels bring
 --   Receives       the trace after some samples
-use Rattle.std.specs.Prelude.{◌≡◌, ℕ, suc, ◌+◌, ◌-◌, ◌<◌, ◌≤◌, Bool, true, false, Option, Some, None, List, [], ◌∷◌, ◌++◌, length}
+use Rattle.std.specs.Prelude.{◌≡◌, ℕ, suc, ◌+◌, ◌<◌, ◌≤◌, Bool, true, false, Option, Some, None, List, [], ◌∷◌, ◌++◌, length}
 use Rattle.block_core.specs.declared.sample.Sample.{Sample}
 use Rattle.pio_edge.specs.Edge.{with_bytes}
 use Rattle.serial_receiver.specs.declared.frame.Frame.{Frame}
