@@ -1,0 +1,7 @@
+pub mod Levels
+pub mod Framing
+pub mod Reading
+pub mod Listening
+pub mod Texts
+pub mod Pieces
+mod WorkedRows

@@ -1,0 +1,33 @@
+-- The least and the greatest of distances, and how many there are.
+use Rattle.std.proofs.Common.{◌≡◌, ℕ, suc, ◌≤◌, Bool, true, false, cond, List, [], ◌∷◌, ◌++◌, Option, Some, None, length, min, max, refl, arith}
+use Rattle.block_core.specs.declared.sample.Sample.{Sample}
+use Rattle.span_meter.specs.Measured.{Ends, clocks_to, greatest_of, is_from, least_with, measured, with_distance}
+
+-- the greatest of two rows
+pub greatest-append : (xs ys : List ℕ) → greatest_of (xs ++ ys) ≡ max (greatest_of xs) (greatest_of ys)
+greatest-append [] ys = omega arith
+greatest-append (x ∷ xs) ys = let i = greatest-append xs ys in omega arith
+
+-- the least of two rows
+pub least-append : (x : ℕ) (xs : List ℕ) (y : ℕ) (ys : List ℕ) → least_with x (xs ++ y ∷ ys) ≡ min (least_with x xs) (least_with y ys)
+least-append x [] y ys = refl
+least-append x (z ∷ xs) y ys = let i = least-append z xs y ys in omega arith
+
+one_more : (between : Option ℕ) (ds : List ℕ) (n : ℕ) → length ds ≤ n → length (with_distance between ds) ≤ suc n
+one_more None ds n h = omega arith
+one_more (Some k) ds n h = omega arith
+
+none_more : (f : Bool) → length (cond f (with_distance None []) []) ≤ 0
+none_more true = omega arith
+none_more false = omega arith
+
+some_more : (f : Bool) (between : Option ℕ) (ds : List ℕ) (n : ℕ) → length ds ≤ n → length (cond f (with_distance between ds) ds) ≤ suc n
+some_more true between ds n h = one_more between ds n h
+some_more false between ds n h = omega arith
+
+-- the last clock ends a pair, but begins none: there are fewer pairs than clocks
+pub fewer : (e : Ends) (before : ℕ) (s : Sample) (rest : List Sample) → length (measured e before (s ∷ rest)) ≤ length rest
+unfolding measured clocks_to
+fewer e before s [] = none_more (is_from e before s.level)
+fewer e before s (r ∷ rest) =
+    some_more (is_from e before s.level) (clocks_to e s.level (r ∷ rest)) (measured e s.level (r ∷ rest)) (length rest) (fewer e s.level r rest)

@@ -1,0 +1,6 @@
+pub mod HeldLevels
+pub mod Distances
+pub mod Counting
+pub mod Telling
+pub mod Pieces
+mod WorkedRows

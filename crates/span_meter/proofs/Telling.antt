@@ -1,0 +1,297 @@
+-- What a meter has measured after the samples that it was told of.
+use Rattle.std.proofs.Common.{◌≡◌, ℕ, zero, suc, ◌+◌, ◌-◌, ◌^◌, ◌<◌, ◌≤◌, Bool, true, false, cond, List, [], ◌∷◌, ◌++◌, Option, Some, None, length, refl, sym, ap, ◌∙◌, map, subst, arith, append-nil, append_assoc, length-append, replicate, take, drop, get_or}
+use Rattle.std.proofs.lemmas.List.{drop_all, length-replicate, map-append, map_more, take_all}
+use Rattle.std.specs.List.{AllByRecursion}
+use Rattle.pin_matrix.specs.declared.span.Span.{Span}
+use Rattle.block_core.specs.declared.sample.Sample.{Sample}
+use Rattle.vcd_trace.specs.Told.{held_to, last_of, IsNext}
+use Rattle.vcd_trace.specs.Edges.{levels_after}
+use Rattle.span_meter.proofs.HeldLevels.{held-levels, last-levels-of, levels-append}
+use Rattle.span_meter.specs.declared.edges.Edges.{Edges}
+use Rattle.span_meter.specs.declared.meter.Meter.{Meter}
+use Rattle.span_meter.specs.Measured.{Ends, changes, clocks_to, ends_in, has_edge, is_from, is_high, is_to, measured, seen_of, with_distance}
+use Rattle.span_meter.specs.Kept.{ends_of}
+use Rattle.span_meter.specs.Meters.{Counts, HasMeasured, Measures, Meters, after_clock, closed_at, closing, direction, ended, ends_code, first_told, fresh, most, moved, opened_at, seen_by, watched}
+use Rattle.span_meter.proofs.Distances.{fewer}
+use Rattle.span_meter.proofs.Counting.{closes, later, opens, starts_after, step}
+
+kept : (o : Bool) (m x : Meter) → x.edges ≡ m.edges → (cond o m x).edges ≡ m.edges
+kept true m x h = refl
+kept false m x h = h
+
+same_edges : (to from : Bool) (n : ℕ) (m : Meter) → (moved to from n m).edges ≡ m.edges
+unfolding opened_at closed_at
+same_edges true true n m = kept _ m (closing n m) refl
+same_edges true false n m = kept _ m (closing n m) refl
+same_edges false true n m = refl
+same_edges false false n m = refl
+
+counts_after : (to from : Bool) (n : ℕ) (ds starts : List ℕ) (m : Meter) → Counts ds starts n m → length (ds ++ ended n starts (cond to (Some 0) None)) ≤ most
+    → Counts (ds ++ ended n starts (cond to (Some 0) None)) (starts_after to from n starts) (suc n) (moved to from n m)
+counts_after true true n ds starts m h few = opens _ [] n (closed_at n m) (closes ds starts n m h few)
+counts_after true false n ds starts m h few = later _ [] n (closed_at n m) (closes ds starts n m h few)
+counts_after false true n ds starts m h few = subst (λ (xs : List ℕ). Counts xs (starts ++ n ∷ []) (suc n) (opened_at n m)) (sym (append-nil ds)) (opens ds starts n m h)
+counts_after false false n ds starts m h few = subst (λ (xs : List ℕ). Counts xs starts (suc n) m) (sym (append-nil ds)) (later ds starts n m h)
+
+no_rest : (from : Bool) (c : Option ℕ) → cond from (with_distance None []) [] ≡ []
+no_rest true c = refl
+no_rest false c = refl
+
+-- what is measured with one sample more
+one_more : (e : Ends) (levels : ℕ) (told : List Sample) (m : Meter) (s : Sample) → (h : Measures e levels told m)
+    → measured e levels (told ++ s ∷ []) ≡ measured e levels told ++ ended (length told) h.starts (cond (is_to e (levels_after levels told) s.level) (Some 0) None)
+unfolding measured clocks_to
+one_more e levels told m s h =
+    let b = levels_after levels told in
+    let ends = ended (length told) h.starts (cond (is_to e b s.level) (Some 0) None) in
+    h.going (s ∷ []) ∙ ap (λ x. measured e levels told ++ (ends ++ x)) (no_rest (is_from e b s.level) None) ∙ ap (λ x. measured e levels told ++ x) (append-nil ends)
+
+length-more : (told : List Sample) (s : Sample) → length (told ++ s ∷ []) ≡ suc (length told)
+length-more told s = length-append told (s ∷ []) ∙ (let e : length told + 1 ≡ suc (length told) = omega arith in e)
+
+fewer_than : (e : Ends) (levels : ℕ) (told : List Sample) → length told ≤ 2 ^ 64 → length (measured e levels told) ≤ most
+unfolding measured
+fewer_than e levels [] h = omega arith
+fewer_than e levels (s ∷ rest) h = let f = fewer e levels s rest in omega arith
+
+levels-more : (levels : ℕ) (told : List Sample) (s : Sample) → levels_after levels (told ++ s ∷ []) ≡ s.level
+unfolding levels_after
+levels-more levels told s = levels-append levels told (s ∷ [])
+
+-- one clock more
+pub told_one : (e : Ends) (levels : ℕ) (told : List Sample) (m : Meter) (s : Sample) → length told < 2 ^ 64 → Measures e levels told m
+    → Measures e levels (told ++ s ∷ []) (moved (is_to e (levels_after levels told) s.level) (is_from e (levels_after levels told) s.level) (length told) m)
+unfolding measured clocks_to
+told_one e levels told m s few h =
+    let b = levels_after levels told in
+    let n = length told in
+    let to = is_to e b s.level in
+    let from = is_from e b s.level in
+    let long = length-more told s in
+    let more = one_more e levels told m s h in
+    let ds = measured e levels told ++ ended n h.starts (cond to (Some 0) None) in
+    let starts = starts_after to from n h.starts in
+    let short : length ds ≤ most = subst (λ (xs : List ℕ). length xs ≤ most) more (fewer_than e levels (told ++ s ∷ []) (omega arith)) in
+    record {
+      starts = starts;
+      counts =
+          subst (λ k. Counts (measured e levels (told ++ s ∷ [])) starts k (moved to from n m)) (sym long)
+          (subst (λ (xs : List ℕ). Counts xs starts (suc n) (moved to from n m)) (sym more) (counts_after to from n (measured e levels told) h.starts m h.counts short));
+      going = λ rest.
+          ap (measured e levels) (append_assoc told (s ∷ []) rest)
+          ∙ h.going (s ∷ rest)
+          ∙ step to from n h.starts (measured e levels told) (clocks_to e s.level rest) (measured e s.level rest)
+          ∙ ap (λ x. x ++ (ended (suc n) starts (clocks_to e s.level rest) ++ measured e s.level rest)) (sym more)
+          ∙ ap (λ k. measured e levels (told ++ s ∷ []) ++ (ended k starts (clocks_to e s.level rest) ++ measured e s.level rest)) (sym long)
+          ∙ ap (λ v. measured e levels (told ++ s ∷ []) ++ (ended (length (told ++ s ∷ [])) starts (clocks_to e v rest) ++ measured e v rest)) (sym (levels-more levels told s));
+    }
+
+-- a level that stays has no edge
+no_change : (rise b : Bool) → changes rise b b ≡ false
+no_change true true = refl
+no_change true false = refl
+no_change false true = refl
+no_change false false = refl
+
+no_edge : (pin : ℕ) (rise : Bool) (b v : ℕ) → v ≡ b → has_edge pin rise b v ≡ false
+no_edge pin rise b v h = ap (λ (x : ℕ). changes rise (is_high b pin) (is_high x pin)) h ∙ no_change rise (is_high b pin)
+
+-- a sample that repeats the levels changes nothing
+told_same : (e : Ends) (levels : ℕ) (told : List Sample) (m : Meter) (s : Sample) → length told < 2 ^ 64 → s.level ≡ levels_after levels told
+    → Measures e levels told m → Measures e levels (told ++ s ∷ []) m
+told_same e levels told m s few same h =
+    let b = levels_after levels told in
+    let n = length told in
+    let P : Bool → Bool → Type 0 = λ to from. Measures e levels (told ++ s ∷ []) (moved to from n m) in
+    let once = subst (λ to. P to (is_from e b s.level)) (no_edge e.to_pin e.to_rise b s.level same) (told_one e levels told m s few h) in
+    subst (P false) (no_edge e.from_pin e.from_rise b s.level same) once
+
+-- nor do more of them
+told_many : (e : Ends) (levels : ℕ) (told : List Sample) (m : Meter) (s : Sample) (n : ℕ) → length told + n ≤ 2 ^ 64 → s.level ≡ levels_after levels told
+    → Measures e levels told m → Measures e levels (told ++ replicate n s) m
+told_many e levels told m s zero few same h = subst (λ (xs : List Sample). Measures e levels xs m) (sym (append-nil told)) h
+told_many e levels told m s (suc n) few same h =
+    let one = told_same e levels told m s (omega arith) same h in
+    let long = length-more told s in
+    subst (λ (xs : List Sample). Measures e levels xs m) (append_assoc told (s ∷ []) (replicate n s))
+    (told_many e levels (told ++ s ∷ []) m s n (omega arith) (sym (levels-more levels told s)) one)
+
+-- the clocks that were left out
+pub told_held : (e : Ends) (levels : ℕ) (told : List Sample) (m : Meter) (clock : ℕ) → clock ≤ 2 ^ 64 → IsNext told clock
+    → Measures e levels told m → Measures e levels (held_to clock told) m
+told_held e levels [] m clock few next h = h
+told_held e levels (s ∷ rest) m clock few next h =
+    let after : length (s ∷ rest) ≤ clock = next.after in
+    told_many e levels (s ∷ rest) m (last_of s rest) (clock - length (s ∷ rest)) (omega arith) (last-levels-of levels s rest) h
+
+length-held : (clock : ℕ) (told : List Sample) → IsNext told clock → length (held_to clock told) ≡ clock
+length-held clock [] next = sym (next.first refl)
+length-held clock (s ∷ rest) next =
+    let n = clock - length (s ∷ rest) in
+    let after : length (s ∷ rest) ≤ clock = next.after in
+    omega (arith, length-append rest (replicate n (last_of s rest)), length-replicate n (last_of s rest))
+
+-- a meter that was told of nothing
+pub told_none : (e : Ends) (levels : ℕ) (edges : Edges) → Measures e levels [] (fresh edges)
+unfolding measured clocks_to levels_after
+told_none e levels edges = record {
+  starts = [];
+  counts = record {
+    seen = refl;
+    begun = omega arith;
+    first = λ none. absurd (omega arith);
+    last = λ none. absurd (omega arith);
+    greatest = λ e none. absurd (omega arith);
+    least = λ e none. absurd (omega arith);
+  };
+  going = λ rest. on (clocks_to e levels rest) (measured e levels rest);
+} where
+  on : (c : Option ℕ) (ds : List ℕ) → ds ≡ ended 0 [] c ++ ds
+  on None ds = refl
+  on (Some k) ds = refl
+
+-- what all meters say, where each has measured
+seen_by_all : (levels : ℕ) (told : List Sample) (ms : List Meter) → AllByRecursion (λ m. Measures (ends_of m.edges) levels told m) ms
+    → map seen_by ms ≡ map (λ e. seen_of (measured e levels told)) (watched ms)
+seen_by_all levels told [] h = refl
+seen_by_all levels told (m ∷ ms) h =
+    ap (λ x. x ∷ map seen_by ms) h.0.counts.seen
+    ∙ ap (λ xs. seen_of (measured (ends_of m.edges) levels told) ∷ xs) (seen_by_all levels told ms h.1)
+
+measured_by : (levels : ℕ) (ends : List Ends) (told : List Sample) (t : Meters) → t.first ≡ levels → t.last ≡ levels_after levels told → length told ≤ 2 ^ 64
+    → watched t.meters ≡ ends → AllByRecursion (λ m. Measures (ends_of m.edges) levels told m) t.meters → HasMeasured levels ends told t
+measured_by levels ends told t first last few w each = record {
+  first = first;
+  last = last;
+  few = few;
+  watches = w;
+  each = each;
+  seen = seen_by_all levels told t.meters each ∙ ap (map (λ e. seen_of (measured e levels told))) w;
+}
+
+all_fresh : (levels : ℕ) (ms : List Meter) → AllByRecursion (λ m. Measures (ends_of m.edges) levels [] m) (map (λ m. fresh m.edges) ms)
+all_fresh levels [] = tt
+all_fresh levels (m ∷ ms) = (told_none (ends_of m.edges) levels m.edges, all_fresh levels ms)
+
+watched-fresh : (ms : List Meter) → watched (map (λ m. fresh m.edges) ms) ≡ watched ms
+watched-fresh [] = refl
+watched-fresh (m ∷ ms) = ap (λ xs. ends_of m.edges ∷ xs) (watched-fresh ms)
+
+-- fresh meters have measured what is in no sample
+pub begin_measured : (levels : ℕ) (ends : List Ends) (ms : List Meter) (t : Meters) → watched ms ≡ ends → t.first ≡ levels → t.last ≡ levels
+    → t.meters ≡ map (λ m. fresh m.edges) ms → HasMeasured levels ends [] t
+unfolding levels_after
+begin_measured levels ends ms t w first last fresh_ones =
+    measured_by levels ends [] t first last (omega arith) (ap watched fresh_ones ∙ watched-fresh ms ∙ w)
+    (subst (AllByRecursion (λ m. Measures (ends_of m.edges) levels [] m)) (sym fresh_ones) (all_fresh levels ms))
+
+all_held : (levels : ℕ) (told : List Sample) (clock : ℕ) → clock ≤ 2 ^ 64 → IsNext told clock → (ms : List Meter)
+    → AllByRecursion (λ m. Measures (ends_of m.edges) levels told m) ms → AllByRecursion (λ m. Measures (ends_of m.edges) levels (held_to clock told) m) ms
+all_held levels told clock few next [] h = tt
+all_held levels told clock few next (m ∷ ms) h = (told_held (ends_of m.edges) levels told m clock few next h.0, all_held levels told clock few next ms h.1)
+
+-- the samples held to a clock
+pub held_measured : (levels : ℕ) (ends : List Ends) (told : List Sample) (t : Meters) (clock : ℕ) → clock ≤ 2 ^ 64 → IsNext told clock
+    → HasMeasured levels ends told t → HasMeasured levels ends (held_to clock told) t
+held_measured levels ends told t clock few next h =
+    let long = length-held clock told next in
+    measured_by levels ends (held_to clock told) t h.first (h.last ∙ sym (held-levels levels clock told)) (omega arith) h.watches
+    (all_held levels told clock few next t.meters h.each)
+
+all_told : (levels : ℕ) (told : List Sample) (s : Sample) → length told < 2 ^ 64 → (ms : List Meter)
+    → AllByRecursion (λ m. Measures (ends_of m.edges) levels told m) ms
+    → AllByRecursion (λ m. Measures (ends_of m.edges) levels (told ++ s ∷ []) m) (map (after_clock (length told) (levels_after levels told) s.level) ms)
+unfolding after_clock
+all_told levels told s few [] h = tt
+all_told levels told s few (m ∷ ms) h =
+    let e = ends_of m.edges in
+    let to = is_to e (levels_after levels told) s.level in
+    let from = is_from e (levels_after levels told) s.level in
+    let next = moved to from (length told) m in (
+      subst (λ (x : Edges). Measures (ends_of x) levels (told ++ s ∷ []) next) (sym (same_edges to from (length told) m)) (told_one e levels told m s few h.0),
+      all_told levels told s few ms h.1,
+    )
+
+watched-told : (clock before after : ℕ) (ms : List Meter) → watched (map (after_clock clock before after) ms) ≡ watched ms
+unfolding after_clock
+watched-told clock before after [] = refl
+watched-told clock before after (m ∷ ms) =
+    let e = ends_of m.edges in
+    ap (λ x. ends_of x ∷ watched (map (after_clock clock before after) ms)) (same_edges (is_to e before after) (is_from e before after) clock m)
+    ∙ ap (λ xs. e ∷ xs) (watched-told clock before after ms)
+
+-- one sample more
+pub sample_measured : (levels : ℕ) (ends : List Ends) (told : List Sample) (t u : Meters) (s : Sample) (clock : ℕ) → length told ≡ clock → clock < 2 ^ 64
+    → HasMeasured levels ends told t → u.first ≡ t.first → u.last ≡ s.level → u.meters ≡ map (after_clock clock t.last s.level) t.meters
+    → HasMeasured levels ends (told ++ s ∷ []) u
+sample_measured levels ends told t u s clock long few h first last meters =
+    let more = length-more told s in
+    let same : u.meters ≡ map (after_clock (length told) (levels_after levels told) s.level) t.meters =
+    meters ∙ ap (λ c. map (after_clock c t.last s.level) t.meters) (sym long) ∙ ap (λ b. map (after_clock (length told) b s.level) t.meters) h.last in
+    measured_by levels ends (told ++ s ∷ []) u (first ∙ h.first) (last ∙ sym (levels-more levels told s)) (omega arith)
+    (ap watched same ∙ watched-told (length told) (levels_after levels told) s.level t.meters ∙ h.watches)
+    (subst (AllByRecursion (λ m. Measures (ends_of m.edges) levels (told ++ s ∷ []) m)) (sym same) (all_told levels told s (omega arith) t.meters h.each))
+
+-- a sample at a clock, after those that were told
+pub told_measured : (levels : ℕ) (ends : List Ends) (told : List Sample) (t u : Meters) (s : Sample) (clock : ℕ) → clock < 2 ^ 64 → IsNext told clock
+    → HasMeasured levels ends told t → u.first ≡ t.first → u.last ≡ s.level → u.meters ≡ map (after_clock clock t.last s.level) t.meters
+    → HasMeasured levels ends (held_to clock told ++ s ∷ []) u
+told_measured levels ends told t u s clock few next h first last meters =
+    sample_measured levels ends (held_to clock told) t u s clock (length-held clock told next) few
+    (held_measured levels ends told t clock (omega arith) next h) first last meters
+
+-- what stands for spans and levels tells them
+same_direction : (a b : Bool) → direction a ≡ direction b → a ≡ b
+same_direction true true h = refl
+same_direction false false h = refl
+same_direction true false h = absurd (omega arith)
+same_direction false true h = absurd (omega arith)
+
+same_ends : (a b : Ends) → a.from_pin ≡ b.from_pin → a.from_rise ≡ b.from_rise → a.to_pin ≡ b.to_pin → a.to_rise ≡ b.to_rise → a ≡ b
+same_ends a b p q r s =
+    let mk : ℕ → Bool → ℕ → Bool → Ends = λ w x y z. record { from_pin = w; from_rise = x; to_pin = y; to_rise = z } in
+    ap (λ x. mk x a.from_rise a.to_pin a.to_rise) p ∙ ap (λ x. mk b.from_pin x a.to_pin a.to_rise) q
+    ∙ ap (λ x. mk b.from_pin b.from_rise x a.to_rise) r ∙ ap (λ x. mk b.from_pin b.from_rise b.to_pin x) s
+
+code_tells : (xs ys : List Ends) → ends_code xs ≡ ends_code ys → xs ≡ ys
+code_tells [] [] h = refl
+code_tells [] (y ∷ ys) h = cc
+code_tells (x ∷ xs) [] h = cc
+code_tells (x ∷ xs) (y ∷ ys) h =
+    let p : x.from_pin ≡ y.from_pin = cc in
+    let q : direction x.from_rise ≡ direction y.from_rise = cc in
+    let r : x.to_pin ≡ y.to_pin = cc in
+    let s : direction x.to_rise ≡ direction y.to_rise = cc in
+    let rest : ends_code xs ≡ ends_code ys = cc in
+    let one = same_ends x y p (same_direction _ _ q) r (same_direction _ _ s) in
+    let more = code_tells xs ys rest in
+    cc
+
+pub tells : (levels l : ℕ) (ends es : List Ends) → first_told levels ends ≡ first_told l es → (levels ≡ l) × (ends ≡ es)
+tells levels l ends es h =
+    let p : levels ≡ l = cc in
+    let q : ends_code ends ≡ ends_code es = cc in
+    (p, code_tells ends es q)
+
+map_push : {X Y : Type 0} (f : X → Y) (xs : List X) (x : X) → map f (xs ++ x ∷ []) ≡ map f xs ++ f x ∷ []
+map_push f xs x = map-append f xs (x ∷ [])
+
+-- a fresh meter more
+pub more_fresh : (ms next : List Meter) (e : Edges) (m : Meter) → next ≡ ms ++ m ∷ [] → m ≡ fresh e → ms ≡ map (λ (x : Meter). fresh x.edges) ms → next ≡ map (λ (x : Meter). fresh x.edges) next
+more_fresh ms next e m h k all =
+    let f : Meter → Meter = λ x. fresh x.edges in
+    h ∙ ap (λ x. x ++ m ∷ []) all ∙ ap (λ x. map f ms ++ x ∷ []) (k ∙ sym (ap f k)) ∙ sym (map_push f ms m) ∙ ap (map f) (sym h)
+
+pub more_watched : (ms next : List Meter) (e : Edges) (m : Meter) (spans : List Span) (i : ℕ) (sp : Span) → next ≡ ms ++ m ∷ [] → m ≡ fresh e → ends_of e ≡ ends_in sp → sp ≡ get_or spans i sp → i < length spans
+    → watched ms ≡ map ends_in (take i spans) → watched next ≡ map ends_in (take (i + 1) spans)
+more_watched ms next e m spans i sp h k same at low all =
+    let g : Meter → Ends = λ x. ends_of x.edges in
+    ap watched h ∙ map_push g ms m ∙ ap (λ x. x ++ g m ∷ []) all
+    ∙ ap (λ x. map ends_in (take i spans) ++ x ∷ []) (ap g k ∙ same ∙ ap ends_in at) ∙ sym (map_more ends_in spans i sp low)
+
+pub all_watched : (spans : List Span) (i : ℕ) → length spans ≤ i → map ends_in (take i spans) ≡ map ends_in spans
+all_watched spans i h = ap (map ends_in) (take_all i spans h)
+
+-- a map in place, at its end
+pub map_done : (f : Meter → Meter) (xs ys : List Meter) (i : ℕ) → length xs ≤ i → ys ≡ map f (take i xs) ++ drop i xs → ys ≡ map f xs
+map_done f xs ys i h e = e ∙ ap (λ t. map f t ++ drop i xs) (take_all i xs h) ∙ ap (λ t. map f xs ++ t) (drop_all i xs h) ∙ append-nil (map f xs)

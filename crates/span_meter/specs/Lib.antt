@@ -1,0 +1,4 @@
+pub mod Measured
+pub mod Kept
+pub mod Meters
+pub mod SeenText

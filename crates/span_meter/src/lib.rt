@@ -1,0 +1,13 @@
+//! A trace that measures spans: how many clocks pass from each from-edge to the first to-edge after it.
+#![tactic(auto)]
+
+mod edges;
+mod levels;
+mod line;
+mod meter;
+mod seen;
+mod trace;
+
+pub use line::put_seen;
+pub use seen::Seen;
+pub use trace::SpanMeter;

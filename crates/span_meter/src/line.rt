@@ -1,0 +1,52 @@
+//! The line of what was measured of a span.
+ghost use Rattle.std.specs.Prelude.{◌≡◌};
+ghost use Rattle.pio_edge.specs.Edge.{Takes, PutCounts};
+ghost use Rattle.span_meter.specs.SeenText as spec;
+
+use crate::seen::Seen;
+use itoa::Buffer;
+use pio_edge::{Sink, SinkFailed, put_all};
+use pio_encode::Name;
+
+/// Puts the line of what was measured of the span with this name. It takes no memory.
+#[tactic(auto, unfolding(crate::specs::SeenText::seen_line))]
+pub fn put_seen<S: Sink>(sink: &mut S, name: &Name, seen: Seen) -> Result<(), SinkFailed>
+    ensures bytes { Takes (S.taken sink.old) (spec.seen_line name.now seen) (S.taken sink.new) result }
+    ensures cause { PutCounts (S.faults sink.old) (S.faults sink.new) result }
+{
+    if seen.pairs == 0 {
+        put_no_pairs(sink, name.as_bytes())
+    } else {
+        put_pairs(sink, name.as_bytes(), seen)
+    }
+}
+
+/// Puts the pieces of the line of a span with pairs.
+fn put_pairs<S: Sink>(sink: &mut S, name: &[u8], seen: Seen) -> Result<(), SinkFailed>
+    ensures bytes { Takes (S.taken sink.old) (spec.pairs_line name.now seen) (S.taken sink.new) result }
+    ensures cause { PutCounts (S.faults sink.old) (S.faults sink.new) result }
+{
+    let (mut pairs, mut least, mut most) = (Buffer::new(), Buffer::new(), Buffer::new());
+    put_all(
+        sink,
+        &[
+            b"span ",
+            name,
+            b" seen ",
+            pairs.format(seen.pairs).as_bytes(),
+            b" least ",
+            least.format(seen.least).as_bytes(),
+            b" most ",
+            most.format(seen.most).as_bytes(),
+            b"\n",
+        ],
+    )
+}
+
+/// Puts the pieces of the line of a span without pairs.
+fn put_no_pairs<S: Sink>(sink: &mut S, name: &[u8]) -> Result<(), SinkFailed>
+    ensures bytes { Takes (S.taken sink.old) (spec.no_pairs_line name.now) (S.taken sink.new) result }
+    ensures cause { PutCounts (S.faults sink.old) (S.faults sink.new) result }
+{
+    put_all(sink, &[b"span ", name, " seen 0\n".as_bytes()])
+}

@@ -1,0 +1,12 @@
+//! What was measured of a span.
+
+/// The pairs of a from-edge and the first to-edge after it, and the clocks between the two. All are 0 where there is no pair.
+#[derive(Clone, Copy, Debug, PartialEq, Eq)]
+pub struct Seen {
+    /// How many pairs there are.
+    pub pairs: u64,
+    /// The least distance, in clocks.
+    pub least: u64,
+    /// The greatest distance, in clocks.
+    pub most: u64,
+}
