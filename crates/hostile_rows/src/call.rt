@@ -40,13 +40,14 @@ pub fn seen(
     held: &Held,
     failing: Failing,
 ) -> Result<Outcome, AllocError> {
-    let outcome = seen_of::<Brand>(alloc, words, held, failing, Blank::new(1))?;
+    let words = words_of(alloc, words)?;
+    let outcome = seen_of::<Brand>(alloc, words.as_slice(), held, failing, Blank::new(1))?;
     Ok(outcome)
 }
 
 fn seen_of<L: Ledger>(
     alloc: Global,
-    words: &str,
+    words: &[String],
     held: &Held,
     failing: Failing,
     blank: Blank,
@@ -55,12 +56,11 @@ fn seen_of<L: Ledger>(
     requires parts { blank.parts ≡ L.parts }
     requires whole { blank.parts ≡ 1 }
 {
-    let words = words_of(alloc, words)?;
     let mut shelf = shelf_of(alloc, held, failing.fetches)?;
     let mut out = MemSink::with_room(alloc, 1_000_000, failing.out)?;
     let mut err = MemSink::with_room(alloc, 1000, failing.err)?;
     let mut steps = Steps::<L>::new(blank);
-    let end = piotool(alloc, &words, &mut shelf, &mut out, &mut err, &mut steps);
+    let end = piotool(alloc, words, &mut shelf, &mut out, &mut err, &mut steps);
     Ok(Outcome {
         status: end.status,
         out,
