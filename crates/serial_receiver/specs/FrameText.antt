@@ -11,10 +11,11 @@ hexadecimal_digit digit = if nat_lt digit 10 then 48 + digit else 87 + digit
 abbrev pub hexadecimal : ℕ → List ℕ
 hexadecimal byte = hexadecimal_digit (byte / 16) ∷ hexadecimal_digit (byte % 16) ∷ []
 
--- the line of a good frame, and of another one
+-- the line of a good frame (choice of this profile)
 abbrev pub byte_line : Frame → List ℕ
 byte_line f = codes "byte 0x" ++ hexadecimal f.byte ++ codes " at " ++ decimal f.start ++ codes "\n"
 
+-- the line of a frame whose stop bit is low (choice of this profile)
 abbrev pub bad_line : Frame → List ℕ
 bad_line f = codes "bad at " ++ decimal f.start ++ codes "\n"
 

@@ -74,6 +74,7 @@ pub record IsOpen (bit : ℕ) (before : Bool) (levels : List Bool) (o : Begun) :
       ≡ frames bit before levels ++ frames_from bit 0 o.start true (false ∷ (seen ++ rest))
   pub reading : (rest : List Bool) → IsReading bit (level_in (false ∷ (seen ++ rest))) (suc (length seen)) o
 
+-- what is known after these levels, where a frame is open and where none is
 abbrev pub IsPhase : (bit : ℕ) (before : Bool) → List Bool → Option Begun → Type 0
 IsPhase bit before levels None = IsIdle bit before levels
 IsPhase bit before levels (Some o) = IsOpen bit before levels o

@@ -2,11 +2,12 @@
 use Rattle.std.specs.Prelude.{ℕ, ◌==◌, ◌++◌, List, codes, decimal, if◌then◌else◌}
 use Rattle.span_meter.specs.declared.seen.Seen.{Seen}
 
--- the line of a span with pairs, and of one without
+-- the line of a span with pairs (choice of this profile)
 abbrev pub pairs_line : (name : List ℕ) → Seen → List ℕ
 pairs_line name s =
     codes "span " ++ name ++ codes " seen " ++ decimal s.pairs ++ codes " least " ++ decimal s.least ++ codes " most " ++ decimal s.most ++ codes "\n"
 
+-- the line of a span without pairs (choice of this profile)
 abbrev pub no_pairs_line : (name : List ℕ) → List ℕ
 no_pairs_line name = codes "span " ++ name ++ codes " seen 0\n"
 
