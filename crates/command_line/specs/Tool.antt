@@ -22,7 +22,7 @@ side_limit = 5
 abbrev pub option_rule : Text → Rule
 option_rule name = record (new_rule name) { long = Some name; action = Some Set }
 
--- the option stands in each call
+-- the option is in each call
 abbrev pub required : Rule → Rule
 required rule = record rule { required = true }
 
@@ -58,7 +58,7 @@ clocks_rule = up_to clock_limit (required (option_rule (codes "clocks")))
 unfoldable pub seed_rule : Rule
 seed_rule = up_to seed_limit (required (option_rule (codes "seed")))
 
--- `FILE`, a name that stands alone
+-- `FILE`, a name alone
 unfoldable pub file_rule : Rule
 file_rule = required (record (new_rule (codes "file")) { action = Some Set })
 
