@@ -64,7 +64,7 @@ pub fn ticks_follow_the_divider()
 }
 
 /// After a clock each pin has the level, and the direction, that the last of the clock's writes to it gives, in order of the
-/// machines' numbers, side-set's behind the instruction's; one that nothing writes stays.
+/// machines' numbers, side-set's after the instruction's; one that nothing writes stays.
 pub fn each_pin_gets_the_last_write()
     ensures levels { (memory : List ℕ) (seen : ℕ) (d : Due) (b : BlockState) (p : ℕ) → p < 32 →
         let writes = level_writes (intents_of (view_of memory seen b) d b.machines) in

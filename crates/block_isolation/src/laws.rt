@@ -9,7 +9,7 @@ ghost use Rattle.block_core.specs.Hosted.{hosted_at};
 ghost use Rattle.block_shares.specs.Shares.{IsAlone, touches_of};
 ghost use Rattle.block_isolation.specs.Isolation.{AreAlikeTo, HasWords, IsSameTo, own_lines};
 
-use dreq_pacing::the_last_pin_line_stands;
+use dreq_pacing::the_last_pin_line_counts;
 use pin_matrix::{
     each_mapped_pin, each_pad, each_pin_from, no_write_changes_nothing, the_last_write_counts,
     what_a_machine_sees, words_stay_words,
@@ -43,5 +43,5 @@ pub fn a_machine_alone_is_isolated()
     each_pad();
     what_a_machine_sees();
     words_stay_words();
-    the_last_pin_line_stands();
+    the_last_pin_line_counts();
 }

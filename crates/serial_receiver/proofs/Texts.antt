@@ -148,7 +148,7 @@ end_breaks pin bit clock level taken told now next p b line one at h holds t =
     breaks_more pin bit level taken told (held_to clock told) now next p b line (frame_list one.frame ++ []) h
     (both.1 ∙ ap (λ x. frames bit level (levels_of pin told) ++ x) (sym (append-nil (frame_list one.frame)))) t
 
--- what stands for a pin, a bit and a level tells them
+-- a pin, a bit and a level are known from what is told for them
 same_level : (a b : Bool) → level_code a ≡ level_code b → a ≡ b
 same_level true true h = refl
 same_level false false h = refl

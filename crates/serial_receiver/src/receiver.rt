@@ -59,7 +59,7 @@ impl<'a, S: Sink> Trace for Receiver<'a, S> {
 
     ghost ready = { λ h b. b ≡ first_told h.pin h.bit h.first (S.taken h.sink.now) };
 
-    ghost stands = { λ h b l _. (pin bit : ℕ) (level : Bool) (taken : Option (List ℕ))
+    ghost holds = { λ h b l _. (pin bit : ℕ) (level : Bool) (taken : Option (List ℕ))
         → b ≡ first_told pin bit level taken
         → Receives pin bit level taken l (S.taken h.sink.now) h.pin h.bit h.line };
 

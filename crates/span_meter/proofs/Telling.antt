@@ -240,7 +240,7 @@ told_measured levels ends told t u s clock few next h first last meters =
     sample_measured levels ends (held_to clock told) t u s clock (length-held clock told next) few
     (held_measured levels ends told t clock (omega arith) next h) first last meters
 
--- what stands for spans and levels tells them
+-- spans and levels are known from what is told for them
 same_direction : (a b : Bool) → direction a ≡ direction b → a ≡ b
 same_direction true true h = refl
 same_direction false false h = refl
