@@ -8,7 +8,8 @@ use Rattle.vcd_trace.specs.Told.{IsNext, held_to, last_of}
 use Rattle.serial_receiver.specs.declared.frame.Frame.{Frame}
 use Rattle.serial_receiver.specs.declared.line.Line.{Line}
 use Rattle.serial_receiver.specs.declared.line.Heard.{Heard}
-use Rattle.serial_receiver.specs.Frames.{frames, frames_from, is_high, levels_of}
+use Rattle.pin_matrix.specs.Pins.{is_high}
+use Rattle.serial_receiver.specs.Frames.{frames, frames_from, levels_of}
 use Rattle.serial_receiver.specs.FrameText.{frame_line, frames_text}
 use Rattle.serial_receiver.specs.Hearing.{Brings, Hears, Receives, first_told, frame_list, level_after, level_code, taken_code}
 
