@@ -2,7 +2,6 @@
 use Rattle.std.proofs.Common.{◌≡◌, ℕ, Bool, true, false, ◌&&◌, ◌||◌, Option, Some, None, List, [], ◌∷◌, map, cond, refl, ap, sym, ◌∙◌, subst}
 use Rattle.std.specs.List.{list_any}
 use Rattle.pin_matrix.specs.declared.machine.MachineSetup.{MachineSetup}
-use Rattle.pin_matrix.specs.Pads.{Synchroniser, pads_of}
 use Rattle.sm_registers.specs.declared.registers.Registers.{Registers}
 use Rattle.sm_registers.specs.declared.view.View.{View}
 use Rattle.sm_registers.specs.Effects.{no_intent}
@@ -11,12 +10,11 @@ use Rattle.sm_registers.specs.Queues.{Queues}
 use Rattle.sm_registers.specs.State.{queues_of}
 use Rattle.sm_registers.specs.Tick.{tick_of}
 use Rattle.dreq_pacing.specs.Due.{quiet}
-use Rattle.block_core.specs.Block.{Run, view_of, seen_in}
+use Rattle.block_core.specs.Block.{Run, view_of, seen_in, seen_over}
 use Rattle.block_core.specs.Slots.{Slot, has_tick, acted, place_intent}
-use Rattle.block_core.specs.Stirring.{machines_stir, pads_change, moves_on, begins_now, plainly_moves_on}
-use Rattle.block_core.proofs.Leaping.{unsettled}
+use Rattle.block_core.specs.Stirring.{machines_stir, machines_stir_over, pads_change, pads_change_over, moves_on, begins_now, plainly_moves_on}
+use Rattle.block_core.specs.Twin.{TwinRun, twin_pads_in, twin_moves_on, plainly_twin_moves_on}
 use Rattle.block_core.proofs.Rests.{lined_quiet}
-use Rattle.block_core.proofs.Wanting.{run}
 
 -- what the law of first ticks says
 abbrev pub FirstTicksStir : Type 0
@@ -68,18 +66,17 @@ plainly_moves law r h =
     exchanged (pads_change quiet r) (list_any begins_now r.state.machines) (machines_stir quiet r)
     (any_begins law (view_of r.memory (seen_in quiet r) r.state) r.state.machines) h
 
--- the test of a block of four places, by its pads, and by its machines where they don't change
-pub by_pads : (memory : List ℕ) (clock levels directions flags outside : ℕ) (sync : Synchroniser) (a b c e : Option Slot) → unsettled (pads_of levels directions outside) sync ≡ true → true ≡ plainly_moves_on (run memory clock levels directions flags outside sync a b c e)
-unfolding plainly_moves_on
-by_pads memory clock levels directions flags outside sync a b c e h = sym (or_left _ _ h)
+-- the same of two blocks
+exchanged_two : (p q b c a e : Bool) → (b ≡ true → a ≡ true) → (c ≡ true → e ≡ true) → ((p || q) || (b || c)) ≡ true → ((a || p) || (e || q)) ≡ true
+exchanged_two true q b c a e f g h = or_left (a || true) (e || q) (or_right a true refl)
+exchanged_two false true b c a e f g h = or_right (a || false) (e || true) (or_right e true refl)
+exchanged_two false false true c a e f g h = or_left (a || false) (e || false) (or_left a false (f refl))
+exchanged_two false false false c a e f g h = or_right (a || false) (e || false) (or_left e false (g h))
 
-pub by_machines : (memory : List ℕ) (clock levels directions flags outside : ℕ) (sync : Synchroniser) (a b c e : Option Slot) (result : Bool) → unsettled (pads_of levels directions outside) sync ≡ false → result ≡ list_any begins_now (a ∷ b ∷ c ∷ e ∷ []) → result ≡ plainly_moves_on (run memory clock levels directions flags outside sync a b c e)
-unfolding plainly_moves_on
-by_machines memory clock levels directions flags outside sync a b c e result settled h =
-    h ∙ sym (ap (λ p. p || list_any begins_now (a ∷ b ∷ c ∷ e ∷ [])) settled)
-
-pub any_begins_now : (a b c e : Option Slot) (p q r s : Bool) → p ≡ begins_now a → q ≡ begins_now b → r ≡ begins_now c → s ≡ begins_now e → (p || (q || (r || s))) ≡ list_any begins_now (a ∷ b ∷ c ∷ e ∷ [])
-any_begins_now a b c e p q r s ea eb ec ee = rw (ea, eb, ec, ee) (sym (ap (λ x. begins_now a || (begins_now b || (begins_now c || x))) (or_none (begins_now e)))) where
-  or_none : (x : Bool) → (x || false) ≡ x
-  or_none true = refl
-  or_none false = refl
+pub plainly_twin_moves : FirstTicksStir → (t : TwinRun) → plainly_twin_moves_on t ≡ true → twin_moves_on quiet quiet t ≡ true
+unfolding twin_moves_on plainly_twin_moves_on
+plainly_twin_moves law t h =
+    let pad = twin_pads_in quiet t in
+    exchanged_two (pads_change_over pad t.first) (pads_change_over pad t.second) (list_any begins_now t.first.state.machines) (list_any begins_now t.second.state.machines) (machines_stir_over pad quiet t.first) (machines_stir_over pad quiet t.second)
+    (any_begins law (view_of t.first.memory (seen_over pad t.first) t.first.state) t.first.state.machines)
+    (any_begins law (view_of t.second.memory (seen_over pad t.second) t.second.state) t.second.state.machines) h

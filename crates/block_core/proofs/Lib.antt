@@ -9,7 +9,11 @@ pub mod Told
 pub mod Rests
 pub mod Firsts
 pub mod SlotRests
+pub mod PlacesRest
 pub mod Leaping
 pub mod Beginning
+pub mod TwinRests
+pub mod TwinRuns
 pub mod Passing
 pub mod Rows
+pub mod TwinRows

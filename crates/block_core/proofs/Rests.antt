@@ -19,11 +19,11 @@ use Rattle.sm_registers.specs.State.{queues_of, settled_ports}
 use Rattle.sm_registers.specs.Tick.{tick_of}
 use Rattle.sm_registers.specs.Told.{IsKnown, AreUp}
 use Rattle.dreq_pacing.specs.Due.{quiet, no_machine}
-use Rattle.block_core.specs.Block.{BlockState, Run, next, stepped, run_from, view_of, seen_in, pads_in, two_writes, level_writes, direction_writes, with_all}
+use Rattle.block_core.specs.Block.{BlockState, Run, next, next_over, stepped, run_from, view_of, seen_over, pads_in, two_writes, level_writes, direction_writes, with_all}
 use Rattle.block_core.specs.Kept.{memory_alone, IsTold, AreTold}
 use Rattle.block_core.specs.Resting.{ticks_in, rested_slot, rested_place, rested}
 use Rattle.block_core.specs.Slots.{Slot, lined, has_tick, acted, settled_slot, slot_after, place_after, place_intent}
-use Rattle.block_core.specs.Stirring.{moves_on, machines_stir, pads_change}
+use Rattle.block_core.specs.Stirring.{moves_on, moves_on_over, machines_stir_over, pads_change_over}
 use Rattle.block_core.proofs.Told.{known_in, told_rested}
 use Rattle.block_core.proofs.Unused.{or_false_parts}
 
@@ -187,14 +187,16 @@ sync_rests pad s h =
     let same = pads_same pad s.pad_1 s.pad_2 h in
     rw (sym same.0 ∙ same.1, same.0 ∙ sym same.0 ∙ same.1) refl
 
-pub rests_once : CalmLaws → (r : Run) → AreTold r.memory r.state.machines → moves_on quiet r ≡ false → next quiet r ≡ rested 1 r
-unfolding next rested moves_on
-rests_once laws r told h =
-    let parts = or_false_parts (machines_stir quiet r) (pads_change quiet r) h in
-    rw (
-      state_rests laws r.memory (seen_in quiet r) r.state told parts.0,
-      sync_rests (pads_in quiet r.state) r.synchroniser parts.1,
-    ) refl
+pub rests_once_over : CalmLaws → (pad : ℕ) (r : Run) → AreTold r.memory r.state.machines → moves_on_over pad quiet r ≡ false → next_over pad quiet r ≡ rested 1 r
+unfolding rested
+rests_once_over laws pad r told h =
+    let parts = or_false_parts (machines_stir_over pad quiet r) (pads_change_over pad r) h in
+    rw (state_rests laws r.memory (seen_over pad r) r.state told parts.0, sync_rests pad r.synchroniser parts.1) refl
+
+-- the same with the block's own pads
+rests_once : CalmLaws → (r : Run) → AreTold r.memory r.state.machines → moves_on quiet r ≡ false → next quiet r ≡ rested 1 r
+unfolding next moves_on
+rests_once laws r told h = rests_once_over laws (pads_in quiet r.state) r told h
 
 -- clocks add up
 ticks_add : (n : ℕ) (enabled : Bool) (restarted period clock : ℕ) → cond enabled (tick_count restarted period clock (n + 1)) 0
@@ -221,7 +223,7 @@ places_rest-once_more n [] = refl
 places_rest-once_more n (None ∷ places) = ap (λ rest. None ∷ rest) (places_rest-once_more n places)
 places_rest-once_more n (Some s ∷ places) = rw (slot_rests-once_more n s, places_rest-once_more n places) refl
 
-rested-once_more : (n : ℕ) (r : Run) → rested 1 (rested n r) ≡ rested (n + 1) r
+pub rested-once_more : (n : ℕ) (r : Run) → rested 1 (rested n r) ≡ rested (n + 1) r
 unfolding rested
 rested-once_more n r =
     let clock : r.clock + n + 1 ≡ r.clock + (n + 1) = omega arith in
@@ -243,7 +245,7 @@ places_rest-none [] = refl
 places_rest-none (None ∷ places) = ap (λ rest. None ∷ rest) (places_rest-none places)
 places_rest-none (Some s ∷ places) = rw (slot_rests-none s, places_rest-none places) refl
 
-rested-none : (r : Run) → rested 0 r ≡ r
+pub rested-none : (r : Run) → rested 0 r ≡ r
 unfolding rested
 rested-none r = let clock : r.clock + 0 ≡ r.clock = omega arith in rw (places_rest-none r.state.machines, clock) refl
 

@@ -18,7 +18,7 @@ use Rattle.block_core.specs.Slots.{first_slot, acted, settled_slot}
 use Rattle.block_core.specs.Stirring.{moves_on, stirs_in, stirring}
 
 -- machine 0 with a tick in each clock, and with all else at its default
-abbrev plain : MachineSetup
+abbrev pub plain : MachineSetup
 plain = record {
   id = 0;
   start = 0;

@@ -6,7 +6,7 @@ use Rattle.sm_registers.specs.State.{settled_ports}
 use Rattle.sm_registers.specs.declared.view.View.{View}
 use Rattle.dreq_pacing.specs.declared.due.Due.{Due}
 use Rattle.block_core.specs.Slots.{Slot, settled_slot, slot_after, slot_intent, slot_uses_fifos, place_after, place_uses_fifos}
-use Rattle.block_core.specs.Block.{Run, next, stepped, uses_fifos_in, view_of, seen_in}
+use Rattle.block_core.specs.Block.{Run, next, next_over, stepped, uses_fifos_in, uses_fifos_over, view_of, seen_over, pads_in}
 use Rattle.block_core.specs.Shown.{shown_in, requests_of}
 
 -- the law of a quiet clock
@@ -51,11 +51,15 @@ all_stay used after asks stays (m ∷ places) h =
     let parts = or_false_parts (used m) (list_any used places) h in
     rw (stays m parts.0, all_stay used after asks stays places parts.1) refl
 
-pub requests_stay : StaysQuiet → (d : Due) (r : Run) → uses_fifos_in d r ≡ false → requests_of (next d r).state ≡ requests_of r.state
-unfolding next stepped requests_of
-requests_stay law d r h =
-    let v = view_of r.memory (seen_in d r) r.state in
+pub requests_stay_over : StaysQuiet → (pad : ℕ) (d : Due) (r : Run) → uses_fifos_over pad d r ≡ false → requests_of (next_over pad d r).state ≡ requests_of r.state
+unfolding stepped requests_of
+requests_stay_over law pad d r h =
+    let v = view_of r.memory (seen_over pad r) r.state in
     rw (
       all_stay (place_uses_fifos v d) (place_after v d) asks_tx (place_tx law v d) r.state.machines h,
       all_stay (place_uses_fifos v d) (place_after v d) asks_rx (place_rx law v d) r.state.machines h,
     ) refl
+
+pub requests_stay : StaysQuiet → (d : Due) (r : Run) → uses_fifos_in d r ≡ false → requests_of (next d r).state ≡ requests_of r.state
+unfolding next
+requests_stay law d r h = requests_stay_over law (pads_in d r.state) d r h

@@ -6,14 +6,14 @@ use Rattle.std.specs.Int.{bit_at}
 use Rattle.irq_flags.specs.Flags.{merged_flags}
 use Rattle.pin_matrix.specs.Pins.{IsWrite, merged, last_of}
 use Rattle.pin_matrix.specs.Pads as pads
-use Rattle.pin_matrix.specs.Pads.{Synchroniser, pads_of, seen_of}
+use Rattle.pin_matrix.specs.Pads.{Synchroniser, seen_of}
 use Rattle.sm_registers.specs.declared.view.View.{View}
 use Rattle.sm_registers.specs.declared.intent.Intent.{Intent}
 use Rattle.sm_registers.specs.Effects.{no_intent}
 use Rattle.dreq_pacing.specs.declared.due.Due.{Due}
 use Rattle.block_core.specs.declared.merging.Wanted.{Wanted}
 use Rattle.block_core.specs.Slots.{Slot, place_after, place_intent, place_uses_fifos}
-use Rattle.block_core.specs.Block.{Run, next, stepped, outside_after, wanted_in, uses_fifos_in, TakesLastWrites, level_writes, direction_writes, any_of}
+use Rattle.block_core.specs.Block.{Run, next_over, stepped, outside_after, wanted_over, uses_fifos_over, TakesLastWrites, level_writes, direction_writes, any_of}
 use Rattle.block_core.specs.Merging.{nothing_wanted, with_intent}
 use Rattle.block_core.proofs.Writes.{levels_are_writes, directions_are_writes}
 
@@ -42,7 +42,6 @@ LastWriteCounts = (p old : ℕ) (ws : List (ℕ × ℕ)) → p < 32 → AllByRec
 -- the clock up to its pins and flags, place by place
 pub record IsStep (d : Due) (memory : List ℕ) (levels directions flags outside : ℕ) (sync : Synchroniser) (a b c e : Option Slot) (outside2 pad seen : ℕ) (w0 w1 w2 w3 w4 : Wanted) : Type 0 where
   pub driven : outside2 ≡ outside_after d outside
-  pub pads : pad ≡ pads_of levels directions outside2
   pub sees : seen ≡ seen_of sync.bypass pad sync.pad_2
   pub start : w0 ≡ nothing_wanted levels directions
   pub first : w1 ≡ with_intent w0 (place_intent (view memory seen flags) d a)
@@ -51,7 +50,7 @@ pub record IsStep (d : Due) (memory : List ℕ) (levels directions flags outside
   pub fourth : w4 ≡ with_intent w3 (place_intent (view memory seen flags) d e)
 
 pub all_added : (d : Due) (memory : List ℕ) (clock levels directions flags outside : ℕ) (sync : Synchroniser) (a b c e : Option Slot) (outside2 pad seen : ℕ) (w0 w1 w2 w3 w4 : Wanted) → IsStep d memory levels directions flags outside sync a b c e outside2 pad seen w0 w1 w2 w3 w4 →
-    let wanted = wanted_in d (run memory clock levels directions flags outside sync a b c e) in
+    let wanted = wanted_over pad d (run memory clock levels directions flags outside sync a b c e) in
     w4 ≡ record {
       levels = merged levels (level_writes wanted);
       directions = merged directions (direction_writes wanted);
@@ -60,11 +59,11 @@ pub all_added : (d : Due) (memory : List ℕ) (clock levels directions flags out
     }
 unfolding nothing_wanted with_intent merged
 all_added d memory clock levels directions flags outside sync a b c e outside2 pad seen w0 w1 w2 w3 w4 s =
-    rw (s.fourth, s.third, s.second, s.first, s.start, s.sees, s.pads, s.driven) refl
+    rw (s.fourth, s.third, s.second, s.first, s.start, s.sees, s.driven) refl
 
 -- the run after the clock
-pub next_run : (d : Due) (memory : List ℕ) (clock levels directions flags outside : ℕ) (sync : Synchroniser) (a b c e : Option Slot) (outside2 pad seen : ℕ) (w0 w1 w2 w3 w4 : Wanted) (flags2 : ℕ) (sync2 : Synchroniser) (a2 b2 c2 e2 : Option Slot) → IsStep d memory levels directions flags outside sync a b c e outside2 pad seen w0 w1 w2 w3 w4 → flags2 ≡ merged_flags flags w4.clears w4.sets → sync2 ≡ pads.stepped pad sync → a2 ≡ place_after (view memory seen flags) d a → b2 ≡ place_after (view memory seen flags) d b → c2 ≡ place_after (view memory seen flags) d c → e2 ≡ place_after (view memory seen flags) d e → run memory (clock + 1) w4.levels w4.directions flags2 outside2 sync2 a2 b2 c2 e2 ≡ next d (run memory clock levels directions flags outside sync a b c e)
-unfolding next stepped
+pub next_run : (d : Due) (memory : List ℕ) (clock levels directions flags outside : ℕ) (sync : Synchroniser) (a b c e : Option Slot) (outside2 pad seen : ℕ) (w0 w1 w2 w3 w4 : Wanted) (flags2 : ℕ) (sync2 : Synchroniser) (a2 b2 c2 e2 : Option Slot) → IsStep d memory levels directions flags outside sync a b c e outside2 pad seen w0 w1 w2 w3 w4 → flags2 ≡ merged_flags flags w4.clears w4.sets → sync2 ≡ pads.stepped pad sync → a2 ≡ place_after (view memory seen flags) d a → b2 ≡ place_after (view memory seen flags) d b → c2 ≡ place_after (view memory seen flags) d c → e2 ≡ place_after (view memory seen flags) d e → run memory (clock + 1) w4.levels w4.directions flags2 outside2 sync2 a2 b2 c2 e2 ≡ next_over pad d (run memory clock levels directions flags outside sync a b c e)
+unfolding stepped
 next_run d memory clock levels directions flags outside sync a b c e outside2 pad seen w0 w1 w2 w3 w4 flags2 sync2 a2 b2 c2 e2 s f y ea eb ec ee =
     rw (
       f,
@@ -75,30 +74,29 @@ next_run d memory clock levels directions flags outside sync a b c e outside2 pa
       ee,
       y,
       s.sees,
-      s.pads,
       s.driven,
     ) refl
 
 -- each pin has the bit of the last write
-pub levels_are_last : (d : Due) (memory : List ℕ) (clock levels directions flags outside : ℕ) (sync : Synchroniser) (a b c e : Option Slot) (outside2 pad seen : ℕ) (w0 w1 w2 w3 w4 : Wanted) → IsStep d memory levels directions flags outside sync a b c e outside2 pad seen w0 w1 w2 w3 w4 → LastWriteCounts → IsWrite (0, 0) → AllByRecursion IsWrite (place_intent (view memory seen flags) d a).level → AllByRecursion IsWrite (place_intent (view memory seen flags) d b).level → AllByRecursion IsWrite (place_intent (view memory seen flags) d c).level → AllByRecursion IsWrite (place_intent (view memory seen flags) d e).level → TakesLastWrites levels w4.levels (level_writes (wanted_in d (run memory clock levels directions flags outside sync a b c e)))
+pub levels_are_last : (d : Due) (memory : List ℕ) (clock levels directions flags outside : ℕ) (sync : Synchroniser) (a b c e : Option Slot) (outside2 pad seen : ℕ) (w0 w1 w2 w3 w4 : Wanted) → IsStep d memory levels directions flags outside sync a b c e outside2 pad seen w0 w1 w2 w3 w4 → LastWriteCounts → IsWrite (0, 0) → AllByRecursion IsWrite (place_intent (view memory seen flags) d a).level → AllByRecursion IsWrite (place_intent (view memory seen flags) d b).level → AllByRecursion IsWrite (place_intent (view memory seen flags) d c).level → AllByRecursion IsWrite (place_intent (view memory seen flags) d e).level → TakesLastWrites levels w4.levels (level_writes (wanted_over pad d (run memory clock levels directions flags outside sync a b c e)))
 levels_are_last d memory clock levels directions flags outside sync a b c e outside2 pad seen w0 w1 w2 w3 w4 s law none ha hb hc he p below =
     let v = view memory seen flags in
     let writes = levels_are_writes none (place_intent v d a) (place_intent v d b) (place_intent v d c) (place_intent v d e) ha hb hc he in
     let added = all_added d memory clock levels directions flags outside sync a b c e outside2 pad seen w0 w1 w2 w3 w4 s in
-    rw added (law p levels _ below (rw (s.sees, s.pads, s.driven) at writes))
+    rw added (law p levels _ below (rw (s.sees, s.driven) at writes))
 
-pub directions_are_last : (d : Due) (memory : List ℕ) (clock levels directions flags outside : ℕ) (sync : Synchroniser) (a b c e : Option Slot) (outside2 pad seen : ℕ) (w0 w1 w2 w3 w4 : Wanted) → IsStep d memory levels directions flags outside sync a b c e outside2 pad seen w0 w1 w2 w3 w4 → LastWriteCounts → IsWrite (0, 0) → AllByRecursion IsWrite (place_intent (view memory seen flags) d a).direction → AllByRecursion IsWrite (place_intent (view memory seen flags) d b).direction → AllByRecursion IsWrite (place_intent (view memory seen flags) d c).direction → AllByRecursion IsWrite (place_intent (view memory seen flags) d e).direction → TakesLastWrites directions w4.directions (direction_writes (wanted_in d (run memory clock levels directions flags outside sync a b c e)))
+pub directions_are_last : (d : Due) (memory : List ℕ) (clock levels directions flags outside : ℕ) (sync : Synchroniser) (a b c e : Option Slot) (outside2 pad seen : ℕ) (w0 w1 w2 w3 w4 : Wanted) → IsStep d memory levels directions flags outside sync a b c e outside2 pad seen w0 w1 w2 w3 w4 → LastWriteCounts → IsWrite (0, 0) → AllByRecursion IsWrite (place_intent (view memory seen flags) d a).direction → AllByRecursion IsWrite (place_intent (view memory seen flags) d b).direction → AllByRecursion IsWrite (place_intent (view memory seen flags) d c).direction → AllByRecursion IsWrite (place_intent (view memory seen flags) d e).direction → TakesLastWrites directions w4.directions (direction_writes (wanted_over pad d (run memory clock levels directions flags outside sync a b c e)))
 directions_are_last d memory clock levels directions flags outside sync a b c e outside2 pad seen w0 w1 w2 w3 w4 s law none ha hb hc he p below =
     let v = view memory seen flags in
     let writes = directions_are_writes none (place_intent v d a) (place_intent v d b) (place_intent v d c) (place_intent v d e) ha hb hc he in
     let added = all_added d memory clock levels directions flags outside sync a b c e outside2 pad seen w0 w1 w2 w3 w4 s in
-    rw added (law p directions _ below (rw (s.sees, s.pads, s.driven) at writes))
+    rw added (law p directions _ below (rw (s.sees, s.driven) at writes))
 
 or_false : (x : Bool) → (x || false) ≡ x
 or_false true = refl
 or_false false = refl
 
 -- whether anything was done at any FIFO
-pub any_used : (d : Due) (memory : List ℕ) (clock levels directions flags outside : ℕ) (sync : Synchroniser) (a b c e : Option Slot) (outside2 pad seen : ℕ) (w0 w1 w2 w3 w4 : Wanted) → IsStep d memory levels directions flags outside sync a b c e outside2 pad seen w0 w1 w2 w3 w4 → (u1 u2 u3 u4 : Bool) → u1 ≡ place_uses_fifos (view memory seen flags) d a → u2 ≡ place_uses_fifos (view memory seen flags) d b → u3 ≡ place_uses_fifos (view memory seen flags) d c → u4 ≡ place_uses_fifos (view memory seen flags) d e → (u1 || (u2 || (u3 || u4))) ≡ uses_fifos_in d (run memory clock levels directions flags outside sync a b c e)
+pub any_used : (d : Due) (memory : List ℕ) (clock levels directions flags outside : ℕ) (sync : Synchroniser) (a b c e : Option Slot) (outside2 pad seen : ℕ) (w0 w1 w2 w3 w4 : Wanted) → IsStep d memory levels directions flags outside sync a b c e outside2 pad seen w0 w1 w2 w3 w4 → (u1 u2 u3 u4 : Bool) → u1 ≡ place_uses_fifos (view memory seen flags) d a → u2 ≡ place_uses_fifos (view memory seen flags) d b → u3 ≡ place_uses_fifos (view memory seen flags) d c → u4 ≡ place_uses_fifos (view memory seen flags) d e → (u1 || (u2 || (u3 || u4))) ≡ uses_fifos_over pad d (run memory clock levels directions flags outside sync a b c e)
 any_used d memory clock levels directions flags outside sync a b c e outside2 pad seen w0 w1 w2 w3 w4 s u1 u2 u3 u4 f1 f2 f3 f4 =
-    rw (f1, f2, f3, f4, s.sees, s.pads, s.driven, or_false (place_uses_fifos _ d e)) refl
+    rw (f1, f2, f3, f4, s.sees, s.driven, or_false (place_uses_fifos _ d e)) refl

@@ -3,9 +3,9 @@
 --   Run             it in some clock, with what its synchronisers hold
 --   Worked          with the number of clocks that were worked out singly
 --   stepped         the state after a clock
---   next            the run after a clock
+--   next_over       the run after a clock with given pads, next with its own
 --   TakesLastWrites that of the writes to each pin the last counts
---   first_run       as a setup begins
+--   first_run_over  as a setup begins with given pads, first_run with its own
 --   run_from        some clocks on
 --   run_at          the run of a setup in each clock
 use Rattle.std.specs.Prelude.{◌≡◌, ℕ, zero, suc, ◌+◌, ◌<◌, Bool, Option, None, option_map, List, [], ◌∷◌, map, flat_map, slice_index_or, bit_or}
@@ -93,30 +93,46 @@ stepped memory seen d b =
       outside = outside_after d b.outside;
     }
 
--- what a machine sees of the pins in a clock
+-- what a machine sees of the pins in a clock with these pads
+abbrev pub seen_over : (pad : ℕ) → Run → ℕ
+seen_over pad r = seen_of r.synchroniser.bypass pad r.synchroniser.pad_2
+
+-- the same with the block's own pads
 abbrev pub seen_in : Due → Run → ℕ
-seen_in d r = seen_of r.synchroniser.bypass (pads_in d r.state) r.synchroniser.pad_2
+seen_in d r = seen_over (pads_in d r.state) r
 
--- what the machines want in a clock of a run, in which the system does this
+-- what the machines want in a clock of a run with these pads, in which the system does this
+abbrev pub wanted_over : (pad : ℕ) → Due → Run → List Intent
+wanted_over pad d r = intents_of (view_of r.memory (seen_over pad r) r.state) d r.state.machines
+
+-- the same with the block's own pads
 abbrev pub wanted_in : Due → Run → List Intent
-wanted_in d r = intents_of (view_of r.memory (seen_in d r) r.state) d r.state.machines
+wanted_in d r = wanted_over (pads_in d r.state) d r
 
--- whether anything is done at a machine's FIFOs in a clock of a run
+-- whether anything is done at a machine's FIFOs in a clock of a run with these pads
+abbrev pub uses_fifos_over : (pad : ℕ) → Due → Run → Bool
+uses_fifos_over pad d r = list_any (place_uses_fifos (view_of r.memory (seen_over pad r) r.state) d) r.state.machines
+
+-- the same with the block's own pads
 abbrev pub uses_fifos_in : Due → Run → Bool
-uses_fifos_in d r = list_any (place_uses_fifos (view_of r.memory (seen_in d r) r.state) d) r.state.machines
+uses_fifos_in d r = uses_fifos_over (pads_in d r.state) d r
 
 -- each pin has the bit that the last of some writes to it gives, and the old one where none does
 abbrev pub TakesLastWrites : (old new : ℕ) → List (ℕ × ℕ) → Type 0
 TakesLastWrites old new writes = (p : ℕ) → p < 32 → bit_at new p ≡ last_of p (bit_at old p) writes
 
--- the run one clock on, in which the system does this
-unfoldable pub next : Due → Run → Run
-next d r = record {
+-- the run one clock on, with these pads, in which the system does this
+abbrev pub next_over : (pad : ℕ) → Due → Run → Run
+next_over pad d r = record {
   memory = r.memory;
   clock = r.clock + 1;
-  state = stepped r.memory (seen_in d r) d r.state;
-  synchroniser = pads.stepped (pads_in d r.state) r.synchroniser;
+  state = stepped r.memory (seen_over pad r) d r.state;
+  synchroniser = pads.stepped pad r.synchroniser;
 }
+
+-- the same with the block's own pads
+unfoldable pub next : Due → Run → Run
+next d r = next_over (pads_in d r.state) d r
 
 -- a machine's place at the start
 abbrev pub first_place : Setup → ℕ → Option Slot
@@ -132,14 +148,18 @@ first_state s = record {
   outside = s.high;
 }
 
--- clock 0, before which the pads were always those of the setup (choice of this profile)
-abbrev pub first_run : Setup → Run
-first_run s = record {
+-- clock 0, before which these were always the pads
+abbrev pub first_run_over : (pad : ℕ) → Setup → Run
+first_run_over pad s = record {
   memory = s.memory;
   clock = 0;
   state = first_state s;
-  synchroniser = first_synchroniser (pads_of s.level s.out s.high) s.bypass;
+  synchroniser = first_synchroniser pad s.bypass;
 }
+
+-- the same with the pads of the setup (choice of this profile)
+abbrev pub first_run : Setup → Run
+first_run s = first_run_over (pads_of s.level s.out s.high) s
 
 -- the run some clocks on, where the system does this in each
 unfoldable pub run_from : Run → (ℕ → Due) → ℕ → Run

@@ -1,7 +1,7 @@
 -- A run beside the system's ports, whose transfers look at the FIFOs.
 --   Hosted        the run and what is left of the transfers
 --   due_of        what the system does in its clock
---   hosted_next   one clock on
+--   hosted_next_over   one clock on with given pads, hosted_next with its own
 --   hosted_at     some clocks on
 --   host_of       what the system does in each clock
 --   sample_at, samples    what each clock shows, and the first clocks
@@ -12,7 +12,7 @@ use Rattle.dreq_pacing.specs.declared.due.Requests.{Requests}
 use Rattle.dreq_pacing.specs.Transfers.{Transfers, first_transfers}
 use Rattle.dreq_pacing.specs.Ports.{due_in, transfers_after}
 use Rattle.block_core.specs.declared.sample.Sample.{Sample}
-use Rattle.block_core.specs.Block.{Run, next}
+use Rattle.block_core.specs.Block.{Run, next, next_over}
 use Rattle.block_core.specs.Shown.{sample_of, requests_of}
 
 -- The block in some clock, and what is left of the transfers at its start.
@@ -24,12 +24,17 @@ pub record Hosted : Type 0 where
 abbrev pub due_of : List Line → Hosted → Due
 due_of lines h = due_in lines h.run.clock (requests_of h.run.state) h.transfers
 
--- one clock on
+-- what is left of the transfers after the clock
+abbrev pub transfers_on : List Line → Hosted → Transfers
+transfers_on lines h = transfers_after lines h.run.clock (requests_of h.run.state) h.transfers
+
+-- one clock on, with these pads
+abbrev pub hosted_next_over : (pad : ℕ) → List Line → Hosted → Hosted
+hosted_next_over pad lines h = record { run = next_over pad (due_of lines h) h.run; transfers = transfers_on lines h }
+
+-- the same with the block's own pads
 unfoldable pub hosted_next : List Line → Hosted → Hosted
-hosted_next lines h = record {
-  run = next (due_of lines h) h.run;
-  transfers = transfers_after lines h.run.clock (requests_of h.run.state) h.transfers;
-}
+hosted_next lines h = record { run = next (due_of lines h) h.run; transfers = transfers_on lines h }
 
 -- some clocks on from a run in which no transfer has begun
 unfoldable pub hosted_at : Run → List Line → ℕ → Hosted

@@ -33,11 +33,15 @@ IsTold memory (Some s) = IsKnown (memory_alone memory) s.machine.setup s.machine
 abbrev pub AreTold : List ℕ → List (Option Slot) → Type 0
 AreTold memory places = AllByRecursion (IsTold memory) places
 
--- All four are in step, no more clocks were worked out singly than went by, and the flags of stalls are up.
-pub record AreInStep (memory : List ℕ) (clock worked : ℕ) (a b c d : Option Slot) : Type 0 where
-  pub calls : worked ≤ clock
+-- All four are in step, and the flags of stalls are up.
+pub record AreInStep (memory : List ℕ) (clock : ℕ) (a b c d : Option Slot) : Type 0 where
   pub told : AreTold memory (a ∷ b ∷ c ∷ d ∷ [])
   pub first : IsInStep clock a
   pub second : IsInStep clock b
   pub third : IsInStep clock c
   pub fourth : IsInStep clock d
+
+-- No more clocks of two blocks were worked out singly than went by, and both are in the same clock.
+pub record AreTwins (worked first second : ℕ) : Type 0 where
+  pub calls : worked ≤ first
+  pub same : second ≡ first

@@ -9,3 +9,5 @@ pub mod Merging
 pub mod Following
 pub mod Stirring
 pub mod Resting
+pub mod Twin
+pub mod HostedTwin

@@ -1,11 +1,12 @@
 -- Which clocks of a run stir: something moves in them, or is about to.
---   machines_stir   a machine begins or finishes an instruction, or refills its OSR
---   pads_change     the pads are not those of both clocks before
---   moves_on        one of these
+--   machines_stir_over, machines_stir   a machine begins or finishes an instruction, or refills its OSR
+--   pads_change_over, pads_change       the pads are not those of both clocks before
+--   moves_on_over, moves_on             one of these
 --   begins_now      the machine of a place begins an instruction
 --   plainly_moves_on   the pads change, or a machine begins an instruction
---   stirs_in        one of these, or the system acts
+--   stirs_over, stirs_in    one of these, or the system acts
 --   stirring        how many of the first clocks stir
+-- A word that ends in `over` is of given pads; its fellow is of the block's own.
 use Rattle.std.specs.Prelude.{ℕ, zero, suc, ◌+◌, ◌==◌, Bool, false, not, ◌&&◌, ◌||◌, Option, Some, None, List, if◌then◌else◌}
 use Rattle.std.specs.List.{list_any}
 use Rattle.sm_registers.specs.Idling.{stirs, begins_next}
@@ -13,23 +14,32 @@ use Rattle.dreq_pacing.specs.declared.line.Line.{Line}
 use Rattle.dreq_pacing.specs.declared.due.Due.{Due}
 use Rattle.dreq_pacing.specs.Due.{quiet}
 use Rattle.dreq_pacing.specs.Ports.{acts_in}
-use Rattle.block_core.specs.Block.{Run, wanted_in, pads_in}
+use Rattle.block_core.specs.Block.{Run, wanted_over, pads_in}
 use Rattle.block_core.specs.Hosted.{Hosted, due_of, hosted_at}
 use Rattle.block_core.specs.Shown.{requests_of}
 use Rattle.block_core.specs.Slots.{Slot, has_tick}
 
 -- some machine has a tick in which it begins or finishes an instruction, or refills its OSR
+abbrev pub machines_stir_over : (pad : ℕ) → Due → Run → Bool
+machines_stir_over pad d r = list_any stirs (wanted_over pad d r)
+
 abbrev pub machines_stir : Due → Run → Bool
-machines_stir d r = list_any stirs (wanted_in d r)
+machines_stir d r = machines_stir_over (pads_in d r.state) d r
 
 -- the pads of the clock, of the one before it and of the one before that are not all the same, so that what machines see may
 -- change (RP2040 Datasheet, section 3.5.6.3)
+abbrev pub pads_change_over : (pad : ℕ) → Run → Bool
+pads_change_over pad r = not ((pad == r.synchroniser.pad_1) && (pad == r.synchroniser.pad_2))
+
 abbrev pub pads_change : Due → Run → Bool
-pads_change d r = let pad = pads_in d r.state in not ((pad == r.synchroniser.pad_1) && (pad == r.synchroniser.pad_2))
+pads_change d r = pads_change_over (pads_in d r.state) r
 
 -- the clock moves the block on: its machines stir, or its pads change
+abbrev pub moves_on_over : (pad : ℕ) → Due → Run → Bool
+moves_on_over pad d r = machines_stir_over pad d r || pads_change_over pad r
+
 unfoldable pub moves_on : Due → Run → Bool
-moves_on d r = machines_stir d r || pads_change d r
+moves_on d r = moves_on_over (pads_in d r.state) d r
 
 -- the clock is a tick in which the machine of a place begins an instruction, if no line acts in it
 abbrev pub begins_now : Option Slot → Bool
@@ -41,6 +51,10 @@ unfoldable pub plainly_moves_on : Run → Bool
 plainly_moves_on r = pads_change quiet r || list_any begins_now r.state.machines
 
 -- The clock stirs: a line acts, a transfer's word moves, a machine stirs, or the pads change (choice of this profile).
+abbrev pub stirs_over : (pad : ℕ) → List Line → Hosted → Bool
+stirs_over pad lines h =
+    acts_in lines h.run.clock (requests_of h.run.state) h.transfers || moves_on_over pad (due_of lines h) h.run
+
 unfoldable pub stirs_in : List Line → Hosted → Bool
 stirs_in lines h =
     acts_in lines h.run.clock (requests_of h.run.state) h.transfers || moves_on (due_of lines h) h.run

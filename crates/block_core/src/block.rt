@@ -1,72 +1,38 @@
-//! The block: four machines that share instruction memory, pins and IRQ flags.
-ghost use Rattle.std.specs.Prelude.{◌≡◌, ℕ, ◌<◌, ◌≤◌, ◌^◌, ◌+◌, false, option_map, IfOk};
-ghost use Rattle.std.specs.List.{AllByRecursion};
-ghost use Rattle.pin_matrix.specs.Pins.{IsWrite};
+//! The block: four machines that share instruction memory, pins and IRQ flags, and see their own pads.
+ghost use Rattle.std.specs.Prelude.{◌≡◌, ℕ, ◌<◌, ◌≤◌, ◌^◌, ◌+◌, false, IfOk};
 ghost use Rattle.dreq_pacing.specs.Due.{quiet};
 ghost use Rattle.dreq_pacing.specs.Ports.{IsFirst};
 ghost use Rattle.block_core.specs.Block.{first_run, next, run_from, wanted_in, uses_fifos_in, level_writes, direction_writes, TakesLastWrites};
-ghost use Rattle.block_core.specs.Kept.{IsInTime};
-ghost use Rattle.block_core.specs.Shown.{sample_of, requests_of, moved_of, shown_in, moved_in};
-ghost use Rattle.block_core.specs.Slots.{doing, first_slot, place_after, place_intent, place_uses_fifos};
-ghost use Rattle.block_core.specs.Merging.{with_intent};
 ghost use Rattle.block_core.specs.Resting.{rested};
+ghost use Rattle.block_core.specs.Shown.{sample_of, requests_of, moved_of};
+ghost use Rattle.block_core.specs.Slots.{doing};
 ghost use Rattle.block_core.specs.Stirring.{moves_on, plainly_moves_on};
 
 use crate::Sample;
-use crate::merging::{Wanted, outside_after};
-use crate::resting::{begins_now, rest, sooner};
-use crate::slot::Slot;
+use crate::running::Running;
 use dreq_pacing::{Due, Requests};
 use fifo_pair::{Fifo, a_quiet_clock_changes_nothing};
-use irq_flags::Flags;
-use pin_matrix::{
-    MachineSetup, Setup, Sync, no_write_changes_nothing, pad_of, the_last_write_counts,
-};
-use sm_registers::{Intent, Shown, View, a_calm_tick_only_counts, a_calm_tick_tells_nothing_new};
+use pin_matrix::{Setup, pad_of};
+use sm_registers::{a_calm_tick_only_counts, a_calm_tick_tells_nothing_new};
 use std::alloc::{AllocError, Global};
 use std::marker::Model;
 
 /// A block in some clock of a run.
 #[derive(Drop)]
 pub struct Block<F: Fifo> {
-    first: Option<Slot<F>>,
-    second: Option<Slot<F>>,
-    third: Option<Slot<F>>,
-    fourth: Option<Slot<F>>,
-    // What the machines see; `seen` is that of the last clock.
-    view: View,
-    levels: u32,
-    directions: u32,
-    outside: u32,
-    sync: Sync,
-    clock: u64,
+    running: Running<F>,
     calls: u64,
 }
 
 impl<F: Fifo> Model for Block<F> {
-    ghost use Rattle.std.specs.Prelude.{[], ◌∷◌};
+    ghost use Rattle.std.specs.Prelude.{◌≤◌};
     ghost use Rattle.block_core.specs.Block.{Worked};
-    ghost use Rattle.block_core.specs.Kept.{AreInStep};
 
     ghost Value = { Worked };
 
-    ghost view = { λ b. record {
-      run = record {
-        memory = b.view.memory;
-        clock = b.clock;
-        state = record {
-          machines = b.first ∷ b.second ∷ b.third ∷ b.fourth ∷ [];
-          levels = b.levels;
-          directions = b.directions;
-          flags = b.view.flags.up;
-          outside = b.outside;
-        };
-        synchroniser = b.sync;
-      };
-      calls = b.calls;
-    } };
+    ghost view = { λ b. record { run = b.running; calls = b.calls } };
 
-    ghost invariant = { λ b. AreInStep b.view.memory b.clock b.calls b.first b.second b.third b.fourth };
+    ghost invariant = { λ b. b.calls ≤ b.running.clock };
 }
 
 impl<F: Fifo> Block<F> {
@@ -74,22 +40,9 @@ impl<F: Fifo> Block<F> {
     pub fn new(alloc: Global, setup: &Setup) -> Result<Block<F>, AllocError>
         ensures { IfOk result (λ block. block ≡ record { run = first_run setup.now; calls = 0 }) }
     {
-        let [first, second, third, fourth] = &setup.machines;
+        let pad = pad_of(setup.level, setup.out, setup.high);
         Ok(Block {
-            first: slot_of(alloc, first)?,
-            second: slot_of(alloc, second)?,
-            third: slot_of(alloc, third)?,
-            fourth: slot_of(alloc, fourth)?,
-            view: View {
-                memory: setup.memory,
-                seen: 0,
-                flags: Flags { up: 0 },
-            },
-            levels: setup.level,
-            directions: setup.out,
-            outside: setup.high,
-            sync: Sync::new(pad_of(setup.level, setup.out, setup.high), setup.bypass),
-            clock: 0,
+            running: Running::new(alloc, setup, pad)?,
             calls: 0,
         })
     }
@@ -131,25 +84,10 @@ impl<F: Fifo> Block<F> {
             (direction_writes (wanted_in (doing due.entry) self.old.run)) }
         ensures calls { self.new.calls ≡ self.old.calls + 1 }
     {
-        the_last_write_counts();
-        no_write_changes_nothing();
-        a_calm_tick_tells_nothing_new();
-        let outside = outside_after(self.outside, due);
-        let pad = pad_of(self.levels, self.directions, outside);
-        self.outside = outside;
-        self.view.seen = self.sync.seen(pad);
-        self.sync.step(pad);
-        let mut wanted = Wanted::new(self.levels, self.directions);
-        let first = step(&mut self.first, &self.view, due, &mut wanted);
-        let second = step(&mut self.second, &self.view, due, &mut wanted);
-        let third = step(&mut self.third, &self.view, due, &mut wanted);
-        let fourth = step(&mut self.fourth, &self.view, due, &mut wanted);
-        self.levels = wanted.levels;
-        self.directions = wanted.directions;
-        wanted.merge_flags(&mut self.view.flags);
-        self.clock += 1;
+        let pad = self.running.pads(due);
+        let used = self.running.step(pad, due);
         self.calls += 1;
-        first | (second | (third | fourth))
+        used
     }
 
     /// Whether the present clock stirs, if the system does nothing in it, by what is known without asking a machine what it
@@ -159,13 +97,8 @@ impl<F: Fifo> Block<F> {
     pub fn plainly_moves_on(&self) -> bool
         ensures { result ≡ plainly_moves_on self.now.run }
     {
-        let pad = pad_of(self.levels, self.directions, self.outside);
-        if !self.sync.settled(pad) {
-            return true;
-        }
-        let (first, second) = (begins_now(&self.first), begins_now(&self.second));
-        let (third, fourth) = (begins_now(&self.third), begins_now(&self.fourth));
-        first | (second | (third | fourth))
+        let pad = self.running.pads(None);
+        self.running.pads_change(pad) || self.running.begins_now()
     }
 
     /// How many clocks go by before the next one that stirs, if the system does nothing; none where no clock ever does. In a
@@ -177,18 +110,12 @@ impl<F: Fifo> Block<F> {
         a_calm_tick_only_counts();
         a_calm_tick_tells_nothing_new();
         a_quiet_clock_changes_nothing();
-        let pad = pad_of(self.levels, self.directions, self.outside);
-        if !self.sync.settled(pad) {
+        self.running.stalls_are_told();
+        let pad = self.running.pads(None);
+        if self.running.pads_change(pad) {
             return Some(0);
         }
-        let view = View {
-            seen: self.sync.seen(pad),
-            ..self.view
-        };
-        let first = sooner(None, &self.first, &view);
-        let second = sooner(first, &self.second, &view);
-        let third = sooner(second, &self.third, &view);
-        sooner(third, &self.fourth, &view)
+        self.running.sooner(None, pad)
     }
 
     /// So many clocks at once, none of which stirs, and in which the system does nothing. After each of them the block is what
@@ -205,54 +132,23 @@ impl<F: Fifo> Block<F> {
         a_calm_tick_only_counts();
         a_calm_tick_tells_nothing_new();
         a_quiet_clock_changes_nothing();
-        let pad = pad_of(self.levels, self.directions, self.outside);
-        self.view.seen = self.sync.seen(pad);
-        rest(&mut self.first, &self.view, clocks);
-        rest(&mut self.second, &self.view, clocks);
-        rest(&mut self.third, &self.view, clocks);
-        rest(&mut self.fourth, &self.view, clocks);
-        self.clock += clocks;
+        self.running.stalls_are_told();
+        let pad = self.running.pads(None);
+        self.running.rest(pad, clocks);
     }
 
     /// What the machines ask of the system, as at the start of the present clock.
-    #[tactic(auto, unfolding(crate::specs::Shown::requests_of))]
     pub fn requests(&self) -> Requests
         ensures { result ≡ requests_of self.now.run.state }
     {
-        let (first, second) = (shown(&self.first), shown(&self.second));
-        let (third, fourth) = (shown(&self.third), shown(&self.fourth));
-        Requests {
-            tx: [
-                !first.tx_full,
-                !second.tx_full,
-                !third.tx_full,
-                !fourth.tx_full,
-            ],
-            rx: [
-                !first.rx_empty,
-                !second.rx_empty,
-                !third.rx_empty,
-                !fourth.rx_empty,
-            ],
-        }
+        self.running.requests()
     }
 
     /// The sample of the last clock, or the values that a run begins with.
-    #[tactic(auto, unfolding(crate::specs::Shown::sample_of))]
     pub fn view(&self) -> Sample
         ensures { result ≡ sample_of self.now.run.state }
     {
-        let (first, second) = (shown(&self.first), shown(&self.second));
-        let (third, fourth) = (shown(&self.third), shown(&self.fourth));
-        Sample {
-            level: self.levels,
-            direction: self.directions,
-            flags: self.view.flags.up,
-            tx: [first.tx, second.tx, third.tx, fourth.tx],
-            rx: [first.rx, second.rx, third.rx, fourth.rx],
-            got: [first.got, second.got, third.got, fourth.got],
-            sticky: [first.sticky, second.sticky, third.sticky, fourth.sticky],
-        }
+        self.running.view()
     }
 
     /// How many words paced transfers have moved into a machine's TX and out of its RX; none of a machine that isn't
@@ -261,82 +157,6 @@ impl<F: Fifo> Block<F> {
         requires { machine ≤ 3 }
         ensures { result ≡ moved_of machine self.now.run.state }
     {
-        match machine {
-            0 => moved(&self.first),
-            1 => moved(&self.second),
-            2 => moved(&self.third),
-            _ => moved(&self.fourth),
-        }
-    }
-}
-
-/// A place of the block: its machine, where one is configured.
-fn slot_of<F: Fifo>(
-    alloc: Global,
-    setup: &Option<MachineSetup>,
-) -> Result<Option<Slot<F>>, AllocError>
-    ensures { IfOk result (λ slot. slot ≡ option_map first_slot setup.now) }
-{
-    match setup {
-        Some(setup) => Ok(Some(Slot::new(alloc, setup)?)),
-        None => Ok(None),
-    }
-}
-
-/// A clock of a place, whose machine adds what it wants of the block. True where anything was done at its FIFOs.
-#[inline(always)]
-#[tactic(auto, using(crate::proofs::Wanting::nothing_added))]
-fn step<F: Fifo>(
-    slot: &mut Option<Slot<F>>,
-    view: &View,
-    due: Option<&Due>,
-    wanted: &mut Wanted,
-) -> bool
-    requires { IsInTime slot.old }
-    ensures after { slot.new ≡ place_after view.now (doing due.entry) slot.old }
-    ensures wanted { wanted.new ≡ with_intent wanted.old
-        (place_intent view.now (doing due.entry) slot.old) }
-    ensures used { result ≡ place_uses_fifos view.now (doing due.entry) slot.old }
-    ensures level { AllByRecursion IsWrite
-        (place_intent view.now (doing due.entry) slot.old).level }
-    ensures direction { AllByRecursion IsWrite
-        (place_intent view.now (doing due.entry) slot.old).direction }
-{
-    let Some(slot) = slot else {
-        return false;
-    };
-    if due.is_none() && slot.pass() {
-        return false;
-    }
-    let mut intent = Intent::none();
-    let used = slot.clock(view, due, &mut intent);
-    wanted.add(&intent);
-    used
-}
-
-/// What is seen of a place.
-fn shown<F: Fifo>(slot: &Option<Slot<F>>) -> Shown
-    ensures { result ≡ shown_in slot.now }
-{
-    match slot {
-        Some(slot) => slot.shown(),
-        None => Shown {
-            tx: 0,
-            rx: 0,
-            tx_full: true,
-            rx_empty: true,
-            got: 0,
-            sticky: 0,
-        },
-    }
-}
-
-/// What transfers moved at a place.
-fn moved<F: Fifo>(slot: &Option<Slot<F>>) -> (u64, u64)
-    ensures { result ≡ moved_in slot.now }
-{
-    match slot {
-        Some(slot) => slot.moved(),
-        None => (0, 0),
+        self.running.moved(machine)
     }
 }

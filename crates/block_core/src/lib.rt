@@ -5,9 +5,13 @@ mod block;
 mod following;
 mod laws;
 mod merging;
+mod place;
 mod resting;
+mod running;
 mod sample;
 mod slot;
+mod twin;
+mod twin_laws;
 
 pub use block::Block;
 pub use following::{
@@ -20,3 +24,8 @@ pub use laws::{
     unused_fifos_ask_as_before, what_begins_moves_on, words_go_through_in_order,
 };
 pub use sample::Sample;
+pub use twin::Twin;
+pub use twin_laws::{
+    clocks_of_two_are_counted, each_pad_is_its_owners, two_blocks_see_the_same_pads,
+    two_stimuli_are_a_system, unused_fifos_ask_as_before_over_any_pads, what_begins_moves_two_on,
+};

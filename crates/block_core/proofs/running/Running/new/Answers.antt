@@ -1,11 +1,9 @@
-use Rattle.std.proofs.Common.{arith}
 use Rattle.block_core.proofs.Steps.{first_in_step}
 use Rattle.block_core.proofs.Told.{first_told}
-use Rattle.block_core.proofs.block.Block.new.Goals as goal
+use Rattle.block_core.proofs.running.Running.new.Goals as goal
 
 pub invariant_of-result : goal.invariant_of-result
 invariant_of-result g c = record {
-  calls = omega arith;
   told = (
     first_told _ _ _ c.in_ok-slot_of.ensures,
     (first_told _ _ _ c.in_ok-slot_of-2.ensures, (first_told _ _ _ c.in_ok-slot_of-3.ensures, (first_told _ _ _ c.in_ok-slot_of-4.ensures, tt))),

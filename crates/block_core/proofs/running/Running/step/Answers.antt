@@ -1,14 +1,13 @@
-use Rattle.std.proofs.Common.{refl, arith}
+use Rattle.std.proofs.Common.{refl}
 use Rattle.block_core.specs.Slots.{doing}
 use Rattle.block_core.proofs.Steps.{in_step_after}
 use Rattle.block_core.proofs.Told.{place_told}
 use Rattle.block_core.proofs.Wanting.{IsStep, next_run, any_used, levels_are_last, directions_are_last}
-use Rattle.block_core.proofs.block.Block.step.Given as given
-use Rattle.block_core.proofs.block.Block.step.Goals as goal
+use Rattle.block_core.proofs.running.Running.step.Given as given
+use Rattle.block_core.proofs.running.Running.step.Goals as goal
 
 pub invariant_of-self : goal.invariant_of-self
 invariant_of-self g c = let kept = c.self.invariant in let law = c.a_calm_tick_tells_nothing_new.ensures in record {
-  calls = omega (arith, kept.calls);
   told = (
     place_told law.after law.more _ _ _ _ _ refl kept.told.0 c.step-first.ensures.after,
     (
@@ -27,11 +26,10 @@ invariant_of-self g c = let kept = c.self.invariant in let law = c.a_calm_tick_t
 
 -- its parts, each as its call says
 step_of : (g : given.Over) (c : goal.After-self-6-1 g) → let b = c.self.inside in
-    IsStep (doing c.args.due) b.view.memory b.levels b.directions b.view.flags.up b.outside b.sync b.first b.second b.third b.fourth c.outside_after-outside.result c.pad_of-pad.result c.seen-self-inside.result c.new-wanted.result c.step-first.new.wanted c.step-second.new.wanted c.step-third.new.wanted c.step-fourth.new.wanted
+    IsStep (doing c.args.due) b.view.memory b.levels b.directions b.view.flags.up b.outside b.sync b.first b.second b.third b.fourth c.outside_after-self-inside.result c.args.pad c.seen-seen.result c.new-wanted.result c.step-first.new.wanted c.step-second.new.wanted c.step-third.new.wanted c.step-fourth.new.wanted
 step_of g c = record {
-  driven = c.outside_after-outside.ensures;
-  pads = c.pad_of-pad.ensures;
-  sees = c.seen-self-inside.ensures;
+  driven = c.outside_after-self-inside.ensures;
+  sees = c.seen-seen.ensures;
   start = c.new-wanted.ensures;
   first = c.step-first.ensures.wanted;
   second = c.step-second.ensures.wanted;

@@ -4,7 +4,7 @@ use Rattle.dreq_pacing.specs.Due.{quiet}
 use Rattle.block_core.specs.Merging.{with_intent}
 use Rattle.block_core.specs.Slots.{Slot, doing, place_intent, place_uses_fifos}
 use Rattle.block_core.proofs.Passing.{adds_nothing, uses_nothing, none_due}
-use Rattle.block_core.proofs.block.step.Goals as goal
+use Rattle.block_core.proofs.place.step.Goals as goal
 
 pub returns-then-pass-clause-wanted : goal.returns-then-pass-clause-wanted
 returns-then-pass-clause-wanted g c =

@@ -1,0 +1,45 @@
+use Rattle.std.proofs.Common.{◌≡◌, false, subst, sym, ap, ◌∙◌, refl, arith}
+use Rattle.dreq_pacing.specs.Due.{quiet}
+use Rattle.block_core.specs.Twin.{WorkedTwin, TwinRun, twin_from, twin_moves_on, rested_twin}
+use Rattle.block_core.proofs.Rests.{CalmLaws}
+use Rattle.block_core.proofs.TwinRests.{AreBothTold, twin_rests, twin_machines_calm}
+use Rattle.block_core.proofs.twin.Twin.leap.Goals as goal
+
+pub rest-requires-clause-calm : goal.rest-requires-clause-calm
+rest-requires-clause-calm g c = λ k lt.
+    let laws : CalmLaws = record { counts = c.a_calm_tick_only_counts.ensures.once; tells = c.a_calm_tick_tells_nothing_new.ensures.calm; fifos = c.a_quiet_clock_changes_nothing.ensures } in
+    let b = c.self.inside in
+    let t : TwinRun = record { own = b.own; first = b.first; second = b.second } in
+    let told : AreBothTold t = record { first = c.stalls_are_told.ensures; second = c.stalls_are_told-2.ensures } in
+    (twin_machines_calm laws t c.pads-pad.result c.args.clocks c.pads-pad.ensures told
+    (λ j below. subst (λ (w : WorkedTwin). twin_moves_on quiet quiet (twin_from w.twin (λ c. quiet) (λ c. quiet) j) ≡ false) (sym c.self.view_is) (c.requires.calm j below)) k lt).first
+
+pub rest-requires-2-clause-calm : goal.rest-requires-2-clause-calm
+rest-requires-2-clause-calm g c = λ k lt.
+    let laws : CalmLaws = record { counts = c.a_calm_tick_only_counts.ensures.once; tells = c.a_calm_tick_tells_nothing_new.ensures.calm; fifos = c.a_quiet_clock_changes_nothing.ensures } in
+    let b = c.self.inside in
+    let t : TwinRun = record { own = b.own; first = b.first; second = b.second } in
+    let told : AreBothTold t = record { first = c.stalls_are_told.ensures; second = c.stalls_are_told-2.ensures } in
+    (twin_machines_calm laws t c.pads-pad.result c.args.clocks c.pads-pad.ensures told
+    (λ j below. subst (λ (w : WorkedTwin). twin_moves_on quiet quiet (twin_from w.twin (λ c. quiet) (λ c. quiet) j) ≡ false) (sym c.self.view_is) (c.requires.calm j below)) k lt).second
+
+pub returns-clause-twin : goal.returns-clause-twin
+returns-clause-twin g c =
+    let laws : CalmLaws = record { counts = c.a_calm_tick_only_counts.ensures.once; tells = c.a_calm_tick_tells_nothing_new.ensures.calm; fifos = c.a_quiet_clock_changes_nothing.ensures } in
+    let b = c.self.inside in
+    let t : TwinRun = record { own = b.own; first = b.first; second = b.second } in
+    let told : AreBothTold t = record { first = c.stalls_are_told.ensures; second = c.stalls_are_told-2.ensures } in
+    rw (c.rest.ensures, c.rest-2.ensures)
+    (sym (twin_rests laws t told c.args.clocks
+    (λ j below. subst (λ (w : WorkedTwin). twin_moves_on quiet quiet (twin_from w.twin (λ c. quiet) (λ c. quiet) j) ≡ false) (sym c.self.view_is) (c.requires.calm j below)))
+    ∙ ap (λ (w : WorkedTwin). twin_from w.twin (λ c. quiet) (λ c. quiet) c.args.clocks) c.self.view_is)
+
+pub returns-clause-rests : goal.returns-clause-rests
+returns-clause-rests g c = λ k le.
+    let laws : CalmLaws = record { counts = c.a_calm_tick_only_counts.ensures.once; tells = c.a_calm_tick_tells_nothing_new.ensures.calm; fifos = c.a_quiet_clock_changes_nothing.ensures } in
+    let b = c.self.inside in
+    let t : TwinRun = record { own = b.own; first = b.first; second = b.second } in
+    let told : AreBothTold t = record { first = c.stalls_are_told.ensures; second = c.stalls_are_told-2.ensures } in
+    subst (λ (w : WorkedTwin). twin_from w.twin (λ c. quiet) (λ c. quiet) k ≡ rested_twin k w.twin) c.self.view_is
+    (twin_rests laws t told k
+    (λ j below. subst (λ (w : WorkedTwin). twin_moves_on quiet quiet (twin_from w.twin (λ c. quiet) (λ c. quiet) j) ≡ false) (sym c.self.view_is) (c.requires.calm j (omega (arith, below, le)))))

@@ -1,0 +1,87 @@
+//! A place of a block: its machine, where one is configured.
+ghost use Rattle.std.specs.Prelude.{◌≡◌, option_map, IfOk};
+ghost use Rattle.std.specs.List.{AllByRecursion};
+ghost use Rattle.pin_matrix.specs.Pins.{IsWrite};
+ghost use Rattle.block_core.specs.Kept.{IsInTime};
+ghost use Rattle.block_core.specs.Merging.{with_intent};
+ghost use Rattle.block_core.specs.Shown.{shown_in, moved_in};
+ghost use Rattle.block_core.specs.Slots.{doing, first_slot, place_after, place_intent, place_uses_fifos};
+
+use crate::merging::Wanted;
+use crate::slot::Slot;
+use dreq_pacing::Due;
+use fifo_pair::Fifo;
+use pin_matrix::MachineSetup;
+use sm_registers::{Intent, Shown, View};
+use std::alloc::{AllocError, Global};
+
+/// The place of a setup's machine.
+pub(crate) fn slot_of<F: Fifo>(
+    alloc: Global,
+    setup: &Option<MachineSetup>,
+) -> Result<Option<Slot<F>>, AllocError>
+    ensures { IfOk result (λ slot. slot ≡ option_map first_slot setup.now) }
+{
+    match setup {
+        Some(setup) => Ok(Some(Slot::new(alloc, setup)?)),
+        None => Ok(None),
+    }
+}
+
+/// A clock of a place, whose machine adds what it wants of the block. True where anything was done at its FIFOs.
+#[inline(always)]
+#[tactic(auto, using(crate::proofs::Wanting::nothing_added))]
+pub(crate) fn step<F: Fifo>(
+    slot: &mut Option<Slot<F>>,
+    view: &View,
+    due: Option<&Due>,
+    wanted: &mut Wanted,
+) -> bool
+    requires { IsInTime slot.old }
+    ensures after { slot.new ≡ place_after view.now (doing due.entry) slot.old }
+    ensures wanted { wanted.new ≡ with_intent wanted.old
+        (place_intent view.now (doing due.entry) slot.old) }
+    ensures used { result ≡ place_uses_fifos view.now (doing due.entry) slot.old }
+    ensures level { AllByRecursion IsWrite
+        (place_intent view.now (doing due.entry) slot.old).level }
+    ensures direction { AllByRecursion IsWrite
+        (place_intent view.now (doing due.entry) slot.old).direction }
+{
+    let Some(slot) = slot else {
+        return false;
+    };
+    if due.is_none() && slot.pass() {
+        return false;
+    }
+    let mut intent = Intent::none();
+    let used = slot.clock(view, due, &mut intent);
+    wanted.add(&intent);
+    used
+}
+
+/// What is seen of a place.
+pub(crate) fn shown<F: Fifo>(slot: &Option<Slot<F>>) -> Shown
+    ensures { result ≡ shown_in slot.now }
+{
+    match slot {
+        Some(slot) => slot.shown(),
+        None => Shown {
+            tx: 0,
+            rx: 0,
+            tx_full: true,
+            rx_empty: true,
+            got: 0,
+            sticky: 0,
+        },
+    }
+}
+
+/// What transfers moved at a place.
+pub(crate) fn moved<F: Fifo>(slot: &Option<Slot<F>>) -> (u64, u64)
+    ensures { result ≡ moved_in slot.now }
+{
+    match slot {
+        Some(slot) => slot.moved(),
+        None => (0, 0),
+    }
+}

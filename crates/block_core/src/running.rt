@@ -1,0 +1,264 @@
+//! A block in a run over pads that are given: its machines and what they share, but not where the pads come from.
+ghost use Rattle.std.specs.Prelude.{◌≡◌, ℕ, ◌<◌, ◌≤◌, ◌^◌, ◌+◌, ◌||◌, Bool, false, IfOk};
+ghost use Rattle.std.specs.List.{list_any};
+ghost use Rattle.dreq_pacing.specs.Due.{quiet};
+ghost use Rattle.dreq_pacing.specs.Ports.{IsFirst};
+ghost use Rattle.block_core.specs.Block.{first_run_over, next_over, pads_in, wanted_over, uses_fifos_over, level_writes, direction_writes, TakesLastWrites};
+ghost use Rattle.block_core.specs.Block as spec;
+ghost use Rattle.block_core.specs.Kept.{AreTold};
+ghost use Rattle.block_core.specs.Resting.{rested};
+ghost use Rattle.block_core.specs.Shown.{sample_of, requests_of, moved_of};
+ghost use Rattle.block_core.specs.Slots.{doing};
+ghost use Rattle.block_core.specs.Stirring.{machines_stir_over, pads_change_over};
+ghost use Rattle.block_core.specs.Stirring as spec_stirring;
+
+use crate::Sample;
+use crate::merging::{Wanted, outside_after};
+use crate::place::{moved, shown, slot_of, step};
+use crate::resting::{begins_now, rest, sooner};
+use crate::slot::Slot;
+use dreq_pacing::{Due, Requests};
+use fifo_pair::Fifo;
+use irq_flags::Flags;
+use pin_matrix::{Setup, Sync, no_write_changes_nothing, pad_of, the_last_write_counts};
+use sm_registers::{View, a_calm_tick_tells_nothing_new};
+use std::alloc::{AllocError, Global};
+use std::marker::Model;
+
+/// Four machines that share instruction memory, pins and IRQ flags, in some clock of a run.
+#[derive(Drop)]
+pub(crate) struct Running<F: Fifo> {
+    first: Option<Slot<F>>,
+    second: Option<Slot<F>>,
+    third: Option<Slot<F>>,
+    fourth: Option<Slot<F>>,
+    // What the machines see; `seen` is that of the last clock.
+    view: View,
+    levels: u32,
+    directions: u32,
+    outside: u32,
+    sync: Sync,
+    clock: u64,
+}
+
+impl<F: Fifo> Model for Running<F> {
+    ghost use Rattle.std.specs.Prelude.{[], ◌∷◌};
+    ghost use Rattle.block_core.specs.Block.{Run};
+    ghost use Rattle.block_core.specs.Kept.{AreInStep};
+
+    ghost Value = { Run };
+
+    ghost view = { λ b. record {
+      memory = b.view.memory;
+      clock = b.clock;
+      state = record {
+        machines = b.first ∷ b.second ∷ b.third ∷ b.fourth ∷ [];
+        levels = b.levels;
+        directions = b.directions;
+        flags = b.view.flags.up;
+        outside = b.outside;
+      };
+      synchroniser = b.sync;
+    } };
+
+    ghost invariant = { λ b. AreInStep b.view.memory b.clock b.first b.second b.third b.fourth };
+}
+
+impl<F: Fifo> Running<F> {
+    /// The machines of a setup in clock 0, before which these were always the pads. The error is want of memory.
+    pub fn new(alloc: Global, setup: &Setup, pad: u32) -> Result<Running<F>, AllocError>
+        ensures { IfOk result (λ running. running ≡ first_run_over pad setup.now) }
+    {
+        let [first, second, third, fourth] = &setup.machines;
+        Ok(Running {
+            first: slot_of(alloc, first)?,
+            second: slot_of(alloc, second)?,
+            third: slot_of(alloc, third)?,
+            fourth: slot_of(alloc, fourth)?,
+            view: View {
+                memory: setup.memory,
+                seen: 0,
+                flags: Flags { up: 0 },
+            },
+            levels: setup.level,
+            directions: setup.out,
+            outside: setup.high,
+            sync: Sync::new(pad, setup.bypass),
+            clock: 0,
+        })
+    }
+
+    /// The output levels.
+    #[inline(always)]
+    pub fn levels(&self) -> u32
+        ensures { result ≡ self.now.state.levels }
+    {
+        self.levels
+    }
+
+    /// The directions.
+    #[inline(always)]
+    pub fn directions(&self) -> u32
+        ensures { result ≡ self.now.state.directions }
+    {
+        self.directions
+    }
+
+    /// The levels that the outside drives in a clock in which the system does this, where it does anything.
+    #[inline(always)]
+    pub fn outside(&self, due: Option<&Due>) -> u32
+        ensures { result ≡ spec.outside_after (doing due.entry) self.now.state.outside }
+    {
+        outside_after(self.outside, due)
+    }
+
+    /// The pads of a clock in which the system does this, where no other block is on them.
+    #[inline(always)]
+    pub fn pads(&self, due: Option<&Due>) -> u32
+        ensures { result ≡ pads_in (doing due.entry) self.now.state }
+    {
+        pad_of(self.levels, self.directions, self.outside(due))
+    }
+
+    /// One clock with these pads, in which the system does this, where it does anything. Every machine with a tick acts from
+    /// what was there at the clock's start. True where a machine or the system did anything at a FIFO.
+    #[inline(always)]
+    pub fn step(&mut self, pad: u32, due: Option<&Due>) -> bool
+        requires { self.old.clock < 2 ^ 40 }
+        ensures run { self.new ≡ next_over pad (doing due.entry) self.old }
+        ensures used { result ≡ uses_fifos_over pad (doing due.entry) self.old }
+        ensures levels { TakesLastWrites self.old.state.levels self.new.state.levels
+            (level_writes (wanted_over pad (doing due.entry) self.old)) }
+        ensures directions { TakesLastWrites self.old.state.directions self.new.state.directions
+            (direction_writes (wanted_over pad (doing due.entry) self.old)) }
+    {
+        the_last_write_counts();
+        no_write_changes_nothing();
+        a_calm_tick_tells_nothing_new();
+        self.outside = outside_after(self.outside, due);
+        let seen = self.sync.seen(pad);
+        self.view.seen = seen;
+        self.sync.step(pad);
+        let mut wanted = Wanted::new(self.levels, self.directions);
+        let first = step(&mut self.first, &self.view, due, &mut wanted);
+        let second = step(&mut self.second, &self.view, due, &mut wanted);
+        let third = step(&mut self.third, &self.view, due, &mut wanted);
+        let fourth = step(&mut self.fourth, &self.view, due, &mut wanted);
+        self.levels = wanted.levels;
+        self.directions = wanted.directions;
+        wanted.merge_flags(&mut self.view.flags);
+        self.clock += 1;
+        first | (second | (third | fourth))
+    }
+
+    /// Whether these pads, of the present clock, are not those of both clocks before.
+    #[inline(always)]
+    pub fn pads_change(&self, pad: u32) -> bool
+        ensures { result ≡ pads_change_over pad self.now }
+    {
+        !self.sync.settled(pad)
+    }
+
+    /// Whether a machine begins an instruction in the present clock, if no line acts in it.
+    #[inline(never)]
+    pub fn begins_now(&self) -> bool
+        ensures { result ≡ list_any spec_stirring.begins_now self.now.state.machines }
+    {
+        let (first, second) = (begins_now(&self.first), begins_now(&self.second));
+        let (third, fourth) = (begins_now(&self.third), begins_now(&self.fourth));
+        first | (second | (third | fourth))
+    }
+
+    /// That the flags of stalls which go on are up. The type keeps it.
+    pub fn stalls_are_told(&self)
+        ensures { AreTold self.now.memory self.now.state.machines }
+    {}
+
+    /// The least number of clocks after which a test passes or a machine stirs, where the pads stay these and the system does
+    /// nothing, from that of the test alone. No machine is asked after a test that passes at once, or a machine that stirs at
+    /// once.
+    #[inline(always)]
+    pub fn sooner(&self, tested: Option<u64>, pad: u32) -> Option<u64>
+        ensures { (test : ℕ → Bool) → IsFirst test 0 tested →
+            IsFirst (λ n. test n || machines_stir_over pad quiet (rested n self.now)) 0 result }
+    {
+        let view = View {
+            seen: self.sync.seen(pad),
+            ..self.view
+        };
+        let first = sooner(tested, &self.first, &view);
+        let second = sooner(first, &self.second, &view);
+        let third = sooner(second, &self.third, &view);
+        sooner(third, &self.fourth, &view)
+    }
+
+    /// So many clocks at once, in none of which a machine stirs, with these pads, and in which the system does nothing.
+    #[inline(always)]
+    pub fn rest(&mut self, pad: u32, clocks: u64)
+        requires clock { self.old.clock + clocks ≤ 2 ^ 40 }
+        requires calm { (k : ℕ) → k < clocks →
+            machines_stir_over pad quiet (rested k self.old) ≡ false }
+        ensures { self.new ≡ rested clocks self.old }
+    {
+        self.view.seen = self.sync.seen(pad);
+        rest(&mut self.first, &self.view, clocks);
+        rest(&mut self.second, &self.view, clocks);
+        rest(&mut self.third, &self.view, clocks);
+        rest(&mut self.fourth, &self.view, clocks);
+        self.clock += clocks;
+    }
+
+    /// What the machines ask of the system, as at the start of the present clock.
+    #[tactic(auto, unfolding(crate::specs::Shown::requests_of))]
+    pub fn requests(&self) -> Requests
+        ensures { result ≡ requests_of self.now.state }
+    {
+        let (first, second) = (shown(&self.first), shown(&self.second));
+        let (third, fourth) = (shown(&self.third), shown(&self.fourth));
+        Requests {
+            tx: [
+                !first.tx_full,
+                !second.tx_full,
+                !third.tx_full,
+                !fourth.tx_full,
+            ],
+            rx: [
+                !first.rx_empty,
+                !second.rx_empty,
+                !third.rx_empty,
+                !fourth.rx_empty,
+            ],
+        }
+    }
+
+    /// What the last clock shows, or the values that a run begins with.
+    #[tactic(auto, unfolding(crate::specs::Shown::sample_of))]
+    pub fn view(&self) -> Sample
+        ensures { result ≡ sample_of self.now.state }
+    {
+        let (first, second) = (shown(&self.first), shown(&self.second));
+        let (third, fourth) = (shown(&self.third), shown(&self.fourth));
+        Sample {
+            level: self.levels,
+            direction: self.directions,
+            flags: self.view.flags.up,
+            tx: [first.tx, second.tx, third.tx, fourth.tx],
+            rx: [first.rx, second.rx, third.rx, fourth.rx],
+            got: [first.got, second.got, third.got, fourth.got],
+            sticky: [first.sticky, second.sticky, third.sticky, fourth.sticky],
+        }
+    }
+
+    /// How many words paced transfers have moved into a machine's TX and out of its RX.
+    pub fn moved(&self, machine: u8) -> (u64, u64)
+        requires { machine ≤ 3 }
+        ensures { result ≡ moved_of machine self.now.state }
+    {
+        match machine {
+            0 => moved(&self.first),
+            1 => moved(&self.second),
+            2 => moved(&self.third),
+            _ => moved(&self.fourth),
+        }
+    }
+}
