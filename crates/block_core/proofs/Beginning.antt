@@ -10,10 +10,10 @@ use Rattle.sm_registers.specs.Queues.{Queues}
 use Rattle.sm_registers.specs.State.{queues_of}
 use Rattle.sm_registers.specs.Tick.{tick_of}
 use Rattle.dreq_pacing.specs.Due.{quiet}
-use Rattle.block_core.specs.Block.{Run, view_of, seen_in, seen_over}
+use Rattle.block_core.specs.Block.{Run, pads_in, view_of, seen_in, seen_over}
 use Rattle.block_core.specs.Slots.{Slot, has_tick, acted, place_intent}
 use Rattle.block_core.specs.Stirring.{machines_stir, machines_stir_over, pads_change, pads_change_over, moves_on, begins_now, plainly_moves_on}
-use Rattle.block_core.specs.Twin.{TwinRun, twin_pads_in, twin_moves_on, plainly_twin_moves_on}
+use Rattle.block_core.specs.Twin.{TwinRun, twin_pads_in, twin_pads_change, twin_moves_on, plainly_twin_moves_on}
 use Rattle.block_core.proofs.Rests.{lined_quiet}
 
 -- what the law of first ticks says
@@ -80,3 +80,24 @@ plainly_twin_moves law t h =
     exchanged_two (pads_change_over pad t.first) (pads_change_over pad t.second) (list_any begins_now t.first.state.machines) (list_any begins_now t.second.state.machines) (machines_stir_over pad quiet t.first) (machines_stir_over pad quiet t.second)
     (any_begins law (view_of t.first.memory (seen_over pad t.first) t.first.state) t.first.state.machines)
     (any_begins law (view_of t.second.memory (seen_over pad t.second) t.second.state) t.second.state.machines) h
+
+-- the tests of a block and of two, by the pads, and by the machines where the pads don't change
+pub by_pads : (r : Run) (pad : ℕ) → pad ≡ pads_in quiet r.state → pads_change_over pad r ≡ true → true ≡ plainly_moves_on r
+unfolding plainly_moves_on
+by_pads r pad is h =
+    sym (or_left (pads_change quiet r) (list_any begins_now r.state.machines) (ap (λ p. pads_change_over p r) (sym is) ∙ h))
+
+pub by_machines : (r : Run) (pad : ℕ) → pad ≡ pads_in quiet r.state → pads_change_over pad r ≡ false → list_any begins_now r.state.machines ≡ plainly_moves_on r
+unfolding plainly_moves_on
+by_machines r pad is h =
+    sym (ap (λ p. p || list_any begins_now r.state.machines) (ap (λ p. pads_change_over p r) (sym is) ∙ h))
+
+pub twin_by_pads : (t : TwinRun) (pad : ℕ) → pad ≡ twin_pads_in quiet t → twin_pads_change pad t ≡ true → true ≡ plainly_twin_moves_on t
+unfolding plainly_twin_moves_on
+twin_by_pads t pad is h =
+    sym (or_left (twin_pads_change (twin_pads_in quiet t) t) (list_any begins_now t.first.state.machines || list_any begins_now t.second.state.machines) (ap (λ p. twin_pads_change p t) (sym is) ∙ h))
+
+pub twin_by_machines : (t : TwinRun) (pad : ℕ) → pad ≡ twin_pads_in quiet t → twin_pads_change pad t ≡ false → (list_any begins_now t.first.state.machines || list_any begins_now t.second.state.machines) ≡ plainly_twin_moves_on t
+unfolding plainly_twin_moves_on
+twin_by_machines t pad is h =
+    sym (ap (λ p. p || (list_any begins_now t.first.state.machines || list_any begins_now t.second.state.machines)) (ap (λ p. twin_pads_change p t) (sym is) ∙ h))

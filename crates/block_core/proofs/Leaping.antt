@@ -1,5 +1,5 @@
 -- When a block next stirs, and what it is until then.
-use Rattle.std.proofs.Common.{◌≡◌, ℕ, ◌<◌, Bool, true, false, not, ◌||◌, Option, Some, List, [], ◌∷◌, map, refl, ap, sym, ◌∙◌, arith}
+use Rattle.std.proofs.Common.{◌≡◌, ℕ, ◌<◌, Bool, true, false, not, ◌||◌, Option, Some, List, [], ◌∷◌, map, refl, ap, sym, ◌∙◌, subst, arith}
 use Rattle.sm_registers.specs.declared.shown.Shown.{Shown}
 use Rattle.dreq_pacing.specs.Due.{quiet}
 use Rattle.dreq_pacing.specs.Ports.{IsFirst}
@@ -20,7 +20,9 @@ only_machines true p h = refl
 
 moves_rested : (r : Run) (pad : ℕ) → pad ≡ pads_in quiet r.state → pads_change_over pad r ≡ false → (n : ℕ) → moves_on quiet (rested n r) ≡ (false || machines_stir_over pad quiet (rested n r))
 unfolding moves_on rested
-moves_rested r pad is settled n = rw (← is) (only_machines (machines_stir_over pad quiet (rested n r)) (pads_change_over pad r) settled)
+moves_rested r pad is settled n =
+    subst (λ p. pads_change_over p r ≡ false → moves_on quiet (rested n r) ≡ (false || machines_stir_over p quiet (rested n r))) (sym is)
+    (λ s. only_machines (machines_stir_over (pads_in quiet r.state) quiet (rested n r)) (pads_change_over (pads_in quiet r.state) r) s) settled
 
 pub first_moves : CalmLaws → (r : Run) (pad : ℕ) (result : Option ℕ) → pad ≡ pads_in quiet r.state → pads_change_over pad r ≡ false → AreTold r.memory r.state.machines → IsFirst (λ n. false || machines_stir_over pad quiet (rested n r)) 0 result → IsFirst (λ n. moves_on quiet (run_from r (λ c. quiet) n)) 0 result
 first_moves laws r pad result is settled told h =
@@ -38,14 +40,16 @@ moves_at_once r pad is h =
     (omega arith, or_true _ _ (ap (λ p. pads_change_over p r) (sym is) ∙ h), λ c le lt. absurd (omega (arith, lt)))
 
 -- in clocks in which it doesn't move on no machine stirs
+stir_parts : (r : Run) (pad k : ℕ) → pad ≡ pads_in quiet r.state → moves_on quiet (rested k r) ≡ false → machines_stir_over pad quiet (rested k r) ≡ false
+unfolding moves_on rested
+stir_parts r pad k is h =
+    subst (λ p. machines_stir_over p quiet (rested k r) ≡ false) (sym is)
+    (or_false_parts (machines_stir_over (pads_in quiet r.state) quiet (rested k r)) (pads_change quiet r) h).0
+
 pub machines_calm : CalmLaws → (r : Run) (pad n : ℕ) → pad ≡ pads_in quiet r.state → AreTold r.memory r.state.machines → ((k : ℕ) → k < n → moves_on quiet (run_from r (λ c. quiet) k) ≡ false) → (k : ℕ) → k < n → machines_stir_over pad quiet (rested k r) ≡ false
 machines_calm laws r pad n is told h k lt =
     let rests_so_far = rests laws r told k (λ j below. h j (omega (arith, below, lt))) in
     stir_parts r pad k is (ap (moves_on quiet) (sym rests_so_far) ∙ h k lt)
-  where
-    stir_parts : (r : Run) (pad k : ℕ) → pad ≡ pads_in quiet r.state → moves_on quiet (rested k r) ≡ false → machines_stir_over pad quiet (rested k r) ≡ false
-    unfolding moves_on rested
-    stir_parts r pad k is h = rw is (or_false_parts (machines_stir_over (pads_in quiet r.state) quiet (rested k r)) (pads_change quiet r) h).0
 
 -- what it shows, and what its machines ask for
 shown_rests : (n : ℕ) (place : Option Slot) → shown_in (rested_place n place) ≡ shown_in place

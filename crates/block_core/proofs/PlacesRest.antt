@@ -27,7 +27,8 @@ join true a b c e = refl
 any_stirs : (memory : List ℕ) (clock levels directions flags outside : ℕ) (sync : Synchroniser) (a b c e : Option Slot) (pad seen : ℕ) → seen ≡ seen_of sync.bypass pad sync.pad_2 → (t : Bool) (n : ℕ) → let v = view memory seen flags in (t || machines_stir_over pad quiet (rested n (run memory clock levels directions flags outside sync a b c e))) ≡ ((((t || stirs_after v a n) || stirs_after v b n) || stirs_after v c n) || stirs_after v e n)
 unfolding rested
 any_stirs memory clock levels directions flags outside sync a b c e pad seen sees t n =
-    rw sees (let v = view memory (seen_of sync.bypass pad sync.pad_2) flags in join t (stirs_after v a n) (stirs_after v b n) (stirs_after v c n) (stirs_after v e n))
+    subst (λ x. let v = view memory x flags in (t || machines_stir_over pad quiet (rested n (run memory clock levels directions flags outside sync a b c e))) ≡ ((((t || stirs_after v a n) || stirs_after v b n) || stirs_after v c n) || stirs_after v e n)) (sym sees)
+    (let v = view memory (seen_of sync.bypass pad sync.pad_2) flags in join t (stirs_after v a n) (stirs_after v b n) (stirs_after v c n) (stirs_after v e n))
 
 pub first_stirs : (memory : List ℕ) (clock levels directions flags outside : ℕ) (sync : Synchroniser) (a b c e : Option Slot) (pad seen : ℕ) (test : ℕ → Bool) (result : Option ℕ) → seen ≡ seen_of sync.bypass pad sync.pad_2 → (let v = view memory seen flags in IsFirst (λ n. (((test n || stirs_after v a n) || stirs_after v b n) || stirs_after v c n) || stirs_after v e n) 0 result) → IsFirst (λ n. test n || machines_stir_over pad quiet (rested n (run memory clock levels directions flags outside sync a b c e))) 0 result
 first_stirs memory clock levels directions flags outside sync a b c e pad seen test result sees h =

@@ -4,6 +4,9 @@ use Rattle.clock_divider.specs.Timing.{Timing, resumed}
 use Rattle.pin_matrix.specs.declared.machine.MachineSetup.{MachineSetup}
 use Rattle.sm_registers.specs.declared.view.View.{View}
 use Rattle.dreq_pacing.specs.declared.due.Due.{Due}
+use Rattle.block_core.specs.Block.{Run, pads_in, next, next_over}
+use Rattle.block_core.specs.Resting.{rested}
+use Rattle.block_core.specs.Twin.{TwinRun, twin_pads_in, twin_next}
 use Rattle.block_core.specs.Slots.{Slot, first_slot, counted, settled_slot, place_after}
 use Rattle.block_core.specs.Kept.{IsInStep, IsInTime}
 
@@ -37,3 +40,18 @@ in_step_after clock v d s t h e = subst (IsInStep (clock + 1)) (sym e) (place_in
 pub in_time : (clock : ℕ) (s : Option Slot) → clock < 2 ^ 40 → IsInStep clock s → IsInTime s
 in_time clock None lt h = tt
 in_time clock (Some s) lt h = (omega (arith, h.0), omega (arith, h.1), omega (arith, h.2))
+
+-- a clock with the block's own pads
+pub next_with : (d : Due) (r : Run) (pad : ℕ) (after : Run) → pad ≡ pads_in d r.state → after ≡ next_over pad d r → after ≡ next d r
+unfolding next
+next_with d r pad after is e = e ∙ ap (λ p. next_over p d r) is
+
+-- a clock of two blocks
+pub twin_next_with : (first second : Due) (t : TwinRun) (pad : ℕ) (one other : Run) → pad ≡ twin_pads_in first t → one ≡ next_over pad first t.first → other ≡ next_over pad second t.second → (record { own = t.own; first = one; second = other }) ≡ twin_next first second t
+unfolding twin_next
+twin_next_with first second t pad one other is a b = rw (a, b, is) refl
+
+-- the clock of a run that rests
+pub clock-rested : (n : ℕ) (r : Run) → (rested n r).clock ≡ r.clock + n
+unfolding rested
+clock-rested n r = refl

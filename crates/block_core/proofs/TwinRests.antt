@@ -1,5 +1,5 @@
 -- Two blocks in clocks in which nothing stirs and the system does nothing, and when one of them next stirs.
-use Rattle.std.proofs.Common.{◌≡◌, ℕ, zero, suc, ◌<◌, Bool, true, false, ◌||◌, Option, Some, refl, ap, sym, ◌∙◌, arith, add-one}
+use Rattle.std.proofs.Common.{◌≡◌, ℕ, zero, suc, ◌<◌, Bool, true, false, ◌||◌, Option, Some, refl, ap, sym, ◌∙◌, subst, arith, add-one}
 use Rattle.dreq_pacing.specs.Due.{quiet}
 use Rattle.dreq_pacing.specs.Ports.{IsFirst}
 use Rattle.block_core.specs.Block.{Run}
@@ -71,7 +71,9 @@ only_machines false false false false h = refl
 moves_rested : (t : TwinRun) (pad : ℕ) → pad ≡ twin_pads_in quiet t → twin_pads_change pad t ≡ false → (n : ℕ) → twin_moves_on quiet quiet (rested_twin n t) ≡ ((false || machines_stir_over pad quiet (rested n t.first)) || machines_stir_over pad quiet (rested n t.second))
 unfolding twin_moves_on rested
 moves_rested t pad is settled n =
-    rw (← is) (only_machines (machines_stir_over pad quiet (rested n t.first)) (machines_stir_over pad quiet (rested n t.second)) (pads_change_over pad t.first) (pads_change_over pad t.second) settled)
+    let own = twin_pads_in quiet t in
+    subst (λ p. twin_pads_change p t ≡ false → twin_moves_on quiet quiet (rested_twin n t) ≡ ((false || machines_stir_over p quiet (rested n t.first)) || machines_stir_over p quiet (rested n t.second))) (sym is)
+    (λ s. only_machines (machines_stir_over own quiet (rested n t.first)) (machines_stir_over own quiet (rested n t.second)) (pads_change_over own t.first) (pads_change_over own t.second) s) settled
 
 pub twin_first_moves : CalmLaws → (t : TwinRun) (pad : ℕ) (result : Option ℕ) → pad ≡ twin_pads_in quiet t → twin_pads_change pad t ≡ false → AreBothTold t → IsFirst (λ n. (false || machines_stir_over pad quiet (rested n t.first)) || machines_stir_over pad quiet (rested n t.second)) 0 result → IsFirst (λ n. twin_moves_on quiet quiet (twin_from t (λ c. quiet) (λ c. quiet) n)) 0 result
 twin_first_moves laws t pad result is settled told h =
@@ -90,7 +92,8 @@ pub twin_moves_at_once : (t : TwinRun) (pad : ℕ) → pad ≡ twin_pads_in quie
 unfolding twin_moves_on twin_from
 twin_moves_at_once t pad is h = (
   omega arith,
-  at_once _ _ _ _ (ap (λ p. twin_pads_change p t) (sym is) ∙ h),
+  (let own = twin_pads_in quiet t in
+      at_once (machines_stir_over own quiet t.first) (machines_stir_over own quiet t.second) (pads_change_over own t.first) (pads_change_over own t.second) (ap (λ p. twin_pads_change p t) (sym is) ∙ h)),
   λ c le lt. absurd (omega (arith, lt)),
 )
 
@@ -104,10 +107,10 @@ unfolding twin_moves_on rested
 both_calm t pad k is h =
     let own = twin_pads_in quiet t in
     let two = or_false_parts (moves_on_over own quiet (rested k t.first)) (moves_on_over own quiet (rested k t.second)) h in
-    rw is record {
+    subst (λ p. AreBothCalm p t k) (sym is) (record {
       first = (or_false_parts (machines_stir_over own quiet (rested k t.first)) (pads_change_over own t.first) two.0).0;
       second = (or_false_parts (machines_stir_over own quiet (rested k t.second)) (pads_change_over own t.second) two.1).0;
-    }
+    })
 
 pub twin_machines_calm : CalmLaws → (t : TwinRun) (pad n : ℕ) → pad ≡ twin_pads_in quiet t → AreBothTold t → ((k : ℕ) → k < n → twin_moves_on quiet quiet (twin_from t (λ c. quiet) (λ c. quiet) k) ≡ false) → (k : ℕ) → k < n → AreBothCalm pad t k
 twin_machines_calm laws t pad n is told h k lt =

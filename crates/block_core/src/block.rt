@@ -98,7 +98,10 @@ impl<F: Fifo> Block<F> {
         ensures { result ≡ plainly_moves_on self.now.run }
     {
         let pad = self.running.pads(None);
-        self.running.pads_change(pad) || self.running.begins_now()
+        if self.running.pads_change(pad) {
+            return true;
+        }
+        self.running.begins_now()
     }
 
     /// How many clocks go by before the next one that stirs, if the system does nothing; none where no clock ever does. In a

@@ -111,7 +111,8 @@ impl<F: Fifo> Twin<F> {
     fn pads_change(&self, pad: u32) -> bool
         ensures { result ≡ spec.twin_pads_change pad self.now.twin }
     {
-        self.first.pads_change(pad) || self.second.pads_change(pad)
+        let first = self.first.pads_change(pad);
+        first | self.second.pads_change(pad)
     }
 
     /// Whether the present clock stirs, if the system does nothing in it, by what is known without asking a machine what it
@@ -122,7 +123,11 @@ impl<F: Fifo> Twin<F> {
         ensures { result ≡ plainly_twin_moves_on self.now.twin }
     {
         let pad = self.pads(None);
-        self.pads_change(pad) || (self.first.begins_now() || self.second.begins_now())
+        if self.pads_change(pad) {
+            return true;
+        }
+        let first = self.first.begins_now();
+        first | self.second.begins_now()
     }
 
     /// How many clocks go by before the next one in which either block stirs, if the system does nothing; none where no clock

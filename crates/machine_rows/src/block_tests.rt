@@ -28,7 +28,7 @@ fn is_seen(sample: &Sample, stir: Option<u64>, seen: Seen) -> bool {
 }
 
 /// How many clocks a row takes.
-fn clocks_of(row: &Row) -> u64
+pub(crate) fn clocks_of(row: &Row) -> u64
     ensures { result ≤ 100001 }
 {
     let mut last = 0;
@@ -41,7 +41,7 @@ fn clocks_of(row: &Row) -> u64
 }
 
 /// Whether all is seen that a row shows after a clock.
-fn are_seen(row: &Row, sample: &Sample, stir: Option<u64>, clock: u64) -> bool {
+pub(crate) fn are_seen(row: &Row, sample: &Sample, stir: Option<u64>, clock: u64) -> bool {
     row.seen
         .iter()
         .all(|&(at, seen)| at != clock || is_seen(sample, stir, seen))

@@ -45,3 +45,5 @@ mod run_tests;
 mod shift_tests;
 #[cfg(test)]
 mod stir_rows;
+#[cfg(test)]
+mod twin_tests;

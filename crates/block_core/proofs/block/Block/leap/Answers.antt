@@ -1,10 +1,11 @@
 use Rattle.std.proofs.Common.{◌≡◌, false, subst, sym, ap, ◌∙◌, arith}
 use Rattle.dreq_pacing.specs.Due.{quiet}
-use Rattle.block_core.specs.Block.{Worked, run_from}
+use Rattle.block_core.specs.Block.{Run, Worked, run_from}
 use Rattle.block_core.specs.Resting.{rested}
 use Rattle.block_core.specs.Stirring.{moves_on}
 use Rattle.block_core.proofs.Leaping.{machines_calm}
 use Rattle.block_core.proofs.Rests.{CalmLaws, rests}
+use Rattle.block_core.proofs.Steps.{clock-rested}
 use Rattle.block_core.proofs.block.Block.leap.Goals as goal
 
 pub rest-requires-clause-calm : goal.rest-requires-clause-calm
@@ -12,6 +13,11 @@ rest-requires-clause-calm g c = λ k lt.
     let laws : CalmLaws = record { counts = c.a_calm_tick_only_counts.ensures.once; tells = c.a_calm_tick_tells_nothing_new.ensures.calm; fifos = c.a_quiet_clock_changes_nothing.ensures } in
     machines_calm laws c.self.inside.running c.pads-pad.result c.args.clocks c.pads-pad.ensures c.stalls_are_told.ensures
     (λ j below. subst (λ (w : Worked). moves_on quiet (run_from w.run (λ c. quiet) j) ≡ false) (sym c.self.view_is) (c.requires.calm j below)) k lt
+
+pub invariant_of-self : goal.invariant_of-self
+invariant_of-self g c =
+    let clock = ap (λ (r : Run). r.clock) c.rest.ensures ∙ clock-rested c.args.clocks c.self.inside.running in
+    omega (arith, clock, c.self.invariant)
 
 pub returns-clause-run : goal.returns-clause-run
 returns-clause-run g c =

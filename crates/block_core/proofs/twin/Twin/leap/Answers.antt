@@ -1,7 +1,9 @@
-use Rattle.std.proofs.Common.{◌≡◌, false, subst, sym, ap, ◌∙◌, refl, arith}
+use Rattle.std.proofs.Common.{◌≡◌, ℕ, ◌+◌, false, subst, sym, ap, ◌∙◌, refl, arith}
 use Rattle.dreq_pacing.specs.Due.{quiet}
+use Rattle.block_core.specs.Block.{Run}
 use Rattle.block_core.specs.Twin.{WorkedTwin, TwinRun, twin_from, twin_moves_on, rested_twin}
 use Rattle.block_core.proofs.Rests.{CalmLaws}
+use Rattle.block_core.proofs.Steps.{clock-rested}
 use Rattle.block_core.proofs.TwinRests.{AreBothTold, twin_rests, twin_machines_calm}
 use Rattle.block_core.proofs.twin.Twin.leap.Goals as goal
 
@@ -22,6 +24,21 @@ rest-requires-2-clause-calm g c = λ k lt.
     let told : AreBothTold t = record { first = c.stalls_are_told.ensures; second = c.stalls_are_told-2.ensures } in
     (twin_machines_calm laws t c.pads-pad.result c.args.clocks c.pads-pad.ensures told
     (λ j below. subst (λ (w : WorkedTwin). twin_moves_on quiet quiet (twin_from w.twin (λ c. quiet) (λ c. quiet) j) ≡ false) (sym c.self.view_is) (c.requires.calm j below)) k lt).second
+
+pub rest-requires-2-clause-clock : goal.rest-requires-2-clause-clock
+rest-requires-2-clause-clock g c =
+    let clock = ap (λ (w : WorkedTwin). w.twin.first.clock) c.self.view_is in
+    omega (arith, clock, c.self.invariant.same, c.requires.clock)
+
+pub invariant_of-self : goal.invariant_of-self
+invariant_of-self g c =
+    let b = c.self.inside in
+    let one = ap (λ (r : Run). r.clock) c.rest.ensures ∙ clock-rested c.args.clocks b.first in
+    let other = ap (λ (r : Run). r.clock) c.rest-2.ensures ∙ clock-rested c.args.clocks b.second in
+    record {
+      calls = omega (arith, one, c.self.invariant.calls);
+      same = other ∙ ap (λ (n : ℕ). n + c.args.clocks) c.self.invariant.same ∙ sym one;
+    }
 
 pub returns-clause-twin : goal.returns-clause-twin
 returns-clause-twin g c =

@@ -1,0 +1,15 @@
+use Rattle.std.proofs.Common.{◌≡◌, true, sym, ◌∙◌, subst}
+use Rattle.block_core.specs.Block.{Worked}
+use Rattle.block_core.specs.Stirring.{plainly_moves_on}
+use Rattle.block_core.proofs.Beginning.{by_pads, by_machines}
+use Rattle.block_core.proofs.block.Block.plainly_moves_on.Goals as goal
+
+pub returns-then-pads_change : goal.returns-then-pads_change
+returns-then-pads_change g c =
+    subst (λ (w : Worked). true ≡ plainly_moves_on w.run) c.self.view_is
+    (by_pads c.self.inside.running c.pads-pad.result c.pads-pad.ensures (sym c.pads_change.ensures ∙ c.if-pads_change.true))
+
+pub returns : goal.returns
+returns g c =
+    subst (λ (w : Worked). c.begins_now.result ≡ plainly_moves_on w.run) c.self.view_is
+    (c.begins_now.ensures ∙ by_machines c.self.inside.running c.pads-pad.result c.pads-pad.ensures (sym c.pads_change.ensures ∙ c.if-pads_change.false))
