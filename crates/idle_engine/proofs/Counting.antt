@@ -1,39 +1,25 @@
 -- How many clocks stir.
-use Rattle.std.proofs.Common.{◌≡◌, ℕ, zero, suc, ◌+◌, ◌-◌, ◌<◌, ◌≤◌, Bool, true, false, cond, ◌⊎◌, inl, inr, List, refl, ap, ◌∙◌, sym, subst, arith, add-zero, add-suc, add-one}
-use Rattle.std.proofs.lemmas.Bool.{cases_lt}
+use Rattle.std.proofs.Common.{◌≡◌, ℕ, ◌+◌, ◌<◌, ◌≤◌, true, List, refl}
 use Rattle.dreq_pacing.specs.declared.line.Line.{Line}
 use Rattle.block_core.specs.Block.{Run}
 use Rattle.block_core.specs.Hosted.{hosted_at}
+use Rattle.block_core.specs.HostedTwin.{hosted_twin_at, twin_stirring, twin_stirs_in}
 use Rattle.block_core.specs.Stirring.{stirring, stirs_in}
+use Rattle.block_core.specs.Twin.{TwinRun}
+use Rattle.idle_engine.proofs.Growing.{AreCounted, counts-grow, counts-steps}
 
--- those that stir grow with the clocks
-grows : (start : Run) (lines : List Line) (c n : ℕ) → stirring start lines c ≤ stirring start lines (c + n)
+stirring-counts : (start : Run) (lines : List Line) → AreCounted (λ n. stirs_in lines (hosted_at start lines n)) (stirring start lines)
 unfolding stirring
-grows start lines c zero = subst (λ (k : ℕ). stirring start lines c ≤ stirring start lines k) (sym (add-zero c)) (let e : stirring start lines c ≤ stirring start lines c = omega arith in e)
-grows start lines c (suc n) =
-    let before = grows start lines c n in
-    let e : stirring start lines (c + suc n) ≡ stirring start lines (c + n) + cond (stirs_in lines (hosted_at start lines (c + n))) 1 0 = ap (stirring start lines) (add-suc c n) in
-    omega arith
+stirring-counts start lines = record { more = λ n. refl }
+
+pub twin_stirring-counts : (start : TwinRun) (first second : List Line) → AreCounted (λ n. twin_stirs_in first second (hosted_twin_at start first second n)) (twin_stirring start first second)
+unfolding twin_stirring
+twin_stirring-counts start first second = record { more = λ n. refl }
 
 pub stirring-grows : (start : Run) (lines : List Line) (c n : ℕ) → c ≤ n → stirring start lines c ≤ stirring start lines n
-stirring-grows start lines c n le =
-    let e : c + (n - c) ≡ n = omega arith in
-    subst (λ (k : ℕ). stirring start lines c ≤ stirring start lines k) e (grows start lines c (n - c))
-
--- one that stirs counts
-stirring-one : (start : Run) (lines : List Line) (c : ℕ) → stirs_in lines (hosted_at start lines c) ≡ true → stirring start lines (c + 1) ≡ stirring start lines c + 1
-unfolding stirring
-stirring-one start lines c stirs =
-    ap (stirring start lines) (add-one c) ∙ ap (λ (b : Bool). stirring start lines c + cond b 1 0) stirs
-
-by_first : (start : Run) (lines : List Line) (before steps clock later : ℕ) → clock + 1 ≤ later → steps ≤ before + clock → steps ≤ before + stirring start lines clock + 1 → (0 < clock → stirs_in lines (hosted_at start lines clock) ≡ true) → (clock < 1) ⊎ (1 ≤ clock) → steps + 1 ≤ before + stirring start lines later + 1
-by_first start lines before steps clock later le most few stirs (inl first) = omega arith
-by_first start lines before steps clock later le most few stirs (inr next) =
-    let one = stirring-one start lines clock (stirs next) in
-    let more = stirring-grows start lines (clock + 1) later le in
-    omega arith
+stirring-grows start lines c n le = counts-grow _ (stirring start lines) (stirring-counts start lines) c n le
 
 -- A step is of clock 0 or of a clock that stirs, so steps stay within one more than these.
 pub counted : (start : Run) (lines : List Line) (before steps clock later : ℕ) → clock + 1 ≤ later → steps ≤ before + clock → steps ≤ before + stirring start lines clock + 1 → (0 < clock → stirs_in lines (hosted_at start lines clock) ≡ true) → steps + 1 ≤ before + stirring start lines later + 1
 counted start lines before steps clock later le most few stirs =
-    by_first start lines before steps clock later le most few stirs (cases_lt clock 1)
+    counts-steps _ (stirring start lines) (stirring-counts start lines) before steps clock later le most few stirs

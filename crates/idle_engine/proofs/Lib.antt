@@ -1,3 +1,4 @@
+mod Growing
 mod SampleLists
 mod Steps
 mod Stopping
@@ -6,3 +7,6 @@ mod Calm
 mod Held
 mod Counting
 mod AfterRest
+mod TwinSteps
+mod TwinCalm
+mod TwinAfterRest

@@ -1,2 +1,4 @@
 pub mod Stops
 pub mod Resting
+pub mod TwinStops
+pub mod TwinResting

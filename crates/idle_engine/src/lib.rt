@@ -4,6 +4,9 @@
 mod clocks;
 mod laws;
 mod simulation;
+mod twin_clocks;
+mod twin_simulation;
 
 pub use laws::{a_stopped_run_leaves_a_first_part, later_samples_follow};
 pub use simulation::simulate;
+pub use twin_simulation::simulate_twin;

@@ -48,7 +48,3 @@ letter_t = 116
 -- `w`
 abbrev pub letter_w : ℕ
 letter_w = 119
-
--- `~`
-abbrev pub tilde : ℕ
-tilde = 126

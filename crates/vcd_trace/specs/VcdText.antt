@@ -1,7 +1,7 @@
 -- What the value-change text of a list of samples is (IEEE 1364-2005, section 18.2), for the 88 variables of this profile.
-use Rattle.std.specs.Prelude.{ℕ, ◌+◌, ◌-◌, ◌==◌, nat_lt, Bool, true, false, List, [], ◌∷◌, ◌++◌, length, zero, suc, codes, decimal, map, if◌then◌else◌}
+use Rattle.std.specs.Prelude.{ℕ, ◌+◌, ◌==◌, Bool, true, false, List, [], ◌∷◌, ◌++◌, length, zero, suc, codes, decimal, map, if◌then◌else◌}
 use Rattle.std.specs.Fmt.{digits}
-use Rattle.vcd_trace.specs.Characters.{newline, blank, hash, digit_0, letter_b, letter_d, letter_f, letter_p, letter_r, letter_s, letter_t, letter_w, tilde}
+use Rattle.vcd_trace.specs.Characters.{newline, blank, hash, digit_0, letter_b, letter_d, letter_f, letter_p, letter_r, letter_s, letter_t, letter_w}
 use Rattle.block_core.specs.declared.sample.Sample.{Sample}
 use Rattle.block_core.specs.Sample.{values_of, same_sample}
 
@@ -29,35 +29,22 @@ variables =
 unfoldable pub widths : List ℕ
 widths = map (λ v. v.width) variables
 
--- the number of the first variable, that of the first printable character but the blank; those after it count on
+-- the identifier of the first variable, the first printable character but the blank (IEEE 1364-2005, section 18.2.1); those after it count on
 abbrev pub first_identifier : ℕ
 first_identifier = 33
 
--- how much greater the numbers are of the variables of a second scope
-abbrev pub second_scope : ℕ
-second_scope = 128
-
--- The identifier of the variable with this number: one printable character, and of one of a second scope `~` and the character
--- (IEEE 1364-2005, section 18.2.1; which characters is a choice of this profile).
-abbrev pub identifier : ℕ → List ℕ
-identifier id = if nat_lt id second_scope then id ∷ [] else tilde ∷ (id - second_scope) ∷ []
-
 -- `$var wire W ID NAME $end` (IEEE 1364-2005, section 18.2.3.7)
 abbrev pub declaration : ℕ → Variable → List ℕ
-declaration id v = codes "$var wire " ++ decimal v.width ++ blank ∷ (identifier id ++ blank ∷ (v.name ++ codes " $end\n"))
+declaration id v = codes "$var wire " ++ decimal v.width ++ blank ∷ id ∷ blank ∷ (v.name ++ codes " $end\n")
 
 -- the declarations of variables whose identifiers count on from one
 abbrev pub declarations : ℕ → List Variable → List ℕ
 declarations id [] = []
 declarations id (v ∷ rest) = declaration id v ++ declarations (id + 1) rest
 
--- a scope of this first line (IEEE 1364-2005, section 18.2.3.4), whose variables have numbers so much greater
-abbrev pub scope_text : List ℕ → ℕ → List ℕ
-scope_text opening more = opening ++ declarations (first_identifier + more) variables ++ codes "$upscope $end\n"
-
 -- the declaration commands: time scale, scope, variables
 unfoldable pub header_text : List ℕ
-header_text = codes "$timescale 1 ns $end\n" ++ scope_text (codes "$scope module pio $end\n") 0 ++ codes "$enddefinitions $end\n"
+header_text = codes "$timescale 1 ns $end\n" ++ codes "$scope module pio $end\n" ++ declarations first_identifier variables ++ codes "$upscope $end\n" ++ codes "$enddefinitions $end\n"
 
 -- `#` and a clock (IEEE 1364-2005, section 18.2.2)
 abbrev pub clock_line : ℕ → List ℕ
@@ -65,11 +52,11 @@ clock_line clock = hash ∷ (decimal clock ++ newline ∷ [])
 
 -- a value of one bit: its digit and the identifier
 abbrev pub bit_line : ℕ → ℕ → List ℕ
-bit_line id value = (digit_0 + value) ∷ (identifier id ++ newline ∷ [])
+bit_line id value = (digit_0 + value) ∷ id ∷ newline ∷ []
 
 -- a value of more bits: `b`, its binary digits without leading zeros, a blank and the identifier
 abbrev pub vector_line : ℕ → ℕ → List ℕ
-vector_line id value = letter_b ∷ (digits 2 false value ++ blank ∷ (identifier id ++ newline ∷ []))
+vector_line id value = letter_b ∷ (digits 2 false value ++ blank ∷ id ∷ newline ∷ [])
 
 -- the line of a value of this width
 abbrev pub value_line : ℕ → ℕ → ℕ → List ℕ
@@ -85,21 +72,13 @@ abbrev pub change_lines : ℕ → List ℕ → List ℕ → List ℕ → List �
 change_lines id (w ∷ ws) (was ∷ before) (is ∷ now) = (if was == is then [] else value_line w id is) ++ change_lines (id + 1) ws before now
 change_lines id _ _ _ = []
 
--- all values of a sample, of variables whose numbers are so much greater
-unfoldable pub values_over : ℕ → Sample → List ℕ
-values_over more s = value_lines (first_identifier + more) widths (values_of s)
-
 -- `$dumpvars`, all values of a sample, `$end` (IEEE 1364-2005, section 18.2.3.3)
 unfoldable pub dump_text : Sample → List ℕ
-dump_text s = codes "$dumpvars\n" ++ values_over 0 s ++ codes "$end\n"
-
--- the values that a clock changes, in order, of variables whose numbers are so much greater
-unfoldable pub changes_over : ℕ → Sample → Sample → List ℕ
-changes_over more before now = change_lines (first_identifier + more) widths (values_of before) (values_of now)
+dump_text s = codes "$dumpvars\n" ++ value_lines first_identifier widths (values_of s) ++ codes "$end\n"
 
 -- the values that a clock changes, in order
-abbrev pub changes_text : Sample → Sample → List ℕ
-changes_text before now = changes_over 0 before now
+unfoldable pub changes_text : Sample → Sample → List ℕ
+changes_text before now = change_lines first_identifier widths (values_of before) (values_of now)
 
 -- what a clock adds to the text: nothing where its sample is that of the clock before
 abbrev pub step_text : ℕ → Sample → Sample → List ℕ

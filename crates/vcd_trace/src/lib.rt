@@ -10,6 +10,7 @@ mod laws;
 mod line;
 mod list;
 mod trace;
+mod twin_trace;
 mod variable;
 mod vcd;
 
@@ -21,4 +22,5 @@ pub use laws::{
 };
 pub use list::ListTrace;
 pub use trace::{Trace, TraceFailed};
+pub use twin_trace::TwinTrace;
 pub use vcd::VcdTrace;
