@@ -38,11 +38,11 @@ twin_run-next start first second one other n before after x y is is_next =
     let d = due-same first one h.first n before.first x (ap (λ (t : TwinRun). t.first) is.run) is.in_first is.own_first is.transfers_first in
     let e = due-same second other h.second n before.second y (ap (λ (t : TwinRun). t.second) is.run) is.in_second is.own_second is.transfers_second in
     rw add-one (
-      is_next
-      ∙ ap (λ (a : Due). twin_next a (due_in other n (requests_of before.second.state) y) before) d
-      ∙ ap (λ (a : Due). twin_next (due_of first h.first) a before) e
-      ∙ ap (twin_next (due_of first h.first) (due_of second h.second)) is.run
-      ∙ hosted-next first second h
+    is_next
+    ∙ ap (λ (a : Due). twin_next a (due_in other n (requests_of before.second.state) y) before) d
+    ∙ ap (λ (a : Due). twin_next (due_of first h.first) a before) e
+    ∙ ap (twin_next (due_of first h.first) (due_of second h.second)) is.run
+    ∙ hosted-next first second h
     )
 
 -- and the transfers of each likewise
