@@ -47,7 +47,7 @@ unfolding next
 next_with d r pad after is e = e ∙ ap (λ p. next_over p d r) is
 
 -- a clock of two blocks
-pub twin_next_with : (first second : Due) (t : TwinRun) (pad : ℕ) (one other : Run) → pad ≡ twin_pads_in first t → one ≡ next_over pad first t.first → other ≡ next_over pad second t.second → (record { own = t.own; first = one; second = other }) ≡ twin_next first second t
+pub twin_next_with : (first second : Due) (t : TwinRun) (pad : ℕ) (one other : Run) → pad ≡ twin_pads_in first t → one ≡ next_over pad first t.first → other ≡ next_over pad second t.second → twin_next first second t ≡ record { own = t.own; first = one; second = other }
 unfolding twin_next
 twin_next_with first second t pad one other is a b = rw (a, b, is) refl
 

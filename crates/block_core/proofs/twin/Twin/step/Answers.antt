@@ -23,7 +23,7 @@ pub returns-clause-twin : goal.returns-clause-twin
 returns-clause-twin g c =
     let b = c.self.inside in
     let t : TwinRun = record { own = b.own; first = b.first; second = b.second } in
-    twin_next_with (doing c.args.first) (doing c.args.second) t c.pads-pad.result _ _ c.pads-pad.ensures c.step-one.ensures.run c.step-other.ensures.run
+    sym (twin_next_with (doing c.args.first) (doing c.args.second) t c.pads-pad.result _ _ c.pads-pad.ensures c.step-one.ensures.run c.step-other.ensures.run)
     ∙ ap (λ (w : WorkedTwin). twin_next (doing c.args.first) (doing c.args.second) w.twin) c.self.view_is
 
 pub returns-clause-used : goal.returns-clause-used
