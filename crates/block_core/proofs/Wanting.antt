@@ -59,7 +59,7 @@ pub all_added : (d : Due) (memory : List ℕ) (clock levels directions flags out
     }
 unfolding nothing_wanted with_intent merged
 all_added d memory clock levels directions flags outside sync a b c e outside2 pad seen w0 w1 w2 w3 w4 s =
-    rw (s.fourth, s.third, s.second, s.first, s.start, s.sees, s.driven) refl
+    rw (s.fourth, s.third, s.second, s.first, s.start, s.sees) refl
 
 -- the run after the clock
 pub next_run : (d : Due) (memory : List ℕ) (clock levels directions flags outside : ℕ) (sync : Synchroniser) (a b c e : Option Slot) (outside2 pad seen : ℕ) (w0 w1 w2 w3 w4 : Wanted) (flags2 : ℕ) (sync2 : Synchroniser) (a2 b2 c2 e2 : Option Slot) → IsStep d memory levels directions flags outside sync a b c e outside2 pad seen w0 w1 w2 w3 w4 → flags2 ≡ merged_flags flags w4.clears w4.sets → sync2 ≡ pads.stepped pad sync → a2 ≡ place_after (view memory seen flags) d a → b2 ≡ place_after (view memory seen flags) d b → c2 ≡ place_after (view memory seen flags) d c → e2 ≡ place_after (view memory seen flags) d e → run memory (clock + 1) w4.levels w4.directions flags2 outside2 sync2 a2 b2 c2 e2 ≡ next_over pad d (run memory clock levels directions flags outside sync a b c e)
@@ -83,14 +83,14 @@ levels_are_last d memory clock levels directions flags outside sync a b c e outs
     let v = view memory seen flags in
     let writes = levels_are_writes none (place_intent v d a) (place_intent v d b) (place_intent v d c) (place_intent v d e) ha hb hc he in
     let added = all_added d memory clock levels directions flags outside sync a b c e outside2 pad seen w0 w1 w2 w3 w4 s in
-    rw added (law p levels _ below (rw (s.sees, s.driven) at writes))
+    rw added (law p levels _ below (rw s.sees at writes))
 
 pub directions_are_last : (d : Due) (memory : List ℕ) (clock levels directions flags outside : ℕ) (sync : Synchroniser) (a b c e : Option Slot) (outside2 pad seen : ℕ) (w0 w1 w2 w3 w4 : Wanted) → IsStep d memory levels directions flags outside sync a b c e outside2 pad seen w0 w1 w2 w3 w4 → LastWriteCounts → IsWrite (0, 0) → AllByRecursion IsWrite (place_intent (view memory seen flags) d a).direction → AllByRecursion IsWrite (place_intent (view memory seen flags) d b).direction → AllByRecursion IsWrite (place_intent (view memory seen flags) d c).direction → AllByRecursion IsWrite (place_intent (view memory seen flags) d e).direction → TakesLastWrites directions w4.directions (direction_writes (wanted_over pad d (run memory clock levels directions flags outside sync a b c e)))
 directions_are_last d memory clock levels directions flags outside sync a b c e outside2 pad seen w0 w1 w2 w3 w4 s law none ha hb hc he p below =
     let v = view memory seen flags in
     let writes = directions_are_writes none (place_intent v d a) (place_intent v d b) (place_intent v d c) (place_intent v d e) ha hb hc he in
     let added = all_added d memory clock levels directions flags outside sync a b c e outside2 pad seen w0 w1 w2 w3 w4 s in
-    rw added (law p directions _ below (rw (s.sees, s.driven) at writes))
+    rw added (law p directions _ below (rw s.sees at writes))
 
 or_false : (x : Bool) → (x || false) ≡ x
 or_false true = refl
@@ -99,4 +99,4 @@ or_false false = refl
 -- whether anything was done at any FIFO
 pub any_used : (d : Due) (memory : List ℕ) (clock levels directions flags outside : ℕ) (sync : Synchroniser) (a b c e : Option Slot) (outside2 pad seen : ℕ) (w0 w1 w2 w3 w4 : Wanted) → IsStep d memory levels directions flags outside sync a b c e outside2 pad seen w0 w1 w2 w3 w4 → (u1 u2 u3 u4 : Bool) → u1 ≡ place_uses_fifos (view memory seen flags) d a → u2 ≡ place_uses_fifos (view memory seen flags) d b → u3 ≡ place_uses_fifos (view memory seen flags) d c → u4 ≡ place_uses_fifos (view memory seen flags) d e → (u1 || (u2 || (u3 || u4))) ≡ uses_fifos_over pad d (run memory clock levels directions flags outside sync a b c e)
 any_used d memory clock levels directions flags outside sync a b c e outside2 pad seen w0 w1 w2 w3 w4 s u1 u2 u3 u4 f1 f2 f3 f4 =
-    rw (f1, f2, f3, f4, s.sees, s.driven, or_false (place_uses_fifos _ d e)) refl
+    rw (f1, f2, f3, f4, s.sees, or_false (place_uses_fifos _ d e)) refl

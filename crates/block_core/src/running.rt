@@ -172,7 +172,9 @@ impl<F: Fifo> Running<F> {
     /// That the flags of stalls which go on are up. The type keeps it.
     pub fn stalls_are_told(&self)
         ensures { AreTold self.now.memory self.now.state.machines }
-    {}
+    {
+        let _clock = self.clock;
+    }
 
     /// The least number of clocks after which a test passes or a machine stirs, where the pads stay these and the system does
     /// nothing, from that of the test alone. No machine is asked after a test that passes at once, or a machine that stirs at

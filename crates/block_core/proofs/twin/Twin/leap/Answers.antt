@@ -1,7 +1,7 @@
 use Rattle.std.proofs.Common.{◌≡◌, ℕ, ◌+◌, false, subst, sym, ap, ◌∙◌, refl, arith}
 use Rattle.dreq_pacing.specs.Due.{quiet}
 use Rattle.block_core.specs.Block.{Run}
-use Rattle.block_core.specs.Twin.{WorkedTwin, TwinRun, twin_from, twin_moves_on, rested_twin}
+use Rattle.block_core.specs.Twin.{WorkedTwin, TwinRun, twin_pads_in, twin_from, twin_moves_on, rested_twin}
 use Rattle.block_core.proofs.Rests.{CalmLaws}
 use Rattle.block_core.proofs.Steps.{clock-rested}
 use Rattle.block_core.proofs.TwinRests.{AreBothTold, twin_rests, twin_machines_calm}
@@ -13,7 +13,7 @@ rest-requires-clause-calm g c = λ k lt.
     let b = c.self.inside in
     let t : TwinRun = record { own = b.own; first = b.first; second = b.second } in
     let told : AreBothTold t = record { first = c.stalls_are_told.ensures; second = c.stalls_are_told-2.ensures } in
-    (twin_machines_calm laws t c.pads-pad.result c.args.clocks c.pads-pad.ensures told
+    (twin_machines_calm laws t c.pads-pad.result c.args.clocks (c.pads-pad.ensures ∙ ap (λ (w : WorkedTwin). twin_pads_in quiet w.twin) (sym c.self.view_is)) told
     (λ j below. subst (λ (w : WorkedTwin). twin_moves_on quiet quiet (twin_from w.twin (λ c. quiet) (λ c. quiet) j) ≡ false) (sym c.self.view_is) (c.requires.calm j below)) k lt).first
 
 pub rest-requires-2-clause-calm : goal.rest-requires-2-clause-calm
@@ -22,7 +22,7 @@ rest-requires-2-clause-calm g c = λ k lt.
     let b = c.self.inside in
     let t : TwinRun = record { own = b.own; first = b.first; second = b.second } in
     let told : AreBothTold t = record { first = c.stalls_are_told.ensures; second = c.stalls_are_told-2.ensures } in
-    (twin_machines_calm laws t c.pads-pad.result c.args.clocks c.pads-pad.ensures told
+    (twin_machines_calm laws t c.pads-pad.result c.args.clocks (c.pads-pad.ensures ∙ ap (λ (w : WorkedTwin). twin_pads_in quiet w.twin) (sym c.self.view_is)) told
     (λ j below. subst (λ (w : WorkedTwin). twin_moves_on quiet quiet (twin_from w.twin (λ c. quiet) (λ c. quiet) j) ≡ false) (sym c.self.view_is) (c.requires.calm j below)) k lt).second
 
 pub rest-requires-2-clause-clock : goal.rest-requires-2-clause-clock

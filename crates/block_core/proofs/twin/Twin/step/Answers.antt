@@ -1,7 +1,7 @@
 use Rattle.std.proofs.Common.{ℕ, ◌+◌, ap, sym, ◌∙◌, arith}
 use Rattle.block_core.specs.Block.{Run, uses_fifos_over}
 use Rattle.block_core.specs.Slots.{doing}
-use Rattle.block_core.specs.Twin.{WorkedTwin, TwinRun, twin_next, twin_uses_fifos_in}
+use Rattle.block_core.specs.Twin.{WorkedTwin, TwinRun, twin_pads_in, twin_next, twin_uses_fifos_in}
 use Rattle.block_core.proofs.Steps.{twin_next_with}
 use Rattle.block_core.proofs.twin.Twin.step.Goals as goal
 
@@ -23,7 +23,7 @@ pub returns-clause-twin : goal.returns-clause-twin
 returns-clause-twin g c =
     let b = c.self.inside in
     let t : TwinRun = record { own = b.own; first = b.first; second = b.second } in
-    sym (twin_next_with (doing c.args.first) (doing c.args.second) t c.pads-pad.result _ _ c.pads-pad.ensures c.step-one.ensures.run c.step-other.ensures.run)
+    sym (twin_next_with (doing c.args.first) (doing c.args.second) t c.pads-pad.result _ _ (c.pads-pad.ensures ∙ ap (λ (w : WorkedTwin). twin_pads_in (doing c.args.first) w.twin) (sym c.self.view_is)) c.step-one.ensures.run c.step-other.ensures.run)
     ∙ ap (λ (w : WorkedTwin). twin_next (doing c.args.first) (doing c.args.second) w.twin) c.self.view_is
 
 pub returns-clause-used : goal.returns-clause-used
@@ -32,5 +32,5 @@ returns-clause-used g c =
     let t : TwinRun = record { own = b.own; first = b.first; second = b.second } in
     ap (λ x. (x, c.step-other.result)) c.step-one.ensures.used
     ∙ ap (λ x. (uses_fifos_over c.pads-pad.result (doing c.args.first) t.first, x)) c.step-other.ensures.used
-    ∙ ap (λ pad. (uses_fifos_over pad (doing c.args.first) t.first, uses_fifos_over pad (doing c.args.second) t.second)) c.pads-pad.ensures
+    ∙ ap (λ pad. (uses_fifos_over pad (doing c.args.first) t.first, uses_fifos_over pad (doing c.args.second) t.second)) (c.pads-pad.ensures ∙ ap (λ (w : WorkedTwin). twin_pads_in (doing c.args.first) w.twin) (sym c.self.view_is))
     ∙ ap (λ (w : WorkedTwin). twin_uses_fifos_in (doing c.args.first) (doing c.args.second) w.twin) c.self.view_is
