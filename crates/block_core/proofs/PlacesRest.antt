@@ -1,11 +1,10 @@
 -- When the machines of four places next stir over given pads, and what they are until then.
-use Rattle.std.proofs.Common.{◌≡◌, ℕ, ◌+◌, ◌<◌, ◌≤◌, ◌^◌, ◌==◌, Bool, true, false, not, ◌&&◌, ◌||◌, ◌↔◌, IsTrue, Option, Some, None, List, [], ◌∷◌, refl, ap, sym, ◌∙◌, subst, arith}
+use Rattle.std.proofs.Common.{◌≡◌, ℕ, ◌+◌, ◌≤◌, ◌^◌, ◌==◌, Bool, true, false, not, ◌&&◌, ◌||◌, ◌↔◌, IsTrue, Option, Some, None, List, refl, ap, sym, subst, arith}
 use Rattle.std.proofs.lemmas.Bool.Decides.{nat_tests}
 use Rattle.pin_matrix.specs.Pads.{Synchroniser, seen_of}
 use Rattle.sm_registers.specs.declared.view.View.{View}
 use Rattle.dreq_pacing.specs.Due.{quiet}
 use Rattle.dreq_pacing.specs.Ports.{IsFirst}
-use Rattle.block_core.specs.Block.{Run}
 use Rattle.block_core.specs.Kept.{IsInStep, HasTime}
 use Rattle.block_core.specs.Resting.{rested_place, rested, stirs_after}
 use Rattle.block_core.specs.Slots.{Slot}

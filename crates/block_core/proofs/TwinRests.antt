@@ -2,7 +2,6 @@
 use Rattle.std.proofs.Common.{◌≡◌, ℕ, zero, suc, ◌<◌, Bool, true, false, ◌||◌, Option, Some, refl, ap, sym, ◌∙◌, subst, arith, add-one}
 use Rattle.dreq_pacing.specs.Due.{quiet}
 use Rattle.dreq_pacing.specs.Ports.{IsFirst}
-use Rattle.block_core.specs.Block.{Run}
 use Rattle.block_core.specs.Kept.{AreTold}
 use Rattle.block_core.specs.Resting.{rested}
 use Rattle.block_core.specs.Stirring.{moves_on_over, machines_stir_over, pads_change_over}

@@ -25,6 +25,7 @@ sets_pin_0 = record plain {
   wrap_top = 0;
   wrap_top_in_memory = omega arith;
   set = record { base = 0; count = 1; base_is_a_pin = omega arith; count_fits = omega arith };
+  sets_five_at_most = omega arith;
 }
 
 -- `mov y, y`, forever
@@ -38,11 +39,13 @@ waits = record plain { wrap_top = 1; wrap_top_in_memory = omega arith }
 abbrev waits_and_sets_pin_1 : MachineSetup
 waits_and_sets_pin_1 = record waits {
   set = record { base = 1; count = 1; base_is_a_pin = omega arith; count_fits = omega arith };
+  sets_five_at_most = omega arith;
 }
 
 abbrev waits_and_sets_pin_2 : MachineSetup
 waits_and_sets_pin_2 = record waits {
   set = record { base = 2; count = 1; base_is_a_pin = omega arith; count_fits = omega arith };
+  sets_five_at_most = omega arith;
 }
 
 -- a block at the start: its machine 0, the directions, and the levels that the outside drives
@@ -83,6 +86,9 @@ both_set =
 abbrev levels : List (Sample × Sample) → List (ℕ × ℕ)
 levels samples = map (λ (s : Sample × Sample). (s.0.level, s.1.level)) samples
 
+abbrev tx_levels : List (Sample × Sample) → List (List ℕ × List ℕ)
+tx_levels samples = map (λ (s : Sample × Sample). (s.0.tx, s.1.tx)) samples
+
 -- The pad rises in clock 1 and is seen in clock 3, after the synchronisers: the second block's pin rises in 4.
 seen_two_clocks_late : levels (twin_samples (waits_for_the_other 0) [] [] 6) ≡ (1, 0) ∷ (1, 0) ∷ (1, 0) ∷ (1, 0) ∷ (1, 2) ∷ (1, 2) ∷ []
 unfolding is_tick settled merged wait_at in_at push_or_pull_at mov_at irq_at set_at act_of side_of delay_of reading_of jmp_effect wait_effect in_effect out_effect push_effect pull_effect mov_effect irq_effect set_effect effect_of settled_ports after_effect tick_delay tick_by tick_word tick_of due_in transfers_after acts_in stepped hosted_twin_next hosted_twin_at twin_samples requests_of sample_of acted settled_slot
@@ -94,7 +100,7 @@ unfolding is_tick settled merged wait_at in_at push_or_pull_at mov_at irq_at set
 seen_at_once = refl
 
 -- a line of the second block's machine 0
-written_to_the_second : map (λ (s : Sample × Sample). (s.0.tx, s.1.tx)) (twin_samples (waits_for_the_other 0) [] (record { clock = 0; act = Tx 0 1 } ∷ []) 2) ≡ (0 ∷ 0 ∷ 0 ∷ 0 ∷ [], 1 ∷ 0 ∷ 0 ∷ 0 ∷ []) ∷ (0 ∷ 0 ∷ 0 ∷ 0 ∷ [], 1 ∷ 0 ∷ 0 ∷ 0 ∷ []) ∷ []
+written_to_the_second : tx_levels (twin_samples (waits_for_the_other 0) [] (record { clock = 0; act = Tx 0 1 } ∷ []) 2) ≡ (0 ∷ 0 ∷ 0 ∷ 0 ∷ [], 1 ∷ 0 ∷ 0 ∷ 0 ∷ []) ∷ (0 ∷ 0 ∷ 0 ∷ 0 ∷ [], 1 ∷ 0 ∷ 0 ∷ 0 ∷ []) ∷ []
 unfolding is_tick settled merged wait_at in_at push_or_pull_at mov_at irq_at set_at act_of side_of delay_of reading_of jmp_effect wait_effect in_effect out_effect push_effect pull_effect mov_effect irq_effect set_effect effect_of settled_ports after_effect tick_delay tick_by tick_word tick_of due_in transfers_after acts_in stepped hosted_twin_next hosted_twin_at twin_samples requests_of sample_of acted settled_slot
 written_to_the_second = refl
 

@@ -1,5 +1,5 @@
 -- The laws of two blocks on one set of pins, clock by clock.
-use Rattle.std.proofs.Common.{◌≡◌, ℕ, zero, suc, ◌+◌, ◌-◌, ◌^◌, ◌<◌, ◌==◌, eqb, min, max, cond, if◌then◌else◌, Bool, true, false, List, refl, ap, sym, ◌∙◌, arith, w32, bit_and, bit_or}
+use Rattle.std.proofs.Common.{◌≡◌, ℕ, zero, suc, ◌+◌, ◌-◌, ◌^◌, ◌<◌, ◌==◌, eqb, min, max, cond, if◌then◌else◌, Bool, true, false, List, refl, ap, sym, ◌∙◌, arith, w32, bit_and}
 use Rattle.std.proofs.lemmas.Bool.Decides.{nat_tests}
 use Rattle.std.proofs.lemmas.Nat.{or_lt, and_le_l}
 use Rattle.std.proofs.lemmas.Nat.Bits.{bit_at_and, bit_at_or, bit_at_not, bit_at-lt}
@@ -8,10 +8,9 @@ use Rattle.pin_matrix.specs.declared.setup.Setup.{Setup}
 use Rattle.pin_matrix.specs.Pads.{pads_of, seen_of}
 use Rattle.dreq_pacing.specs.declared.due.Due.{Due}
 use Rattle.dreq_pacing.specs.declared.line.Line.{Line}
-use Rattle.block_core.specs.Block.{BlockState, Run, next_over, stepped}
+use Rattle.block_core.specs.Block.{BlockState}
 use Rattle.block_core.specs.Following.{Follows}
-use Rattle.block_core.specs.Hosted.{Hosted, due_of}
-use Rattle.block_core.specs.HostedTwin.{HostedTwin, twin_of, hosted_twin_next, hosted_twin_at, first_host_of, second_host_of}
+use Rattle.block_core.specs.HostedTwin.{twin_of, hosted_twin_next, hosted_twin_at, first_host_of, second_host_of}
 use Rattle.block_core.specs.Twin.{TwinRun, of_owners, shared_pads, twin_next, twin_from, twin_at, first_twin, twin_pad_at, twin_pad_before}
 
 -- the clock's number and the memories

@@ -13,7 +13,7 @@
 --   rested_twin    both after clocks in which nothing stirs
 --   twin_pads_change   whether the pads change
 --   twin_moves_on, plainly_twin_moves_on   whether a clock moves one of the two on
-use Rattle.std.specs.Prelude.{ℕ, zero, suc, ◌+◌, ◌-◌, ◌^◌, Bool, ◌||◌, bit_and, bit_or}
+use Rattle.std.specs.Prelude.{ℕ, zero, suc, ◌-◌, ◌^◌, Bool, ◌||◌, bit_and, bit_or}
 use Rattle.std.specs.List.{list_any}
 use Rattle.pin_matrix.specs.declared.setup.Setup.{Setup}
 use Rattle.pin_matrix.specs.Pads.{pads_of}

@@ -1,4 +1,4 @@
-use Rattle.std.proofs.Common.{◌≡◌, ℕ, ◌+◌, false, subst, sym, ap, ◌∙◌, refl, arith}
+use Rattle.std.proofs.Common.{◌≡◌, ℕ, ◌+◌, false, subst, sym, ap, ◌∙◌, arith}
 use Rattle.dreq_pacing.specs.Due.{quiet}
 use Rattle.block_core.specs.Block.{Run}
 use Rattle.block_core.specs.Twin.{WorkedTwin, TwinRun, twin_pads_in, twin_from, twin_moves_on, rested_twin}

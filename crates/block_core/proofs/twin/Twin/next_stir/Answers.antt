@@ -1,4 +1,4 @@
-use Rattle.std.proofs.Common.{◌||◌, false, Some, subst, sym, ap, ◌∙◌, refl}
+use Rattle.std.proofs.Common.{◌||◌, false, subst, sym, ap, ◌∙◌, refl}
 use Rattle.dreq_pacing.specs.Due.{quiet}
 use Rattle.dreq_pacing.specs.Ports.{IsFirst}
 use Rattle.block_core.specs.Resting.{rested}
