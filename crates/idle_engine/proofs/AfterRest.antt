@@ -1,8 +1,7 @@
 -- A run after the clocks that were passed over.
-use Rattle.std.proofs.Common.{◌≡◌, ℕ, ◌+◌, ◌-◌, ◌<◌, ◌≤◌, ◌^◌, ◌⊎◌, inl, inr, Bool, true, false, List, refl, ap, ◌∙◌, sym, subst, arith}
+use Rattle.std.proofs.Common.{◌≡◌, ℕ, ◌+◌, ◌-◌, ◌<◌, ◌≤◌, ◌^◌, ◌⊎◌, inl, inr, true, List, ap, ◌∙◌, sym, subst, arith}
 use Rattle.std.proofs.lemmas.Bool.{cases_lt}
 use Rattle.dreq_pacing.specs.declared.line.Line.{Line}
-use Rattle.dreq_pacing.specs.declared.due.Requests.{Requests}
 use Rattle.dreq_pacing.specs.Due.{quiet}
 use Rattle.dreq_pacing.specs.Transfers.{Transfers}
 use Rattle.dreq_pacing.specs.Ports.{acts_in}
@@ -11,7 +10,7 @@ use Rattle.block_core.specs.Shown.{requests_of}
 use Rattle.block_core.specs.Hosted.{Hosted, hosted_at, samples}
 use Rattle.block_core.specs.Stirring.{moves_on, stirs_in}
 use Rattle.vcd_trace.specs.Told.{held_to}
-use Rattle.idle_engine.specs.Resting.{Rests, IsDue, IsCalm}
+use Rattle.idle_engine.specs.Resting.{IsDue, IsCalm}
 use Rattle.idle_engine.proofs.Resting.{due_later}
 use Rattle.idle_engine.proofs.Calm.{QuietDue, QuietTransfers, clock-from, passes, same-sample, acting, moving}
 use Rattle.idle_engine.proofs.Held.{held-over}

@@ -1,5 +1,5 @@
 -- Clocks of a run in which nothing can move: only time goes by.
-use Rattle.std.proofs.Common.{◌≡◌, ℕ, zero, suc, ◌+◌, ◌<◌, ◌≤◌, ◌^◌, ◌||◌, Bool, true, false, List, refl, ap, ◌∙◌, sym, subst, arith, add-zero, add-suc, add-one}
+use Rattle.std.proofs.Common.{◌≡◌, ℕ, zero, suc, ◌+◌, ◌<◌, ◌≤◌, ◌||◌, Bool, true, false, List, refl, ap, ◌∙◌, sym, arith, add-zero, add-suc, add-one}
 use Rattle.dreq_pacing.specs.declared.line.Line.{Line}
 use Rattle.dreq_pacing.specs.declared.due.Due.{Due}
 use Rattle.dreq_pacing.specs.declared.due.Requests.{Requests}
@@ -30,8 +30,8 @@ clock-from r (suc n) =
     omega arith
 
 -- a hosted run whose parts are these does nothing in a clock in which the ports rest
-pub still : QuietDue → QuietTransfers → (lines : List Line) (h : Hosted) (clock : ℕ) (requests : Requests) (t : Transfers) → h.run.clock ≡ clock → requests_of h.run.state ≡ requests → h.transfers ≡ t → acts_in lines clock requests t ≡ false → (due_of lines h ≡ quiet) × (transfers_on lines h ≡ t)
-still quiet_due quiet_transfers lines h clock requests t in_clock asks has rest =
+pub does-nothing : QuietDue → QuietTransfers → (lines : List Line) (h : Hosted) (clock : ℕ) (requests : Requests) (t : Transfers) → h.run.clock ≡ clock → requests_of h.run.state ≡ requests → h.transfers ≡ t → acts_in lines clock requests t ≡ false → (due_of lines h ≡ quiet) × (transfers_on lines h ≡ t)
+does-nothing quiet_due quiet_transfers lines h clock requests t in_clock asks has rest =
     let rests : acts_in lines h.run.clock (requests_of h.run.state) h.transfers ≡ false =
     ap (λ (k : ℕ). acts_in lines k (requests_of h.run.state) h.transfers) in_clock
     ∙ ap (λ (q : Requests). acts_in lines clock q h.transfers) asks
@@ -60,7 +60,7 @@ passes-more quiet_due quiet_transfers start lines c n in_clock calm still before
     let r = (hosted_at start lines c).run in
     let at : h.run.clock ≡ c + n = ap (λ (x : Run). x.clock) before.run ∙ clock-from r n ∙ ap (λ (k : ℕ). k + n) in_clock in
     let asks : requests_of h.run.state ≡ requests_of r.state = ap (λ (x : Run). requests_of x.state) before.run ∙ calm.requests n (omega arith) in
-    let does = still quiet_due quiet_transfers lines h (c + n) (requests_of r.state) (hosted_at start lines c).transfers at asks before.transfers still in
+    let does = does-nothing quiet_due quiet_transfers lines h (c + n) (requests_of r.state) (hosted_at start lines c).transfers at asks before.transfers still in
     record {
       run = ap (λ (k : ℕ). (hosted_at start lines k).run) (add-suc c n) ∙ ap (λ (d : Due). next d h.run) does.0 ∙ ap (next quiet) before.run;
       transfers = ap (λ (k : ℕ). (hosted_at start lines k).transfers) (add-suc c n) ∙ does.1;

@@ -8,5 +8,6 @@ mod Held
 mod Counting
 mod AfterRest
 mod TwinSteps
+mod TwinDue
 mod TwinCalm
 mod TwinAfterRest

@@ -1,5 +1,5 @@
 -- A run of two blocks after the clocks that were passed over.
-use Rattle.std.proofs.Common.{◌≡◌, ℕ, ◌+◌, ◌-◌, ◌<◌, ◌≤◌, ◌^◌, ◌⊎◌, inl, inr, Bool, true, false, List, refl, ap, ◌∙◌, sym, subst, arith}
+use Rattle.std.proofs.Common.{◌≡◌, ℕ, ◌+◌, ◌-◌, ◌<◌, ◌≤◌, ◌^◌, inl, inr, true, List, ap, ◌∙◌, sym, subst, arith}
 use Rattle.std.proofs.lemmas.Bool.{cases_lt}
 use Rattle.dreq_pacing.specs.declared.line.Line.{Line}
 use Rattle.dreq_pacing.specs.declared.due.Requests.{Requests}
@@ -8,7 +8,7 @@ use Rattle.dreq_pacing.specs.Transfers.{Transfers}
 use Rattle.dreq_pacing.specs.Ports.{acts_in}
 use Rattle.block_core.specs.Block.{Run}
 use Rattle.block_core.specs.Hosted.{Hosted}
-use Rattle.block_core.specs.HostedTwin.{HostedTwin, twin_of, hosted_twin_at, twin_samples, twin_sample_at, twin_stirs_in}
+use Rattle.block_core.specs.HostedTwin.{twin_of, hosted_twin_at, twin_samples, twin_sample_at, twin_stirs_in}
 use Rattle.block_core.specs.Shown.{requests_of}
 use Rattle.block_core.specs.Twin.{TwinRun, twin_from, twin_moves_on}
 use Rattle.vcd_trace.specs.Told.{held_to}
@@ -18,7 +18,7 @@ use Rattle.idle_engine.proofs.Calm.{QuietDue, QuietTransfers}
 use Rattle.idle_engine.proofs.Growing.{firsts-held}
 use Rattle.idle_engine.proofs.Resting.{due_later}
 use Rattle.idle_engine.proofs.SampleLists.{twin_samples-firsts}
-use Rattle.idle_engine.proofs.TwinCalm.{BothRest, TwinPasses, clocks-twin_from, twin_passes, same-samples, acting_first, acting_second, moving}
+use Rattle.idle_engine.proofs.TwinCalm.{BothRest, clocks-twin_from, twin_passes, same-samples, acting_first, acting_second, moving}
 use Rattle.idle_engine.proofs.TwinSteps.{IsAt}
 
 -- What is so in the clock after them, where clock b was worked out before: both are at this clock, the clocks that are due are

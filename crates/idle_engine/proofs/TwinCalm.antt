@@ -1,19 +1,16 @@
 -- Clocks of a run of two blocks in which nothing can move: only time goes by.
 use Rattle.std.proofs.Common.{◌≡◌, ℕ, zero, suc, ◌+◌, ◌<◌, ◌≤◌, ◌||◌, Bool, true, false, List, refl, ap, ◌∙◌, sym, arith, add-zero, add-suc, add-one}
 use Rattle.dreq_pacing.specs.declared.line.Line.{Line}
-use Rattle.dreq_pacing.specs.declared.due.Due.{Due}
 use Rattle.dreq_pacing.specs.Due.{quiet}
-use Rattle.dreq_pacing.specs.Transfers.{Transfers}
 use Rattle.dreq_pacing.specs.Ports.{acts_in}
-use Rattle.block_core.specs.Block.{Run}
-use Rattle.block_core.specs.Hosted.{Hosted, due_of}
+use Rattle.block_core.specs.Hosted.{due_of}
 use Rattle.block_core.specs.HostedTwin.{HostedTwin, twin_of, hosted_pads, hosted_twin_next, hosted_twin_at, twin_sample_at, twin_stirs_in}
 use Rattle.block_core.specs.Shown.{requests_of, sample_of}
 use Rattle.block_core.specs.Stirring.{moves_on_over}
 use Rattle.block_core.specs.Twin.{TwinRun, twin_next, twin_from, twin_pads_in, twin_moves_on}
 use Rattle.idle_engine.specs.Resting.{Rests}
 use Rattle.idle_engine.specs.TwinResting.{AreCalm}
-use Rattle.idle_engine.proofs.Calm.{QuietDue, QuietTransfers, still}
+use Rattle.idle_engine.proofs.Calm.{QuietDue, QuietTransfers, does-nothing}
 use Rattle.idle_engine.proofs.TwinSteps.{clocks-twin_next}
 
 -- the clocks of both after some in which the system does nothing
@@ -55,8 +52,8 @@ twin_passes-more quiet_due quiet_transfers start one other c n in_first in_secon
     let at_second : h.second.run.clock ≡ c + n = ap (λ (x : TwinRun). x.second.clock) before.run ∙ clocks.1 ∙ ap (λ (k : ℕ). k + n) in_second in
     let asks_first : requests_of h.first.run.state ≡ requests_of t.first.state = ap (λ (x : TwinRun). requests_of x.first.state) before.run ∙ calm.first_requests n (omega arith) in
     let asks_second : requests_of h.second.run.state ≡ requests_of t.second.state = ap (λ (x : TwinRun). requests_of x.second.state) before.run ∙ calm.second_requests n (omega arith) in
-    let first = still quiet_due quiet_transfers one h.first (c + n) (requests_of t.first.state) now.first.transfers at_first asks_first before.first_transfers rest_first in
-    let second = still quiet_due quiet_transfers other h.second (c + n) (requests_of t.second.state) now.second.transfers at_second asks_second before.second_transfers rest_second in
+    let first = does-nothing quiet_due quiet_transfers one h.first (c + n) (requests_of t.first.state) now.first.transfers at_first asks_first before.first_transfers rest_first in
+    let second = does-nothing quiet_due quiet_transfers other h.second (c + n) (requests_of t.second.state) now.second.transfers at_second asks_second before.second_transfers rest_second in
     record {
       run = ap (λ (k : ℕ). twin_of (hosted_twin_at start one other k)) (add-suc c n) ∙ quiet-next one other h first.0 second.0 ∙ ap (twin_next quiet quiet) before.run;
       first_transfers = ap (λ (k : ℕ). (hosted_twin_at start one other k).first.transfers) (add-suc c n) ∙ first.1;

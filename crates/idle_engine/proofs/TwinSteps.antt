@@ -1,11 +1,11 @@
 -- One clock of a run of two blocks beside their ports.
-use Rattle.std.proofs.Common.{◌≡◌, ℕ, ◌+◌, List, refl, ap, ◌∙◌, sym, subst, add-one, suc}
+use Rattle.std.proofs.Common.{◌≡◌, ℕ, ◌+◌, List, refl, ap, ◌∙◌, subst, add-one, suc}
 use Rattle.dreq_pacing.specs.declared.line.Line.{Line}
 use Rattle.dreq_pacing.specs.declared.due.Due.{Due}
 use Rattle.dreq_pacing.specs.Transfers.{Transfers}
 use Rattle.dreq_pacing.specs.Ports.{due_in, transfers_after}
 use Rattle.block_core.specs.declared.sample.Sample.{Sample}
-use Rattle.block_core.specs.Hosted.{due_of, transfers_on}
+use Rattle.block_core.specs.Hosted.{due_of}
 use Rattle.block_core.specs.HostedTwin.{HostedTwin, twin_of, hosted_twin_next, hosted_twin_at, twin_sample_at}
 use Rattle.block_core.specs.Shown.{sample_of, requests_of}
 use Rattle.block_core.specs.Twin.{TwinRun, twin_next}

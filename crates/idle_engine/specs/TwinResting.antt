@@ -1,7 +1,7 @@
 -- Two blocks in clocks in which nothing moves at either.
 --   AreDue   the first clocks in which the system does something at each
 --   AreCalm  both show the same for some clocks, and their machines ask for the same
-use Rattle.std.specs.Prelude.{◌≡◌, ℕ, ◌≤◌}
+use Rattle.std.specs.Prelude.{◌≡◌, ℕ, ◌≤◌, List}
 use Rattle.dreq_pacing.specs.declared.line.Line.{Line}
 use Rattle.dreq_pacing.specs.Due.{quiet}
 use Rattle.dreq_pacing.specs.Transfers.{Transfers}

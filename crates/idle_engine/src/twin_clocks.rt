@@ -80,8 +80,9 @@ fn quiet_step<F: Fifo>(
     ensures calls { twin.new.calls ≡ twin.old.calls + 1 }
 {
     unused_fifos_ask_as_before_over_any_pads();
-    let (used_first, used_second) = twin.quiet_clock();
-    if used_first || used_second {
+    let used = twin.quiet_clock();
+    let any = used.0 | used.1;
+    if any {
         next_dues(twin, first, second, clock + 1)
     } else {
         due

@@ -1,5 +1,5 @@
 -- Where no clock is passed over, nothing has changed.
-use Rattle.std.proofs.Common.{arith, ◌≡◌, ℕ, ◌-◌, ◌≤◌, true, refl, subst, sym, ap, ◌∙◌, zero, suc}
+use Rattle.std.proofs.Common.{arith, ◌≡◌, ℕ, ◌-◌, refl, sym, ap, ◌∙◌, zero, suc}
 use Rattle.dreq_pacing.specs.Due.{quiet}
 use Rattle.block_core.specs.Block.{Run, run_from}
 use Rattle.block_core.specs.Shown.{requests_of, sample_of}

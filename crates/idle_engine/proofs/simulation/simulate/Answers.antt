@@ -8,7 +8,7 @@ use Rattle.block_core.specs.Stirring.{stirring}
 use Rattle.vcd_trace.specs.Told.{IsNext, held_to}
 use Rattle.idle_engine.specs.Resting.{IsDue}
 use Rattle.idle_engine.proofs.Held.{next-held, told_at-held}
-use Rattle.idle_engine.proofs.Counting.{counted, stirring-grows}
+use Rattle.idle_engine.proofs.Counting.{counted}
 use Rattle.idle_engine.proofs.Resting.{none_before}
 use Rattle.idle_engine.proofs.AfterRest.{after_rest}
 use Rattle.idle_engine.proofs.Steps.{clock-next, run-next, transfers-next, shown-run}
