@@ -38,12 +38,12 @@ find_ends p i all so_far past =
     let none : 32 - i ≡ 0 = omega arith in
     so_far ∙ rw none refl
 
-behind : {A B : Type 0} (f : A → B) (r : Option (Bor A)) → option_map (λ x. f x.now) r ≡ option_map f (option_copied r)
-behind f None = refl
-behind f (Some x) = refl
+through_reference : {A B : Type 0} (f : A → B) (r : Option (Bor A)) → option_map (λ x. f x.now) r ≡ option_map f (option_copied r)
+through_reference f None = refl
+through_reference f (Some x) = refl
 
 pub program_found : (r : Option (Bor Program)) (name : List ℕ) (ps : List Program) → option_copied r ≡ find (λ p. bytes_eq p.name name) ps → option_map (λ p. assembled_of p.now) r ≡ find_program name (map assembled_of ps)
-program_found r name ps found = behind assembled_of r ∙ ap (option_map assembled_of) found ∙ find_map assembled_of (λ p. bytes_eq p.name name) ps
+program_found r name ps found = through_reference assembled_of r ∙ ap (option_map assembled_of) found ∙ find_map assembled_of (λ p. bytes_eq p.name name) ps
 
 -- one load further on
 pub memory_more : (ls : List Load) (i : ℕ) (d l : Load) (words memory after all : List ℕ) → all ≡ memory_of memory (map loaded_of (drop i ls)) → i < length ls

@@ -166,9 +166,9 @@ machine_in_range machines loads t m fit e =
     (parts_in_range run.value clock.value pins.value flags.value counts.value (runs machines loads t run.value fit run.found) (clock_divides t clock.value clock.found) (are_pins t pins.value pins.found)
     (joined_one_way t flags.value flags.found) (shifts t counts.value counts.found))
 
-kept_behind : (place : ℕ) (o : Option MachineKeys) (rest : List (Option MachineKeys)) → ArePlaced place (o ∷ rest) → ArePlaced (place + 1) rest
-kept_behind place None rest h = h
-kept_behind place (Some m) rest h = h.2
+kept_rest : (place : ℕ) (o : Option MachineKeys) (rest : List (Option MachineKeys)) → ArePlaced place (o ∷ rest) → ArePlaced (place + 1) rest
+kept_rest place None rest h = h
+kept_rest place (Some m) rest h = h.2
 
 kept_after : (place : ℕ) (o : Option MachineKeys) (rest after : List (Option MachineKeys)) → ArePlaced place (o ∷ rest) → ArePlaced (place + 1) after → ArePlaced place (o ∷ after)
 kept_after place None rest after h k = k
@@ -176,8 +176,8 @@ kept_after place (Some m) rest after h k = (h.0, h.1, k)
 
 set_kept : (ms : List (Option MachineKeys)) (place i : ℕ) (m : MachineKeys) → ArePlaced place ms → m.id ≡ place + i → IsMachine m → ArePlaced place (slice_set ms i (Some m))
 set_kept [] place i m h is f = tt
-set_kept (o ∷ ms) place zero m h is f = (omega arith, f, kept_behind place o ms h)
-set_kept (o ∷ ms) place (suc i) m h is f = kept_after place o ms _ h (set_kept ms (place + 1) i m (kept_behind place o ms h) (omega arith) f)
+set_kept (o ∷ ms) place zero m h is f = (omega arith, f, kept_rest place o ms h)
+set_kept (o ∷ ms) place (suc i) m h is f = kept_after place o ms _ h (set_kept ms (place + 1) i m (kept_rest place o ms h) (omega arith) f)
 
 set_length : (ms : List (Option MachineKeys)) (i : ℕ) (o : Option MachineKeys) → length (slice_set ms i o) ≡ length ms
 set_length [] i o = refl

@@ -77,14 +77,14 @@ pub off_key : {X : Type 0} (name : List ℕ) (r : Result X ConfigKind) (x : X) �
 off_key name (Ok y) x e = ap Ok cc
 off_key name (Err kind) x e = cc
 
-index_behind : (front rest : List ℕ) (v : ℕ) → get_or (front ++ v ∷ rest) (length front) 0 ≡ v
-index_behind [] rest v = refl
-index_behind (x ∷ front) rest v = index_behind front rest v
+index_after : (front rest : List ℕ) (v : ℕ) → get_or (front ++ v ∷ rest) (length front) 0 ≡ v
+index_after [] rest v = refl
+index_after (x ∷ front) rest v = index_after front rest v
 
 within_step : (k : Numbered) (ks : List Numbered) (v : ℕ) (rest vs front : List ℕ) (place : ℕ) → vs ≡ v ∷ rest → length front ≡ place → IsIn k.low k.high v
     → AreWithin (place + 1) ks ((front ++ v ∷ []) ++ rest) → AreWithin place (k ∷ ks) (front ++ vs)
 within_step k ks v rest vs front place all l here more =
-    let there : slice_index (front ++ v ∷ rest) place ≡ v = rw (← l) (index_behind front rest v) in
+    let there : slice_index (front ++ v ∷ rest) place ≡ v = rw (← l) (index_after front rest v) in
     let others : AreWithin (place + 1) ks (front ++ v ∷ rest) = rw append_assoc at more in
     rw (all, there) (here.0, here.1, others)
 

@@ -130,10 +130,10 @@ leave-first s id p h (suc (suc (suc zero))) apart = some_first (λ t. leaves_lev
 leave-first s id p h (suc (suc (suc (suc other)))) apart = tt
 
 -- as a premise: of a pin's writes the last gives its level
-abbrev pub LastStands : Type 0
-LastStands = (p old : ℕ) (ws : List (ℕ × ℕ)) → p < 32 → AllByRecursion IsWrite ws → bit_at (merged old ws) p ≡ last_of p (bit_at old p) ws
+abbrev pub LastCounts : Type 0
+LastCounts = (p old : ℕ) (ws : List (ℕ × ℕ)) → p < 32 → AllByRecursion IsWrite ws → bit_at (merged old ws) p ≡ last_of p (bit_at old p) ws
 
-pub own_level : TicksWritePins → TicksWriteOwnPins → IsWrite (0, 0) → LastStands → FreeStays → (s : Setup) (memory : List ℕ) (seen : ℕ) (d : Due) (b : BlockState) (id p : ℕ) → p < 32 → OthersLeave id p s.machines → map (option_map (λ (m : Slot). m.machine.setup)) b.machines ≡ map (option_map (λ (m : Slot). m.machine.setup)) (first_state s).machines → bit_at (stepped memory seen d b).levels p ≡ last_of p (bit_at b.levels p) (two_writes (intent_in memory seen d b id).level)
+pub own_level : TicksWritePins → TicksWriteOwnPins → IsWrite (0, 0) → LastCounts → FreeStays → (s : Setup) (memory : List ℕ) (seen : ℕ) (d : Due) (b : BlockState) (id p : ℕ) → p < 32 → OthersLeave id p s.machines → map (option_map (λ (m : Slot). m.machine.setup)) b.machines ≡ map (option_map (λ (m : Slot). m.machine.setup)) (first_state s).machines → bit_at (stepped memory seen d b).levels p ≡ last_of p (bit_at b.levels p) (two_writes (intent_in memory seen d b id).level)
 unfolding stepped
 own_level writes law none last stays s memory seen d b id p inside others same =
     let v = view_of memory seen b in

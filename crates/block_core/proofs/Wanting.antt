@@ -35,9 +35,9 @@ run memory clock levels directions flags outside sync a b c e = record {
   synchroniser = sync;
 }
 
--- the law of writes: the last stands
-abbrev pub StandsLast : Type 0
-StandsLast = (p old : ℕ) (ws : List (ℕ × ℕ)) → p < 32 → AllByRecursion IsWrite ws → bit_at (merged old ws) p ≡ last_of p (bit_at old p) ws
+-- the law of writes: the last counts
+abbrev pub LastWriteCounts : Type 0
+LastWriteCounts = (p old : ℕ) (ws : List (ℕ × ℕ)) → p < 32 → AllByRecursion IsWrite ws → bit_at (merged old ws) p ≡ last_of p (bit_at old p) ws
 
 -- the clock up to its pins and flags, place by place
 pub record IsStep (d : Due) (memory : List ℕ) (levels directions flags outside : ℕ) (sync : Synchroniser) (a b c e : Option Slot) (outside2 pad seen : ℕ) (w0 w1 w2 w3 w4 : Wanted) : Type 0 where
@@ -80,15 +80,15 @@ next_run d memory clock levels directions flags outside sync a b c e outside2 pa
     ) refl
 
 -- each pin has the bit of the last write
-pub levels_stand : (d : Due) (memory : List ℕ) (clock levels directions flags outside : ℕ) (sync : Synchroniser) (a b c e : Option Slot) (outside2 pad seen : ℕ) (w0 w1 w2 w3 w4 : Wanted) → IsStep d memory levels directions flags outside sync a b c e outside2 pad seen w0 w1 w2 w3 w4 → StandsLast → IsWrite (0, 0) → AllByRecursion IsWrite (place_intent (view memory seen flags) d a).level → AllByRecursion IsWrite (place_intent (view memory seen flags) d b).level → AllByRecursion IsWrite (place_intent (view memory seen flags) d c).level → AllByRecursion IsWrite (place_intent (view memory seen flags) d e).level → TakesLastWrites levels w4.levels (level_writes (wanted_in d (run memory clock levels directions flags outside sync a b c e)))
-levels_stand d memory clock levels directions flags outside sync a b c e outside2 pad seen w0 w1 w2 w3 w4 s law none ha hb hc he p below =
+pub levels_are_last : (d : Due) (memory : List ℕ) (clock levels directions flags outside : ℕ) (sync : Synchroniser) (a b c e : Option Slot) (outside2 pad seen : ℕ) (w0 w1 w2 w3 w4 : Wanted) → IsStep d memory levels directions flags outside sync a b c e outside2 pad seen w0 w1 w2 w3 w4 → LastWriteCounts → IsWrite (0, 0) → AllByRecursion IsWrite (place_intent (view memory seen flags) d a).level → AllByRecursion IsWrite (place_intent (view memory seen flags) d b).level → AllByRecursion IsWrite (place_intent (view memory seen flags) d c).level → AllByRecursion IsWrite (place_intent (view memory seen flags) d e).level → TakesLastWrites levels w4.levels (level_writes (wanted_in d (run memory clock levels directions flags outside sync a b c e)))
+levels_are_last d memory clock levels directions flags outside sync a b c e outside2 pad seen w0 w1 w2 w3 w4 s law none ha hb hc he p below =
     let v = view memory seen flags in
     let writes = levels_are_writes none (place_intent v d a) (place_intent v d b) (place_intent v d c) (place_intent v d e) ha hb hc he in
     let added = all_added d memory clock levels directions flags outside sync a b c e outside2 pad seen w0 w1 w2 w3 w4 s in
     rw added (law p levels _ below (rw (s.sees, s.pads, s.driven) at writes))
 
-pub directions_stand : (d : Due) (memory : List ℕ) (clock levels directions flags outside : ℕ) (sync : Synchroniser) (a b c e : Option Slot) (outside2 pad seen : ℕ) (w0 w1 w2 w3 w4 : Wanted) → IsStep d memory levels directions flags outside sync a b c e outside2 pad seen w0 w1 w2 w3 w4 → StandsLast → IsWrite (0, 0) → AllByRecursion IsWrite (place_intent (view memory seen flags) d a).direction → AllByRecursion IsWrite (place_intent (view memory seen flags) d b).direction → AllByRecursion IsWrite (place_intent (view memory seen flags) d c).direction → AllByRecursion IsWrite (place_intent (view memory seen flags) d e).direction → TakesLastWrites directions w4.directions (direction_writes (wanted_in d (run memory clock levels directions flags outside sync a b c e)))
-directions_stand d memory clock levels directions flags outside sync a b c e outside2 pad seen w0 w1 w2 w3 w4 s law none ha hb hc he p below =
+pub directions_are_last : (d : Due) (memory : List ℕ) (clock levels directions flags outside : ℕ) (sync : Synchroniser) (a b c e : Option Slot) (outside2 pad seen : ℕ) (w0 w1 w2 w3 w4 : Wanted) → IsStep d memory levels directions flags outside sync a b c e outside2 pad seen w0 w1 w2 w3 w4 → LastWriteCounts → IsWrite (0, 0) → AllByRecursion IsWrite (place_intent (view memory seen flags) d a).direction → AllByRecursion IsWrite (place_intent (view memory seen flags) d b).direction → AllByRecursion IsWrite (place_intent (view memory seen flags) d c).direction → AllByRecursion IsWrite (place_intent (view memory seen flags) d e).direction → TakesLastWrites directions w4.directions (direction_writes (wanted_in d (run memory clock levels directions flags outside sync a b c e)))
+directions_are_last d memory clock levels directions flags outside sync a b c e outside2 pad seen w0 w1 w2 w3 w4 s law none ha hb hc he p below =
     let v = view memory seen flags in
     let writes = directions_are_writes none (place_intent v d a) (place_intent v d b) (place_intent v d c) (place_intent v d e) ha hb hc he in
     let added = all_added d memory clock levels directions flags outside sync a b c e outside2 pad seen w0 w1 w2 w3 w4 s in

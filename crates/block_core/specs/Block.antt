@@ -4,7 +4,7 @@
 --   Worked          with the number of clocks that were worked out singly
 --   stepped         the state after a clock
 --   next            the run after a clock
---   TakesLastWrites that of the writes to each pin the last stands
+--   TakesLastWrites that of the writes to each pin the last counts
 --   first_run       as a setup begins
 --   run_from        some clocks on
 --   run_at          the run of a setup in each clock

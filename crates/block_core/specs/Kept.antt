@@ -5,7 +5,7 @@ use Rattle.sm_registers.specs.Told.{IsKnown}
 use Rattle.sm_registers.specs.declared.view.View.{View}
 use Rattle.block_core.specs.Slots.{Slot}
 
--- a place's divider stands in this clock, and its transfers moved at most a word in each
+-- a place's divider is in this clock, and its transfers moved at most a word in each
 abbrev pub IsInStep : ℕ → Option Slot → Type 0
 IsInStep clock None = Unit {0}
 IsInStep clock (Some s) = (s.timing.clock ≡ clock) × (s.sent ≤ clock) × (s.received ≤ clock)

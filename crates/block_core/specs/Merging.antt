@@ -11,7 +11,7 @@ use Rattle.block_core.specs.Block.{two_writes}
 unfoldable pub nothing_wanted : (levels directions : ℕ) → Wanted
 nothing_wanted levels directions = record { levels = levels; directions = directions; clears = 0; sets = 0 }
 
--- its writes stand over those of the machines before it
+-- its writes take precedence over those of the machines before it
 unfoldable pub with_intent : Wanted → Intent → Wanted
 with_intent w i = record {
   levels = merged w.levels (two_writes i.level);

@@ -20,7 +20,7 @@ use dreq_pacing::{Due, Requests};
 use fifo_pair::{Fifo, a_quiet_clock_changes_nothing};
 use irq_flags::Flags;
 use pin_matrix::{
-    MachineSetup, Setup, Sync, no_write_changes_nothing, pad_of, the_last_write_stands,
+    MachineSetup, Setup, Sync, no_write_changes_nothing, pad_of, the_last_write_counts,
 };
 use sm_registers::{Intent, Shown, View, a_calm_tick_only_counts, a_calm_tick_tells_nothing_new};
 use std::alloc::{AllocError, Global};
@@ -131,7 +131,7 @@ impl<F: Fifo> Block<F> {
             (direction_writes (wanted_in (doing due.entry) self.old.run)) }
         ensures calls { self.new.calls ≡ self.old.calls + 1 }
     {
-        the_last_write_stands();
+        the_last_write_counts();
         no_write_changes_nothing();
         a_calm_tick_tells_nothing_new();
         let outside = outside_after(self.outside, due);

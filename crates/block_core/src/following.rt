@@ -13,7 +13,7 @@ ghost use Rattle.block_core.specs.Hosted.{hosted_at, host_of};
 ghost use Rattle.block_core.specs.Slots.{lined, has_tick, place_after};
 
 use clock_divider::tick_test;
-use pin_matrix::{no_write_changes_nothing, the_last_write_stands};
+use pin_matrix::{no_write_changes_nothing, the_last_write_counts};
 use sm_registers::{a_tick_writes_its_own_pins, writes_are_of_pins};
 
 /// The run of a setup is the one in which the machines see the block's own pads, two clocks late where they don't bypass the
@@ -59,7 +59,7 @@ pub fn a_pin_of_one_machine()
         bit_at (states (suc clock)).levels p ≡ last_of p (bit_at (states clock).levels p)
         (two_writes (intent_in memory (seen clock) (host clock) (states clock) id).level) }
 {
-    the_last_write_stands();
+    the_last_write_counts();
     no_write_changes_nothing();
     writes_are_of_pins();
     a_tick_writes_its_own_pins();

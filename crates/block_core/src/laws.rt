@@ -21,7 +21,7 @@ ghost use Rattle.block_core.specs.Stirring.{moves_on, plainly_moves_on};
 
 use clock_divider::tick_test;
 use fifo_pair::{a_quiet_clock_changes_nothing, rx_loses_nothing, tx_loses_only_overruns};
-use pin_matrix::the_last_write_stands;
+use pin_matrix::the_last_write_counts;
 use sm_registers::a_first_tick_stirs;
 
 /// A machine sees of each pin the pad of two clocks ago, or of now where the pin bypasses its synchroniser: the state after
@@ -64,7 +64,7 @@ pub fn ticks_follow_the_divider()
 }
 
 /// After a clock each pin has the level, and the direction, that the last of the clock's writes to it gives, in order of the
-/// machines' numbers, side-set's behind the instruction's; one that nothing writes stays.
+/// machines' numbers, side-set's after the instruction's; one that nothing writes stays.
 pub fn each_pin_gets_the_last_write()
     ensures levels { (memory : List ℕ) (seen : ℕ) (d : Due) (b : BlockState) (p : ℕ) → p < 32 →
         let writes = level_writes (intents_of (view_of memory seen b) d b.machines) in
@@ -75,7 +75,7 @@ pub fn each_pin_gets_the_last_write()
         AllByRecursion IsWrite writes →
         bit_at (stepped memory seen d b).directions p ≡ last_of p (bit_at b.directions p) writes }
 {
-    the_last_write_stands();
+    the_last_write_counts();
 }
 
 /// In a clock, the words of a machine's FIFO with the one that comes in are those that go out and those still there, in

@@ -2,7 +2,7 @@
 
 /// The state of a block after one clock, as a trace shows it (choice of this profile).
 ///
-/// In a `u32` or a `u8` of pins or flags bit i stands for pin or flag i.
+/// In a `u32` or a `u8` of pins or flags bit i is that of pin or flag i.
 #[derive(Clone, Copy, Debug, PartialEq, Eq)]
 pub struct Sample {
     /// The output level of each of the 32 pins.

@@ -9,9 +9,9 @@ ghost use Rattle.block_core.specs.Hosted.{hosted_at};
 ghost use Rattle.block_shares.specs.Shares.{IsAlone, touches_of};
 ghost use Rattle.block_isolation.specs.Isolation.{AreAlikeTo, HasWords, IsSameTo, own_lines};
 
-use dreq_pacing::the_last_pin_line_stands;
+use dreq_pacing::the_last_pin_line_counts;
 use pin_matrix::{
-    each_mapped_pin, each_pad, each_pin_from, no_write_changes_nothing, the_last_write_stands,
+    each_mapped_pin, each_pad, each_pin_from, no_write_changes_nothing, the_last_write_counts,
     what_a_machine_sees, words_stay_words,
 };
 use sm_registers::{
@@ -38,10 +38,10 @@ pub fn a_machine_alone_is_isolated()
     a_tick_sees_what_it_reads();
     each_mapped_pin();
     each_pin_from();
-    the_last_write_stands();
+    the_last_write_counts();
     no_write_changes_nothing();
     each_pad();
     what_a_machine_sees();
     words_stay_words();
-    the_last_pin_line_stands();
+    the_last_pin_line_counts();
 }

@@ -7,7 +7,7 @@ ghost use Rattle.byte_lines.specs.Lines.{lines_of, lines_left};
 /// A text that ends with a newline has an empty line after it.
 pub fn first_line(text: &[u8]) -> (&[u8], Option<&[u8]>)
     ensures line { lines_of text.now ≡ result.0.now ∷ lines_left (option_copied result.1) }
-    ensures shorter { IfSome result.1 (λ behind. length behind.now < length text.now) }
+    ensures shorter { IfSome result.1 (λ rest. length rest.now < length text.now) }
 {
     for (at, byte) in text.iter().enumerate() {
         if *byte == b'\n' {

@@ -34,7 +34,7 @@ pub struct StopRow {
     /// The calls of the output that fail, with what they take.
     pub fails: &'static [(u64, usize)],
     pub room: usize,
-    /// The first part that stands.
+    /// The first part, which the output holds.
     pub text: &'static str,
 }
 

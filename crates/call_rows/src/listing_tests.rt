@@ -1,4 +1,4 @@
-//! Listings of programs worked by hand, and what stands where the output fails.
+//! Listings of programs worked by hand, and what is there where the output fails.
 use crate::listing_rows::{ProgramRow, ROWS, STOP_ROWS, SideRow};
 use pio_assemble::{Program, Symbol, Symbols};
 use pio_edge::{MemSink, SinkFailed};
@@ -20,7 +20,7 @@ fn listings_worked_by_hand(rt: HostRuntime) -> Result<(), Fail> {
 }
 
 #[test]
-fn a_first_part_stands_where_the_output_fails(rt: HostRuntime) -> Result<(), Fail> {
+fn a_first_part_is_there_where_the_output_fails(rt: HostRuntime) -> Result<(), Fail> {
     for row in &STOP_ROWS {
         let programs = programs_of(rt.alloc(), row.programs)?;
         let mut sink = MemSink::with_room(rt.alloc(), row.room, row.fails)?;

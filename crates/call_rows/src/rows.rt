@@ -9,7 +9,7 @@ pub enum Text {
     Nothing,
     /// So many first bytes of the whole.
     Start(usize),
-    /// The header, the first sample with direction 0 up and all else 0, and these lines behind it.
+    /// The header, the first sample with direction 0 up and all else 0, and these lines after it.
     Run(&'static str),
     /// The same with these lines in the first sample, and all else 0.
     From(&'static [&'static str], &'static str),

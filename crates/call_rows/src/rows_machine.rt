@@ -86,7 +86,7 @@ pub static MACHINES: [Row; 12] = [
         err: "",
     },
     Row {
-        name: "the highest machine's write stands",
+        name: "the highest machine's write counts",
         words: &[
             "piotool", "run", "--source", "s", "--config", "c", "--clocks", "3",
         ],
@@ -102,7 +102,7 @@ pub static MACHINES: [Row; 12] = [
         err: "",
     },
     Row {
-        name: "side-set stands over SET",
+        name: "side-set takes precedence over SET",
         words: &[
             "piotool", "run", "--source", "s", "--config", "c", "--clocks", "3",
         ],
@@ -118,7 +118,7 @@ pub static MACHINES: [Row; 12] = [
         err: "",
     },
     Row {
-        name: "a WAIT behind the synchronisers",
+        name: "a WAIT after the synchronisers",
         words: &[
             "piotool",
             "run",
@@ -370,7 +370,7 @@ pub static MORE_MACHINES: [Row; 15] = [
         err: "",
     },
     Row {
-        name: "a late OUT stands over its own side-set",
+        name: "a late OUT takes precedence over its own side-set",
         words: &[
             "piotool",
             "run",

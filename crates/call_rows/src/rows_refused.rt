@@ -41,7 +41,7 @@ pub static FILES: [(&str, &str); 14] = [
     ("x =\n", "file: C1"),
 ];
 
-/// Lines behind `MACHINE`.
+/// Lines after `MACHINE`.
 pub static KEYS: [(&str, &str); 8] = [
     (
         "join_tx = true\njoin_rx = true\n",
@@ -65,7 +65,7 @@ pub static KEYS: [(&str, &str); 8] = [
     ),
 ];
 
-/// Lines behind `MACHINE`, as TOML 1.1 and the limits of its reader settle them.
+/// Lines after `MACHINE`, as TOML 1.1 and the limits of its reader settle them.
 pub static TOML: [(&str, &str); 11] = [
     ("x = 9223372036854775808\n", "file: C1"),
     ("x = 9223372036854775807\n", "machine[0].x: C4"),
@@ -83,7 +83,7 @@ pub static TOML: [(&str, &str); 11] = [
     ),
 ];
 
-/// Lines behind `MACHINE` and `SPAN`.
+/// Lines after `MACHINE` and `SPAN`.
 pub static SPANS: [(&str, &str); 6] = [
     ("unit = \"us\"\nmin = 2\nmax = 3\n", "span[0].unit: C4"),
     (

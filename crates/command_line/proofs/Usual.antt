@@ -67,7 +67,7 @@ run_takes name source None (Some stimulus) clocks e = with_the_others _ e
 run_takes name source (Some config) None clocks e = with_the_others _ e
 run_takes name source (Some config) (Some stimulus) clocks e = with_the_others _ e
 
--- kinds with nothing behind them, at so many levels
+-- kinds with nothing after them, at so many levels
 within : ℕ → Kinds → Kinds
 within zero kinds = kinds
 within (suc n) kinds = or_else (within n kinds) []

@@ -10,7 +10,7 @@ use Rattle.clap.specs.Matches.{ReadsOne}
 use Rattle.clap.proofs.WalkLemmas.{both}
 use Rattle.command_line.specs.Words.{number_in}
 
--- the text behind a reference, or the empty one
+-- the text of a reference, or the empty one
 pub text_or_empty : (o : Option (Bor Text)) (other : Bor Text) (v : Option Text) → option_map (λ s. s.now) o ≡ v
     → other.now ≡ [] → (unwrap_or o other).now ≡ unwrap_or v []
 text_or_empty None other None is empty = empty

@@ -6,7 +6,7 @@ use Rattle.clap.specs.Walk.{Text}
 use Rattle.command_line.specs.Tool.{bit_limit, clock_limit, least_bit, pin_limit, seed_limit, side_limit}
 use Rattle.command_line.specs.Words.{Asked, Asks, IsRefused, IsTaken, asm, check, dis, gen, measure, receive, recheck, run, shares, table}
 
--- the number of decimal digits, where a plus may stand first
+-- the number of decimal digits, where a plus may come first
 abbrev pub number_of : Text → ℕ
 number_of text = digits_value 10 (without_leading_plus text)
 

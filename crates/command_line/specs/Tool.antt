@@ -33,7 +33,7 @@ bit_limit = 65535
 abbrev pub option_rule : Text → Rule
 option_rule name = record (new_rule name) { long = Some name; action = Some Set }
 
--- the option stands in each call
+-- the option is in each call
 abbrev pub required : Rule → Rule
 required rule = record rule { required = true }
 
@@ -77,7 +77,7 @@ pin_rule = up_to pin_limit (required (option_rule (codes "pin")))
 unfoldable pub bit_rule : Rule
 bit_rule = record (required (option_rule (codes "bit"))) { parser = Some (Unsigned least_bit bit_limit) }
 
--- `FILE`, a name that stands alone
+-- `FILE`, a name alone
 unfoldable pub file_rule : Rule
 file_rule = required (record (new_rule (codes "file")) { action = Some Set })
 

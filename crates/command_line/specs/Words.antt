@@ -47,7 +47,7 @@ asked_by (Receive source config stimulus clocks pin bit) =
 
 -- ---- what clap's matches of a subcommand ask for
 
--- the number of decimal digits below 2^64, where a plus may stand first, and 0 of any other text
+-- the number of decimal digits below 2^64, where a plus may come first, and 0 of any other text
 abbrev pub number_in : Text → ℕ
 number_in text =
     let digits = without_leading_plus text in

@@ -14,8 +14,8 @@ use clap::error::ErrorKind;
 use clap::{ArgMatches, Error};
 use std::alloc::Global;
 
-/// The matches that clap gives for the words. Without any, Memory stands for want of it, and Usage for clap's other
-/// errors.
+/// The matches that clap gives for the words. Without any, Memory means want of memory, and Usage any other error of
+/// clap.
 pub fn matched<'a>(alloc: Global, words: &'a [String]) -> Result<ArgMatches<'a>, WordsFault>
     ensures passed { IfOk result (λ _. fault_of tool_app (map string_bytes words.entry.now) ≡ []) }
     ensures rows { IfOk result (λ m. subcommand_rows_of m

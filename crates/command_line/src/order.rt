@@ -12,7 +12,7 @@ pub const MOST_SIDE_BITS: u64 = 5;
 /// The last pin.
 pub const LAST_PIN: u64 = 31;
 
-/// The fewest clocks of a bit of a serial line, so that its middle is a clock of its own.
+/// The fewest clocks of a bit of a serial line.
 pub const LEAST_BIT: u64 = 2;
 
 /// The most clocks of a bit of a serial line.
@@ -68,16 +68,16 @@ pub enum Order<'a> {
         side: u8,
         opt: bool,
     },
-    /// What so many clocks (0 to 10^12) show of each span of a configuration over the programs in a source, beside a
-    /// stimulus where one is named.
+    /// How many clocks each span of a configuration takes in so many clocks (0 to 10^12) of the programs in a source, beside
+    /// a stimulus where one is named.
     Measure {
         source: &'a str,
         config: Option<&'a str>,
         stimulus: Option<&'a str>,
         clocks: u64,
     },
-    /// The bytes that a serial line of so many clocks a bit (2 to 65,535) carries on a pin (0 to 31), in so many clocks
-    /// (0 to 10^12) of such a run.
+    /// The bytes that a pin (0 to 31) sends at so many clocks a bit (2 to 65,535), in so many clocks (0 to 10^12) of the
+    /// programs in a source, under a configuration and beside a stimulus where they are named.
     Receive {
         source: &'a str,
         config: Option<&'a str>,

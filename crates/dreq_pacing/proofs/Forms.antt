@@ -6,6 +6,6 @@ pub second_field : (fields : List (List ℕ)) → slice_get (drop 1 fields) 0 �
 second_field [] = refl
 second_field (f ∷ fs) = refl
 
-pub behind_two : (fields : List (List ℕ)) → drop 1 (drop 1 fields) ≡ drop 2 fields
-behind_two [] = refl
-behind_two (f ∷ fs) = refl
+pub after_two : (fields : List (List ℕ)) → drop 1 (drop 1 fields) ≡ drop 2 fields
+after_two [] = refl
+after_two (f ∷ fs) = refl

@@ -124,5 +124,5 @@ level-zero (Some v) = refl
 pub last_set : (lines : List Line) (pin : ℕ) → AllByRecursion IsLine lines → pin < 32 → bit_at (with_lines lines quiet).pins pin ≡ is_set (last_level pin lines)
 last_set lines pin h lt = lines-set lines pin quiet ∙ (ap (set_over (last_level pin lines)) (bit_at-zero pin) ∙ set-zero (last_level pin lines))
 
-pub last_stands : (lines : List Line) (pin : ℕ) → AllByRecursion IsLine lines → pin < 32 → bit_at (with_lines lines quiet).values pin ≡ level_bit (last_level pin lines)
-last_stands lines pin h lt = lines-level lines pin quiet h lt ∙ (ap (level_over (last_level pin lines)) (bit_at-zero pin) ∙ level-zero (last_level pin lines))
+pub last_counts : (lines : List Line) (pin : ℕ) → AllByRecursion IsLine lines → pin < 32 → bit_at (with_lines lines quiet).values pin ≡ level_bit (last_level pin lines)
+last_counts lines pin h lt = lines-level lines pin quiet h lt ∙ (ap (level_over (last_level pin lines)) (bit_at-zero pin) ∙ level-zero (last_level pin lines))

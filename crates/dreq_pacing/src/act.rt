@@ -10,7 +10,7 @@ use crate::verb::Verb;
 use std::alloc::{AllocError, Global};
 
 /// What the fields say, unless one is missing or outside its range. The error is want of memory.
-#[tactic(auto, using(crate::proofs::Forms::second_field, crate::proofs::Forms::behind_two))]
+#[tactic(auto, using(crate::proofs::Forms::second_field, crate::proofs::Forms::after_two))]
 pub fn read_act(alloc: Global, verb: Verb, args: &Fields) -> Result<Option<Act>, AllocError>
     ensures value { IfOk result (λ act. act ≡ spec.act_of verb args.now) }
     ensures range { IfOk result (λ act. IfSome act IsAct) }

@@ -38,8 +38,8 @@ impl<'a> Fields<'a> {
     {
         let mut rest = self.rest;
         while !rest.is_empty() {
-            let (field, behind) = first_part(rest);
-            rest = behind;
+            let (field, after) = first_part(rest);
+            rest = after;
             if !field.is_empty() {
                 self.rest = rest;
                 return Some(field);

@@ -12,7 +12,7 @@ ghost use Rattle.dreq_pacing.specs.Ports.{Ports, acts_in, asked, due_at, due_in,
 ghost use Rattle.dreq_pacing.specs.Runs.{FeedClock, Follows, fed_by, is_set, last_level, level_bit, words_moved};
 
 /// In a clock without a line and without a move the system does nothing, and the transfers stay as they are.
-pub fn a_quiet_clock_changes_nothing()
+pub fn a_clock_without_acts_does_nothing()
     ensures due { (lines : List Line) (clock : ℕ) (requests : Requests) (t : Transfers)
         → acts_in lines clock requests t ≡ false → due_in lines clock requests t ≡ quiet }
     ensures transfers { (lines : List Line) (clock : ℕ) (requests : Requests) (t : Transfers)
@@ -42,7 +42,7 @@ pub fn ports_follow_the_history()
 {}
 
 /// Of the lines of a pin in one clock the last counts; a pin without one isn't set, and has no level.
-pub fn the_last_pin_line_stands()
+pub fn the_last_pin_line_counts()
     ensures set { (lines : List Line) (pin : ℕ) → AllByRecursion IsLine lines → pin < 32
         → bit_at (with_lines lines quiet).pins pin ≡ is_set (last_level pin lines) }
     ensures level { (lines : List Line) (pin : ℕ) → AllByRecursion IsLine lines → pin < 32

@@ -19,8 +19,8 @@ mod verb;
 pub use due::{Due, Requests};
 pub use fault::{StimFault, StimKind};
 pub use laws::{
-    a_feed_keeps_its_words_in_order, a_quiet_clock_changes_nothing, ports_follow_the_history,
-    quiet_clocks_may_be_left_out, the_last_pin_line_stands,
+    a_clock_without_acts_does_nothing, a_feed_keeps_its_words_in_order, ports_follow_the_history,
+    quiet_clocks_may_be_left_out, the_last_pin_line_counts,
 };
 pub use line::{Act, Line, Words};
 pub use ports::HostPorts;

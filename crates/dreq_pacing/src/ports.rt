@@ -7,7 +7,7 @@ ghost use Rattle.dreq_pacing.specs.Ports as spec;
 ghost use Rattle.dreq_pacing.specs.Ports.{IsFirst, due_in, transfers_after, asked, acts_in, moves_in};
 
 use crate::due::{Due, Requests};
-use crate::laws::a_quiet_clock_changes_nothing;
+use crate::laws::a_clock_without_acts_does_nothing;
 use crate::line::Line;
 use crate::schedule::Schedule;
 use crate::transfer::{Moved, Pacer};
@@ -66,7 +66,7 @@ impl<'a> HostPorts<'a> {
         ensures due { result ≡ due_in self.old.lines clock requests.now self.old.transfers }
         ensures after { self.new ≡ asked clock requests.now self.old }
     {
-        a_quiet_clock_changes_nothing();
+        a_clock_without_acts_does_nothing();
         let here = self.take_lines(clock);
         if here.is_empty() && !self.moves(clock, requests) {
             return Due::quiet();
@@ -159,12 +159,12 @@ fn leading(lines: &[Line], clock: u64) -> usize
 {
     let mut number = 0;
     let mut rest = lines;
-    while let [line, behind @ ..] = rest {
+    while let [line, after @ ..] = rest {
         if line.clock != clock {
             return number;
         }
         number += 1;
-        rest = behind;
+        rest = after;
     }
     number
 }
@@ -176,9 +176,9 @@ fn due_of(lines: &[Line]) -> Due
 {
     let mut due = Due::quiet();
     let mut rest = lines;
-    while let [line, behind @ ..] = rest {
+    while let [line, after @ ..] = rest {
         due.add(&line.act);
-        rest = behind;
+        rest = after;
     }
     due
 }

@@ -26,12 +26,12 @@ pub fn read_stimulus(alloc: Global, text: &[u8]) -> Result<Schedule, StimFault>
     let mut rest = Some(text);
     let mut number = 1;
     while let Some(text) = rest {
-        let (line, behind) = first_line(text);
+        let (line, after) = first_line(text);
         match reader.read(alloc, &Fields::of_line(line))? {
             None => {}
             Some(kind) => return Err(StimFault::At { line: number, kind }),
         }
-        rest = behind;
+        rest = after;
         number += 1;
     }
     Ok(reader.draft.finish())

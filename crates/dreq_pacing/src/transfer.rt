@@ -126,9 +126,9 @@ impl<'a> Pacer<'a> {
         ensures { self.new ≡ begun machine here.now self.old }
     {
         let mut rest = here;
-        while let [line, behind @ ..] = rest {
+        while let [line, after @ ..] = rest {
             self.begin(machine, line.clock, &line.act);
-            rest = behind;
+            rest = after;
         }
     }
 
@@ -180,10 +180,10 @@ impl<'a> Pacer<'a> {
         if !ready || clock < self.due {
             return None;
         }
-        let [word, behind @ ..] = self.words else {
+        let [word, after @ ..] = self.words else {
             return None;
         };
-        self.words = behind;
+        self.words = after;
         self.due = clock + u64::from(self.every);
         Some(*word)
     }

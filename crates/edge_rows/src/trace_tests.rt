@@ -13,7 +13,7 @@ use vcd_trace::{ListTrace, Trace, TraceFailed, VcdTrace};
 fn tell_all<T: Trace>(trace: &mut T, samples: &[Sample]) -> Result<(), TraceFailed>
     requires { T.has_failed trace.old ≡ false }
     ensures told { OnOk result ((b : Option (List ℕ)) → T.ready trace.old b
-        → T.stands trace.new b samples.now true) }
+        → T.holds trace.new b samples.now true) }
     ensures same { T.name trace.new ≡ T.name trace.old }
 {
     trace.begin()?;

@@ -7,7 +7,7 @@ use Rattle.pio_assemble.specs.declared.quantity.Quantity.{Quantity}
 use Rattle.pio_assemble.specs.Fault.{quantity_text}
 use Rattle.fault_lines.specs.Told.{source_line}
 
--- the pieces one behind the other
+-- the pieces one after the other
 unfoldable pub joined : (number what digits : List ℕ) → List ℕ
 joined number what digits =
     concat (codes "piotool: source line " ∷ number ∷ codes ": " ∷ codes "S7 " ∷ what ∷ codes " " ∷ digits ∷ codes "\n" ∷ [])

@@ -100,7 +100,7 @@ fn put_words_fault<E: Sink>(err: &mut E, line: usize, kind: WordKind) -> Result<
     put_line_fault(err, "piotool: words line ", line, kind.code())
 }
 
-/// Puts the line of a source's fault: its code, and behind it a name, or a number's word and its value.
+/// Puts the line of a source's fault: its code, and after it a name, or a number's word and its value.
 fn put_source_fault<E: Sink>(err: &mut E, line: usize, kind: &SourceKind) -> Result<(), SinkFailed>
     ensures bytes { Takes (E.taken err.old) (spec.source_line line kind.now) (E.taken err.new) result }
     ensures cause { PutCounts (E.faults err.old) (E.faults err.new) result }
@@ -227,7 +227,7 @@ fn put_table_fault<E: Sink>(err: &mut E, line: usize, kind: TableKind) -> Result
     put_line_fault(err, "piotool: table line ", line, kind.code())
 }
 
-/// Puts the line of a fault that has a place in a file: what stands before its number, the number, and its code.
+/// Puts the line of a fault that has a place in a file: what comes before its number, the number, and its code.
 fn put_line_fault<E: Sink>(
     err: &mut E,
     front: &str,

@@ -1,4 +1,4 @@
-//! The bytes that a text of a row stands for.
+//! The bytes that a text of a row spells.
 use std::alloc::{AllocError, Global};
 
 /// The bytes of a text: a `|` is a newline, `^ff` the byte 0xff, and `` `3 nop|` `` three times `nop|`, with the number from 0 on

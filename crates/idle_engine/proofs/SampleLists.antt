@@ -21,14 +21,14 @@ held_to-length (s ∷ rest) clock e =
     let none : clock - length (s ∷ rest) ≡ 0 = omega arith in
     rw none (append-nil (s ∷ rest))
 
--- the clock behind the first n is n
+-- the clock after the first n is n
 pub next-samples : (start : Run) (lines : List Line) (n : ℕ) → IsNext (samples start lines n) n
 next-samples start lines n = let e = length-samples start lines n in record { after = omega arith; first = λ h. omega arith }
 
 pub held_to-samples : (start : Run) (lines : List Line) (n : ℕ) → held_to n (samples start lines n) ≡ samples start lines n
 held_to-samples start lines n = held_to-length (samples start lines n) n (length-samples start lines n)
 
--- a clock's sample behind those of the clocks before
+-- a clock's sample follows those of the clocks before
 pub told_at-samples : (start : Run) (lines : List Line) (n : ℕ) (s : Sample) → s ≡ sample_at start lines n → told_at n s (samples start lines n) ≡ samples start lines (n + 1)
 unfolding samples
 told_at-samples start lines n s e = rw add-one (ap (λ l. l ++ s ∷ []) (held_to-samples start lines n) ∙ ap (λ x. samples start lines n ++ x ∷ []) e)

@@ -40,7 +40,7 @@ transfers-next start lines own n before t after is_run in_clock is_own is_t is_a
     ∙ ap (λ (k : ℕ). transfers_after lines k (requests_of h.run.state) h.transfers) (sym clock) in
     rw add-one same
 
--- what the run behind a clock shows is the clock's sample
+-- what the run after a clock shows is the clock's sample
 pub shown-run : (start : Run) (lines : List Line) (n : ℕ) (after : Run) (s : Sample) → after ≡ (hosted_at start lines (n + 1)).run → s ≡ sample_of after.state → s ≡ sample_at start lines n
 shown-run start lines n after s e v =
     let one : n + 1 ≡ suc n = add-one n in

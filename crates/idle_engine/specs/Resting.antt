@@ -11,7 +11,8 @@ use Rattle.dreq_pacing.specs.Ports.{acts_in}
 use Rattle.block_core.specs.Block.{Run, run_from}
 use Rattle.block_core.specs.Shown.{requests_of, sample_of}
 
--- no line stands in a clock from this one on and before that one, and no transfer moves in it while the machines ask for this
+-- In no clock from this one on and before that one is a line, and no transfer moves in one while the machines ask for
+-- this.
 abbrev pub Rests : List Line → Requests → Transfers → (from until : ℕ) → Type 0
 Rests lines requests transfers from until = (c : ℕ) → from ≤ c → c < until → acts_in lines c requests transfers ≡ false
 

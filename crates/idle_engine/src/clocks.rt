@@ -11,7 +11,7 @@ ghost use Rattle.idle_engine.specs.Resting.{IsDue, IsCalm};
 use block_core::{
     Block, a_rest_shows_nothing_new, unused_fifos_ask_as_before, what_begins_moves_on,
 };
-use dreq_pacing::{HostPorts, Requests, a_quiet_clock_changes_nothing};
+use dreq_pacing::{HostPorts, Requests, a_clock_without_acts_does_nothing};
 use fifo_pair::Fifo;
 
 /// Works out one clock. `due` is the clock in which the system does something next, so before it the ports aren't asked; the
@@ -38,7 +38,7 @@ pub(crate) fn step<F: Fifo>(
     ensures due { IsDue ports.new.lines (requests_of block.new.run.state) ports.new.transfers (clock + 1) result }
     ensures calls { block.new.calls ≡ block.old.calls + 1 }
 {
-    a_quiet_clock_changes_nothing();
+    a_clock_without_acts_does_nothing();
     unused_fifos_ask_as_before();
     if clock < due {
         quiet_step(block, ports, clock, due)

@@ -10,8 +10,8 @@ ghost use Rattle.idle_engine.specs.Stops.{StopsAt};
 
 use vcd_trace::failing_early_leaves_a_first_part;
 
-/// The samples of more clocks are those of fewer with later ones behind them.
-pub fn later_samples_stand_behind()
+/// The samples of more clocks are those of fewer and then later ones.
+pub fn later_samples_follow()
     ensures { (start : Run) (lines : List Line) (clocks more : ℕ) → (later : List Sample)
         × (samples start lines (clocks + more) ≡ samples start lines clocks ++ later) }
 {}

@@ -5,5 +5,5 @@ mod clocks;
 mod laws;
 mod simulation;
 
-pub use laws::{a_stopped_run_leaves_a_first_part, later_samples_stand_behind};
+pub use laws::{a_stopped_run_leaves_a_first_part, later_samples_follow};
 pub use simulation::simulate;

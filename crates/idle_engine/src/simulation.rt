@@ -7,7 +7,7 @@ ghost use Rattle.idle_engine.specs.Stops.{StopsAt};
 
 use crate::clocks::{next_due, rest, step};
 use block_core::Block;
-use dreq_pacing::{HostPorts, Schedule, a_quiet_clock_changes_nothing};
+use dreq_pacing::{HostPorts, Schedule, a_clock_without_acts_does_nothing};
 use fifo_pair::Fifo;
 use std::sync::ledger::Ledger;
 use step_count::Steps;
@@ -18,7 +18,7 @@ use vcd_trace::{Trace, TraceFailed};
 ///
 /// The block is in clock 0, and the clocks are up to 10^12. One step is one clock worked out singly, by a call of
 /// `Block::clock` or `Block::quiet_clock`: clock 0, and each later one that stirs. The trace isn't told of the others, which
-/// repeat the sample before them. Where the trace fails, the run stops behind the clock whose sample it was told.
+/// repeat the sample before them. Where the trace fails, the run stops after the clock whose sample it was told.
 pub fn simulate<F: Fifo, T: Trace, L: Ledger>(
     block: &mut Block<F>,
     schedule: &Schedule,
@@ -30,7 +30,7 @@ pub fn simulate<F: Fifo, T: Trace, L: Ledger>(
     requires within { clocks ≤ 10 ^ 12 }
     requires working { T.has_failed trace.old ≡ false }
     ensures ok { OnOk result ((b : Option (List ℕ)) → T.ready trace.old b
-        → T.stands trace.new b (samples block.old.run schedule.now clocks) true) }
+        → T.holds trace.new b (samples block.old.run schedule.now clocks) true) }
     ensures run { OnOk result (block.new.run ≡ (hosted_at block.old.run schedule.now clocks).run) }
     ensures err { OnErr result (StopsAt block.old.run schedule.now clocks block.new.run
         (λ told ended. (b : Option (List ℕ)) → T.ready trace.old b → T.broken trace.new b told ended)) }
@@ -41,7 +41,7 @@ pub fn simulate<F: Fifo, T: Trace, L: Ledger>(
     ensures most { steps.new ≤ steps.old + clocks }
     ensures stirring { steps.new ≤ steps.old + stirring block.old.run schedule.now clocks + 1 }
 {
-    a_quiet_clock_changes_nothing();
+    a_clock_without_acts_does_nothing();
     trace.begin()?;
     let mut ports = HostPorts::new(schedule);
     let mut due = next_due(&ports, 0, &block.requests());

@@ -32,7 +32,7 @@ impl Trace for Watch {
 
     ghost ready = { λ _ _. Unit {0} };
 
-    ghost stands = { λ _ _ _ _. Unit {0} };
+    ghost holds = { λ _ _ _ _. Unit {0} };
 
     ghost broken = { λ _ _ _ _. Unit {0} };
 

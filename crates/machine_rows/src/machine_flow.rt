@@ -121,7 +121,7 @@ pub static FLOW: [Row; 19] = [
         seen: &[(5, Level(0)), (6, Level(1))],
     },
     Row {
-        shows: "wait pin counts from the input base, round behind pin 31",
+        shows: "wait pin counts from the input base, and pin 0 comes after pin 31",
         words: &[0x20a1, 0xe001],
         setup: Keys {
             in_base: 31,

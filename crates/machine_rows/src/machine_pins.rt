@@ -5,7 +5,7 @@ use crate::machine_row::{Keys, OUT_ONE, PLAIN, PULLING, Row, SIDE_ONE};
 
 pub static PINS: [Row; 15] = [
     Row {
-        shows: "side-set stands over SET in one tick",
+        shows: "side-set takes precedence over SET in one tick",
         words: &[0xf000],
         setup: Keys {
             set: (4, 1),

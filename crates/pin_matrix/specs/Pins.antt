@@ -1,4 +1,5 @@
 -- What is written to pins, and which write counts. In a number bit i is for pin i.
+--   is_high         the level of one pin
 --   rotated_right   a word turned round
 --   writes_of       the pins that a mapped value is written to, and the bits that they get
 --   place_of        a pin's place in a mapping
@@ -7,9 +8,13 @@
 --   merged          the pins after all writes of a clock
 --   last_of         the same for one pin
 --   IsFree          that a write leaves a pin
-use Rattle.std.specs.Prelude.{◌≡◌, ℕ, ◌+◌, ◌-◌, ◌*◌, ◌/◌, ◌%◌, ◌^◌, ◌<◌, ◌≤◌, ◌==◌, List, [], ◌∷◌, bit_and, bit_or, if◌then◌else◌}
+use Rattle.std.specs.Prelude.{◌≡◌, ℕ, Bool, ◌+◌, ◌-◌, ◌*◌, ◌/◌, ◌%◌, ◌^◌, ◌<◌, ◌≤◌, ◌==◌, List, [], ◌∷◌, bit_and, bit_or, if◌then◌else◌}
 use Rattle.std.specs.Int.{bit_at}
 use Rattle.pin_matrix.specs.declared.mapping.Mapping.{Mapping}
+
+-- A pin is high where its bit of the levels is 1.
+abbrev pub is_high : (levels pin : ℕ) → Bool
+is_high levels pin = bit_at levels pin == 1
 
 -- The word turned right by n bits, up to 32: its low n bits come to be at the top.
 abbrev pub rotated_right : ℕ → ℕ → ℕ

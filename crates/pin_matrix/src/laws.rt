@@ -24,7 +24,7 @@ pub fn each_pin_from()
 {}
 
 /// Of the writes of a clock, each pin gets the bit of the last one in the list that holds it; one that none holds stays.
-pub fn the_last_write_stands()
+pub fn the_last_write_counts()
     ensures pin { (p old : ℕ) (ws : List (ℕ × ℕ)) → p < 32 → AllByRecursion IsWrite ws →
         bit_at (merged old ws) p ≡ last_of p (bit_at old p) ws }
     ensures last { (p old : ℕ) (before : List (ℕ × ℕ)) (w : ℕ × ℕ) (after : List (ℕ × ℕ)) →

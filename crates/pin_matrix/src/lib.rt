@@ -4,6 +4,7 @@
 
 mod last_write;
 mod laws;
+mod level;
 mod machine;
 mod mapping;
 mod pads;
@@ -17,8 +18,9 @@ mod writes;
 pub use last_write::{merge, merge4};
 pub use laws::{
     each_mapped_pin, each_pad, each_pin_from, no_write_changes_nothing, settled_pads_are_seen,
-    the_last_write_stands, what_a_machine_sees, words_stay_words,
+    the_last_write_counts, what_a_machine_sees, words_stay_words,
 };
+pub use level::is_high;
 pub use machine::MachineSetup;
 pub use mapping::Mapping;
 pub use pads::pad_of;

@@ -1,5 +1,4 @@
 //! The 32 pins counted from another pin than 0: a word turned round.
-//! The sums are of 64 bits, so that a turn by 32 needs no case of its own.
 ghost use Rattle.std.specs.Prelude.{◌≡◌, ◌<◌, ◌≤◌};
 ghost use Rattle.pin_matrix.specs.Pins as spec;
 
@@ -16,6 +15,5 @@ pub(crate) fn rotate_right(word: u32, by: u8) -> u32
     requires { by ≤ 32 }
     ensures { result ≡ spec.rotated_right word by }
 {
-    let word = u64::from(word);
-    ((word >> by) + (word % (1 << by) << (32 - by))) as u32
+    word.rotate_right(u32::from(by))
 }

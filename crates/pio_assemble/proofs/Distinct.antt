@@ -85,37 +85,37 @@ finish d = by d.name refl where
   by (Some name) h = some name (length d.words == 0) h refl
 
 -- a program that begins is new, and so are those after it
-all_behind : (names : List (List ℕ)) (name : List ℕ) (programs : List Assembled) → is_among names name ≡ false → Named (with_name names name) (Some name) programs → AreNew names (names_of programs) × AreDistinct (names_of programs)
-all_behind names name programs new h = by h.kept refl where
-  behind : AreNew names h.rest × Differs name h.rest
-  behind = all_new_without names name h.rest new h.new
+all_after : (names : List (List ℕ)) (name : List ℕ) (programs : List Assembled) → is_among names name ≡ false → Named (with_name names name) (Some name) programs → AreNew names (names_of programs) × AreDistinct (names_of programs)
+all_after names name programs new h = by h.kept refl where
+  others : AreNew names h.rest × Differs name h.rest
+  others = all_new_without names name h.rest new h.new
 
   by : (kept : Bool) → h.kept ≡ kept → AreNew names (names_of programs) × AreDistinct (names_of programs)
   by true e =
       let whole : names_of programs ≡ name ∷ h.rest = h.whole ∙ ap (λ k. own (Some name) k ++ h.rest) e in
-      rw whole ((new, behind.0), (behind.1, h.distinct))
+      rw whole ((new, others.0), (others.1, h.distinct))
   by false e =
       let whole : names_of programs ≡ h.rest = h.whole ∙ ap (λ k. own (Some name) k ++ h.rest) e in
-      rw whole (behind.0, h.distinct)
+      rw whole (others.0, h.distinct)
 
 with_programs_ok : (first : List Assembled) (r : Result (List Assembled) Refusal) (programs : List Assembled) → with_programs first r ≡ Ok programs → (others : List Assembled) × (r ≡ Ok others) × (first ++ others ≡ programs)
 with_programs_ok first (Ok others) programs h = (others, refl, cc)
 with_programs_ok first (Err refusal) programs h = cc
 
-NamedBehind : List Line → Type 0
-NamedBehind lines = (b : Before) (scope : Scope) (d : Draft) (programs : List Assembled) → first_fault b lines ≡ None → programs_from lines scope d ≡ Ok programs → Named b.programs d.name programs
+NamedAfter : List Line → Type 0
+NamedAfter lines = (b : Before) (scope : Scope) (d : Draft) (programs : List Assembled) → first_fault b lines ≡ None → programs_from lines scope d ≡ Ok programs → Named b.programs d.name programs
 
-module _ (l : Line) (lines : List Line) (rest : NamedBehind lines) (b : Before) (scope : Scope) (d : Draft) (programs : List Assembled) where
+module _ (l : Line) (lines : List Line) (rest : NamedAfter lines) (b : Before) (scope : Scope) (d : Draft) (programs : List Assembled) where
   -- a line that begins a program
   named_begins : (s : Statement) (name : List ℕ) → program_by s ≡ Some name → statement_fault b (has_word lines) s ≡ None → first_fault (after b s) lines ≡ None
       → with_programs (finished d) (programs_from lines (program_scope scope lines) (begun (Some name))) ≡ Ok programs → Named b.programs d.name programs
-  unfolding NamedBehind
+  unfolding NamedAfter
   named_begins s name h fault passes reads =
       let begins = begins_by b (has_word lines) s name h in
       let new : is_among b.programs name ≡ false = no_cause (is_among b.programs name) (Duplicate name) (no_first (duplicate b.programs name) _ (sym begins.fault ∙ fault)) in
       let read = with_programs_ok (finished d) (programs_from lines (program_scope scope lines) (begun (Some name))) programs reads in
-      let behind = subst (λ names. Named names (Some name) read.0) begins.programs (rest (after b s) (program_scope scope lines) (begun (Some name)) read.0 passes read.1) in
-      let all = all_behind b.programs name read.0 new behind in
+      let following = subst (λ names. Named names (Some name) read.0) begins.programs (rest (after b s) (program_scope scope lines) (begun (Some name)) read.0 passes read.1) in
+      let all = all_after b.programs name read.0 new following in
       let f = finish d in
       record {
         kept = f.kept;
@@ -128,7 +128,7 @@ module _ (l : Line) (lines : List Line) (rest : NamedBehind lines) (b : Before) 
   -- one that adds to a program
   named_adds : (s : Statement) → program_by s ≡ None → first_fault (after b s) lines ≡ None
       → (r : Result Draft SourceKind) → drafted scope d s ≡ r → (at_line l.number r >>= programs_from lines scope) ≡ Ok programs → Named b.programs d.name programs
-  unfolding NamedBehind
+  unfolding NamedAfter
   named_adds s h passes (Err kind) e reads = cc
   named_adds s h passes (Ok more) e reads =
       let name : more.name ≡ d.name = ap (name_or d.name) (sym e) ∙ name_kept scope d s in
@@ -142,8 +142,8 @@ module _ (l : Line) (lines : List Line) (rest : NamedBehind lines) (b : Before) 
     by (Some name) h reads' = named_begins s name h fault passes reads'
     by None h reads' = named_adds s h passes (drafted scope d s) refl reads'
 
-named : (lines : List Line) → NamedBehind lines
-unfolding first_fault programs_from NamedBehind
+named : (lines : List Line) → NamedAfter lines
+unfolding first_fault programs_from NamedAfter
 named [] b scope d programs passes reads =
     let same : finished d ≡ programs = cc in
     let f = finish d in
@@ -154,7 +154,7 @@ named (l ∷ lines) b scope d programs passes reads =
 
 -- the programs of a source
 distinct_names : (source : List ℕ) (programs : List Assembled) → reads_source source ≡ Ok programs → AreDistinct (names_of programs)
-unfolding reads_source NamedBehind
+unfolding reads_source NamedAfter
 distinct_names source programs h = by (reading_of source) h where
   checked : (lines : List Line) (fault : Option Refusal) → first_fault nothing_before lines ≡ fault → unless_fault fault lines ≡ Ok programs → AreDistinct (names_of programs)
   checked lines (Some refusal) e reads = cc

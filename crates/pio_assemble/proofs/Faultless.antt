@@ -26,14 +26,14 @@ no_cause true kind h = cc
 no_cause false kind h = refl
 
 -- what is kept by a value and by what comes next is kept by both
-pub kept_behind : {X Y : Type 0} (Q : X → Type 0) (P : Y → Type 0) (r : Result X SourceKind) (next : X → Result Y SourceKind) → IfOk r Q → ((x : X) → Q x → IfOk (next x) P) → IfOk (r >>= next) P
-kept_behind Q P (Ok x) next h k = k x h
-kept_behind Q P (Err kind) next h k = tt
+pub kept_after : {X Y : Type 0} (Q : X → Type 0) (P : Y → Type 0) (r : Result X SourceKind) (next : X → Result Y SourceKind) → IfOk r Q → ((x : X) → Q x → IfOk (next x) P) → IfOk (r >>= next) P
+kept_after Q P (Ok x) next h k = k x h
+kept_after Q P (Err kind) next h k = tt
 
 -- what comes next is the same where it is the same for what is kept
-pub same_behind : {X Y : Type 0} (Q : X → Type 0) (r : Result X SourceKind) (next other : X → Result Y SourceKind) → IfOk r Q → ((x : X) → Q x → next x ≡ other x) → (r >>= next) ≡ (r >>= other)
-same_behind Q (Ok x) next other h k = k x h
-same_behind Q (Err kind) next other h k = refl
+pub same_after : {X Y : Type 0} (Q : X → Type 0) (r : Result X SourceKind) (next other : X → Result Y SourceKind) → IfOk r Q → ((x : X) → Q x → next x ≡ other x) → (r >>= next) ≡ (r >>= other)
+same_after Q (Ok x) next other h k = k x h
+same_after Q (Err kind) next other h k = refl
 
 -- of a value nothing need be known
 pub any : {X : Type 0} (r : Result X SourceKind) → IfOk r (λ x. Unit {0})

@@ -21,9 +21,9 @@ abbrev pub name_or : Option (List ℕ) → Result Draft SourceKind → Option (L
 name_or name (Ok d) = d.name
 name_or name (Err kind) = name
 
-name_behind : {X : Type 0} (name : Option (List ℕ)) (r : Result X SourceKind) (next : X → Result Draft SourceKind) → ((x : X) → name_or name (next x) ≡ name) → name_or name (r >>= next) ≡ name
-name_behind name (Ok x) next h = h x
-name_behind name (Err kind) next h = refl
+name_after : {X : Type 0} (name : Option (List ℕ)) (r : Result X SourceKind) (next : X → Result Draft SourceKind) → ((x : X) → name_or name (next x) ≡ name) → name_or name (r >>= next) ≡ name
+name_after name (Ok x) next h = h x
+name_after name (Err kind) next h = refl
 
 name_with_word : (d : Draft) (word : ℕ) → name_or d.name (with_word d word) ≡ d.name
 name_with_word d word = by (length d.words == 32) where
@@ -32,20 +32,20 @@ name_with_word d word = by (length d.words == 32) where
   by false = refl
 
 name_coded : (scope : Scope) (d : Draft) (code : Code) → name_or d.name (coded scope d code) ≡ d.name
-name_coded scope d code = name_behind d.name (word_of_code scope d.side code) (with_word d) (name_with_word d)
+name_coded scope d code = name_after d.name (word_of_code scope d.side code) (with_word d) (name_with_word d)
 
 -- a statement leaves the program's name
 pub name_kept : (scope : Scope) (d : Draft) (s : Statement) → name_or d.name (drafted scope d s) ≡ d.name
 unfolding drafted
 name_kept scope d statement.Nothing = refl
 name_kept scope d (statement.Program name) = refl
-name_kept scope d (statement.Define public name items) = name_behind d.name (valued (value_of_name scope name)) (λ v. Ok (with_symbol d (record { name = name; value = v; public = public; is_label = false }))) (λ v. refl)
-name_kept scope d (statement.Origin address) = name_behind d.name (number_in scope quantity.Origin 0 31 address) (λ n. Ok (record d { origin = Some n })) (λ n. refl)
-name_kept scope d (statement.SideSet bits opt pindirs) = name_behind d.name (number_in scope quantity.SideSet 0 (most_bits opt) bits) (λ n. Ok (record d { side = rule_of n opt pindirs })) (λ n. refl)
+name_kept scope d (statement.Define public name items) = name_after d.name (valued (value_of_name scope name)) (λ v. Ok (with_symbol d (record { name = name; value = v; public = public; is_label = false }))) (λ v. refl)
+name_kept scope d (statement.Origin address) = name_after d.name (number_in scope quantity.Origin 0 31 address) (λ n. Ok (record d { origin = Some n })) (λ n. refl)
+name_kept scope d (statement.SideSet bits opt pindirs) = name_after d.name (number_in scope quantity.SideSet 0 (most_bits opt) bits) (λ n. Ok (record d { side = rule_of n opt pindirs })) (λ n. refl)
 name_kept scope d statement.WrapTarget = refl
 name_kept scope d statement.Wrap = refl
 name_kept scope d statement.LangOpt = refl
-name_kept scope d (statement.PioVersion version) = name_behind d.name (number_in scope quantity.PioVersion 0 0 version) (λ n. Ok d) (λ n. refl)
+name_kept scope d (statement.PioVersion version) = name_after d.name (number_in scope quantity.PioVersion 0 0 version) (λ n. Ok d) (λ n. refl)
 name_kept scope d (statement.Label public name None) = refl
 name_kept scope d (statement.Label public name (Some code)) = name_coded scope (labelled d public name) code
 name_kept scope d (statement.Code code) = name_coded scope d code

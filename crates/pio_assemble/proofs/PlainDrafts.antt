@@ -18,7 +18,7 @@ use Rattle.pio_assemble.specs.Plain.{plain_drafted, plain_coded, plain_word_of_c
 use Rattle.setup_keys.specs.Rule.{most_bits}
 use Rattle.pio_assemble.specs.Rules.{rule_of}
 use Rattle.pio_assemble.specs.Source.{program_by}
-use Rattle.pio_assemble.proofs.Faultless.{no_second, no_cause, kept_behind, same_behind, any}
+use Rattle.pio_assemble.proofs.Faultless.{no_second, no_cause, kept_after, same_after, any}
 use Rattle.pio_assemble.proofs.PlainScope.{has_room}
 use Rattle.pio_assemble.proofs.PlainWords.{IsRule, word_same}
 
@@ -36,11 +36,11 @@ pub record IsDraft (b : Before) (more : Bool) (d : Draft) : Type 0 where
 -- a statement adds what it plainly adds, and so leaves such a program
 pub record IsDrafted (b : Before) (more : Bool) (r plain : Result Draft SourceKind) : Type 0 where
   pub same : r ≡ plain
-  pub behind : IfOk plain (IsDraft b more)
+  pub leaves : IfOk plain (IsDraft b more)
 
 -- where both do the same to a program, nothing is to be shown but what is left
 only : (b : Before) (more : Bool) (r : Result Draft SourceKind) → IfOk r (IsDraft b more) → IsDrafted b more r r
-only b more r h = record { same = refl; behind = h }
+only b more r h = record { same = refl; leaves = h }
 
 -- one word more
 with_one : (b : Before) (more : Bool) (d : Draft) (word : ℕ) → IsDraft b true d → IsDraft (words_after b 1) more (record d { words = d.words ++ word ∷ [] })
@@ -57,8 +57,8 @@ has_space d word h = let fewer : (length d.words == 32) ≡ false = grind arith 
 -- code without a fault
 coded_same : (scope : Scope) (b : Before) (more : Bool) (d : Draft) (c : Code) → code_fault b c ≡ None → IsDraft b true d → IsDrafted (words_after b 1) more (coded scope d c) (plain_coded scope d c)
 coded_same scope b more d c fault k = record {
-  same = ap (λ (r : Result ℕ SourceKind). r >>= with_word d) (word_same scope d.side b c k.rule fault) ∙ same_behind (λ w. Unit {0}) (plain_word_of_code scope d.side c) (with_word d) (λ w. Ok (record d { words = d.words ++ w ∷ [] })) (any (plain_word_of_code scope d.side c)) (λ w u. has_space d w room);
-  behind = kept_behind (λ w. Unit {0}) (IsDraft (words_after b 1) more) (plain_word_of_code scope d.side c) (λ w. Ok (record d { words = d.words ++ w ∷ [] })) (any (plain_word_of_code scope d.side c)) (λ w u. with_one b more d w k);
+  same = ap (λ (r : Result ℕ SourceKind). r >>= with_word d) (word_same scope d.side b c k.rule fault) ∙ same_after (λ w. Unit {0}) (plain_word_of_code scope d.side c) (with_word d) (λ w. Ok (record d { words = d.words ++ w ∷ [] })) (any (plain_word_of_code scope d.side c)) (λ w u. has_space d w room);
+  leaves = kept_after (λ w. Unit {0}) (IsDraft (words_after b 1) more) (plain_word_of_code scope d.side c) (λ w. Ok (record d { words = d.words ++ w ∷ [] })) (any (plain_word_of_code scope d.side c)) (λ w u. with_one b more d w k);
 } where
   room : length d.words + 1 ≤ 32
   room = let all = has_room b c fault in omega (arith, all, k.count)
@@ -73,11 +73,11 @@ unfolding after statement_fault drafted plain_drafted
 drafted_same scope b more d statement.Nothing h fault k = only b more (Ok d) k
 drafted_same scope b more d (statement.Program name) h fault k = cc
 drafted_same scope b more d (statement.Define public name items) h fault k =
-    only (symbol_after b name) more _ (kept_behind (λ v. Unit {0}) (IsDraft (symbol_after b name) more) (valued (value_of_name scope name)) (λ v. Ok (with_symbol d (record { name = name; value = v; public = public; is_label = false }))) (any (valued (value_of_name scope name))) (λ v u. record { count = k.count; rule = k.rule; wraps = k.wraps }))
+    only (symbol_after b name) more _ (kept_after (λ v. Unit {0}) (IsDraft (symbol_after b name) more) (valued (value_of_name scope name)) (λ v. Ok (with_symbol d (record { name = name; value = v; public = public; is_label = false }))) (any (valued (value_of_name scope name))) (λ v u. record { count = k.count; rule = k.rule; wraps = k.wraps }))
 drafted_same scope b more d (statement.Origin address) h fault k =
-    only (record b { origin = true }) more _ (kept_behind (λ n. Unit {0}) (IsDraft (record b { origin = true }) more) (number_in scope quantity.Origin 0 31 address) (λ n. Ok (record d { origin = Some n })) (any (number_in scope quantity.Origin 0 31 address)) (λ n u. record { count = k.count; rule = k.rule; wraps = k.wraps }))
+    only (record b { origin = true }) more _ (kept_after (λ n. Unit {0}) (IsDraft (record b { origin = true }) more) (number_in scope quantity.Origin 0 31 address) (λ n. Ok (record d { origin = Some n })) (any (number_in scope quantity.Origin 0 31 address)) (λ n u. record { count = k.count; rule = k.rule; wraps = k.wraps }))
 drafted_same scope b more d (statement.SideSet bits opt pindirs) h fault k =
-    only (record b { side_set = Some opt }) more _ (kept_behind (λ n. Unit {0}) (IsDraft (record b { side_set = Some opt }) more) (number_in scope quantity.SideSet 0 (most_bits opt) bits) (λ n. Ok (record d { side = rule_of n opt pindirs })) (any (number_in scope quantity.SideSet 0 (most_bits opt) bits)) (λ n u. record { count = k.count; rule = refl; wraps = k.wraps }))
+    only (record b { side_set = Some opt }) more _ (kept_after (λ n. Unit {0}) (IsDraft (record b { side_set = Some opt }) more) (number_in scope quantity.SideSet 0 (most_bits opt) bits) (λ n. Ok (record d { side = rule_of n opt pindirs })) (any (number_in scope quantity.SideSet 0 (most_bits opt) bits)) (λ n u. record { count = k.count; rule = refl; wraps = k.wraps }))
 drafted_same scope b more d statement.WrapTarget h fault k =
     let placed = no_second (fault_if b.wrap_target Twice) (fault_if (not more) WrapPlace) (no_second (outside b) (fault_if b.wrap_target Twice <|> fault_if (not more) WrapPlace) fault) in
     let comes : more ≡ true = not-false more (no_cause (not more) WrapPlace placed) in
@@ -86,7 +86,7 @@ drafted_same scope b more d statement.Wrap h fault k =
     only (record b { wrap = true }) more (Ok (record d { wrap_top = Some (length d.words - 1) })) (record { count = k.count; rule = k.rule; wraps = k.wraps })
 drafted_same scope b more d statement.LangOpt h fault k = only b more (Ok d) k
 drafted_same scope b more d (statement.PioVersion version) h fault k =
-    only b more _ (kept_behind (λ n. Unit {0}) (IsDraft b more) (number_in scope quantity.PioVersion 0 0 version) (λ n. Ok d) (any (number_in scope quantity.PioVersion 0 0 version)) (λ n u. k))
+    only b more _ (kept_after (λ n. Unit {0}) (IsDraft b more) (number_in scope quantity.PioVersion 0 0 version) (λ n. Ok d) (any (number_in scope quantity.PioVersion 0 0 version)) (λ n u. k))
 drafted_same scope b more d (statement.Label public name None) h fault k =
     only (words_after (symbol_after b name) 0) more (Ok (labelled d public name)) (record { count = omega (arith, k.count); rule = k.rule; wraps = k.wraps })
 drafted_same scope b more d (statement.Label public name (Some c)) h fault k =

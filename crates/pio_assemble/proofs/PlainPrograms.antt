@@ -37,9 +37,9 @@ module _ (n : ℕ) (statements : List Numbered) (rest : AreSame statements) (b :
       let comes : has_word (lines_by statements) ≡ true = not-false (has_word (lines_by statements)) (no_cause (not (has_word (lines_by statements))) EmptyProgram placed) in
       let scopes : program_scope scope (lines_by statements) ≡ plain_scope_from statements (with_program scope) 0 =
       scope_same statements (program_after b name) (with_program scope) 0 passes (record { names = refl; count = refl; most = omega arith }) in
-      let behind = rest (program_after b name) (program_scope scope (lines_by statements)) (begun (Some name)) passes (record { count = refl; rule = (refl, refl); wraps = λ other e. rw comes (omega arith) }) in
+      let following = rest (program_after b name) (program_scope scope (lines_by statements)) (begun (Some name)) passes (record { count = refl; rule = (refl, refl); wraps = λ other e. rw comes (omega arith) }) in
       ap (λ ps. with_programs ps (programs_from (lines_by statements) (program_scope scope (lines_by statements)) (begun (Some name)))) (finished_same b d k)
-      ∙ ap (with_programs (plain_finished d)) (behind ∙ ap (λ sc. plain_programs_from statements sc (begun (Some name))) scopes)
+      ∙ ap (with_programs (plain_finished d)) (following ∙ ap (λ sc. plain_programs_from statements sc (begun (Some name))) scopes)
 
   -- what a statement made of the program, before the others
   goes_on : (c : Before) (r : Result Draft SourceKind) → first_fault c (lines_by statements) ≡ None → IfOk r (IsDraft c (has_word (lines_by statements)))
@@ -52,7 +52,7 @@ module _ (n : ℕ) (statements : List Numbered) (rest : AreSame statements) (b :
       → (at_line n (drafted scope d s) >>= programs_from (lines_by statements) scope) ≡ (at_line n (plain_drafted scope d s) >>= plain_programs_from statements scope)
   adds s h fault passes k =
       let it = drafted_same scope b (has_word (lines_by statements)) d s h fault k in
-      ap (λ (r : Result Draft SourceKind). at_line n r >>= programs_from (lines_by statements) scope) it.same ∙ goes_on (after b s) (plain_drafted scope d s) passes it.behind
+      ap (λ (r : Result Draft SourceKind). at_line n r >>= programs_from (lines_by statements) scope) it.same ∙ goes_on (after b s) (plain_drafted scope d s) passes it.leaves
 
   -- a statement of either kind
   line_same : (s : Statement) → statement_fault b (has_word (lines_by statements)) s ≡ None → first_fault (after b s) (lines_by statements) ≡ None → IsDraft b (word_by s (has_word (lines_by statements))) d

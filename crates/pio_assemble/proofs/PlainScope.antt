@@ -69,34 +69,34 @@ has_room b (code.Instruction i) h = let less = leb-false 32 b.words (no_cause (n
 record IsPassed (b : Before) (scope : Scope) (words : ℕ) (s : Statement) : Type 0 where
   scope_same : scope_by scope words s ≡ plain_scope_by scope words s
   words_same : words_by words s ≡ plain_words_by words s
-  behind : IsScope (after b s) (plain_scope_by scope words s) (plain_words_by words s)
+  leaves : IsScope (after b s) (plain_scope_by scope words s) (plain_words_by words s)
 
 -- a statement that begins no program and has no fault
 passed : (b : Before) (more : Bool) (scope : Scope) (words : ℕ) (s : Statement) → program_by s ≡ None → statement_fault b more s ≡ None → IsScope b scope words → IsPassed b scope words s
 unfolding after statement_fault
-passed b more scope words statement.Nothing h fault k = record { scope_same = refl; words_same = refl; behind = k }
+passed b more scope words statement.Nothing h fault k = record { scope_same = refl; words_same = refl; leaves = k }
 passed b more scope words (statement.Program name) h fault k = cc
 passed b more scope words (statement.Define public name items) h fault k =
     let it = added b scope name (symbol.Define items) k.names fault in
-    record { scope_same = it.same; words_same = refl; behind = record { names = it.names; count = k.count; most = k.most } }
-passed b more scope words (statement.Origin address) h fault k = record { scope_same = refl; words_same = refl; behind = record { names = k.names; count = k.count; most = k.most } }
-passed b more scope words (statement.SideSet bits opt pindirs) h fault k = record { scope_same = refl; words_same = refl; behind = record { names = k.names; count = k.count; most = k.most } }
-passed b more scope words statement.WrapTarget h fault k = record { scope_same = refl; words_same = refl; behind = record { names = k.names; count = k.count; most = k.most } }
-passed b more scope words statement.Wrap h fault k = record { scope_same = refl; words_same = refl; behind = record { names = k.names; count = k.count; most = k.most } }
-passed b more scope words statement.LangOpt h fault k = record { scope_same = refl; words_same = refl; behind = k }
-passed b more scope words (statement.PioVersion version) h fault k = record { scope_same = refl; words_same = refl; behind = k }
+    record { scope_same = it.same; words_same = refl; leaves = record { names = it.names; count = k.count; most = k.most } }
+passed b more scope words (statement.Origin address) h fault k = record { scope_same = refl; words_same = refl; leaves = record { names = k.names; count = k.count; most = k.most } }
+passed b more scope words (statement.SideSet bits opt pindirs) h fault k = record { scope_same = refl; words_same = refl; leaves = record { names = k.names; count = k.count; most = k.most } }
+passed b more scope words statement.WrapTarget h fault k = record { scope_same = refl; words_same = refl; leaves = record { names = k.names; count = k.count; most = k.most } }
+passed b more scope words statement.Wrap h fault k = record { scope_same = refl; words_same = refl; leaves = record { names = k.names; count = k.count; most = k.most } }
+passed b more scope words statement.LangOpt h fault k = record { scope_same = refl; words_same = refl; leaves = k }
+passed b more scope words (statement.PioVersion version) h fault k = record { scope_same = refl; words_same = refl; leaves = k }
 passed b more scope words (statement.Label public name None) h fault k =
     let inside = no_second (outside b) (symbol_fault b name <|> None) fault in
     let it = added b scope name (symbol.Label words) k.names (no_first (symbol_fault b name) None inside) in
-    record { scope_same = it.same; words_same = omega (arith, k.most); behind = record { names = it.names; count = ap (λ n. n + 0) k.count; most = omega (arith, k.most) } }
+    record { scope_same = it.same; words_same = omega (arith, k.most); leaves = record { names = it.names; count = ap (λ n. n + 0) k.count; most = omega (arith, k.most) } }
 passed b more scope words (statement.Label public name (Some c)) h fault k =
     let inside = no_second (outside b) (symbol_fault b name <|> code_fault b c) fault in
     let it = added b scope name (symbol.Label words) k.names (no_first (symbol_fault b name) (code_fault b c) inside) in
     let room = has_room b c (no_second (symbol_fault b name) (code_fault b c) inside) in
-    record { scope_same = it.same; words_same = omega (arith, room, k.count); behind = record { names = it.names; count = ap (λ n. n + 1) k.count; most = omega (arith, room, k.count) } }
+    record { scope_same = it.same; words_same = omega (arith, room, k.count); leaves = record { names = it.names; count = ap (λ n. n + 1) k.count; most = omega (arith, room, k.count) } }
 passed b more scope words (statement.Code c) h fault k =
     let room = has_room b c (no_second (outside b) (code_fault b c) fault) in
-    record { scope_same = refl; words_same = omega (arith, room, k.count); behind = record { names = k.names; count = ap (λ n. n + 1) k.count; most = omega (arith, room, k.count) } }
+    record { scope_same = refl; words_same = omega (arith, room, k.count); leaves = record { names = k.names; count = ap (λ n. n + 1) k.count; most = omega (arith, room, k.count) } }
 
 -- the scope after these statements is the plain one, whatever comes before them
 abbrev AreSame : List Numbered → Type 0
@@ -111,7 +111,7 @@ same_line s statements rest b scope words h k = by (program_by s.says) refl wher
   by None e =
       let split = no_fault s.line (statement_fault b (has_word (lines_by statements)) s.says) (first_fault (after b s.says) (lines_by statements)) h in
       let p = passed b (has_word (lines_by statements)) scope words s.says e split.0 k in
-      rw (e, p.scope_same, p.words_same) (rest (after b s.says) (plain_scope_by scope words s.says) (plain_words_by words s.says) split.1 p.behind)
+      rw (e, p.scope_same, p.words_same) (rest (after b s.says) (plain_scope_by scope words s.says) (plain_words_by words s.says) split.1 p.leaves)
 
 -- the symbols of statements without faults, up to where the next program begins
 pub scope_same : (statements : List Numbered) → AreSame statements

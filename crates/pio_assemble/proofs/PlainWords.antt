@@ -21,7 +21,7 @@ use Rattle.answers.specs.Answers.{◌>>=◌}
 use Rattle.pio_assemble.specs.Checks.{code_fault, side_fault, room_fault, has_side}
 use Rattle.pio_assemble.specs.Operands.{valued, in_range, number_in, side_in, delay_in, suffix_of, act_of, side_kept, op_of, word_of_instruction, word_of_code}
 use Rattle.pio_assemble.specs.Plain.{plain_op_of, plain_word_of_instruction, plain_word_of_code}
-use Rattle.pio_assemble.proofs.Faultless.{no_second, kept_behind, same_behind, any}
+use Rattle.pio_assemble.proofs.Faultless.{no_second, kept_after, same_after, any}
 
 -- what a `.side_set` says is in the rule; without one the rule is that of none
 abbrev pub IsRule : Option Bool → SideRule → Type 0
@@ -38,7 +38,7 @@ at_most what low high (pos n) = by (nat_le low n && nat_le n high) refl where
 
 -- and so is a value in it
 number_most : (scope : Scope) (what : Quantity) (low high : ℕ) (items : List Item) → IfOk (number_in scope what low high items) (λ k. k ≤ high)
-number_most scope what low high items = kept_behind (λ n. Unit {0}) (λ k. k ≤ high) (valued (value_of scope None items)) (in_range what low high) (any (valued (value_of scope None items))) (λ n h. at_most what low high n)
+number_most scope what low high items = kept_after (λ n. Unit {0}) (λ k. k ≤ high) (valued (value_of scope None items)) (in_range what low high) (any (valued (value_of scope None items))) (λ n h. at_most what low high n)
 
 -- bits 12 to 8 are those of the side-set value as it is said
 abbrev IsSaid : SideRule → Option ℕ → Type 0
@@ -75,15 +75,15 @@ extras_said : (scope : Scope) (rule : SideRule) (set : Option Bool) (s : Suffix)
 unfolding suffix_of
 extras_said scope rule set suffix.None k h = none_said set rule k h
 extras_said scope rule set (suffix.Side side) k h =
-    kept_behind (λ v. v ≤ 2 ^ rule.bits - 1) (λ e. IsSaid rule e.side) (side_in scope rule side) (λ v. Ok (record { side = Some v; delay = 0 })) (number_most scope quantity.Side 0 (2 ^ rule.bits - 1) side) (λ v most. value_said rule v most)
+    kept_after (λ v. v ≤ 2 ^ rule.bits - 1) (λ e. IsSaid rule e.side) (side_in scope rule side) (λ v. Ok (record { side = Some v; delay = 0 })) (number_most scope quantity.Side 0 (2 ^ rule.bits - 1) side) (λ v most. value_said rule v most)
 extras_said scope rule set (suffix.Delay delay) k h =
-    kept_behind (λ t. Unit {0}) (λ e. IsSaid rule e.side) (delay_in scope rule delay) (λ t. Ok (record { side = None; delay = t })) (any (delay_in scope rule delay)) (λ t u. none_said set rule k h)
+    kept_after (λ t. Unit {0}) (λ e. IsSaid rule e.side) (delay_in scope rule delay) (λ t. Ok (record { side = None; delay = t })) (any (delay_in scope rule delay)) (λ t u. none_said set rule k h)
 extras_said scope rule set (suffix.SideDelay side delay) k h =
-    kept_behind (λ v. v ≤ 2 ^ rule.bits - 1) (λ e. IsSaid rule e.side) (side_in scope rule side) (λ v. delay_in scope rule delay >>= λ t. Ok (record { side = Some v; delay = t })) (number_most scope quantity.Side 0 (2 ^ rule.bits - 1) side)
-    (λ v most. kept_behind (λ t. Unit {0}) (λ e. IsSaid rule e.side) (delay_in scope rule delay) (λ t. Ok (record { side = Some v; delay = t })) (any (delay_in scope rule delay)) (λ t u. value_said rule v most))
+    kept_after (λ v. v ≤ 2 ^ rule.bits - 1) (λ e. IsSaid rule e.side) (side_in scope rule side) (λ v. delay_in scope rule delay >>= λ t. Ok (record { side = Some v; delay = t })) (number_most scope quantity.Side 0 (2 ^ rule.bits - 1) side)
+    (λ v most. kept_after (λ t. Unit {0}) (λ e. IsSaid rule e.side) (delay_in scope rule delay) (λ t. Ok (record { side = Some v; delay = t })) (any (delay_in scope rule delay)) (λ t u. value_said rule v most))
 extras_said scope rule set (suffix.DelaySide delay side) k h =
-    kept_behind (λ t. Unit {0}) (λ e. IsSaid rule e.side) (delay_in scope rule delay) (λ t. side_in scope rule side >>= λ v. Ok (record { side = Some v; delay = t })) (any (delay_in scope rule delay))
-    (λ t u. kept_behind (λ v. v ≤ 2 ^ rule.bits - 1) (λ e. IsSaid rule e.side) (side_in scope rule side) (λ v. Ok (record { side = Some v; delay = t })) (number_most scope quantity.Side 0 (2 ^ rule.bits - 1) side) (λ v most. value_said rule v most))
+    kept_after (λ t. Unit {0}) (λ e. IsSaid rule e.side) (delay_in scope rule delay) (λ t. side_in scope rule side >>= λ v. Ok (record { side = Some v; delay = t })) (any (delay_in scope rule delay))
+    (λ t u. kept_after (λ v. v ≤ 2 ^ rule.bits - 1) (λ e. IsSaid rule e.side) (side_in scope rule side) (λ v. Ok (record { side = Some v; delay = t })) (number_most scope quantity.Side 0 (2 ^ rule.bits - 1) side) (λ v most. value_said rule v most))
 
 -- the word of an act and its extras
 op_said : (rule : SideRule) (act : Act) (e : Extras) → IsSaid rule e.side → word_of (op_of rule act e) rule ≡ word_of (plain_op_of act e) rule
@@ -94,8 +94,8 @@ op_said rule act e h = rw (h e.delay) refl
 instruction_said : (scope : Scope) (rule : SideRule) (set : Option Bool) (i : Instruction) → IsRule set rule → side_fault set (has_side i.suffix) ≡ None → word_of_instruction scope rule i ≡ plain_word_of_instruction scope rule i
 unfolding word_of_instruction plain_word_of_instruction
 instruction_said scope rule set i k h =
-    same_behind (λ a. Unit {0}) (act_of scope i.form) (λ a. suffix_of scope rule i.suffix >>= λ e. Ok (word_of (op_of rule a e) rule)) (λ a. suffix_of scope rule i.suffix >>= λ e. Ok (word_of (plain_op_of a e) rule)) (any (act_of scope i.form))
-    (λ a u. same_behind (λ e. IsSaid rule e.side) (suffix_of scope rule i.suffix) (λ e. Ok (word_of (op_of rule a e) rule)) (λ e. Ok (word_of (plain_op_of a e) rule)) (extras_said scope rule set i.suffix k h) (λ e said. ap (λ (w : ℕ). Ok w) (op_said rule a e said)))
+    same_after (λ a. Unit {0}) (act_of scope i.form) (λ a. suffix_of scope rule i.suffix >>= λ e. Ok (word_of (op_of rule a e) rule)) (λ a. suffix_of scope rule i.suffix >>= λ e. Ok (word_of (plain_op_of a e) rule)) (any (act_of scope i.form))
+    (λ a u. same_after (λ e. IsSaid rule e.side) (suffix_of scope rule i.suffix) (λ e. Ok (word_of (op_of rule a e) rule)) (λ e. Ok (word_of (plain_op_of a e) rule)) (extras_said scope rule set i.suffix k h) (λ e said. ap (λ (w : ℕ). Ok w) (op_said rule a e said)))
 
 -- the word of code without a fault
 pub word_same : (scope : Scope) (rule : SideRule) (b : Before) (c : Code) → IsRule b.side_set rule → code_fault b c ≡ None → word_of_code scope rule c ≡ plain_word_of_code scope rule c

@@ -13,7 +13,7 @@ use Rattle.answers.specs.Answers.{◌>>=◌}
 use Rattle.pio_assemble.specs.Answers.{Refusal, line_told, told, located, at_line}
 use Rattle.pio_assemble.specs.Drafts.{Draft, begun, finished}
 use Rattle.pio_assemble.specs.Program.{Assembled}
-use Rattle.pio_assemble.specs.Source.{program_on, program_scope, programs_from, programs_by, with_programs, drafted_on, behind_program, told_of_lex, reads_tokens}
+use Rattle.pio_assemble.specs.Source.{program_on, program_scope, programs_from, programs_by, with_programs, drafted_on, after_program, told_of_lex, reads_tokens}
 use Rattle.pio_assemble.proofs.Lining.{first_left}
 use Rattle.pio_assemble.proofs.Scoping.{program_begins, program_goes_on}
 
@@ -39,8 +39,8 @@ module _ (lines : List Line) (i : ℕ) (l : Line) (within : i < length lines) (h
       ap (λ ls. programs_from ls scope d) (first_left lines i l within here) ∙ ap (programs_by (programs_from rest) scope d l rest) begins in
       sym (ap (with_programs first) step ∙ joined first (finished d) _)
 
-  pub behind_begins : (name : List ℕ) → program_on l.reading ≡ Some name → behind_program (drop i lines) ≡ drop (i + 1) lines
-  behind_begins name begins = ap behind_program (first_left lines i l within here) ∙ program_begins l (drop (i + 1) lines) (ap is_some begins)
+  pub after_begins : (name : List ℕ) → program_on l.reading ≡ Some name → after_program (drop i lines) ≡ drop (i + 1) lines
+  after_begins name begins = ap after_program (first_left lines i l within here) ∙ program_begins l (drop (i + 1) lines) (ap is_some begins)
 
   -- it adds to the program
   pub adds_left : (scope : Scope) (d more : Draft) → program_on l.reading ≡ None → drafted_on scope d l.reading ≡ Ok more
@@ -51,8 +51,8 @@ module _ (lines : List Line) (i : ℕ) (l : Line) (within : i < length lines) (h
       sym (ap (λ ls. programs_from ls scope d) (first_left lines i l within here) ∙ ap (programs_by (programs_from rest) scope d l rest) goes_on
       ∙ ap (λ r. at_line l.number r >>= programs_from rest scope) adds)
 
-  pub behind_adds : program_on l.reading ≡ None → behind_program (drop (i + 1) lines) ≡ behind_program (drop i lines)
-  behind_adds goes_on = sym (ap behind_program (first_left lines i l within here) ∙ program_goes_on l (drop (i + 1) lines) (ap is_some goes_on))
+  pub after_adds : program_on l.reading ≡ None → after_program (drop (i + 1) lines) ≡ after_program (drop i lines)
+  after_adds goes_on = sym (ap after_program (first_left lines i l within here) ∙ program_goes_on l (drop (i + 1) lines) (ap is_some goes_on))
 
   -- its value has a fault
   pub fault_left : (first : List Assembled) (scope : Scope) (d : Draft) (fault : LineFault) → program_on l.reading ≡ None → answers.Refuses (line_told fault) (drafted_on scope d l.reading)

@@ -2,7 +2,7 @@
 use Rattle.std.proofs.Common.{◌≡◌, ℕ, ◌∷◌, List, true, false, is_some, refl}
 use Rattle.pio_expr.specs.Values.{Scope}
 use Rattle.pio_assemble.specs.declared.line.Line.{Line}
-use Rattle.pio_assemble.specs.Source.{program_on, scope_from, scope_on, words_on, behind_program}
+use Rattle.pio_assemble.specs.Source.{program_on, scope_from, scope_on, words_on, after_program}
 
 module _ (l : Line) (lines : List Line) where
   -- where a program begins, they end
@@ -10,8 +10,8 @@ module _ (l : Line) (lines : List Line) where
   unfolding scope_from
   symbols_end scope words begins = rw begins refl
 
-  pub program_begins : is_some (program_on l.reading) ≡ true → behind_program (l ∷ lines) ≡ lines
-  unfolding behind_program
+  pub program_begins : is_some (program_on l.reading) ≡ true → after_program (l ∷ lines) ≡ lines
+  unfolding after_program
   program_begins begins = rw begins refl
 
   -- else they go on
@@ -19,6 +19,6 @@ module _ (l : Line) (lines : List Line) where
   unfolding scope_from
   symbols_go_on scope words more = rw more refl
 
-  pub program_goes_on : is_some (program_on l.reading) ≡ false → behind_program (l ∷ lines) ≡ behind_program lines
-  unfolding behind_program
+  pub program_goes_on : is_some (program_on l.reading) ≡ false → after_program (l ∷ lines) ≡ after_program lines
+  unfolding after_program
   program_goes_on more = rw more refl

@@ -16,7 +16,7 @@ use Rattle.pio_lex.specs.Gaps.{gap_at, opens_block}
 use Rattle.pio_lex.specs.Numbers.{word_number}
 use Rattle.pio_lex.specs.Spellings.{token_at}
 use Rattle.pio_lex.specs.Pieces.{piece_at}
-use Rattle.pio_assemble.proofs.TextRows.{may_stand, AreRow}
+use Rattle.pio_assemble.proofs.TextRows.{may_be_first, AreRow}
 
 -- what comes after a number or a word: nothing, a blank, or the bracket that closes a delay
 pub data Follow : Type 0 where
@@ -25,18 +25,18 @@ pub data Follow : Type 0 where
   bracket : List ℕ → Follow
 
 -- its bytes
-abbrev pub behind : Follow → List ℕ
-behind nothing = []
-behind (blank rest) = 32 ∷ rest
-behind (bracket rest) = 93 ∷ rest
+abbrev pub after : Follow → List ℕ
+after nothing = []
+after (blank rest) = 32 ∷ rest
+after (bracket rest) = 93 ∷ rest
 
 -- a number's piece
 abbrev pub number : ℕ → Piece
 number n = piece.Token (kind.Number n) (length (decimal n))
 
 -- a piece is at the beginning of a text
-abbrev pub Stands : List ℕ → Piece → Type 0
-Stands text p = (may_stand text p ≡ true) × (piece_at None text ≡ Ok p)
+abbrev pub IsFirst : List ℕ → Piece → Type 0
+IsFirst text p = (may_be_first text p ≡ true) × (piece_at None text ≡ Ok p)
 
 -- a test of each number below one
 abbrev pub all_below : (ℕ → Bool) → ℕ → Bool
@@ -77,20 +77,20 @@ number_given n _ h = absurd cc
 
 -- the test of a blank before a number
 abbrev gap_test : List ℕ → Bool
-gap_test text = may_stand text (piece.Gap 1) && gives_gap (piece_at None text)
+gap_test text = may_be_first text (piece.Gap 1) && gives_gap (piece_at None text)
 
 -- and of a number
 abbrev number_test : ℕ → List ℕ → Bool
-number_test n text = may_stand text (number n) && gives_number n (piece_at None text)
+number_test n text = may_be_first text (number n) && gives_number n (piece_at None text)
 
-gap_stands : (text : List ℕ) → gap_test text ≡ true → Stands text (piece.Gap 1)
-gap_stands text h =
-    let both = and_parts (may_stand text (piece.Gap 1)) (gives_gap (piece_at None text)) h in
+gap_is_first : (text : List ℕ) → gap_test text ≡ true → IsFirst text (piece.Gap 1)
+gap_is_first text h =
+    let both = and_parts (may_be_first text (piece.Gap 1)) (gives_gap (piece_at None text)) h in
     (both.0, gap_given (piece_at None text) both.1)
 
-number_stands : (n : ℕ) (text : List ℕ) → number_test n text ≡ true → Stands text (number n)
-number_stands n text h =
-    let both = and_parts (may_stand text (number n)) (gives_number n (piece_at None text)) h in
+number_is_first : (n : ℕ) (text : List ℕ) → number_test n text ≡ true → IsFirst text (number n)
+number_is_first n text h =
+    let both = and_parts (may_be_first text (number n)) (gives_number n (piece_at None text)) h in
     (both.0, number_given n (piece_at None text) both.1)
 
 -- 0 to 32, by computing the tests
@@ -98,20 +98,20 @@ gaps : (rest : List ℕ) → all_below (λ n. gap_test (32 ∷ decimal n ++ rest
 unfolding digits piece_at gap_at opens_block token_at word_number
 gaps rest = refl
 
-numbers : (f : Follow) → all_below (λ n. number_test n (decimal n ++ behind f)) 33 ≡ true
+numbers : (f : Follow) → all_below (λ n. number_test n (decimal n ++ after f)) 33 ≡ true
 unfolding digits piece_at gap_at opens_block token_at word_number
 numbers nothing = refl
 numbers (blank rest) = refl
 numbers (bracket rest) = refl
 
 -- a number before what comes after it
-pub numbered : (n : ℕ) → n < 33 → (f : Follow) (pieces : List Piece) → AreRow (behind f) pieces → AreRow (decimal n ++ behind f) (number n ∷ pieces)
+pub numbered : (n : ℕ) → n < 33 → (f : Follow) (pieces : List Piece) → AreRow (after f) pieces → AreRow (decimal n ++ after f) (number n ∷ pieces)
 numbered n h f pieces row =
-    let it = number_stands n (decimal n ++ behind f) (each_below (λ m. number_test m (decimal m ++ behind f)) 33 (numbers f) n h) in
-    (it.0, it.1, subst (λ (t : List ℕ). AreRow t pieces) (sym (drop-append_seam (decimal n) (behind f))) row)
+    let it = number_is_first n (decimal n ++ after f) (each_below (λ m. number_test m (decimal m ++ after f)) 33 (numbers f) n h) in
+    (it.0, it.1, subst (λ (t : List ℕ). AreRow t pieces) (sym (drop-append_seam (decimal n) (after f))) row)
 
 -- the same after a blank
-pub spaced : (n : ℕ) → n < 33 → (f : Follow) (pieces : List Piece) → AreRow (behind f) pieces → AreRow (32 ∷ decimal n ++ behind f) (piece.Gap 1 ∷ number n ∷ pieces)
+pub spaced : (n : ℕ) → n < 33 → (f : Follow) (pieces : List Piece) → AreRow (after f) pieces → AreRow (32 ∷ decimal n ++ after f) (piece.Gap 1 ∷ number n ∷ pieces)
 spaced n h f pieces row =
-    let it = gap_stands (32 ∷ decimal n ++ behind f) (each_below (λ m. gap_test (32 ∷ decimal m ++ behind f)) 33 (gaps (behind f)) n h) in
+    let it = gap_is_first (32 ∷ decimal n ++ after f) (each_below (λ m. gap_test (32 ∷ decimal m ++ after f)) 33 (gaps (after f)) n h) in
     (it.0, it.1, numbered n h f pieces row)

@@ -15,7 +15,7 @@ use Rattle.pio_lex.specs.declared.piece.Piece.TheVariants as piece
 use Rattle.pio_lex.specs.Gaps.{is_lang_opt, begins_line, opens_block, gap_at}
 use Rattle.pio_lex.specs.Pieces.{piece_at, size}
 use Rattle.pio_lex.specs.Reading.{read_from, reading_of}
-use Rattle.pio_lex.specs.Tokens.{Place, line_at, tokens_of, last_kind, behind as behind_piece, start}
+use Rattle.pio_lex.specs.Tokens.{Place, line_at, tokens_of, last_kind, after as after_piece, start}
 
 -- a text that is left
 abbrev pub is_some_text : List ℕ → Bool
@@ -28,13 +28,13 @@ is_plain (piece.Gap n) = true
 is_plain (piece.Token kind n) = not (is_lang_opt (Some kind))
 
 -- a piece of some bytes at the beginning of a text where no foreign block begins
-abbrev pub may_stand : List ℕ → Piece → Bool
-may_stand text p = is_some_text text && (nat_lt 0 (size p) && (not (opens_block text) && is_plain p))
+abbrev pub may_be_first : List ℕ → Piece → Bool
+may_be_first text p = is_some_text text && (nat_lt 0 (size p) && (not (opens_block text) && is_plain p))
 
 -- these pieces are one after the other, from the beginning of a text to its end
 abbrev pub AreRow : List ℕ → List Piece → Type 0
 AreRow text [] = text ≡ []
-AreRow text (p ∷ pieces) = (may_stand text p ≡ true) × (piece_at None text ≡ Ok p) × AreRow (drop (size p) text) pieces
+AreRow text (p ∷ pieces) = (may_be_first text p ≡ true) × (piece_at None text ≡ Ok p) × AreRow (drop (size p) text) pieces
 
 -- the tokens of pieces that are at a place of a source
 abbrev pub tokens_from : List ℕ → ℕ → List Piece → List Token
@@ -58,13 +58,13 @@ any_last last text plain none = by (begins_line last) refl where
   by false e = rw (plain, none, e) refl
 
 -- the same as facts
-record MayStand (text : List ℕ) (p : Piece) : Type 0 where
+record MayBeFirst (text : List ℕ) (p : Piece) : Type 0 where
   some : is_some_text text ≡ true
   counts : 0 < size p
   other : opens_block text ≡ false
   plain : is_plain p ≡ true
 
-parts_of : (text : List ℕ) (p : Piece) → may_stand text p ≡ true → MayStand text p
+parts_of : (text : List ℕ) (p : Piece) → may_be_first text p ≡ true → MayBeFirst text p
 parts_of text p h =
     let one = and_parts (is_some_text text) _ h in
     let two = and_parts (nat_lt 0 (size p)) _ one.1 in
@@ -80,10 +80,10 @@ some_length [] e = absurd cc
 some_length (b ∷ bs) e = omega arith
 
 -- after a plain piece there is no `.lang_opt`
-stays_plain : (source : List ℕ) (place : Place) (p : Piece) → is_lang_opt (last_kind place.tokens) ≡ false → is_plain p ≡ true → is_lang_opt (last_kind (behind_piece source place p).tokens) ≡ false
+stays_plain : (source : List ℕ) (place : Place) (p : Piece) → is_lang_opt (last_kind place.tokens) ≡ false → is_plain p ≡ true → is_lang_opt (last_kind (after_piece source place p).tokens) ≡ false
 stays_plain source place (piece.Gap n) h plain = rw (append-nil place.tokens) h
 stays_plain source place (piece.Token kind n) h plain =
-    let last : last_kind (behind_piece source place (piece.Token kind n)).tokens ≡ Some kind = last_kind_more place.tokens _ in
+    let last : last_kind (after_piece source place (piece.Token kind n)).tokens ≡ Some kind = last_kind_more place.tokens _ in
     ap is_lang_opt last ∙ not_true (is_lang_opt (Some kind)) plain
   where
     not_true : (b : Bool) → not b ≡ true → b ≡ false
@@ -97,8 +97,8 @@ unfolding read_from
 reads_from source [] zero place plain fuel row = rw (append-nil place.tokens) refl
 reads_from source [] (suc more) place plain fuel row =
     let none : length (drop place.at source) ≡ 0 = ap length row in
-    let behind : length source ≤ place.at = omega (arith, length-drop place.at source) in
-    let test : nat_lt place.at (length source) ≡ false = le-ltb place.at (length source) behind in
+    let past : length source ≤ place.at = omega (arith, length-drop place.at source) in
+    let test : nat_lt place.at (length source) ≡ false = le-ltb place.at (length source) past in
     rw (test, append-nil place.tokens) refl
 reads_from source (p ∷ pieces) zero place plain fuel row =
     let m = parts_of (drop place.at source) p row.0 in
@@ -112,7 +112,7 @@ reads_from source (p ∷ pieces) (suc more) place plain fuel row =
     let counts : 0 < size p = m.counts in
     let on : drop (size p) (drop place.at source) ≡ drop (place.at + size p) source = drop-drop (size p) place.at source in
     let shorter : length (drop (place.at + size p) source) ≤ more = omega (arith, length-drop place.at source, length-drop (place.at + size p) source) in
-    let rest = reads_from source pieces more (behind_piece source place p) (stays_plain source place p plain m.plain) shorter (subst (λ (text : List ℕ). AreRow text pieces) on row.2) in
+    let rest = reads_from source pieces more (after_piece source place p) (stays_plain source place p plain m.plain) shorter (subst (λ (text : List ℕ). AreRow text pieces) on row.2) in
     rw (test, here) (rest ∙ ap (λ (ts : List Token). Ok ts) (append_assoc place.tokens (tokens_of (line_at source place.at) place.at p) (tokens_from source (place.at + size p) pieces)))
 
 -- a text's reading is the tokens of its pieces

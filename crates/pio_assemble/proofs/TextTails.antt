@@ -26,7 +26,7 @@ use Rattle.pio_assemble.specs.declared.quantity.Quantity.{Quantity}
 use Rattle.pio_assemble.specs.declared.quantity.Quantity.TheVariants as quantity
 use Rattle.pio_assemble.specs.Operands.{number_in, suffix_of, side_in, delay_in, SideIsWithin}
 use Rattle.pio_assemble.proofs.TextRows.{AreRow}
-use Rattle.pio_assemble.proofs.TextNumbers.{Follow, nothing, blank, bracket, behind, number, numbered, spaced}
+use Rattle.pio_assemble.proofs.TextNumbers.{Follow, nothing, blank, bracket, after, number, numbered, spaced}
 
 -- an expression that is a number
 abbrev pub lone : ℕ → List Item
@@ -88,11 +88,11 @@ delay_row : (d : ℕ) → d < 33 → AreRow (32 ∷ bracketed d) (delay_pieces d
 unfolding piece_at gap_at opens_block token_at mark_at
 delay_row d h = (refl, refl, (refl, refl, numbered d h (bracket []) (piece.Token kind.CloseBracket 1 ∷ []) (refl, refl, refl)))
 
-side_row : (v : ℕ) → v < 33 → (f : Follow) (pieces : List Piece) → AreRow (behind f) pieces → AreRow (codes " side " ++ decimal v ++ behind f) (side_pieces v ++ pieces)
+side_row : (v : ℕ) → v < 33 → (f : Follow) (pieces : List Piece) → AreRow (after f) pieces → AreRow (codes " side " ++ decimal v ++ after f) (side_pieces v ++ pieces)
 unfolding piece_at gap_at opens_block token_at keyword_of keywords row_of
 side_row v h f pieces row = (refl, refl, (refl, refl, spaced v h f pieces row))
 
-tail_row : (t : Tail) → TailFits t → AreRow (behind (follow_of t)) (tail_pieces t)
+tail_row : (t : Tail) → TailFits t → AreRow (after (follow_of t)) (tail_pieces t)
 tail_row bare h = refl
 tail_row (sided v) h = side_row v h nothing [] refl
 tail_row (delayed d) h = delay_row d h
@@ -101,8 +101,8 @@ tail_row (both v d) h = side_row v h.0 (blank (bracketed d)) (delay_pieces d) (d
 -- the tail of a side-set value and a delay
 pub record IsTailOf (rule : SideRule) (side : Option ℕ) (delay : ℕ) : Type 0 where
   pub tail : Tail
-  pub row : AreRow (behind (follow_of tail)) (tail_pieces tail)
-  pub text : side_text side ++ delay_text delay ≡ behind (follow_of tail)
+  pub row : AreRow (after (follow_of tail)) (tail_pieces tail)
+  pub text : side_text side ++ delay_text delay ≡ after (follow_of tail)
   pub means : (scope : Scope) → suffix_of scope rule (tail_suffix tail) ≡ Ok (record { side = side; delay = delay })
 
 -- a number of at most five bits

@@ -36,7 +36,7 @@ use Rattle.pio_encode.specs.Text.{mov_destination_text, mov_operation_text, mov_
 use Rattle.pio_statement.specs.declared.instruction.IrqMode.{IrqMode}
 use Rattle.pio_statement.specs.declared.instruction.IrqMode.TheVariants as irq_mode
 use Rattle.pio_assemble.proofs.TextRows.{AreRow}
-use Rattle.pio_assemble.proofs.TextNumbers.{Follow, nothing, blank, bracket, behind, number, Stands, spaced}
+use Rattle.pio_assemble.proofs.TextNumbers.{Follow, nothing, blank, bracket, after, number, IsFirst, spaced}
 use Rattle.pio_assemble.proofs.TextSays.{word, jmp_pieces, rel_pieces, flag_pieces, wait_pieces, in_pieces, out_pieces, set_pieces, push_pieces, pull_pieces, mov_source_word, mov_operand_pieces, mov_pieces, irq_pieces}
 
 -- what the tokens are computed by
@@ -46,19 +46,19 @@ lexing = tt
 
 -- a word is one token, and so are a blank and a `!` before it
 record EndsWell (text : List ℕ) (k : Keyword) : Type 0 where
-  gap : (rest : List ℕ) → Stands (32 ∷ text ++ rest) (piece.Gap 1)
-  bang : (rest : List ℕ) → Stands (33 ∷ text ++ rest) (piece.Token kind.Bang 1)
-  at_end : Stands (text ++ []) (word k (length text))
-  before_blank : (rest : List ℕ) → Stands (text ++ 32 ∷ rest) (word k (length text))
-  before_bracket : (rest : List ℕ) → Stands (text ++ 93 ∷ rest) (word k (length text))
+  gap : (rest : List ℕ) → IsFirst (32 ∷ text ++ rest) (piece.Gap 1)
+  bang : (rest : List ℕ) → IsFirst (33 ∷ text ++ rest) (piece.Token kind.Bang 1)
+  at_end : IsFirst (text ++ []) (word k (length text))
+  before_blank : (rest : List ℕ) → IsFirst (text ++ 32 ∷ rest) (word k (length text))
+  before_bracket : (rest : List ℕ) → IsFirst (text ++ 93 ∷ rest) (word k (length text))
 
 -- a word before what comes after it
-worded : (text : List ℕ) (k : Keyword) → EndsWell text k → (f : Follow) (pieces : List Piece) → AreRow (behind f) pieces → AreRow (text ++ behind f) (word k (length text) ∷ pieces)
+worded : (text : List ℕ) (k : Keyword) → EndsWell text k → (f : Follow) (pieces : List Piece) → AreRow (after f) pieces → AreRow (text ++ after f) (word k (length text) ∷ pieces)
 worded text k e f pieces row = by f row where
   on : (rest : List ℕ) → AreRow rest pieces → AreRow (drop (length text) (text ++ rest)) pieces
   on rest r = subst (λ (t : List ℕ). AreRow t pieces) (sym (drop-append_seam text rest)) r
 
-  by : (g : Follow) → AreRow (behind g) pieces → AreRow (text ++ behind g) (word k (length text) ∷ pieces)
+  by : (g : Follow) → AreRow (after g) pieces → AreRow (text ++ after g) (word k (length text) ∷ pieces)
   by nothing r = (e.at_end.0, e.at_end.1, on [] r)
   by (blank rest) r = ((e.before_blank rest).0, (e.before_blank rest).1, on (32 ∷ rest) r)
   by (bracket rest) r = ((e.before_bracket rest).0, (e.before_bracket rest).1, on (93 ∷ rest) r)
@@ -91,7 +91,7 @@ mov_source_ends mov_source.Osr = record { gap = λ rest. (refl, refl); bang = λ
 
 -- the row of an instruction, before what comes after it
 abbrev pub Rows : Act → List Piece → Type 0
-Rows a pieces = (f : Follow) (rest : List Piece) → AreRow (behind f) rest → AreRow (act_text a ++ behind f) (pieces ++ rest)
+Rows a pieces = (f : Follow) (rest : List Piece) → AreRow (after f) rest → AreRow (act_text a ++ after f) (pieces ++ rest)
 
 pub jmp_row : (c : Condition) (n : ℕ) → n < 33 → Rows (act.Jmp c n) (jmp_pieces c n)
 unfolding lexing act_text
@@ -146,16 +146,16 @@ pull_row false true f rest r = (refl, refl, (refl, refl, worded (codes "block") 
 pull_row false false f rest r = (refl, refl, (refl, refl, worded (codes "noblock") keyword.NoBlock noblock_ends f rest r))
 
 -- `nop`
-pub nop_row : (f : Follow) (rest : List Piece) → AreRow (behind f) rest → AreRow (codes "nop" ++ behind f) (word keyword.Nop 3 ∷ rest)
+pub nop_row : (f : Follow) (rest : List Piece) → AreRow (after f) rest → AreRow (codes "nop" ++ after f) (word keyword.Nop 3 ∷ rest)
 nop_row f rest r = worded (codes "nop") keyword.Nop nop_ends f rest r
 
 -- an IRQ flag
-flag_row : (rel : Bool) (n : ℕ) → n < 33 → (f : Follow) (rest : List Piece) → AreRow (behind f) rest
-    → AreRow (32 ∷ (decimal n ++ (if rel then codes " rel" else [])) ++ behind f) (flag_pieces rel n ++ rest)
+flag_row : (rel : Bool) (n : ℕ) → n < 33 → (f : Follow) (rest : List Piece) → AreRow (after f) rest
+    → AreRow (32 ∷ (decimal n ++ (if rel then codes " rel" else [])) ++ after f) (flag_pieces rel n ++ rest)
 unfolding lexing
 flag_row true n h f rest r =
-    rw (append_assoc (decimal n) (codes " rel") (behind f)) (spaced n h (blank (codes "rel" ++ behind f)) (rel_pieces true ++ rest) (refl, refl, worded (codes "rel") keyword.Rel rel_ends f rest r))
-flag_row false n h f rest r = rw (append_assoc (decimal n) [] (behind f)) (spaced n h f rest r)
+    rw (append_assoc (decimal n) (codes " rel") (after f)) (spaced n h (blank (codes "rel" ++ after f)) (rel_pieces true ++ rest) (refl, refl, worded (codes "rel") keyword.Rel rel_ends f rest r))
+flag_row false n h f rest r = rw (append_assoc (decimal n) [] (after f)) (spaced n h f rest r)
 
 pub wait_gpio_row : (polarity : Bool) (n : ℕ) → n < 33 → Rows (act.Wait polarity wait_source.Gpio n) (wait_pieces polarity wait_source.Gpio ++ piece.Gap 1 ∷ number n ∷ [])
 unfolding lexing act_text
@@ -190,19 +190,19 @@ irq_row irq_mode.RaiseAndWait i f rest r = (refl, refl, (refl, refl, (refl, refl
 irq_row irq_mode.Lower i f rest r = (refl, refl, (refl, refl, (refl, refl, flag_row (i / 2 ^ 4 == 1) (i % 2 ^ 3) (omega arith) f rest r)))
 
 -- the sign and the source of a MOV
-mov_operand_row : (o : MovOperation) (s : MovSource) (f : Follow) (rest : List Piece) → AreRow (behind f) rest → AreRow (32 ∷ (mov_operation_text o ++ mov_source_text s) ++ behind f) (mov_operand_pieces o s ++ rest)
+mov_operand_row : (o : MovOperation) (s : MovSource) (f : Follow) (rest : List Piece) → AreRow (after f) rest → AreRow (32 ∷ (mov_operation_text o ++ mov_source_text s) ++ after f) (mov_operand_pieces o s ++ rest)
 unfolding lexing
 mov_operand_row mov_operation.Plain s f rest r =
     let e = mov_source_ends s in
-    ((e.gap (behind f)).0, (e.gap (behind f)).1, worded (mov_source_text s) (mov_source_word s) e f rest r)
+    ((e.gap (after f)).0, (e.gap (after f)).1, worded (mov_source_text s) (mov_source_word s) e f rest r)
 mov_operand_row mov_operation.Invert s f rest r =
     let e = mov_source_ends s in
-    (refl, refl, ((e.bang (behind f)).0, (e.bang (behind f)).1, worded (mov_source_text s) (mov_source_word s) e f rest r))
+    (refl, refl, ((e.bang (after f)).0, (e.bang (after f)).1, worded (mov_source_text s) (mov_source_word s) e f rest r))
 mov_operand_row mov_operation.Reverse s f rest r =
     (refl, refl, (refl, refl, worded (mov_source_text s) (mov_source_word s) (mov_source_ends s) f rest r))
 
-pub mov_row : (d : MovDestination) (o : MovOperation) (s : MovSource) (f : Follow) (rest : List Piece) → AreRow (behind f) rest
-    → AreRow ((codes "mov " ++ mov_destination_text d ++ codes ", " ++ mov_operation_text o ++ mov_source_text s) ++ behind f) (mov_pieces d o s ++ rest)
+pub mov_row : (d : MovDestination) (o : MovOperation) (s : MovSource) (f : Follow) (rest : List Piece) → AreRow (after f) rest
+    → AreRow ((codes "mov " ++ mov_destination_text d ++ codes ", " ++ mov_operation_text o ++ mov_source_text s) ++ after f) (mov_pieces d o s ++ rest)
 unfolding lexing
 mov_row mov_destination.Pins o s f rest r = (refl, refl, (refl, refl, (refl, refl, (refl, refl, mov_operand_row o s f rest r))))
 mov_row mov_destination.X o s f rest r = (refl, refl, (refl, refl, (refl, refl, (refl, refl, mov_operand_row o s f rest r))))

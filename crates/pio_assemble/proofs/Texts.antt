@@ -12,7 +12,7 @@ use Rattle.pio_assemble.specs.declared.quantity.Quantity.TheVariants as quantity
 use Rattle.pio_assemble.specs.Operands.{SideIsWithin, side_kept, op_of, word_of_instruction}
 use Rattle.pio_assemble.specs.Texts.{IsReadAs}
 use Rattle.pio_assemble.proofs.TextRows.{tokens_from, reads_row}
-use Rattle.pio_assemble.proofs.TextNumbers.{behind}
+use Rattle.pio_assemble.proofs.TextNumbers.{after}
 use Rattle.pio_assemble.proofs.TextTails.{lone, value_in, follow_of, tail_pieces, tail_suffix, tail_of}
 use Rattle.pio_assemble.proofs.TextSays.{says_with, number_pieces, number_says}
 use Rattle.pio_assemble.proofs.TextActs.{act_read}
@@ -26,7 +26,7 @@ unfolding op_text word_of_instruction
 op_is_read op rule w range writable side stays delay same =
     let a = act_read op.act range writable in
     let t = tail_of rule op.side op.delay side delay in
-    let text : List ℕ = act_text op.act ++ behind (follow_of t.tail) in
+    let text : List ℕ = act_text op.act ++ after (follow_of t.tail) in
     let spelt : op_text op ≡ text = append_assoc (act_text op.act) (side_text op.side) (delay_text op.delay) ∙ ap (λ (bs : List ℕ). act_text op.act ++ bs) t.text in
     let kept : op_of rule op.act (record { side = op.side; delay = op.delay }) ≡ op = ap (λ (s : Option ℕ). record op { side = s }) stays in
     let read : IsReadAs w rule text = record {

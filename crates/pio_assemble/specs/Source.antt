@@ -95,9 +95,9 @@ scope_from (l ∷ lines) scope words =
     if is_some (program_on l.reading) then scope else scope_from lines (scope_on scope words l.reading) (words_on words l.reading)
 
 -- the lines after the one where the next program begins
-unfoldable pub behind_program : List Line → List Line
-behind_program [] = []
-behind_program (l ∷ lines) = if is_some (program_on l.reading) then lines else behind_program lines
+unfoldable pub after_program : List Line → List Line
+after_program [] = []
+after_program (l ∷ lines) = if is_some (program_on l.reading) then lines else after_program lines
 
 -- names are looked up among the globals, and in a program first among its own symbols, also those after
 abbrev pub global_scope : List Line → Scope

@@ -35,7 +35,7 @@ impl Assembly {
     /// Before the first of these lines.
     pub fn begun(alloc: Global, mut symbols: VecDeque<Line>) -> Result<Self, AllocError>
         ensures scope { IfOk result (λ a. a.scope ≡ spec.global_scope symbols.items) }
-        ensures symbols { IfOk result (λ a. a.symbols.items ≡ spec.behind_program symbols.items) }
+        ensures symbols { IfOk result (λ a. a.symbols.items ≡ spec.after_program symbols.items) }
         ensures draft { IfOk result (λ a. a.draft ≡ begun None) }
         ensures programs { IfOk result (λ a. a.programs.items ≡ []) }
     {
@@ -57,7 +57,7 @@ impl Assembly {
 
     /// Reads these lines.
     pub fn read(&mut self, alloc: Global, lines: &[Line]) -> Result<(), SourceFault>
-        requires { self.old.symbols.items ≡ spec.behind_program lines.now }
+        requires { self.old.symbols.items ≡ spec.after_program lines.now }
         ensures { Gives (λ _. map assembled_of self.new.programs.items ++ finished self.new.draft) result
             (spec.with_programs (map assembled_of self.old.programs.items)
             (spec.programs_from lines.now self.old.scope self.old.draft)) }
@@ -81,7 +81,7 @@ impl Assembly {
         ensures scope { OnOk result
             (self.new.scope ≡ spec.program_scope self.old.scope self.old.symbols.items) }
         ensures symbols { OnOk result
-            (self.new.symbols.items ≡ spec.behind_program self.old.symbols.items) }
+            (self.new.symbols.items ≡ spec.after_program self.old.symbols.items) }
         ensures programs { OnOk result (map assembled_of self.new.programs.items
             ≡ map assembled_of self.old.programs.items ++ finished self.old.draft) }
     {

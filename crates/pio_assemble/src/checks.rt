@@ -54,16 +54,16 @@ fn check_lines(alloc: Global, before: &mut Before, lines: &[Line]) -> Result<(),
 fn line_fault<'a>(
     alloc: Global,
     before: &Before,
-    behind: &[Line],
+    rest: &[Line],
     reading: &'a Result<Statement, StatementKind>,
 ) -> Result<&'a Statement, LineFault>
     ensures value { Finds result
-        (spec.line_fault before.now (has_word behind.now) reading.now) }
+        (spec.line_fault before.now (has_word rest.now) reading.now) }
     ensures statement { spec.IsStatement result reading.now }
 {
     match reading {
         Ok(statement) => {
-            statement_fault(alloc, before, behind, statement)?;
+            statement_fault(alloc, before, rest, statement)?;
             Ok(statement)
         }
         Err(kind) => Err(LineFault::Found(kind_of(*kind))),
@@ -87,15 +87,15 @@ fn kind_of(kind: StatementKind) -> SourceKind
 fn statement_fault(
     alloc: Global,
     before: &Before,
-    behind: &[Line],
+    rest: &[Line],
     statement: &Statement,
 ) -> Result<(), LineFault>
     ensures { Finds result
-        (spec.statement_fault before.now (has_word behind.now) statement.now) }
+        (spec.statement_fault before.now (has_word rest.now) statement.now) }
 {
     match statement {
         Statement::Nothing | Statement::LangOpt | Statement::PioVersion(_) => Ok(()),
-        Statement::Program(name) => program_fault(alloc, before, behind, name),
+        Statement::Program(name) => program_fault(alloc, before, rest, name),
         Statement::Define { name, .. } => symbol_fault(alloc, before, name),
         Statement::Origin(_) => {
             outside(before)?;
@@ -109,7 +109,7 @@ fn statement_fault(
         Statement::WrapTarget => {
             outside(before)?;
             fault_if(before.wrap_target, SourceKind::Twice)?;
-            fault_if(!has_word(behind), SourceKind::WrapPlace)
+            fault_if(!has_word(rest), SourceKind::WrapPlace)
         }
         Statement::Wrap => {
             outside(before)?;
@@ -132,14 +132,14 @@ fn statement_fault(
 fn program_fault(
     alloc: Global,
     before: &Before,
-    behind: &[Line],
+    rest: &[Line],
     name: &Name,
 ) -> Result<(), LineFault>
-    ensures { Finds result (spec.program_fault before.now (has_word behind.now) name.now) }
+    ensures { Finds result (spec.program_fault before.now (has_word rest.now) name.now) }
 {
     duplicate(alloc, &before.programs, name)?;
     fault_if(before.programs.len() >= MOST_PROGRAMS, SourceKind::Many)?;
-    fault_if(!has_word(behind), SourceKind::EmptyProgram)
+    fault_if(!has_word(rest), SourceKind::EmptyProgram)
 }
 
 /// No program has begun.

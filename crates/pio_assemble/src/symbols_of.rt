@@ -13,7 +13,7 @@ use std::collections::VecDeque;
 /// Adds the symbols of lines, up to where the next program begins. Takes these lines and that one.
 pub fn add_symbols(scope: &mut Scope, lines: &mut VecDeque<Line>) -> Result<(), AllocError>
     ensures symbols { OnOk result (scope.new ≡ spec.scope_from lines.old.items scope.old 0) }
-    ensures rest { OnOk result (lines.new.items ≡ spec.behind_program lines.old.items) }
+    ensures rest { OnOk result (lines.new.items ≡ spec.after_program lines.old.items) }
 {
     let mut words = 0;
     while let Some(line) = lines.pop_front() {
@@ -44,17 +44,17 @@ fn add_symbol(
     reading: Result<Statement, StatementKind>,
 ) -> Result<u8, AllocError>
     ensures symbols { OnOk result (scope.new ≡ spec.scope_on scope.old words reading) }
-    ensures words { IfOk result (λ behind. behind ≡ spec.words_on words reading) }
+    ensures words { IfOk result (λ after. after ≡ spec.words_on words reading) }
 {
-    let behind = words_behind(words, &reading);
+    let after = words_on(words, &reading);
     if let Some((name, is)) = symbol_of(words, reading) {
         set_new(scope, name, is)?;
     }
-    Ok(behind)
+    Ok(after)
 }
 
 /// How many words there are after a line with so many before it.
-fn words_behind(words: u8, reading: &Result<Statement, StatementKind>) -> u8
+fn words_on(words: u8, reading: &Result<Statement, StatementKind>) -> u8
     ensures { result ≡ spec.words_on words reading.now }
 {
     match reading {

@@ -37,18 +37,18 @@ pub chain_onward : (tokens : List Token) (operation_of : Mark → Option Item) (
 unfolding chain
 chain_onward tokens operation_of operand zero on place = omega arith
 chain_onward tokens operation_of operand (suc n) on place =
-    chain_step_onward operand (λ operation behind. chain tokens operation_of operand n (written operation behind)) (operation_of (mark_at tokens place.at)) place on (λ operation behind. chain_onward tokens operation_of operand n on (written operation behind))
+    chain_step_onward operand (λ operation after. chain tokens operation_of operand n (written operation after)) (operation_of (mark_at tokens place.at)) place on (λ operation after. chain_onward tokens operation_of operand n on (written operation after))
 
 -- after the last token is none
 pub no_mark : (tokens : List Token) (at : ℕ) → length tokens ≤ at → mark_at tokens at ≡ mark.Other
 unfolding mark_at
 no_mark tokens at h = ap mark_by (slice_get_past tokens at h)
 
-same_steps : (rest1 rest2 : Item → Reader) (operand : Reader) (o : Option Item) (place : Place) → Onward operand → ((operation : Item) (behind : Place) → place.at + 1 ≤ behind.at → rest1 operation behind ≡ rest2 operation behind) → chain_by operand rest1 o place ≡ chain_by operand rest2 o place
+same_steps : (rest1 rest2 : Item → Reader) (operand : Reader) (o : Option Item) (place : Place) → Onward operand → ((operation : Item) (after : Place) → place.at + 1 ≤ after.at → rest1 operation after ≡ rest2 operation after) → chain_by operand rest1 o place ≡ chain_by operand rest2 o place
 same_steps rest1 rest2 operand None place on same = refl
 same_steps rest1 rest2 operand (Some operation) place on same = by_operand (operand (next place)) (on (next place)) where
   by_operand : (read : Read) → Reaches (place.at + 1) read → then read (rest1 operation) ≡ then read (rest2 operation)
-  by_operand (Ok behind) h = same operation behind h
+  by_operand (Ok after) h = same operation after h
   by_operand (Err fault) h = refl
 
 ends : (tokens : List Token) (operation_of : Mark → Option Item) (operand : Reader) (n : ℕ) (place : Place) → operation_of (mark_at tokens place.at) ≡ None → chain tokens operation_of operand n place ≡ Ok place
@@ -64,18 +64,18 @@ any_number tokens operation_of operand zero n place other on few many =
 any_number tokens operation_of operand (suc m) zero place other on few many =
     ends tokens operation_of operand (suc m) place (ap operation_of (no_mark tokens place.at (omega (arith, many))) ∙ other)
 any_number tokens operation_of operand (suc m) (suc n) place other on few many =
-    same_steps (λ operation behind. chain tokens operation_of operand m (written operation behind)) (λ operation behind. chain tokens operation_of operand n (written operation behind)) operand (operation_of (mark_at tokens place.at)) place on
-    (λ operation behind h. any_number tokens operation_of operand m n (written operation behind) other on (omega (arith, few, h)) (omega (arith, many, h)))
+    same_steps (λ operation after. chain tokens operation_of operand m (written operation after)) (λ operation after. chain tokens operation_of operand n (written operation after)) operand (operation_of (mark_at tokens place.at)) place on
+    (λ operation after h. any_number tokens operation_of operand m n (written operation after) other on (omega (arith, few, h)) (omega (arith, many, h)))
 
 -- a whole chain: no operation, or one, its operand and a whole chain
-pub chain_on : (tokens : List Token) (operation_of : Mark → Option Item) (operand : Reader) (place : Place) → operation_of mark.Other ≡ None → Onward operand → chain tokens operation_of operand (length tokens) place ≡ chain_by operand (λ operation behind. chain tokens operation_of operand (length tokens) (written operation behind)) (operation_of (mark_at tokens place.at)) place
+pub chain_on : (tokens : List Token) (operation_of : Mark → Option Item) (operand : Reader) (place : Place) → operation_of mark.Other ≡ None → Onward operand → chain tokens operation_of operand (length tokens) place ≡ chain_by operand (λ operation after. chain tokens operation_of operand (length tokens) (written operation after)) (operation_of (mark_at tokens place.at)) place
 unfolding chain
 chain_on tokens operation_of operand place other on = by_number (length tokens) (omega arith) where
-  by_number : (n : ℕ) → length tokens ≤ n → chain tokens operation_of operand n place ≡ chain_by operand (λ operation behind. chain tokens operation_of operand n (written operation behind)) (operation_of (mark_at tokens place.at)) place
+  by_number : (n : ℕ) → length tokens ≤ n → chain tokens operation_of operand n place ≡ chain_by operand (λ operation after. chain tokens operation_of operand n (written operation after)) (operation_of (mark_at tokens place.at)) place
   by_number zero few = let none : operation_of (mark_at tokens place.at) ≡ None = ap operation_of (no_mark tokens place.at (omega (arith, few))) ∙ other in rw none refl
   by_number (suc n) few =
-      same_steps (λ operation behind. chain tokens operation_of operand n (written operation behind)) (λ operation behind. chain tokens operation_of operand (suc n) (written operation behind)) operand (operation_of (mark_at tokens place.at)) place on
-      (λ operation behind h. any_number tokens operation_of operand n (suc n) (written operation behind) other on (omega (arith, few, h)) (omega (arith, few, h)))
+      same_steps (λ operation after. chain tokens operation_of operand n (written operation after)) (λ operation after. chain tokens operation_of operand (suc n) (written operation after)) operand (operation_of (mark_at tokens place.at)) place on
+      (λ operation after h. any_number tokens operation_of operand n (suc n) (written operation after) other on (omega (arith, few, h)) (omega (arith, few, h)))
 
 pub chain_ends : (tokens : List Token) (operation_of : Mark → Option Item) (operand : Reader) (place : Place) → operation_of (mark_at tokens place.at) ≡ None → chain tokens operation_of operand (length tokens) place ≡ Ok place
 chain_ends tokens operation_of operand place none = ends tokens operation_of operand (length tokens) place none

@@ -16,7 +16,7 @@ use Rattle.pio_expr.specs.declared.frame.Frame.{Frame}
 use Rattle.pio_expr.specs.declared.work.Work.{Work}
 use Rattle.pio_expr.specs.Values.{Scope, in_program, count_of, is_among, worked_out, name_value, value_at, HasFault, Gives}
 use Rattle.pio_expr.specs.Frames.{Kept, kept_at, kept_value, is_local, items_at, IsKept}
-use Rattle.pio_expr.specs.Work.{placed, places_of, items_of, IsOwn, IsFrame, AreFrames, IsLowest, seen_of, AreSeen, frames_of, Stands, left_to_do, Steps, Finished, IsNewlyKept, kept_of}
+use Rattle.pio_expr.specs.Work.{placed, places_of, items_of, IsOwn, IsFrame, AreFrames, IsLowest, seen_of, AreSeen, frames_of, Holds, left_to_do, Steps, Finished, IsNewlyKept, kept_of}
 use Rattle.pio_expr.proofs.Finding.{items_of_symbol, place_within}
 use Rattle.std.proofs.lemmas.Map.Steps.{length-le_from_distinct_below}
 use Rattle.pio_expr.proofs.Keeping.{kept_exact}
@@ -125,7 +125,7 @@ left_by scope kept kept' items (Some p) v below begun is frames seen same gives 
     subst (λ es. IsLeft scope kept es items (Some p) below begun) (sym (new ∙ inserted kept p v none)) (left_by_symbol scope kept items p v below begun is frames seen same gives)
 
 -- the end of the top frame
-pub done_left : (scope : Scope) (kept kept' : Kept) (own : Option ℕ) (items : List Item) (old : Work) (v : ℤ) → Stands scope kept own items old → Shown scope kept items old (λ _. Ok v) → IsNewlyKept kept old.top.place v kept' → IsLeft scope kept kept' items old.top.place old.below.items old.begun.keys
+pub done_left : (scope : Scope) (kept kept' : Kept) (own : Option ℕ) (items : List Item) (old : Work) (v : ℤ) → Holds scope kept own items old → Shown scope kept items old (λ _. Ok v) → IsNewlyKept kept old.top.place v kept' → IsLeft scope kept kept' items old.top.place old.below.items old.begun.keys
 done_left scope kept kept' own items old v st run new =
     left_by scope kept kept' items old.top.place v old.below.items old.begun.keys st.is_kept st.frames.2 st.seen st.begun
     (ap (λ l. worked_out (kept_value scope kept l) (items_of scope items old.top.place) []) (sym st.frames.0.local) ∙ run (kept_value scope kept old.top.local) (agrees_kept scope kept (is_among (places_of (frames_of old))) old.top.local)) new
@@ -134,8 +134,8 @@ lowest_below : (own : Option ℕ) (top : Frame) (below : List Frame) (frame : Fr
 lowest_below own top below frame rest same h = let it : IsLowest own (top ∷ frame ∷ rest) = subst (λ fs. IsLowest own (top ∷ fs)) same h in it
 
 -- the frame below goes on
-pub done_on : (scope : Scope) (kept kept' : Kept) (own : Option ℕ) (items : List Item) (old new : Work) (v : ℤ) → Stands scope kept own items old → Shown scope kept items old (λ _. Ok v) → IsNewlyKept kept old.top.place v kept' → frames_of new ≡ old.below.items → new.begun.keys ≡ old.begun.keys
-    → Stands scope kept' own items new × (left_to_do scope kept' (frames_of new) < left_to_do scope kept (frames_of old))
+pub done_on : (scope : Scope) (kept kept' : Kept) (own : Option ℕ) (items : List Item) (old new : Work) (v : ℤ) → Holds scope kept own items old → Shown scope kept items old (λ _. Ok v) → IsNewlyKept kept old.top.place v kept' → frames_of new ≡ old.below.items → new.begun.keys ≡ old.begun.keys
+    → Holds scope kept' own items new × (left_to_do scope kept' (frames_of new) < left_to_do scope kept (frames_of old))
 done_on scope kept kept' own items old new v st run fresh below begun =
     let it = done_left scope kept kept' own items old v st run fresh in
     let as_many : length (seen_of (frames_of new) kept') ≡ length (seen_of (frames_of old) kept) = ap (λ fs. length (seen_of fs kept')) below ∙ it.as_many in
@@ -152,7 +152,7 @@ done_on scope kept kept' own items old new v st run fresh below begun =
     )
 
 -- the lowest frame is done
-pub done_last : (scope : Scope) (kept kept' : Kept) (own : Option ℕ) (items : List Item) (old : Work) (v : ℤ) → Stands scope kept own items old → Shown scope kept items old (λ _. Ok v) → IsNewlyKept kept old.top.place v kept' → old.below.items ≡ [] → (value_at scope own items ≡ Ok v) × IsKept scope kept'
+pub done_last : (scope : Scope) (kept kept' : Kept) (own : Option ℕ) (items : List Item) (old : Work) (v : ℤ) → Holds scope kept own items old → Shown scope kept items old (λ _. Ok v) → IsNewlyKept kept old.top.place v kept' → old.below.items ≡ [] → (value_at scope own items ≡ Ok v) × IsKept scope kept'
 done_last scope kept kept' own items old v st run fresh below =
     let it = done_left scope kept kept' own items old v st run fresh in
     let lowest : old.top.place ≡ own = subst (λ fs. IsLowest own (old.top ∷ fs)) below st.lowest in
@@ -183,9 +183,9 @@ own_items scope None items is_own = refl
 own_items scope (Some p) items is_own = items_of_symbol scope p items is_own
 
 -- the first frame
-pub new_stands : (scope : Scope) (kept : Kept) (own : Option ℕ) (items : List Item) (new : Work) → IsOwn scope own items → IsKept scope kept → IsDistinct nat_eq (keys_of kept) → kept_of kept own ≡ None
-    → new.top.place ≡ own → new.top.local ≡ is_local scope own → new.top.rest.now ≡ items → new.top.numbers.items ≡ [] → new.below.items ≡ [] → ((q : ℕ) → list_any (nat_eq q) new.begun.keys ≡ is_among (placed own []) q) → Stands scope kept own items new
-new_stands scope kept own items new is_own is distinct none place local rest numbers below begun =
+pub new_holds : (scope : Scope) (kept : Kept) (own : Option ℕ) (items : List Item) (new : Work) → IsOwn scope own items → IsKept scope kept → IsDistinct nat_eq (keys_of kept) → kept_of kept own ≡ None
+    → new.top.place ≡ own → new.top.local ≡ is_local scope own → new.top.rest.now ≡ items → new.top.numbers.items ≡ [] → new.below.items ≡ [] → ((q : ℕ) → list_any (nat_eq q) new.begun.keys ≡ is_among (placed own []) q) → Holds scope kept own items new
+new_holds scope kept own items new is_own is distinct none place local rest numbers below begun =
     let alone : frames_of new ≡ new.top ∷ [] = ap (λ fs. new.top ∷ fs) below in
     let places : places_of (frames_of new) ≡ placed own [] = (λ i. placed (place i) (places_of (below i))) in
     let frame : IsFrame scope kept items (places_of (new.top ∷ [])) new.top = record {
@@ -202,7 +202,7 @@ new_stands scope kept own items new is_own is distinct none place local rest num
     }
 
 -- what a step of the end gives
-pub end_steps : (scope : Scope) (kept kept' : Kept) (own : Option ℕ) (items : List Item) (old new : Work) (top : Frame) (v : ℤ) (result : Result (Option ℤ) ValueFault) → Stands scope kept own items old → Shown scope kept items old (λ _. Ok v) → top.place ≡ old.top.place
+pub end_steps : (scope : Scope) (kept kept' : Kept) (own : Option ℕ) (items : List Item) (old new : Work) (top : Frame) (v : ℤ) (result : Result (Option ℤ) ValueFault) → Holds scope kept own items old → Shown scope kept items old (λ _. Ok v) → top.place ≡ old.top.place
     → IfOk result (Finished v (record { top = top; below = old.below; begun = old.begun }) new) → new.begun ≡ old.begun → OnOk result (IsNewlyKept kept top.place v kept') → IfErr result (λ fault. (fault ≡ Memory) × (kept' ≡ kept)) → Steps scope own items kept old kept' new result
 end_steps scope kept kept' own items old new top v (Ok None) st run of_symbol finished begun fresh memory =
     done_on scope kept kept' own items old new v st run (subst (λ o. IsNewlyKept kept o v kept') of_symbol fresh) finished (ap (λ s. s.keys) begun)

@@ -4,7 +4,7 @@ pub mod Chains
 pub mod Onward
 pub mod Steps
 pub mod Opening
-pub mod Behind
+pub mod After
 pub mod Turning
 pub mod Operands
 pub mod Names

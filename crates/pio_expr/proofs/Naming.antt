@@ -7,7 +7,7 @@ use Rattle.pio_expr.specs.declared.fault.ValueKind.{ValueKind}
 use Rattle.pio_expr.specs.declared.fault.ValueFault.{ValueFault}
 use Rattle.pio_expr.specs.declared.fault.ValueFault.TheVariants as fault
 use Rattle.pio_expr.specs.Values.{Scope, Found, found, symbol_of, name_value, count_of, value_at, value_of, value_of_name, Tells, HasFault}
-use Rattle.pio_expr.proofs.Finding.{found_stands, place_within}
+use Rattle.pio_expr.proofs.Finding.{found_is_there, place_within}
 use Rattle.pio_expr.proofs.Keeping.{at_none, at_label, at_define}
 
 -- a fault that tells the answer's
@@ -23,7 +23,7 @@ name_label scope name place words e = at_label scope [] true name (count_of scop
 
 pub name_define : (scope : Scope) (name : List ℕ) (place : ℕ) (items : List Item) → found scope true name ≡ Some (place, Define items) → value_of_name scope name ≡ value_at scope (Some place) items
 name_define scope name place items e =
-    let within = place_within scope place (Define items) (found_stands scope true name place (Define items) e) in
+    let within = place_within scope place (Define items) (found_is_there scope true name place (Define items) e) in
     let one : count_of scope ≡ suc (count_of scope - 1) = omega (arith, within) in
     ap (λ n. name_value n scope [] true name) one ∙ at_define scope [] true name (count_of scope - 1) place items e refl
 

@@ -44,7 +44,7 @@ value_on source tokens _ deeper place h = tt
 
 unary_on : (source : List ℕ) (tokens : List Token) (m : Mark) (deeper : Option Readers) (place : Place) → Deeper deeper → Reaches place.at (unary_by source tokens m deeper place)
 unary_on source tokens mark.Minus None place h = tt
-unary_on source tokens mark.Minus (Some rules) place h = reaches_then place.at (rules.unary (next place)) (λ behind. Ok (written item.Negate behind)) (reaches_sooner place.at (place.at + 1) (rules.unary (next place)) (omega arith) (h.unary (next place))) (λ p. omega arith)
+unary_on source tokens mark.Minus (Some rules) place h = reaches_then place.at (rules.unary (next place)) (λ after. Ok (written item.Negate after)) (reaches_sooner place.at (place.at + 1) (rules.unary (next place)) (omega arith) (h.unary (next place))) (λ p. omega arith)
 unary_on source tokens mark.Reverse None place h = tt
 unary_on source tokens mark.Reverse (Some rules) place h = tt
 unary_on source tokens m deeper place h = value_on source tokens m deeper place h

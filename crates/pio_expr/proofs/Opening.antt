@@ -60,13 +60,13 @@ sign_is source tokens ws p is other = opened_is source tokens ws waiting.Negate 
       signed = wants_unary source tokens ws mark.Minus p is (λ e. cc) other ∙ ap (λ read. then read (rest source tokens ws).unary) (unary_at source tokens (left ws) mark.Minus p is)
 
 -- a sign or a `::` after a `::` is no value
-behind_reverse : (source : List ℕ) (tokens : List Token) (ws : List Waiting) (m : Mark) (p : Place) → mark_at tokens p.at ≡ m → value_by source tokens m (deeper_of source tokens (left ws)) p ≡ Err (misplaced p.at Syntax) → is_reverse (innermost ws) ≡ true → (rest source tokens ws).wants p ≡ Err (misplaced p.at Syntax)
-behind_reverse source tokens ws m p is none top = wants_value source tokens ws p top ∙ ap (λ read. then read (rest source tokens ws).unary) (value_at source tokens (left ws) m p is ∙ none)
+after_reverse : (source : List ℕ) (tokens : List Token) (ws : List Waiting) (m : Mark) (p : Place) → mark_at tokens p.at ≡ m → value_by source tokens m (deeper_of source tokens (left ws)) p ≡ Err (misplaced p.at Syntax) → is_reverse (innermost ws) ≡ true → (rest source tokens ws).wants p ≡ Err (misplaced p.at Syntax)
+after_reverse source tokens ws m p is none top = wants_value source tokens ws p top ∙ ap (λ read. then read (rest source tokens ws).unary) (value_at source tokens (left ws) m p is ∙ none)
 
 minus_is : (source : List ℕ) (tokens : List Token) (ws : List Waiting) (p : Place) → mark_at tokens p.at ≡ mark.Minus → Opens source tokens ws p (sign_at p.at ws)
 minus_is source tokens ws p is = by_top (is_reverse (innermost ws)) refl where
   by_top : (b : Bool) → is_reverse (innermost ws) ≡ b → Opens source tokens ws p (cond b (Err (misplaced p.at Syntax)) (opened p.at ws waiting.Negate))
-  by_top true e = behind_reverse source tokens ws mark.Minus p is refl e
+  by_top true e = after_reverse source tokens ws mark.Minus p is refl e
   by_top false e = sign_is source tokens ws p is e
 
 -- at the beginning of a parenthesis a level is read
@@ -118,7 +118,7 @@ reverse_is source tokens ws p is = by_top (is_reverse (innermost ws)) refl where
   by_level other false f = later_is source tokens ws p is f other (nat_lt (openings ws) most_open) refl
 
   by_top : (b : Bool) → is_reverse (innermost ws) ≡ b → Opens source tokens ws p (cond b (Err (misplaced p.at Syntax)) (cond (is_level (innermost ws)) (opened p.at ws (waiting.Reverse p.at)) (cond (nat_lt (openings ws) most_open) (Err (misplaced p.at Ambiguous)) (Err (misplaced p.at TooDeep)))))
-  by_top true e = behind_reverse source tokens ws mark.Reverse p is refl e
+  by_top true e = after_reverse source tokens ws mark.Reverse p is refl e
   by_top false e = by_level e (is_level (innermost ws)) refl
 
 -- every token, where an operand is wanted

@@ -22,7 +22,7 @@ use Rattle.pio_expr.specs.Waiting.{rest, openings, IsSound, IsFaultOf}
 use Rattle.pio_expr.specs.Turns.{innermost, is_level, is_reverse, opened, opening, first_before, all_before, kept_before, turn_by, operation_of}
 use Rattle.pio_expr.proofs.Chains.{no_mark}
 use Rattle.pio_expr.proofs.Opening.{Opens, opening_is}
-use Rattle.pio_expr.proofs.Behind.{all_written}
+use Rattle.pio_expr.proofs.After.{all_written}
 use Rattle.pio_expr.proofs.Turning.{Turns, turn_is}
 
 pub fault_is : {X : Type 0} (answer : Result X Refusal) (refusal : Refusal) (fault : ExprFault) → fault ≡ expr_fault.At refusal.place refusal.kind → answer ≡ Err refusal → IsFaultOf answer fault
@@ -74,14 +74,14 @@ opening_none ws mark.Slash at e = cc
 opening_none ws mark.Other at e = cc
 
 -- what is complete before a token is written: the same is left to read
-pub behind_same : (source : List ℕ) (tokens : List Token) (ws kept : List Waiting) (items more : List Item) (m : Mark) (at : ℕ) → mark_at tokens at ≡ m → IsSound ws → kept ≡ kept_before ws m → more ≡ items ++ all_before ws m → (rest source tokens ws).unary (record { at = at; items = items }) ≡ (rest source tokens kept).unary (record { at = at; items = more })
-behind_same source tokens ws kept items more m at is sound e f =
+pub after_same : (source : List ℕ) (tokens : List Token) (ws kept : List Waiting) (items more : List Item) (m : Mark) (at : ℕ) → mark_at tokens at ≡ m → IsSound ws → kept ≡ kept_before ws m → more ≡ items ++ all_before ws m → (rest source tokens ws).unary (record { at = at; items = items }) ≡ (rest source tokens kept).unary (record { at = at; items = more })
+after_same source tokens ws kept items more m at is sound e f =
     let w = all_written source tokens ws m (record { at = at; items = items }) is sound in
     rw (e, f) w.same
 
 -- and a token does this then
-pub behind_turn : (source : List ℕ) (tokens : List Token) (ws kept : List Waiting) (items : List Item) (m : Mark) (at : ℕ) (turn : Result Turn Refusal) → mark_at tokens at ≡ m → IsSound ws → kept ≡ kept_before ws m → turn ≡ turn_by (operation_of m) (innermost kept) m at → Turns source tokens kept (record { at = at; items = items }) turn
-behind_turn source tokens ws kept items m at turn is sound e f =
+pub after_turn : (source : List ℕ) (tokens : List Token) (ws kept : List Waiting) (items : List Item) (m : Mark) (at : ℕ) (turn : Result Turn Refusal) → mark_at tokens at ≡ m → IsSound ws → kept ≡ kept_before ws m → turn ≡ turn_by (operation_of m) (innermost kept) m at → Turns source tokens kept (record { at = at; items = items }) turn
+after_turn source tokens ws kept items m at turn is sound e f =
     let p : Place = record { at = at; items = items } in
     let w = all_written source tokens ws m p is sound in
     let done : first_before (innermost kept) m ≡ None = rw e w.done in

@@ -19,11 +19,11 @@ use Rattle.pio_expr.specs.Trees.{Tree, Number, Name, Add, Subtract, Multiply, Di
 -- ---- values
 
 -- an operation, before what comes after it
-both_behind : (xs ys rest : List Item) (op : Item) → (xs ++ ys ++ op ∷ []) ++ rest ≡ xs ++ (ys ++ op ∷ rest)
-both_behind xs ys rest op = append_assoc (xs ++ ys) (op ∷ []) rest ∙ append_assoc xs ys (op ∷ rest)
+both_after : (xs ys rest : List Item) (op : Item) → (xs ++ ys ++ op ∷ []) ++ rest ≡ xs ++ (ys ++ op ∷ rest)
+both_after xs ys rest op = append_assoc (xs ++ ys) (op ∷ []) rest ∙ append_assoc xs ys (op ∷ rest)
 
-one_behind : (xs rest : List Item) (op : Item) → (xs ++ op ∷ []) ++ rest ≡ xs ++ op ∷ rest
-one_behind xs rest op = append_assoc xs (op ∷ []) rest
+one_after : (xs rest : List Item) (op : Item) → (xs ++ op ∷ []) ++ rest ≡ xs ++ op ∷ rest
+one_after xs rest op = append_assoc xs (op ∷ []) rest
 
 -- an operation after its two operands
 binary : (named : List ℕ → Result ℤ ValueKind) (f : ℤ → ℤ → Result ℤ ValueKind) (op : Item) (left right : Result ℤ ValueKind) (xs ys rest : List Item) (ns : List ℤ)
@@ -32,7 +32,7 @@ binary : (named : List ℕ → Result ℤ ValueKind) (f : ℤ → ℤ → Result
     → ((m n : ℤ) → worked_out named (op ∷ rest) (n ∷ m ∷ ns) ≡ (f m n >>= λ k. worked_out named rest (k ∷ ns)))
     → worked_out named ((xs ++ ys ++ op ∷ []) ++ rest) ns ≡ (of_both f left right >>= λ n. worked_out named rest (n ∷ ns))
 binary named f op left right xs ys rest ns first second both =
-    ap (λ items. worked_out named items ns) (both_behind xs ys rest op) ∙ first ∙ by left right second where
+    ap (λ items. worked_out named items ns) (both_after xs ys rest op) ∙ first ∙ by left right second where
       by : (a b : Result ℤ ValueKind) → ((m : ℤ) → worked_out named (ys ++ op ∷ rest) (m ∷ ns) ≡ (b >>= λ n. worked_out named (op ∷ rest) (n ∷ m ∷ ns)))
           → (a >>= λ m. worked_out named (ys ++ op ∷ rest) (m ∷ ns)) ≡ (of_both f a b >>= λ n. worked_out named rest (n ∷ ns))
       by (Err kind) b second' = refl
@@ -44,7 +44,7 @@ unary : (named : List ℕ → Result ℤ ValueKind) (f : ℤ → Result ℤ Valu
     → worked_out named (xs ++ op ∷ rest) ns ≡ (operand >>= λ n. worked_out named (op ∷ rest) (n ∷ ns))
     → ((n : ℤ) → worked_out named (op ∷ rest) (n ∷ ns) ≡ (f n >>= λ k. worked_out named rest (k ∷ ns)))
     → worked_out named ((xs ++ op ∷ []) ++ rest) ns ≡ ((operand >>= f) >>= λ n. worked_out named rest (n ∷ ns))
-unary named f op operand xs rest ns first one = ap (λ items. worked_out named items ns) (one_behind xs rest op) ∙ first ∙ by operand where
+unary named f op operand xs rest ns first one = ap (λ items. worked_out named items ns) (one_after xs rest op) ∙ first ∙ by operand where
   by : (a : Result ℤ ValueKind) → (a >>= λ n. worked_out named (op ∷ rest) (n ∷ ns)) ≡ ((a >>= f) >>= λ n. worked_out named rest (n ∷ ns))
   by (Err kind) = refl
   by (Ok n) = one n
@@ -129,27 +129,27 @@ joined before items t u op j h =
     ap (λ xs. xs ++ op ∷ []) (h ∙ append_assoc before (postfix t) (postfix u)) ∙ append_assoc before (postfix t ++ postfix u) (op ∷ []) ∙ ap (λ xs. before ++ xs) (sym (j.1 t u))
 
 chain_step : (before : List Item) (t : Tree) (place : Place) (operand : Reader) (goes_on : Item → Reader) → place.items ≡ before ++ postfix t → Writes operand
-    → ((op : Item) (v : Tree) (behind : Place) → behind.items ++ op ∷ [] ≡ before ++ postfix v → Wrote before (goes_on op behind))
+    → ((op : Item) (v : Tree) (after : Place) → after.items ++ op ∷ [] ≡ before ++ postfix v → Wrote before (goes_on op after))
     → (o : Option Item) → ((op : Item) → o ≡ Some op → Joins op) → Wrote before (chain_by operand goes_on o place)
 chain_step before t place operand goes_on e writes on None joins = (t, e)
 chain_step before t place operand goes_on e writes on (Some op) joins = by_operand (operand (next place)) (writes (next place)) (joins op refl) where
   by_operand : (read : Read) → Wrote place.items read → Joins op → Wrote before (then read (goes_on op))
   by_operand (Err fault) h j = tt
-  by_operand (Ok behind) h j = on op (j.0 t h.0) behind (joined before behind.items t h.0 op j (h.1 ∙ ap (λ xs. xs ++ postfix h.0) e))
+  by_operand (Ok after) h j = on op (j.0 t h.0) after (joined before after.items t h.0 op j (h.1 ∙ ap (λ xs. xs ++ postfix h.0) e))
 
 -- operations after a first operand
 chain_writes : (tokens : List Token) (operation_of : Mark → Option Item) (operand : Reader) → AllJoin operation_of → Writes operand → (n : ℕ) (before : List Item) (t : Tree) (place : Place) → place.items ≡ before ++ postfix t → Wrote before (chain tokens operation_of operand n place)
 unfolding chain
 chain_writes tokens operation_of operand joins writes zero before t place e = (t, e)
 chain_writes tokens operation_of operand joins writes (suc n) before t place e =
-    chain_step before t place operand (λ op behind. chain tokens operation_of operand n (written op behind)) e writes
-    (λ op v behind h. chain_writes tokens operation_of operand joins writes n before v (written op behind) h) (operation_of (mark_at tokens place.at)) (λ op h. joins (mark_at tokens place.at) op h)
+    chain_step before t place operand (λ op after. chain tokens operation_of operand n (written op after)) e writes
+    (λ op v after h. chain_writes tokens operation_of operand joins writes n before v (written op after) h) (operation_of (mark_at tokens place.at)) (λ op h. joins (mark_at tokens place.at) op h)
 
 product_writes : (tokens : List Token) (operand : Reader) → Writes operand → Writes (product_by tokens operand)
-product_writes tokens operand writes place = wrote_then place.items (operand place) (product_goes_on tokens operand) (writes place) (λ behind t e. chain_writes tokens product_operation operand product_joins writes (length tokens) place.items t behind e)
+product_writes tokens operand writes place = wrote_then place.items (operand place) (product_goes_on tokens operand) (writes place) (λ after t e. chain_writes tokens product_operation operand product_joins writes (length tokens) place.items t after e)
 
 sum_writes : (tokens : List Token) (operand : Reader) → Writes operand → Writes (sum_by tokens operand)
-sum_writes tokens operand writes place = wrote_then place.items (product_by tokens operand place) (sum_goes_on tokens operand) (product_writes tokens operand writes place) (λ behind t e. chain_writes tokens sum_operation (product_by tokens operand) sum_joins (product_writes tokens operand writes) (length tokens) place.items t behind e)
+sum_writes tokens operand writes place = wrote_then place.items (product_by tokens operand place) (sum_goes_on tokens operand) (product_writes tokens operand writes place) (λ after t e. chain_writes tokens sum_operation (product_by tokens operand) sum_joins (product_writes tokens operand writes) (length tokens) place.items t after e)
 
 -- a `)` writes nothing
 closed_writes : (tokens : List Token) (before : List Item) (place : Place) (t : Tree) → place.items ≡ before ++ postfix t → Wrote before (closed tokens place)
@@ -198,7 +198,7 @@ DeeperWrite (Some rules) = WriteAll rules
 value_by_writes : (source : List ℕ) (tokens : List Token) (deeper : Option Readers) → DeeperWrite deeper → (m : Mark) (place : Place) → mark_at tokens place.at ≡ m → Wrote place.items (value_by source tokens m deeper place)
 value_by_writes source tokens deeper all mark.Value place is = value_writes source tokens place is
 value_by_writes source tokens None all mark.Open place is = tt
-value_by_writes source tokens (Some rules) all mark.Open place is = wrote_then place.items (rules.level (next place)) (closed tokens) (all.level (next place)) (λ behind t e. closed_writes tokens place.items behind t e)
+value_by_writes source tokens (Some rules) all mark.Open place is = wrote_then place.items (rules.level (next place)) (closed tokens) (all.level (next place)) (λ after t e. closed_writes tokens place.items after t e)
 value_by_writes source tokens deeper all mark.Close place is = tt
 value_by_writes source tokens deeper all mark.Plus place is = tt
 value_by_writes source tokens deeper all mark.Minus place is = tt
@@ -211,7 +211,7 @@ unary_by_writes : (source : List ℕ) (tokens : List Token) (deeper : Option Rea
 unfolding postfix
 unary_by_writes source tokens None all mark.Minus place is = tt
 unary_by_writes source tokens (Some rules) all mark.Minus place is =
-    wrote_then place.items (rules.unary (next place)) (λ behind. Ok (written item.Negate behind)) (all.unary (next place)) (λ behind t e. (Negate t, one_more place.items t (Negate t) item.Negate behind.items refl e))
+    wrote_then place.items (rules.unary (next place)) (λ after. Ok (written item.Negate after)) (all.unary (next place)) (λ after t e. (Negate t, one_more place.items t (Negate t) item.Negate after.items refl e))
 unary_by_writes source tokens None all mark.Reverse place is = tt
 unary_by_writes source tokens (Some rules) all mark.Reverse place is = tt
 unary_by_writes source tokens deeper all mark.Value place is = value_by_writes source tokens deeper all mark.Value place is
@@ -224,7 +224,7 @@ unary_by_writes source tokens deeper all mark.Other place is = tt
 
 level_by_writes : (source : List ℕ) (tokens : List Token) (deeper : Option Readers) → DeeperWrite deeper → (unary : Reader) → Writes unary → (m : Mark) (place : Place) → Wrote place.items (level_by source tokens m deeper unary place)
 level_by_writes source tokens None all unary writes mark.Reverse place = tt
-level_by_writes source tokens (Some rules) all unary writes mark.Reverse place = wrote_then place.items (rules.value (next place)) (alone tokens place.at) (all.value (next place)) (λ behind t e. alone_writes tokens place.at place.items behind t e)
+level_by_writes source tokens (Some rules) all unary writes mark.Reverse place = wrote_then place.items (rules.value (next place)) (alone tokens place.at) (all.value (next place)) (λ after t e. alone_writes tokens place.at place.items after t e)
 level_by_writes source tokens deeper all unary writes mark.Value place = sum_writes tokens unary writes place
 level_by_writes source tokens deeper all unary writes mark.Open place = sum_writes tokens unary writes place
 level_by_writes source tokens deeper all unary writes mark.Close place = sum_writes tokens unary writes place
@@ -253,9 +253,9 @@ items_or none (Ok read) = read.0
 items_or none (Err refusal) = none
 
 -- an expression that is read is the postfix order of a tree
-pub read_is_tree : (source : List ℕ) (tokens : List Token) (from behind : ℕ) (items : List Item) → expression_at source tokens from ≡ Ok (items, behind) → HasTree items
+pub read_is_tree : (source : List ℕ) (tokens : List Token) (from after : ℕ) (items : List Item) → expression_at source tokens from ≡ Ok (items, after) → HasTree items
 unfolding expression_at items_or
-read_is_tree source tokens from behind items h = by ((readers source tokens most_open).level (record { at = from; items = [] })) ((all_write source tokens most_open).level (record { at = from; items = [] })) h where
-  by : (read : Read) → Wrote [] read → read_items read ≡ Ok (items, behind) → HasTree items
+read_is_tree source tokens from after items h = by ((readers source tokens most_open).level (record { at = from; items = [] })) ((all_write source tokens most_open).level (record { at = from; items = [] })) h where
+  by : (read : Read) → Wrote [] read → read_items read ≡ Ok (items, after) → HasTree items
   by (Err fault) wrote e = cc
   by (Ok place) wrote e = let same : place.items ≡ items = ap (items_or []) e in (wrote.0, sym same ∙ wrote.1)

@@ -17,7 +17,7 @@ use Rattle.pio_expr.specs.Turns.{item_before, operation_of, innermost, first_bef
 use Rattle.pio_expr.proofs.Chains.{Onward, chain_on}
 use Rattle.pio_expr.proofs.Onward.{readers_onward, product_onward}
 use Rattle.pio_expr.proofs.Steps.{then_assoc}
-use Rattle.pio_expr.proofs.Behind.{product_of_level, product_ends, sum_ends}
+use Rattle.pio_expr.proofs.After.{product_of_level, product_ends, sum_ends}
 
 -- what is read on after a turn
 abbrev pub Turns : List ℕ → List Token → List Waiting → Place → Result Turn Refusal → Type 0

@@ -92,7 +92,7 @@ chain_by operand rest (Some operation) place = then (operand (next place)) (rest
 unfoldable pub chain : List Token → (Mark → Option Item) → Reader → ℕ → Reader
 chain tokens operation_of operand zero place = Ok place
 chain tokens operation_of operand (suc n) place =
-    chain_by operand (λ operation behind. chain tokens operation_of operand n (written operation behind)) (operation_of (mark_at tokens place.at)) place
+    chain_by operand (λ operation after. chain tokens operation_of operand n (written operation after)) (operation_of (mark_at tokens place.at)) place
 
 -- `{(*|/) unary}`, after a first operand
 abbrev pub product_goes_on : List Token → Reader → Reader
@@ -147,7 +147,7 @@ value_by source tokens _ deeper place = refused Syntax place
 -- `- unary | value`; a `::` here is beside a sign or an operation
 abbrev pub unary_by : List ℕ → List Token → Mark → Option Readers → Reader
 unary_by source tokens mark.Minus None place = refused TooDeep place
-unary_by source tokens mark.Minus (Some rules) place = then (rules.unary (next place)) (λ behind. Ok (written item.Negate behind))
+unary_by source tokens mark.Minus (Some rules) place = then (rules.unary (next place)) (λ after. Ok (written item.Negate after))
 unary_by source tokens mark.Reverse None place = refused TooDeep place
 unary_by source tokens mark.Reverse (Some rules) place = refused Ambiguous place
 unary_by source tokens mark deeper place = value_by source tokens mark deeper place

@@ -73,18 +73,18 @@ first_of [] = pos 0
 first_of (n ∷ numbers) = n
 
 -- the numbers without the first
-abbrev pub behind_first : List ℤ → List ℤ
-behind_first [] = []
-behind_first (n ∷ numbers) = numbers
+abbrev pub after_first : List ℤ → List ℤ
+after_first [] = []
+after_first (n ∷ numbers) = numbers
 
 -- the number that an item gives, on the numbers before it, the last in front
 abbrev pub number_by : (List ℕ → Result ℤ ValueKind) → Item → List ℤ → Result ℤ ValueKind
 number_by named (item.Number n) numbers = Ok n
 number_by named (item.Name name) numbers = named name
-number_by named item.Add numbers = sum_of (first_of (behind_first numbers)) (first_of numbers)
-number_by named item.Subtract numbers = difference_of (first_of (behind_first numbers)) (first_of numbers)
-number_by named item.Multiply numbers = product_of (first_of (behind_first numbers)) (first_of numbers)
-number_by named item.Divide numbers = quotient_of (first_of (behind_first numbers)) (first_of numbers)
+number_by named item.Add numbers = sum_of (first_of (after_first numbers)) (first_of numbers)
+number_by named item.Subtract numbers = difference_of (first_of (after_first numbers)) (first_of numbers)
+number_by named item.Multiply numbers = product_of (first_of (after_first numbers)) (first_of numbers)
+number_by named item.Divide numbers = quotient_of (first_of (after_first numbers)) (first_of numbers)
 number_by named item.Negate numbers = negated (first_of numbers)
 number_by named item.Reverse numbers = Ok (reversed (first_of numbers))
 
@@ -92,9 +92,9 @@ number_by named item.Reverse numbers = Ok (reversed (first_of numbers))
 abbrev pub left_by : Item → List ℤ → List ℤ
 left_by (item.Number n) numbers = numbers
 left_by (item.Name name) numbers = numbers
-left_by item.Negate numbers = behind_first numbers
-left_by item.Reverse numbers = behind_first numbers
-left_by _ numbers = behind_first (behind_first numbers)
+left_by item.Negate numbers = after_first numbers
+left_by item.Reverse numbers = after_first numbers
+left_by _ numbers = after_first (after_first numbers)
 
 -- an expression in postfix order, from left to right up to the first fault, on the numbers before it
 unfoldable pub worked_out : (List ℕ → Result ℤ ValueKind) → List Item → List ℤ → Result ℤ ValueKind

@@ -55,8 +55,8 @@ abbrev pub rest_of_sum : List ℕ → List Token → ℕ → Item → Rest → R
 rest_of_sum source tokens n operation below =
     let unary : Reader = (readers source tokens n).unary in
     let product : Reader = λ place. below.product (written operation place) in
-    let behind : Reader = λ place. then (product_goes_on tokens unary place) product in
-    record { unary = behind; product = product; level = below.level; wants = λ place. then (unary place) behind }
+    let after : Reader = λ place. then (product_goes_on tokens unary place) product in
+    record { unary = after; product = product; level = below.level; wants = λ place. then (unary place) after }
 
 -- after a `::` at a token
 abbrev pub rest_of_reverse : List ℕ → List Token → ℕ → ℕ → Rest → Rest

@@ -1,5 +1,5 @@
 -- What holds between the steps of working an expression out: more words of this crate's private clauses.
---   Stands             how the frames lie to one another, to what is kept, and to the value that is asked
+--   Holds              how the frames lie to one another, to what is kept, and to the value that is asked
 --   Steps              what one step gives
 --   left_to_do         a number that each step makes smaller
 use Rattle.std.specs.Prelude.{◌≡◌, ℕ, ◌+◌, ◌-◌, ◌*◌, ◌<◌, ℤ, Bool, true, List, [], ◌∷◌, ◌++◌, length, Option, Some, None, Result, Ok, Err, nat_eq, cond}
@@ -77,7 +77,7 @@ abbrev pub frames_of : Work → List Frame
 frames_of work = work.top ∷ work.below.items
 
 -- work in progress: its frames are right, and their lowest is the one that is asked
-pub record Stands (scope : Scope) (kept : Kept) (own : Option ℕ) (items : List Item) (work : Work) : Type 0 where
+pub record Holds (scope : Scope) (kept : Kept) (own : Option ℕ) (items : List Item) (work : Work) : Type 0 where
   pub is_own : IsOwn scope own items
   pub is_kept : IsKept scope kept
   pub frames : AreFrames scope kept items (frames_of work)
@@ -91,7 +91,7 @@ left_to_do scope kept frames = 2 * (count_of scope - length (seen_of frames kept
 
 -- what one step gives: it goes on, or the value or the fault of the whole is there
 abbrev pub Steps : Scope → Option ℕ → List Item → Kept → Work → Kept → Work → Result (Option ℤ) ValueFault → Type 0
-Steps scope own items kept old kept' new (Ok None) = Stands scope kept' own items new × (left_to_do scope kept' (frames_of new) < left_to_do scope kept (frames_of old))
+Steps scope own items kept old kept' new (Ok None) = Holds scope kept' own items new × (left_to_do scope kept' (frames_of new) < left_to_do scope kept (frames_of old))
 Steps scope own items kept old kept' new (Ok (Some n)) = (value_at scope own items ≡ Ok n) × IsKept scope kept'
 Steps scope own items kept old kept' new (Err fault) = HasFault fault (value_at scope own items) × IsKept scope kept'
 

@@ -4,7 +4,7 @@ ghost use Rattle.std.specs.HashSet.{contains};
 ghost use Rattle.std.specs.Prelude.{nat_eq};
 ghost use Rattle.pio_expr.specs.declared.fault.ValueKind.{ValueKind};
 ghost use Rattle.pio_expr.specs.declared.fault.ValueKind.TheVariants.{Unknown, Cycle};
-ghost use Rattle.pio_expr.specs.Values.{number_by, left_by, first_of, behind_first, worked_out, Tells};
+ghost use Rattle.pio_expr.specs.Values.{number_by, left_by, first_of, after_first, worked_out, Tells};
 ghost use Rattle.pio_expr.specs.Frames.{is_local, looked_up, looked_at, Looks, Agrees, Shows, Rests};
 
 use crate::arithmetic::{add, divide, multiply, negate, reverse, subtract};
@@ -191,7 +191,7 @@ fn apply(item: &Item, named: i32, numbers: &mut VecDeque<i32>) -> Result<i32, Va
 /// Takes the last number; 0, where there is none.
 fn take(numbers: &mut VecDeque<i32>) -> i32
     ensures value { result ≡ first_of numbers.old.items }
-    ensures left { numbers.new.items ≡ behind_first numbers.old.items }
+    ensures left { numbers.new.items ≡ after_first numbers.old.items }
 {
     numbers.pop_front().unwrap_or(0)
 }

@@ -26,8 +26,8 @@ pub fn a_name_is_a_text()
 
 /// An expression that is read is a tree in postfix order, so each operation has its operands, and its value is the tree's.
 pub fn an_expression_is_a_tree()
-    ensures tree { (source : List ℕ) (tokens : List Token) (from behind : ℕ) (items : List Item)
-        → expression_at source tokens from ≡ Ok (items, behind) → HasTree items }
+    ensures tree { (source : List ℕ) (tokens : List Token) (from after : ℕ) (items : List Item)
+        → expression_at source tokens from ≡ Ok (items, after) → HasTree items }
     ensures value { (named : List ℕ → Result ℤ ValueKind) (tree : Tree)
         → worked_out named (postfix tree) [] ≡ tree_value named tree }
 {}

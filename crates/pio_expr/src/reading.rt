@@ -59,7 +59,7 @@ impl Reading {
     {
         let mark = mark_at(tokens, at);
         if !wanted {
-            return self.behind(mark, at);
+            return self.after(mark, at);
         }
         match self.operand(alloc, source, tokens, at, mark) {
             Ok(next) => Ok(Some(next)),
@@ -103,7 +103,7 @@ impl Reading {
     }
 
     /// Reads a token after an operand; whether an operand is wanted after it, or nothing where the expression ends before it.
-    fn behind(&mut self, mark: Mark, at: usize) -> Result<Option<bool>, ExprFault>
+    fn after(&mut self, mark: Mark, at: usize) -> Result<Option<bool>, ExprFault>
         requires sound { IsSound self.old.waiting.items }
         ensures ok { (source : List ℕ) (tokens : List Token) → mark_at tokens at ≡ mark
             → IfOk result (GoesOn source tokens self.old false at self.new) }

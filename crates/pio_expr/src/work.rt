@@ -5,7 +5,7 @@ ghost use Rattle.std.specs.Map.{keys_of};
 ghost use Rattle.pio_expr.specs.declared.expr.Item.{Item};
 ghost use Rattle.pio_expr.specs.Values.{value_at, is_among, Gives};
 ghost use Rattle.pio_expr.specs.Frames.{IsKept};
-ghost use Rattle.pio_expr.specs.Work.{placed, IsOwn, Stands, Steps, Waited, Finished, IsNewlyKept, kept_of};
+ghost use Rattle.pio_expr.specs.Work.{placed, IsOwn, Holds, Steps, Waited, Finished, IsNewlyKept, kept_of};
 
 use crate::frame::{Frame, Pause};
 use crate::symbols::Symbols;
@@ -92,7 +92,7 @@ impl<'a> Work<'a> {
         requires kept { IsKept symbols.now kept.now.entries }
         requires unique { IsDistinct nat_eq (keys_of kept.now.entries) }
         requires new { kept_of kept.now.entries own ≡ None }
-        ensures ok { IfOk result (Stands symbols.now kept.now.entries own items.now) }
+        ensures ok { IfOk result (Holds symbols.now kept.now.entries own items.now) }
         ensures memory { IfErr result (λ fault. fault ≡ ValueFault.Memory) }
     {
         Ok(Work {
@@ -110,7 +110,7 @@ impl<'a> Work<'a> {
         kept: &mut IndexMap<usize, i32>,
     ) -> Result<Option<i32>, ValueFault>
         ensures { (own : Option ℕ) (items : List Item)
-            → Stands symbols.now kept.old.entries own items self.old
+            → Holds symbols.now kept.old.entries own items self.old
             → Steps symbols.now own items kept.old.entries self.old kept.new.entries self.new result }
     {
         match self.top.run(alloc, symbols, kept, &self.begun) {

@@ -9,7 +9,7 @@ use Rattle.pio_lex.specs.declared.fault.LexFault.TheVariants.{Memory, Found}
 use Rattle.pio_lex.specs.declared.token.Token.{Token}
 use Rattle.pio_lex.specs.declared.piece.Piece.{Piece}
 use Rattle.pio_lex.specs.Pieces.{piece_at}
-use Rattle.pio_lex.specs.Tokens.{line_at, Place, start, last_kind, behind, AreBetween, IsTokens, IsFirstFault}
+use Rattle.pio_lex.specs.Tokens.{line_at, Place, start, last_kind, after, AreBetween, IsTokens, IsFirstFault}
 use Rattle.pio_lex.specs.Reading.{read_from, reading_of}
 use Rattle.pio_lex.specs.Fault.{Refusal}
 use Rattle.pio_lex.specs.Answers.{IsFaultOf, Gives}
@@ -32,7 +32,7 @@ at_fault source place kind lt e zero enough = absurd (omega arith)
 at_fault source place kind lt e (suc more) enough = rw (lt-ltb place.at (length source) lt) (rw e refl)
 
 -- a piece is read, and what comes after it
-at_piece : (source : List ℕ) (place : Place) (p : Piece) (r : Result (List Token) Refusal) → place.at < length source → piece_at (last_kind place.tokens) (drop place.at source) ≡ Ok p → Comes source (behind source place p) r → Comes source place r
+at_piece : (source : List ℕ) (place : Place) (p : Piece) (r : Result (List Token) Refusal) → place.at < length source → piece_at (last_kind place.tokens) (drop place.at source) ≡ Ok p → Comes source (after source place p) r → Comes source place r
 unfolding read_from
 at_piece source place p r lt e rest zero enough = absurd (omega arith)
 at_piece source place p r lt e rest (suc more) enough =
@@ -44,7 +44,7 @@ at_piece source place p r lt e rest (suc more) enough =
 -- what is read at a place is read from each place before it
 from_before : (source : List ℕ) (from : Place) (pieces : List Piece) (to : Place) (r : Result (List Token) Refusal) → AreBetween source from pieces to → Comes source to r → Comes source from r
 from_before source from [] to r h comes = subst (λ (p : Place). Comes source p r) (sym h) comes
-from_before source from (p ∷ pieces) to r h comes = at_piece source from p r h.0.before_end h.0.stands (from_before source (behind source from p) pieces to r h.1 comes)
+from_before source from (p ∷ pieces) to r h comes = at_piece source from p r h.0.before_end h.0.is_there (from_before source (after source from p) pieces to r h.1 comes)
 
 pub tokens_are_read : (source : List ℕ) (tokens : List Token) → IsTokens source tokens → reading_of source ≡ Ok tokens
 tokens_are_read source tokens h = from_before source start h.pieces _ (Ok tokens) h.whole (at_end source (record { at = length source; tokens = tokens }) (omega arith)) (length source) (omega arith)

@@ -156,8 +156,8 @@ longest_directive b bs e = longer b bs (1 + prefix_len is_name_byte bs) (λ m lt
     (λ h. other_pair 46 b (take m bs) e (λ f. absurd (omega arith)) (λ f. absurd (omega arith)) (λ f. absurd (omega arith)) h)
     s)
 
-nothing_behind_dot : (b : ℕ) (bs : List ℕ) → b ≡ 46 → begins_name bs ≡ false → IsLongest (b ∷ bs) 0
-nothing_behind_dot b bs e isnt = longer b bs 0 (λ m lt le s. no_shape b (take m bs)
+nothing_after_dot : (b : ℕ) (bs : List ℕ) → b ≡ 46 → begins_name bs ≡ false → IsLongest (b ∷ bs) 0
+nothing_after_dot b bs e isnt = longer b bs 0 (λ m lt le s. no_shape b (take m bs)
     (λ h. no_word b (take m bs) (ap is_name_byte e) h)
     (λ h. not_both (begins_name bs) (begins_too m bs h.1.0) isnt)
     (λ h a. dot_is_no_mark b e a)
@@ -271,7 +271,7 @@ directive_nothing : (b : ℕ) (bs : List ℕ) → b ≡ 46 → directive_at (b �
 unfolding directive_at
 directive_nothing b bs dot e =
     elim (chosen (not (begins_name bs)) (Err BadByte) (Ok (kind.Directive (directive_of (word_of bs)), 1 + prefix_len is_name_byte bs)) (Err BadByte) e) [
-      | inl h ↦ nothing_behind_dot b bs dot (not_true_is (begins_name bs) h.0)
+      | inl h ↦ nothing_after_dot b bs dot (not_true_is (begins_name bs) h.0)
       | inr h ↦ absurd (cc (h.1))
     ] where
       not_true_is : (t : Bool) → not t ≡ true → t ≡ false

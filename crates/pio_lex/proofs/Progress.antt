@@ -10,14 +10,14 @@ use Rattle.pio_lex.specs.declared.piece.Piece.{Piece}
 use Rattle.pio_lex.specs.declared.piece.Piece.TheVariants as piece
 use Rattle.pio_lex.specs.Bytes.{is_newline}
 use Rattle.pio_lex.specs.Pieces.{piece_at, size, IsWithin}
-use Rattle.pio_lex.specs.Tokens.{line_at, Place, start, last_kind, StandsAt, tokens_of, behind, AreBetween, IsTokens, IsFirstFault, AreInOrder}
+use Rattle.pio_lex.specs.Tokens.{line_at, Place, start, last_kind, IsAt, tokens_of, after, AreBetween, IsTokens, IsFirstFault, AreInOrder}
 
 -- one piece more
-pub row_more : (source : List ℕ) (from : Place) (pieces : List Piece) (to : Place) (p : Piece) → AreBetween source from pieces to → StandsAt source to p → AreBetween source from (pieces ++ p ∷ []) (behind source to p)
+pub row_more : (source : List ℕ) (from : Place) (pieces : List Piece) (to : Place) (p : Piece) → AreBetween source from pieces to → IsAt source to p → AreBetween source from (pieces ++ p ∷ []) (after source to p)
 row_more source from [] to p e s =
-    let P : Place → Type 0 = λ q. StandsAt source q p × (behind source q p ≡ behind source to p) in
+    let P : Place → Type 0 = λ q. IsAt source q p × (after source q p ≡ after source to p) in
     subst P (sym e) (s, refl)
-row_more source from (q ∷ qs) to p h s = (h.0, row_more source (behind source from q) qs to p h.1 s)
+row_more source from (q ∷ qs) to p h s = (h.0, row_more source (after source from q) qs to p h.1 s)
 
 order_to : (from : ℕ) (tokens : List Token) (a b : ℕ) → a ≤ b → AreInOrder from tokens a → AreInOrder from tokens b
 order_to from [] a b le h = omega arith
@@ -52,11 +52,11 @@ pub reading_more : (source : List ℕ) (tokens : List Token) (at line : ℕ) (p 
 reading_more source tokens at line p more r lt e fits grown =
     let place : Place = record { at = at; tokens = tokens } in
     let left = length-drop at source in
-    let stands : StandsAt source place p = record { before_end = lt; stands = e } in
+    let there : IsAt source place p = record { before_end = lt; is_there = e } in
     let here : tokens ++ tokens_of (line_at source at) at p ≡ more = ap (λ (k : ℕ). tokens ++ tokens_of k at p) (sym r.at_line) ∙ sym grown in
     record {
       pieces = r.pieces ++ p ∷ [];
-      before = subst (λ (ts : List Token). AreBetween source start (r.pieces ++ p ∷ []) (record { at = at + size p; tokens = ts })) here (row_more source start r.pieces place p r.before stands);
+      before = subst (λ (ts : List Token). AreBetween source start (r.pieces ++ p ∷ []) (record { at = at + size p; tokens = ts })) here (row_more source start r.pieces place p r.before there);
       within = omega (arith, fits.1);
       at_line = ap (λ k. k + count_by is_newline (take (size p) (drop at source))) r.at_line ∙ line_more source at (size p);
       in_order = subst (λ (ts : List Token). AreInOrder 0 ts (at + size p)) (sym grown) (order_more tokens line at p fits.0 r.in_order);

@@ -6,24 +6,24 @@ use Rattle.pio_lex.specs.declared.fault.LexKind.{LexKind}
 use Rattle.pio_lex.specs.declared.token.Token.{Token}
 use Rattle.pio_lex.specs.declared.piece.Piece.{Piece}
 use Rattle.pio_lex.specs.Pieces.{piece_at, size, IsWithin}
-use Rattle.pio_lex.specs.Tokens.{line_at, Place, start, last_kind, StandsAt, behind, AreBetween, IsTokens, IsFirstFault, HasTokens, HasFault}
+use Rattle.pio_lex.specs.Tokens.{line_at, Place, start, last_kind, IsAt, after, AreBetween, IsTokens, IsFirstFault, HasTokens, HasFault}
 use Rattle.pio_lex.proofs.Sizes.{piece_within}
 
 -- no piece is here
 abbrev Stops : List ℕ → Place → Type 0
-Stops source place = (p : Piece) → StandsAt source place p → ⊥
+Stops source place = (p : Piece) → IsAt source place p → ⊥
 
 same_piece : (r : Result Piece LexKind) (p q : Piece) → r ≡ Ok p → r ≡ Ok q → p ≡ q
 same_piece r p q e f = cc
 
 same_end : (source : List ℕ) (from : Place) (ps qs : List Piece) (to other : Place) → AreBetween source from ps to → AreBetween source from qs other → Stops source to → Stops source other → to ≡ other
 same_end source from [] [] to other h k s t = sym h ∙ k
-same_end source from [] (q ∷ qs) to other h k s t = absurd (s q (subst (λ (x : Place). StandsAt source x q) h k.0))
-same_end source from (p ∷ ps) [] to other h k s t = absurd (t p (subst (λ (x : Place). StandsAt source x p) k h.0))
+same_end source from [] (q ∷ qs) to other h k s t = absurd (s q (subst (λ (x : Place). IsAt source x q) h k.0))
+same_end source from (p ∷ ps) [] to other h k s t = absurd (t p (subst (λ (x : Place). IsAt source x p) k h.0))
 same_end source from (p ∷ ps) (q ∷ qs) to other h k s t =
-    let e = same_piece (piece_at (last_kind from.tokens) (drop from.at source)) p q h.0.stands k.0.stands in
-    let k1 = subst (λ (x : Piece). AreBetween source (behind source from x) qs other) (sym e) k.1 in
-    same_end source (behind source from p) ps qs to other h.1 k1 s t
+    let e = same_piece (piece_at (last_kind from.tokens) (drop from.at source)) p q h.0.is_there k.0.is_there in
+    let k1 = subst (λ (x : Piece). AreBetween source (after source from x) qs other) (sym e) k.1 in
+    same_end source (after source from p) ps qs to other h.1 k1 s t
 
 whole_stops : (source : List ℕ) (tokens : List Token) → Stops source (record { at = length source; tokens = tokens })
 whole_stops source tokens p s = let lt = s.before_end in absurd (omega arith)
@@ -32,7 +32,7 @@ fault_is_no_piece : (r : Result Piece LexKind) (fault : LexKind) (p : Piece) →
 fault_is_no_piece r fault p e f = cc
 
 fault_stops : (source : List ℕ) (line : ℕ) (kind : LexKind) (f : IsFirstFault source line kind) → Stops source f.place
-fault_stops source line kind f p s = fault_is_no_piece (piece_at (last_kind f.place.tokens) (drop f.place.at source)) kind p f.fault s.stands
+fault_stops source line kind f p s = fault_is_no_piece (piece_at (last_kind f.place.tokens) (drop f.place.at source)) kind p f.fault s.is_there
 
 pub one_list : (source : List ℕ) (a b : List Token) → IsTokens source a → IsTokens source b → a ≡ b
 one_list source a b h k = ap (λ (p : Place). p.tokens) (same_end source start h.pieces k.pieces _ _ h.whole k.whole (whole_stops source a) (whole_stops source b))
@@ -59,7 +59,7 @@ Reaches source from =
     (pieces : List Piece) × (to : Place) × AreBetween source from pieces to
     × ((to.at ≡ length source) ⊎ ((to.at < length source) × ((kind : LexKind) × (piece_at (last_kind to.tokens) (drop to.at source) ≡ Err kind))))
 
-one_more : (source : List ℕ) (from : Place) (p : Piece) → StandsAt source from p → Reaches source (behind source from p) → Reaches source from
+one_more : (source : List ℕ) (from : Place) (p : Piece) → IsAt source from p → Reaches source (after source from p) → Reaches source from
 one_more source from p s r = (p ∷ r.0, r.1, (s, r.2), r.3)
 
 reaches : (fuel : ℕ) (source : List ℕ) (from : Place) → from.at ≤ length source → length source ≤ from.at + fuel → Reaches source from
@@ -67,12 +67,12 @@ reaches zero source from le enough = ([], from, refl, inl (omega arith))
 reaches (suc fuel) source from le enough =
     elim (cases_lt from.at (length source)) [
       | inr h ↦ ([], from, refl, inl (omega arith))
-      | inl lt ↦ reached (piece_at (last_kind from.tokens) (drop from.at source)) refl lt (λ p s h. let left = length-drop from.at source in reaches fuel source (behind source from p) (omega (arith, h.1)) (omega (arith, h.0)))
+      | inl lt ↦ reached (piece_at (last_kind from.tokens) (drop from.at source)) refl lt (λ p s h. let left = length-drop from.at source in reaches fuel source (after source from p) (omega (arith, h.1)) (omega (arith, h.0)))
     ] where
-      reached : (r : Result Piece LexKind) → piece_at (last_kind from.tokens) (drop from.at source) ≡ r → from.at < length source → ((p : Piece) → StandsAt source from p → IsWithin (size p) (drop from.at source) → Reaches source (behind source from p)) → Reaches source from
+      reached : (r : Result Piece LexKind) → piece_at (last_kind from.tokens) (drop from.at source) ≡ r → from.at < length source → ((p : Piece) → IsAt source from p → IsWithin (size p) (drop from.at source) → Reaches source (after source from p)) → Reaches source from
       reached (Ok p) e lt next =
           let left = length-drop from.at source in
-          let s : StandsAt source from p = record { before_end = lt; stands = e } in
+          let s : IsAt source from p = record { before_end = lt; is_there = e } in
           one_more source from p s (next p s (piece_within (last_kind from.tokens) (drop from.at source) p (omega arith) e))
       reached (Err kind) e lt next = ([], from, refl, inr (lt, (kind, e)))
 

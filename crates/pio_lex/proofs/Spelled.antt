@@ -24,7 +24,7 @@ use Rattle.pio_lex.specs.Numbers.{within, numeral, word_number}
 use Rattle.pio_lex.specs.Gaps.{gap_at}
 use Rattle.pio_lex.specs.Spellings.{begins_name, IsWord, IsSpelling, word_of, name_kind, name_at, directive_at, counted, number_at, byte_mark, mark_at, token_at}
 use Rattle.pio_lex.specs.Pieces.{token_piece, piece_by, piece_at}
-use Rattle.pio_lex.specs.Tokens.{line_at, Place, start, last_kind, StandsAt, tokens_of, behind, AreBetween, IsTokens, IsTokenOf}
+use Rattle.pio_lex.specs.Tokens.{line_at, Place, start, last_kind, IsAt, tokens_of, after, AreBetween, IsTokens, IsTokenOf}
 use Rattle.pio_lex.proofs.Longest.{token_longest}
 use Rattle.pio_lex.proofs.Sizes.{chosen, ok_is, letter_is_name_byte, mark_is, piece_within}
 
@@ -194,25 +194,25 @@ token_of last text k n e = by_gap (gap_at last text) e where
   by_gap (Ok None) q = by_token (token_at text) q
   by_gap (Err f) q = absurd cc
 
-tokens_spelled : (source : List ℕ) (place : Place) (p : Piece) → StandsAt source place p → All (IsTokenOf source) (tokens_of (line_at source place.at) place.at p)
+tokens_spelled : (source : List ℕ) (place : Place) (p : Piece) → IsAt source place p → All (IsTokenOf source) (tokens_of (line_at source place.at) place.at p)
 tokens_spelled source place (piece.Gap n) s = All-nil (IsTokenOf source)
 tokens_spelled source place (piece.Token k n) s =
     let text = drop place.at source in
     let lt = s.before_end in
     let left = length-drop place.at source in
     let some : 0 < length text = omega arith in
-    let fits = piece_within (last_kind place.tokens) text (piece.Token k n) some s.stands in
+    let fits = piece_within (last_kind place.tokens) text (piece.Token k n) some s.is_there in
     All-cons (IsTokenOf source) _ [] (record {
       some = fits.0;
       within = omega (arith, fits.1);
       on_line = refl;
-      spelled = spelled_token text (k, n) some (token_of (last_kind place.tokens) text k n s.stands);
-      longest = token_longest text k n some (token_of (last_kind place.tokens) text k n s.stands);
+      spelled = spelled_token text (k, n) some (token_of (last_kind place.tokens) text k n s.is_there);
+      longest = token_longest text k n some (token_of (last_kind place.tokens) text k n s.is_there);
     }) (All-nil (IsTokenOf source))
 
 between : (source : List ℕ) (from : Place) (pieces : List Piece) (to : Place) → AreBetween source from pieces to → All (IsTokenOf source) from.tokens → All (IsTokenOf source) to.tokens
 between source from [] to h all = subst (λ (p : Place). All (IsTokenOf source) p.tokens) h all
-between source from (p ∷ ps) to h all = between source (behind source from p) ps to h.1 (All-append (IsTokenOf source) from.tokens (tokens_of (line_at source from.at) from.at p) all (tokens_spelled source from p h.0))
+between source from (p ∷ ps) to h all = between source (after source from p) ps to h.1 (All-append (IsTokenOf source) from.tokens (tokens_of (line_at source from.at) from.at p) all (tokens_spelled source from p h.0))
 
 pub all_spelled : (source : List ℕ) (tokens : List Token) → IsTokens source tokens → All (IsTokenOf source) tokens
 all_spelled source tokens h = between source start h.pieces _ h.whole (All-nil (IsTokenOf source))

@@ -22,8 +22,8 @@ is_lang_opt (Some (Directive LangOpt)) = true
 is_lang_opt _ = false
 
 -- a text without the blanks that it begins with
-abbrev pub behind_blanks : List ℕ → List ℕ
-behind_blanks text = drop (prefix_len is_blank text) text
+abbrev pub after_blanks : List ℕ → List ℕ
+after_blanks text = drop (prefix_len is_blank text) text
 
 -- how many bytes there are up to the end of the first `*/`
 unfoldable pub through_close : List ℕ → Option ℕ
@@ -36,15 +36,15 @@ comment_length text = option_map (λ n. n + 2) (through_close (drop 2 text))
 
 -- what the name of a block's language begins
 abbrev pub names_block : List ℕ → Bool
-names_block text = nat_lt 0 (prefix_len is_block_byte text) && begins_with (codes "{") (behind_blanks (drop (prefix_len is_block_byte text) text))
+names_block text = nat_lt 0 (prefix_len is_block_byte text) && begins_with (codes "{") (after_blanks (drop (prefix_len is_block_byte text) text))
 
 -- a line that opens a foreign block: `%`, a name of letters, digits, `_` and `-`, and `{`, with blanks between
 unfoldable pub opens_block : List ℕ → Bool
-opens_block text = begins_with (codes "%") text && names_block (behind_blanks (drop 1 text))
+opens_block text = begins_with (codes "%") text && names_block (after_blanks (drop 1 text))
 
 -- a line that closes a foreign block: its first bytes after blanks are `%}`
 abbrev pub closes_block : List ℕ → Bool
-closes_block line = begins_with (codes "%}") (behind_blanks line)
+closes_block line = begins_with (codes "%}") (after_blanks line)
 
 -- the length of a foreign block: up to the end of the first later line that closes it
 unfoldable pub block_length : List ℕ → Option ℕ

@@ -5,11 +5,11 @@ use Rattle.pio_lex.specs.declared.piece.Piece.{Piece}
 use Rattle.pio_lex.specs.declared.token.Token.{Token}
 use Rattle.pio_lex.specs.Fault.{Refusal}
 use Rattle.pio_lex.specs.Pieces.{piece_at}
-use Rattle.pio_lex.specs.Tokens.{Place, start, behind, last_kind, line_at}
+use Rattle.pio_lex.specs.Tokens.{Place, start, after, last_kind, line_at}
 
 -- reading goes on after a piece, and ends where none is
 abbrev pub read_piece : (Place → Result (List Token) Refusal) → List ℕ → Place → Result Piece LexKind → Result (List Token) Refusal
-read_piece rest source place (Ok piece) = rest (behind source place piece)
+read_piece rest source place (Ok piece) = rest (after source place piece)
 read_piece rest source place (Err kind) = Err (record { line = line_at source place.at; kind = kind })
 
 -- the reading from a place on, of at most so many pieces

@@ -28,9 +28,9 @@ abbrev pub last_kind : List Token → Option TokenKind
 last_kind tokens = option_map (λ token. token.kind) (slice_get tokens (length tokens - 1))
 
 -- this piece is at a place
-pub record StandsAt (source : List ℕ) (place : Place) (piece : Piece) : Type 0 where
+pub record IsAt (source : List ℕ) (place : Place) (piece : Piece) : Type 0 where
   pub before_end : place.at < length source
-  pub stands : piece_at (last_kind place.tokens) (drop place.at source) ≡ Ok piece
+  pub is_there : piece_at (last_kind place.tokens) (drop place.at source) ≡ Ok piece
 
 -- the tokens of a piece at a line and a place: one, or none
 abbrev pub tokens_of : ℕ → ℕ → Piece → List Token
@@ -38,13 +38,13 @@ tokens_of line at (piece.Gap n) = []
 tokens_of line at (piece.Token kind n) = record { kind = kind; line = line; first = at; length = n } ∷ []
 
 -- the place after a piece
-abbrev pub behind : List ℕ → Place → Piece → Place
-behind source place piece = record { at = place.at + size piece; tokens = place.tokens ++ tokens_of (line_at source place.at) place.at piece }
+abbrev pub after : List ℕ → Place → Piece → Place
+after source place piece = record { at = place.at + size piece; tokens = place.tokens ++ tokens_of (line_at source place.at) place.at piece }
 
 -- these pieces are one after the other, from one place to another
 abbrev pub AreBetween : List ℕ → Place → List Piece → Place → Type 0
 AreBetween source from [] to = from ≡ to
-AreBetween source from (piece ∷ pieces) to = StandsAt source from piece × AreBetween source (behind source from piece) pieces to
+AreBetween source from (piece ∷ pieces) to = IsAt source from piece × AreBetween source (after source from piece) pieces to
 
 -- the pieces of the whole source have these tokens
 pub record IsTokens (source : List ℕ) (tokens : List Token) : Type 0 where

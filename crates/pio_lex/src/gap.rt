@@ -74,13 +74,13 @@ fn opens_block(text: &[u8]) -> bool
     if !text.starts_with(b"%") {
         return false;
     }
-    let name = behind_blanks(&text[1..]);
+    let name = after_blanks(&text[1..]);
     let length = block_name_length(name);
-    length > 0 && behind_blanks(&name[length..]).starts_with(b"{")
+    length > 0 && after_blanks(&name[length..]).starts_with(b"{")
 }
 
-fn behind_blanks(text: &[u8]) -> &[u8]
-    ensures { result.now ≡ spec.behind_blanks text.now }
+fn after_blanks(text: &[u8]) -> &[u8]
+    ensures { result.now ≡ spec.after_blanks text.now }
 {
     &text[blanks(text)..]
 }
@@ -91,9 +91,9 @@ fn block_length(text: &[u8]) -> Option<usize>
     ensures { result ≡ spec.block_length text.now }
 {
     for (at, byte) in text.iter().enumerate() {
-        let behind = &text[at + 1..];
-        if *byte == b'\n' && behind_blanks(behind).starts_with(b"%}") {
-            return Some(at + 1 + line_length(behind));
+        let rest = &text[at + 1..];
+        if *byte == b'\n' && after_blanks(rest).starts_with(b"%}") {
+            return Some(at + 1 + line_length(rest));
         }
     }
     None

@@ -8,7 +8,8 @@ use Rattle.vcd_trace.specs.Told.{IsNext, held_to, last_of}
 use Rattle.serial_receiver.specs.declared.frame.Frame.{Frame}
 use Rattle.serial_receiver.specs.declared.line.Line.{Line}
 use Rattle.serial_receiver.specs.declared.line.Heard.{Heard}
-use Rattle.serial_receiver.specs.Frames.{frames, frames_from, is_high, levels_of}
+use Rattle.pin_matrix.specs.Pins.{is_high}
+use Rattle.serial_receiver.specs.Frames.{frames, frames_from, levels_of}
 use Rattle.serial_receiver.specs.FrameText.{frame_line, frames_text}
 use Rattle.serial_receiver.specs.Hearing.{Brings, Hears, Receives, first_told, frame_list, level_after, level_code, taken_code}
 
@@ -148,7 +149,7 @@ end_breaks pin bit clock level taken told now next p b line one at h holds t =
     breaks_more pin bit level taken told (held_to clock told) now next p b line (frame_list one.frame ++ []) h
     (both.1 ∙ ap (λ x. frames bit level (levels_of pin told) ++ x) (sym (append-nil (frame_list one.frame)))) t
 
--- what stands for a pin, a bit and a level tells them
+-- a pin, a bit and a level are known from what is told for them
 same_level : (a b : Bool) → level_code a ≡ level_code b → a ≡ b
 same_level true true h = refl
 same_level false false h = refl

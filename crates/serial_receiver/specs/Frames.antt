@@ -6,14 +6,10 @@
 --   frame_at       the frame that begins with a fall
 --   frames_from    the frames that begin at a clock or later
 --   frames         all frames
-use Rattle.std.specs.Prelude.{ℕ, zero, suc, ◌+◌, ◌*◌, ◌/◌, ◌^◌, ◌==◌, ◌&&◌, Bool, false, not, List, [], ◌∷◌, if◌then◌else◌, length, map, nat_le, nat_lt, slice_index_or}
-use Rattle.std.specs.Int.{bit_at}
+use Rattle.std.specs.Prelude.{ℕ, zero, suc, ◌+◌, ◌*◌, ◌/◌, ◌^◌, ◌&&◌, Bool, false, not, List, [], ◌∷◌, if◌then◌else◌, length, map, nat_le, nat_lt, slice_index_or}
+use Rattle.pin_matrix.specs.Pins.{is_high}
 use Rattle.block_core.specs.declared.sample.Sample.{Sample}
 use Rattle.serial_receiver.specs.declared.frame.Frame.{Frame}
-
--- a pin's output level
-abbrev pub is_high : (levels pin : ℕ) → Bool
-is_high levels pin = bit_at levels pin == 1
 
 -- the level of a pin after each of these clocks
 abbrev pub levels_of : (pin : ℕ) → List Sample → List Bool

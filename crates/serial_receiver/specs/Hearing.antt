@@ -1,5 +1,5 @@
 -- What a receiver keeps while it hears, and what it has told its sink: the trace's own words.
---   first_told     how it tells its callers for which pin, bit and level it stands
+--   first_told     how it tells its callers which pin, bit and level it hears
 --   IsReading      what is known of a frame that isn't ended
 --   Hears          the state of a line after some levels
 --   Heard          what more levels bring

@@ -1,7 +1,6 @@
 //! The trace that receives: each frame's line is put when its stop bit is known.
 ghost use Rattle.std.specs.Prelude.{◌≡◌, ◌+◌, ◌<◌, ◌≤◌, ℕ, Bool, List, Option, [], ◌++◌, false};
 ghost use Rattle.pio_edge.specs.Edge.{Takes, PutCounts, TakesPrefix};
-ghost use Rattle.serial_receiver.specs.Frames as spec;
 ghost use Rattle.serial_receiver.specs.Frames.{frames, levels_of};
 ghost use Rattle.serial_receiver.specs.FrameText.{frames_text};
 ghost use Rattle.serial_receiver.specs.Hearing.{Receives, first_told, frame_list};
@@ -9,6 +8,7 @@ ghost use Rattle.serial_receiver.specs.Hearing.{Receives, first_told, frame_list
 use crate::frame::{Frame, put_frame};
 use crate::line::{Heard, Line};
 use block_core::Sample;
+use pin_matrix::is_high;
 use pio_edge::{Sink, SinkFailed};
 use vcd_trace::{Trace, TraceFailed};
 
@@ -59,7 +59,7 @@ impl<'a, S: Sink> Trace for Receiver<'a, S> {
 
     ghost ready = { λ h b. b ≡ first_told h.pin h.bit h.first (S.taken h.sink.now) };
 
-    ghost stands = { λ h b l _. (pin bit : ℕ) (level : Bool) (taken : Option (List ℕ))
+    ghost holds = { λ h b l _. (pin bit : ℕ) (level : Bool) (taken : Option (List ℕ))
         → b ≡ first_told pin bit level taken
         → Receives pin bit level taken l (S.taken h.sink.now) h.pin h.bit h.line };
 
@@ -126,12 +126,4 @@ fn put_any<S: Sink>(sink: &mut S, frame: Option<Frame>) -> Result<(), SinkFailed
         None => Ok(()),
         Some(frame) => put_frame(sink, frame),
     }
-}
-
-/// A pin's level.
-fn is_high(levels: u32, pin: u8) -> bool
-    requires { pin < 32 }
-    ensures { result ≡ spec.is_high levels pin }
-{
-    (levels >> pin) & 1 == 1
 }

@@ -1,5 +1,5 @@
 -- What each of the nine instructions does in a tick, one function each: what it reads, when it stalls, what it does.
--- What they share, the PC's next step, side-set, delay and refill, stands in Tick.
+-- What they share, the PC's next step, side-set, delay and refill, is in Tick.
 --   Effect               what an instruction does
 --   no_intent            the intent of a clock without a tick
 --   quiet, stall         effects that do nothing but what they did to the registers
@@ -130,7 +130,7 @@ unfoldable pub jmp_effect : Condition → ℕ → MachineSetup → View → Regi
 jmp_effect c address s v r =
     record (quiet (counted_down c r)) { jump = if jumps c s v r then Some address else None }
 
--- what a WAIT looks at; a pin is counted from the input base, round behind pin 31
+-- what a WAIT looks at; a pin is counted from the input base, and pin 0 comes after pin 31
 abbrev pub waited_bit : WaitSource → ℕ → MachineSetup → View → Bool
 waited_bit wait_source.Gpio index s v = is_up v.seen index
 waited_bit wait_source.Pin index s v = is_up v.seen ((s.in_base + index) % 32)
@@ -181,7 +181,7 @@ autopushed s q r =
     else record (quiet (isr_emptied r)) { word = Some r.isr })
     else quiet r
 
--- IN shifts in its first tick alone; a later one only pushes (section 3.4.4; that a stall stands behind the shift is a
+-- IN shifts in its first tick alone; a later one only pushes (section 3.4.4; that a stall comes after the shift is a
 -- choice of this profile)
 unfoldable pub in_effect : InSource → ℕ → MachineSetup → View → Queues → Registers → Effect
 in_effect source n s v q r =

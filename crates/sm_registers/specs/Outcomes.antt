@@ -33,7 +33,7 @@ abbrev pub effect_by : Registers → Outcome → Effect
 effect_by r (Stalls sets sticky) = record (stall r) { sets = sets; sticky = sticky }
 effect_by r (Finishes deed) = finished_by r deed
 
--- side-set's writes stand behind those of the instruction
+-- side-set's writes come after those of the instruction
 abbrev pub side_intent : (side : Option ℕ) → MachineSetup → (begun : Bool) → Intent
 side_intent side s begun = let side_set = side_writes side begun s in record no_intent {
   level = (0, 0) ∷ (if s.side_rule.pindirs then (0, 0) else side_set) ∷ [];

@@ -1,4 +1,4 @@
--- What a machine sees of its own FIFOs in a clock, as they stand at its start.
+-- What a machine sees of its own FIFOs in a clock, as they are at its start.
 use Rattle.std.specs.Prelude.{ℕ, Bool, Option}
 
 -- the oldest word of TX, if any; how many words are in TX and in RX; whether RX has no room left, as one that is disabled

@@ -50,7 +50,7 @@ first_machine s = record {
   ports = record { fifos = first_fifos s.join_tx s.join_rx; got = 0; sticky = 0 };
 }
 
--- what a tick sees of the FIFOs, as they stand at the clock's start
+-- what a tick sees of the FIFOs, as they are at the clock's start
 abbrev pub queues_of : Fifos → Queues
 queues_of f = record {
   front = slice_get f.tx 0;

@@ -18,7 +18,7 @@ use Rattle.sm_registers.specs.declared.intent.Intent.{Intent}
 use Rattle.sm_registers.specs.declared.intent.Kind.TheVariants.{First, Late, Delay}
 use Rattle.sm_registers.specs.Effects.{Effect, no_intent, osr_filled, effect_of}
 
--- the address that follows: the program wraps behind wrap_top (section 3.5.2), and the memory behind 31
+-- the address that follows: the program wraps after wrap_top (section 3.5.2), and the memory after 31
 abbrev pub next_pc : MachineSetup → Registers → ℕ
 next_pc s r = if r.pc == s.wrap_top then s.wrap_bottom else (r.pc + 1) % 32
 
@@ -37,7 +37,7 @@ abbrev pub pc_after : (jump : Option ℕ) → (was_pending : Bool) → MachineSe
 pc_after (Some address) was_pending s r = address
 pc_after None was_pending s r = if was_pending then r.pc else next_pc s r
 
--- the delay behind a finished instruction, which one that makes a word pending hasn't (sections 3.4.5 and 3.4.8)
+-- the delay after a finished instruction, which one that makes a word pending hasn't (sections 3.4.5 and 3.4.8)
 abbrev pub delay_after : (pending : Option ℕ) → ℕ → ℕ
 delay_after (Some word) delay = 0
 delay_after None delay = delay
@@ -74,7 +74,7 @@ abbrev pub side_writes : (side : Option ℕ) → (begun : Bool) → MachineSetup
 side_writes None begun s = (0, 0)
 side_writes (Some value) begun s = if begun then (0, 0) else writes_of s.side value
 
--- a tick of the delay behind an instruction
+-- a tick of the delay after an instruction
 unfoldable pub tick_delay : MachineSetup → Queues → Registers → Registers × Intent
 tick_delay s q r = let after = record r { delay = r.delay - 1 } in
     (refilled s q after, record no_intent { take = refills s q after; kind = Delay })

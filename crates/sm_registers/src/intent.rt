@@ -25,18 +25,18 @@ pub enum Kind {
     First,
     /// One of an instruction that stalled before.
     Late,
-    /// One of the delay behind an instruction.
+    /// One of the delay after an instruction.
     Delay,
 }
 
 /// What a tick does outside the machine's registers. A write to pins is the pins and their bits.
 #[derive(Clone, Copy)]
 pub struct Intent {
-    /// The writes to levels: the instruction's, and then side-set's, which stands over it.
+    /// The writes to levels: the instruction's, and then side-set's, which takes precedence.
     pub level: [(u32, u32); 2],
     /// The writes to directions, in the same order.
     pub direction: [(u32, u32); 2],
-    /// The flags that it lowers. Bit i stands for flag i.
+    /// The flags that it lowers. Bit i is that of flag i.
     pub clears: u8,
     /// The flags that it raises.
     pub sets: u8,

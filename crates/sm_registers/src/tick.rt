@@ -180,7 +180,7 @@ fn finish(
     }
 }
 
-/// PC behind an instruction that doesn't jump.
+/// PC after an instruction that doesn't jump.
 fn next_pc(was_pending: bool, setup: &MachineSetup, registers: &Registers) -> u8
     requires { registers.now.pc < 32 }
     ensures { result ≡ spec.pc_after None was_pending setup.now registers.now }

@@ -23,7 +23,7 @@ x1 - 1 + 2 - y1 => x1 1- 2+ y1- @7
 3--1 => 3 @1
 a|+ 1 => a @1
 (a) side 1 => a @3
-### A `::` stands alone in its parenthesis.
+### A `::` is alone in its parenthesis.
 ::1 2 => 1: @2
 -(::1) => 1:~ @5
 ::(-1) => 1~: @5

@@ -20,7 +20,7 @@ nop|/* => 2 L3
 .program x|nop => 1 S1
 .program p|set x, 1 + ::2 => 2 V6
 .define a 1 + ::1|.define a 1 + ::1 => 1 V6
-### Outside a program stand globals alone.
+### Only globals are outside a program.
 nop|.program p|nop => 1 S2
 a: => 1 S2
 .wrap => 1 S2
@@ -28,7 +28,7 @@ a: => 1 S2
 .origin 0 => 1 S2
 .side_set 1 => 1 S2
 .lang_opt c x = 1|.pio_version 0|.define a 1|.word 1 => 4 S2
-### Directives that stand twice, or too late.
+### Directives that come twice, or too late.
 .program p|.origin 0|.origin 0|nop => 3 S3
 .program p|nop|.wrap|.wrap => 4 S3
 .program p|.wrap_target|nop|.wrap_target => 4 S3

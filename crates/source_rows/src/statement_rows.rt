@@ -192,7 +192,7 @@ set x, (1 + ::2 => Ambiguous
 set x, 1 + ::2 ) => Ambiguous
 set x, - ::2 => Ambiguous
 set x, 2 * ::(1) => Ambiguous
-### Lines, one behind the other.
+### Lines, one after the other.
 |nop|.fifo nop|jmp 3|.wrap 5| a:|nop => Nothing|Nop|Directive|Jmp Always 3|Syntax|Label false a|Nop
 ### At most 64 are open.
 set x, `65 (`1 => TooDeep

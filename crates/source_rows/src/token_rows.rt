@@ -4,7 +4,7 @@
 /// A source, and its tokens' texts with a blank between; or its first fault after its line.
 pub static TOKENS: &str = r#"
  => 
-### The longest token stands.
+### The longest token counts.
 x--1 => x -- 1
 3--1 => 3 -- 1
 3 - -1 => 3 - - 1

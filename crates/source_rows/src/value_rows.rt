@@ -4,7 +4,7 @@
 /// The globals; the program's symbols, where a program has begun; the expression that is asked; its value or its first
 /// fault. A symbol is a define, as `k = j`, or a label with its number, as `start: 5`.
 pub static VALUES: &str = r#"
-### The names of a define are looked up where it stands; a program hides a global.
+### The names of a define are looked up where it is; a program hides a global.
 k = j, j = 1 | j = 2 | k => 1
 k = j, j = 1 | j = 2 | j => 2
 j = 1 | k = j, j = 2 | k => 2

@@ -10,7 +10,7 @@
 --   IsProvable       some closed table is good
 --   first_bad        the first bad row with its first cause
 use Rattle.std.specs.Prelude.{◌≡◌, ℕ, ◌+◌, ◌==◌, nat_lt, Bool, if◌then◌else◌, Option, Some, None, List, [], ◌∷◌, IsTrue, slice_index_or}
-use Rattle.std.specs.Int.{bit_at}
+use Rattle.pin_matrix.specs.Pins.{is_high}
 use Rattle.pin_matrix.specs.declared.machine.MachineSetup.{MachineSetup}
 use Rattle.pin_matrix.specs.declared.setup.Setup.{Setup}
 use Rattle.pin_matrix.specs.declared.span.Span.{Span}
@@ -49,10 +49,6 @@ IsTable rows = IsTableFrom 0 rows
 -- X or Y at the start, where it is below 32
 abbrev pub known_of : ℕ → Option ℕ
 known_of n = if nat_lt n 32 then Some n else None
-
--- a pin's level
-abbrev pub is_high : ℕ → ℕ → Bool
-is_high level pin = bit_at level pin == 1
 
 -- the context of a machine at its start
 abbrev pub started : Option MachineSetup → Setup → Span → Context

@@ -2,7 +2,7 @@
 ghost use Rattle.std.specs.Prelude.{◌≡◌, ◌<◌, IsSome, None, Some, slice_index_or, IsTrue};
 ghost use Rattle.span_bounds.specs.Tables as spec;
 
-use pin_matrix::{MachineSetup, Setup, Span};
+use pin_matrix::{MachineSetup, Setup, Span, is_high};
 use span_step::Context;
 
 /// Where a table starts: the machine's first address, its X and Y where they are below 32, and the initial levels of the
@@ -29,12 +29,4 @@ fn known_of(value: u32) -> Option<u8>
     ensures { result ≡ spec.known_of value }
 {
     if value < 32 { Some(value as u8) } else { None }
-}
-
-/// Whether a pin (0 to 31) is high.
-fn is_high(level: u32, pin: u8) -> bool
-    requires { pin < 32 }
-    ensures { result ≡ spec.is_high level pin }
-{
-    (level >> pin) % 2 == 1
 }

@@ -24,7 +24,8 @@ use Rattle.span_step.specs.Steps.{bounds_of}
 use Rattle.span_ticks.specs.Rows.{IsSoundTable}
 use Rattle.span_ticks.specs.UnderWay.{Watch, IsUnderWay, flow_of}
 use Rattle.span_ticks.specs.Following.{InAges, level_after, is_late, opens, closes, IsFollowed}
-use Rattle.span_check.specs.Marks.{Mark, mark_of, is_high, counts, strays, names, pc_at}
+use Rattle.pin_matrix.specs.Pins.{is_high}
+use Rattle.span_check.specs.Marks.{Mark, mark_of, counts, strays, names, pc_at}
 use Rattle.span_check.proofs.Counting.{one_if}
 use Rattle.span_check.proofs.Premises.{Laws}
 use Rattle.span_check.proofs.Levels.{level-none, changes-is_edge, no-edge, of-tick}

@@ -1,13 +1,12 @@
 -- What a span looks at in one clock of a run: edges, as a logic analyser at the block's outputs would see them, and the ticks of its
 -- machine.
 --   Mark             what it looks at
---   is_high          a pin's output level
 --   changes          an edge: the level before and after
 --   counts, strays   which ticks count, and which must not come while the span is open
 --   mark_of          the mark of a clock
 use Rattle.std.specs.Prelude.{ℕ, ◌==◌, Bool, true, false, not, ◌&&◌, ◌||◌, Option, Some, None, List, slice_index_or}
-use Rattle.std.specs.Int.{bit_at}
 use Rattle.std.specs.List.{list_any}
+use Rattle.pin_matrix.specs.Pins.{is_high}
 use Rattle.pin_matrix.specs.declared.span.Span.{Span}
 use Rattle.sm_registers.specs.declared.intent.Kind.{Kind}
 use Rattle.sm_registers.specs.declared.intent.Kind.TheVariants.{Off, First, Late, Delay}
@@ -24,10 +23,6 @@ pub record Mark : Type 0 where
   pub counts : Bool
   pub strays : Bool
   pub breaks : Bool
-
--- a pin's output level
-abbrev pub is_high : (levels pin : ℕ) → Bool
-is_high levels pin = bit_at levels pin == 1
 
 -- the level changes in this direction: it rises, or it falls
 abbrev pub changes : (rise before after : Bool) → Bool

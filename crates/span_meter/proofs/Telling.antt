@@ -9,7 +9,8 @@ use Rattle.vcd_trace.specs.Edges.{levels_after}
 use Rattle.span_meter.proofs.HeldLevels.{held-levels, last-levels-of, levels-append}
 use Rattle.span_meter.specs.declared.edges.Edges.{Edges}
 use Rattle.span_meter.specs.declared.meter.Meter.{Meter}
-use Rattle.span_meter.specs.Measured.{Ends, changes, clocks_to, ends_in, has_edge, is_from, is_high, is_to, measured, seen_of, with_distance}
+use Rattle.pin_matrix.specs.Pins.{is_high}
+use Rattle.span_meter.specs.Measured.{Ends, changes, clocks_to, ends_in, has_edge, is_from, is_to, measured, seen_of, with_distance}
 use Rattle.span_meter.specs.Kept.{ends_of}
 use Rattle.span_meter.specs.Meters.{Counts, HasMeasured, Measures, Meters, after_clock, closed_at, closing, direction, ended, ends_code, first_told, fresh, most, moved, opened_at, seen_by, watched}
 use Rattle.span_meter.proofs.Distances.{fewer}
@@ -240,7 +241,7 @@ told_measured levels ends told t u s clock few next h first last meters =
     sample_measured levels ends (held_to clock told) t u s clock (length-held clock told next) few
     (held_measured levels ends told t clock (omega arith) next h) first last meters
 
--- what stands for spans and levels tells them
+-- spans and levels are known from what is told for them
 same_direction : (a b : Bool) → direction a ≡ direction b → a ≡ b
 same_direction true true h = refl
 same_direction false false h = refl

@@ -4,9 +4,9 @@
 --   clocks_to      how many clocks pass before the first to-edge
 --   measured       the clocks from each from-edge to the first to-edge after it
 --   seen_of        how many there are, the least and the greatest
-use Rattle.std.specs.Prelude.{ℕ, suc, ◌==◌, ◌&&◌, Bool, true, false, not, Option, Some, None, List, [], ◌∷◌, length, min, max, if◌then◌else◌}
+use Rattle.std.specs.Prelude.{ℕ, suc, ◌&&◌, Bool, true, false, not, Option, Some, None, List, [], ◌∷◌, length, min, max, if◌then◌else◌}
 use Rattle.std.specs.Option.{option_map}
-use Rattle.std.specs.Int.{bit_at}
+use Rattle.pin_matrix.specs.Pins.{is_high}
 use Rattle.pin_matrix.specs.declared.span.Span.{Span}
 use Rattle.block_core.specs.declared.sample.Sample.{Sample}
 use Rattle.span_meter.specs.declared.seen.Seen.{Seen}
@@ -21,10 +21,6 @@ pub record Ends : Type 0 where
 -- those of a span of a configuration
 abbrev pub ends_in : Span → Ends
 ends_in sp = record { from_pin = sp.from_pin; from_rise = sp.from_rise; to_pin = sp.to_pin; to_rise = sp.to_rise }
-
--- a pin's output level
-abbrev pub is_high : (levels pin : ℕ) → Bool
-is_high levels pin = bit_at levels pin == 1
 
 -- the level changes in this direction: it rises, or it falls
 abbrev pub changes : (rise before after : Bool) → Bool

@@ -1,6 +1,6 @@
 -- What a meter keeps, and what it says: the trace's own words.
 --   Meters         what it keeps
---   first_told     how it tells its callers for which spans and levels it stands
+--   first_told     how it tells its callers which spans and levels it measures
 --   HasMeasured    what it has measured
 --   closed_at, opened_at   a to-edge and a from-edge, as one span's meter counts them
 use Rattle.std.specs.Prelude.{◌≡◌, ℕ, ◌+◌, ◌-◌, ◌^◌, ◌<◌, ◌≤◌, ◌==◌, Bool, true, false, Option, Some, None, List, [], ◌∷◌, ◌++◌, length, map, min, max, if◌then◌else◌}

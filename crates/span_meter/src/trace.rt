@@ -60,7 +60,7 @@ impl Trace for SpanMeter {
 
     ghost ready = { λ t b. b ≡ first_told t.first (watched t.meters) };
 
-    ghost stands = { λ t b l _. (levels : ℕ) (ends : List Ends) → b ≡ first_told levels ends
+    ghost holds = { λ t b l _. (levels : ℕ) (ends : List Ends) → b ≡ first_told levels ends
         → HasMeasured levels ends l t };
 
     ghost broken = { λ _ _ _ _. ⊥ };

@@ -105,28 +105,28 @@ row_line_in front number least line text r all e f whole =
     ∙ (sym (ap (with_rows front) (row_here number least line text r e f)) ∙ whole)
 
 -- what is left, at its first line
-pub opened : (front : List Row) (number least : ℕ) (rest behind : Option (Bor (List ℕ))) (text next : Bor (List ℕ)) (line : List ℕ) (all : Result (List Row) Refusal)
-    → rest ≡ Some text → lines_of text.now ≡ line ∷ lines_left (option_copied behind) → behind ≡ Some next
+pub opened : (front : List Row) (number least : ℕ) (rest after : Option (Bor (List ℕ))) (text next : Bor (List ℕ)) (line : List ℕ) (all : Result (List Row) Refusal)
+    → rest ≡ Some text → lines_of text.now ≡ line ∷ lines_left (option_copied after) → after ≡ Some next
     → going_from front number least (lines_left (option_copied rest)) ≡ all → going_from front number least (line ∷ lines_of next.now) ≡ all
-opened front number least rest behind text next line all is first more whole =
-    let left : lines_left (option_copied behind) ≡ lines_of next.now = ap (λ (r : Option (Bor (List ℕ))). lines_left (option_copied r)) more in
+opened front number least rest after text next line all is first more whole =
+    let left : lines_left (option_copied after) ≡ lines_of next.now = ap (λ (r : Option (Bor (List ℕ))). lines_left (option_copied r)) more in
     ap (λ (ls : List (List ℕ)). going_from front number least (line ∷ ls)) (sym left)
     ∙ (ap (going_from front number least) (sym (ap (λ (r : Option (Bor (List ℕ))). lines_left (option_copied r)) is ∙ first)) ∙ whole)
 
 -- the rows after the line of a row, as the code has them
-pub kept : (front new : List Row) (number least above : ℕ) (rest behind : Option (Bor (List ℕ))) (text next : Bor (List ℕ)) (line : List ℕ) (r : Row) (all : Result (List Row) Refusal)
-    → rest ≡ Some text → lines_of text.now ≡ line ∷ lines_left (option_copied behind) → behind ≡ Some next → bytes_eq line end_line ≡ false
+pub kept : (front new : List Row) (number least above : ℕ) (rest after : Option (Bor (List ℕ))) (text next : Bor (List ℕ)) (line : List ℕ) (r : Row) (all : Result (List Row) Refusal)
+    → rest ≡ Some text → lines_of text.now ≡ line ∷ lines_left (option_copied after) → after ≡ Some next → bytes_eq line end_line ≡ false
     → row_at least line ≡ Ok r → above ≡ number_of r.context → new ≡ front ++ r ∷ []
-    → going_from front number least (lines_left (option_copied rest)) ≡ all → going_from new (number + 1) (above + 1) (lines_left (option_copied behind)) ≡ all
-kept front new number least above rest behind text next line r all is first more other row up grown whole =
-    let here = row_line_in front number least line next.now r all other row (opened front number least rest behind text next line all is first more whole) in
-    let left : lines_left (option_copied behind) ≡ lines_of next.now = ap (λ (o : Option (Bor (List ℕ))). lines_left (option_copied o)) more in
-    ap (λ (f : List Row). going_from f (number + 1) (above + 1) (lines_left (option_copied behind))) grown
-    ∙ (ap (λ (n : ℕ). going_from (front ++ r ∷ []) (number + 1) (n + 1) (lines_left (option_copied behind))) up
+    → going_from front number least (lines_left (option_copied rest)) ≡ all → going_from new (number + 1) (above + 1) (lines_left (option_copied after)) ≡ all
+kept front new number least above rest after text next line r all is first more other row up grown whole =
+    let here = row_line_in front number least line next.now r all other row (opened front number least rest after text next line all is first more whole) in
+    let left : lines_left (option_copied after) ≡ lines_of next.now = ap (λ (o : Option (Bor (List ℕ))). lines_left (option_copied o)) more in
+    ap (λ (f : List Row). going_from f (number + 1) (above + 1) (lines_left (option_copied after))) grown
+    ∙ (ap (λ (n : ℕ). going_from (front ++ r ∷ []) (number + 1) (n + 1) (lines_left (option_copied after))) up
     ∙ (ap (going_from (front ++ r ∷ []) (number + 1) (number_of r.context + 1)) left ∙ here))
 
 -- the lines that are left are fewer
-pub left_on : (behind : Option (Bor (List ℕ))) (next : Bor (List ℕ)) (n : ℕ) → behind ≡ Some next → IfSome behind (λ b. length b.now < n) → left_size (option_copied behind) ≤ n
+pub left_on : (after : Option (Bor (List ℕ))) (next : Bor (List ℕ)) (n : ℕ) → after ≡ Some next → IfSome after (λ b. length b.now < n) → left_size (option_copied after) ≤ n
 left_on None next n e h = absurd (bad e) where
   bad : {A : Type 0} {x : A} → None ≡ Some x → ⊥
   bad e = cc

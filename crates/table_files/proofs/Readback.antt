@@ -137,12 +137,12 @@ from_least : (least n : ℕ) → nat_lt least (n + 1) ≡ true → nat_le least 
 from_least least n h = grind (arith, nat_tests)
 
 -- the lines after the first
-pub first_row : (r : Row) (behind : List ℕ) → IsWritten r → lines_of (row_line r ++ behind) ≡ row_text r ∷ lines_of behind
-first_row r behind w =
-    let text : row_line r ++ behind ≡ row_text r ++ 10 ∷ behind =
-    ap (λ (x : List ℕ). x ++ behind) (row_line-text r) ∙ append_assoc (row_text r) (10 ∷ []) behind in
+pub first_row : (r : Row) (after : List ℕ) → IsWritten r → lines_of (row_line r ++ after) ≡ row_text r ∷ lines_of after
+first_row r after w =
+    let text : row_line r ++ after ≡ row_text r ++ 10 ∷ after =
+    ap (λ (x : List ℕ). x ++ after) (row_line-text r) ∙ append_assoc (row_text r) (10 ∷ []) after in
     ap lines_of text
-    ∙ slice_split_at (λ b. eqb b 10) (row_text r) 10 behind (All-from_recursion (λ b. eqb b 10 ≡ false) (row_text r) (without_join (row_fields r) (without_fields 10 r (omega arith) w))) refl
+    ∙ slice_split_at (λ b. eqb b 10) (row_text r) 10 after (All-from_recursion (λ b. eqb b 10 ≡ false) (row_text r) (without_join (row_fields r) (without_fields 10 r (omega arith) w))) refl
 
 rows_back : (number least : ℕ) (rows : List Row) → IsTableFrom least rows → AreTold rows → rows_from number least (lines_of (row_lines rows ++ codes "end\n")) ≡ Ok rows
 rows_back number least [] h k = refl
@@ -159,10 +159,10 @@ pub after_head : (line text : List ℕ) → rows_in (line ∷ lines_of text) ≡
 after_head line text = let p = lines_cons text in rw p.2 refl
 
 -- the same of the bytes of the file
-pub after_file : (bytes line : List ℕ) (behind : Option (Bor (List ℕ))) (text : Bor (List ℕ)) → lines_of bytes ≡ line ∷ lines_left (option_copied behind) → behind ≡ Some text
+pub after_file : (bytes line : List ℕ) (after : Option (Bor (List ℕ))) (text : Bor (List ℕ)) → lines_of bytes ≡ line ∷ lines_left (option_copied after) → after ≡ Some text
     → rows_after line (lines_of text.now) ≡ table_of bytes
 unfolding table_of
-after_file bytes line behind text first more =
+after_file bytes line after text first more =
     sym (after_head line text.now)
     ∙ ap rows_in (sym (first ∙ ap (λ (r : Option (Bor (List ℕ))). line ∷ lines_left (option_copied r)) more))
 

@@ -35,8 +35,8 @@ impl<'a> Fields<'a> {
         match self.rest {
             None => None,
             Some(text) => {
-                let (field, behind) = first_field(text);
-                self.rest = behind;
+                let (field, after) = first_field(text);
+                self.rest = after;
                 Some(field)
             }
         }

@@ -17,8 +17,8 @@ use std::alloc::Global;
 pub fn read_table(alloc: Global, bytes: &[u8]) -> Result<Table, TableFault>
     ensures { Answers told result (spec.table_of bytes.now) }
 {
-    let (line, behind) = first_line(bytes);
-    match behind {
+    let (line, after) = first_line(bytes);
+    match after {
         None => Err(left_open(1, line)),
         Some(text) => read_after(alloc, line, text),
     }
@@ -53,8 +53,8 @@ fn add_rows(table: &mut Table, text: &[u8]) -> Result<(), TableFault>
     let mut number = 2;
     let mut least = 0;
     while let Some(text) = rest {
-        let (line, behind) = first_line(text);
-        let Some(next) = behind else {
+        let (line, after) = first_line(text);
+        let Some(next) = after else {
             return Err(left_open(number, line));
         };
         if line == b"end".as_slice() {
@@ -68,7 +68,7 @@ fn add_rows(table: &mut Table, text: &[u8]) -> Result<(), TableFault>
                 table.push(row);
             }
         }
-        rest = behind;
+        rest = after;
         number += 1;
     }
     Err(wrong_at(number, TableKind::NoEnd))

@@ -8,7 +8,7 @@ use Rattle.block_core.specs.declared.sample.Sample.{Sample}
 use Rattle.block_core.specs.Sample.{same_numbers, same_sample}
 use Rattle.vcd_trace.specs.Told.{IsNext, last_of, held_to, told_at}
 use Rattle.vcd_trace.specs.VcdText.{header_text, clock_line, dump_text, step_text, steps_text, open_text, closing_text, vcd_text, changes_text}
-use Rattle.vcd_trace.specs.Standing.{last_sample, Standing, added_text, ended_text}
+use Rattle.vcd_trace.specs.Written.{last_sample, HasWritten, added_text, ended_text}
 use Rattle.pio_edge.proofs.PutLaws.{with_bytes-append, takes_prefix-append_r, takes_prefix-append_l}
 
 pub and_true : (a b : Bool) → a ≡ true → b ≡ true → (a && b) ≡ true
@@ -144,26 +144,26 @@ taken_more b taken taken' text more whole h k e = k ∙ ap (λ x. with_bytes x m
 pub broken_more : (b taken taken' : Option (List ℕ)) (text more whole : List ℕ) → taken ≡ with_bytes b text → TakesPrefix taken more taken' → whole ≡ text ++ more → TakesPrefix b whole taken'
 broken_more b taken taken' text more whole h k e = let P : List ℕ → Type 0 = λ w. TakesPrefix b w taken' in subst P (sym e) (takes_prefix-append_r b taken taken' text more h k)
 
-pub sample_stands : (b : Option (List ℕ)) (l : List Sample) (taken : Option (List ℕ)) (last : Option Sample) (clock : ℕ) (t : Sample) (taken' : Option (List ℕ)) → Standing b l false taken last → IsNext l clock → taken' ≡ with_bytes taken (added_text clock last t) → Standing b (told_at clock t l) false taken' (Some t)
-sample_stands b l taken last clock t taken' h n k = record {
+pub sample_holds : (b : Option (List ℕ)) (l : List Sample) (taken : Option (List ℕ)) (last : Option Sample) (clock : ℕ) (t : Sample) (taken' : Option (List ℕ)) → HasWritten b l false taken last → IsNext l clock → taken' ≡ with_bytes taken (added_text clock last t) → HasWritten b (told_at clock t l) false taken' (Some t)
+sample_holds b l taken last clock t taken' h n k = record {
   text = taken_more b taken taken' (open_text l) (added_text clock (last_sample l) t) (open_text (told_at clock t l)) h.text
       (k ∙ ap (λ x. with_bytes taken (added_text clock x t)) h.remembered) (open_text-told clock t l n);
   remembered = sym (last_sample-push (held_to clock l) t);
 }
 
-pub sample_breaks : (b : Option (List ℕ)) (l : List Sample) (taken : Option (List ℕ)) (last : Option Sample) (clock : ℕ) (t : Sample) (taken' : Option (List ℕ)) → Standing b l false taken last → IsNext l clock → TakesPrefix taken (added_text clock last t) taken' → TakesPrefix b (open_text (told_at clock t l)) taken'
+pub sample_breaks : (b : Option (List ℕ)) (l : List Sample) (taken : Option (List ℕ)) (last : Option Sample) (clock : ℕ) (t : Sample) (taken' : Option (List ℕ)) → HasWritten b l false taken last → IsNext l clock → TakesPrefix taken (added_text clock last t) taken' → TakesPrefix b (open_text (told_at clock t l)) taken'
 sample_breaks b l taken last clock t taken' h n k =
     broken_more b taken taken' (open_text l) (added_text clock last t) (open_text (told_at clock t l)) h.text k
     (open_text-told clock t l n ∙ ap (λ x. open_text l ++ added_text clock x t) (sym h.remembered))
 
-pub end_stands : (b : Option (List ℕ)) (l : List Sample) (taken : Option (List ℕ)) (last : Option Sample) (clock : ℕ) (taken' : Option (List ℕ)) → Standing b l false taken last → IsNext l clock → taken' ≡ with_bytes taken (ended_text clock last) → Standing b (held_to clock l) true taken' last
-end_stands b l taken last clock taken' h n k = record {
+pub end_holds : (b : Option (List ℕ)) (l : List Sample) (taken : Option (List ℕ)) (last : Option Sample) (clock : ℕ) (taken' : Option (List ℕ)) → HasWritten b l false taken last → IsNext l clock → taken' ≡ with_bytes taken (ended_text clock last) → HasWritten b (held_to clock l) true taken' last
+end_holds b l taken last clock taken' h n k = record {
   text = taken_more b taken taken' (open_text l) (ended_text clock (last_sample l)) (vcd_text (held_to clock l)) h.text
       (k ∙ ap (λ x. with_bytes taken (ended_text clock x)) h.remembered) (vcd_text-held clock l n);
   remembered = h.remembered ∙ sym (last_sample-held clock l);
 }
 
-pub end_breaks : (b : Option (List ℕ)) (l : List Sample) (taken : Option (List ℕ)) (last : Option Sample) (clock : ℕ) (taken' : Option (List ℕ)) → Standing b l false taken last → IsNext l clock → TakesPrefix taken (ended_text clock last) taken' → TakesPrefix b (vcd_text (held_to clock l)) taken'
+pub end_breaks : (b : Option (List ℕ)) (l : List Sample) (taken : Option (List ℕ)) (last : Option Sample) (clock : ℕ) (taken' : Option (List ℕ)) → HasWritten b l false taken last → IsNext l clock → TakesPrefix taken (ended_text clock last) taken' → TakesPrefix b (vcd_text (held_to clock l)) taken'
 end_breaks b l taken last clock taken' h n k =
     broken_more b taken taken' (open_text l) (ended_text clock last) (vcd_text (held_to clock l)) h.text k
     (vcd_text-held clock l n ∙ ap (λ x. open_text l ++ ended_text clock x) (sym h.remembered))

@@ -1,7 +1,7 @@
 pub mod Characters
 pub mod Told
 pub mod VcdText
-pub mod Standing
+pub mod Written
 pub mod Listing
 pub mod Shows
 pub mod Groups

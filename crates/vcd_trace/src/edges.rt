@@ -52,7 +52,7 @@ impl Trace for EdgeTrace {
 
     ghost ready = { λ t b. b ≡ Some (t.first ∷ []) };
 
-    ghost stands = { λ t b l _. (levels : ℕ) → b ≡ Some (levels ∷ []) → HasCounted levels l t };
+    ghost holds = { λ t b l _. (levels : ℕ) → b ≡ Some (levels ∷ []) → HasCounted levels l t };
 
     ghost broken = { λ _ _ _ _. ⊥ };
 

@@ -89,7 +89,7 @@ impl Trace for ListTrace {
 
     ghost ready = { λ _ b. b ≡ Some [] };
 
-    ghost stands = { λ t _ l _. t.samples ≡ l };
+    ghost holds = { λ t _ l _. t.samples ≡ l };
 
     ghost broken = { λ t _ l _. t.room < length l };
 

@@ -28,7 +28,7 @@ pub trait Trace {
     ghost ready: { Self → Option (List ℕ) → Type 0 };
 
     /// It was told these samples since `begin`, after what its sink had taken before, and whether `end` was told.
-    ghost stands: { Self → Option (List ℕ) → List Values → Bool → Type 0 };
+    ghost holds: { Self → Option (List ℕ) → List Values → Bool → Type 0 };
 
     /// It failed on the way there.
     ghost broken: { Self → Option (List ℕ) → List Values → Bool → Type 0 };
@@ -36,7 +36,7 @@ pub trait Trace {
     /// Begins with no samples.
     fn begin(&mut self) -> Result<(), TraceFailed>
         requires { has_failed self.old ≡ false }
-        ensures ok { OnOk result ((b : Option (List ℕ)) → ready self.old b → stands self.new b [] false) }
+        ensures ok { OnOk result ((b : Option (List ℕ)) → ready self.old b → holds self.new b [] false) }
         ensures err { OnErr result ((b : Option (List ℕ)) → ready self.old b → broken self.new b [] false) }
         ensures cause { PutCounts (faults self.old) (faults self.new) result }
         ensures failed { has_failed self.new ≡ is_err result }
@@ -45,9 +45,9 @@ pub trait Trace {
     /// Tells the sample after a clock. The clock is above the last one told since `begin`, and 0 the first time.
     fn sample(&mut self, clock: u64, sample: &Sample) -> Result<(), TraceFailed>
         requires { has_failed self.old ≡ false }
-        ensures ok { OnOk result ((b : Option (List ℕ)) (l : List Values) → stands self.old b l false
-            → IsNext l clock → stands self.new b (told_at clock sample.now l) false) }
-        ensures err { OnErr result ((b : Option (List ℕ)) (l : List Values) → stands self.old b l false
+        ensures ok { OnOk result ((b : Option (List ℕ)) (l : List Values) → holds self.old b l false
+            → IsNext l clock → holds self.new b (told_at clock sample.now l) false) }
+        ensures err { OnErr result ((b : Option (List ℕ)) (l : List Values) → holds self.old b l false
             → IsNext l clock → broken self.new b (told_at clock sample.now l) false) }
         ensures cause { PutCounts (faults self.old) (faults self.new) result }
         ensures failed { has_failed self.new ≡ is_err result }
@@ -57,9 +57,9 @@ pub trait Trace {
     /// none was.
     fn end(&mut self, clock: u64) -> Result<(), TraceFailed>
         requires { has_failed self.old ≡ false }
-        ensures ok { OnOk result ((b : Option (List ℕ)) (l : List Values) → stands self.old b l false
-            → IsNext l clock → stands self.new b (held_to clock l) true) }
-        ensures err { OnErr result ((b : Option (List ℕ)) (l : List Values) → stands self.old b l false
+        ensures ok { OnOk result ((b : Option (List ℕ)) (l : List Values) → holds self.old b l false
+            → IsNext l clock → holds self.new b (held_to clock l) true) }
+        ensures err { OnErr result ((b : Option (List ℕ)) (l : List Values) → holds self.old b l false
             → IsNext l clock → broken self.new b (held_to clock l) true) }
         ensures cause { PutCounts (faults self.old) (faults self.new) result }
         ensures failed { has_failed self.new ≡ is_err result }

@@ -2,7 +2,7 @@
 ghost use Rattle.std.specs.Prelude.{◌≡◌, false, []};
 ghost use Rattle.pio_edge.specs.Edge.{Takes, PutCounts, TakesPrefix};
 ghost use Rattle.vcd_trace.specs.VcdText.{open_text, step_text, text_of};
-ghost use Rattle.vcd_trace.specs.Standing.{Standing, added_text, ended_text};
+ghost use Rattle.vcd_trace.specs.Written.{HasWritten, added_text, ended_text};
 
 use crate::changes::put_changes;
 use crate::dump::put_dump;
@@ -45,7 +45,7 @@ impl<'a, S: Sink> Trace for VcdTrace<'a, S> {
 
     ghost ready = { λ h b. S.taken h.sink.now ≡ b };
 
-    ghost stands = { λ h b l z. Standing b l z (S.taken h.sink.now) h.last };
+    ghost holds = { λ h b l z. HasWritten b l z (S.taken h.sink.now) h.last };
 
     ghost broken = { λ h b l z. TakesPrefix b (text_of l z) (S.taken h.sink.now) };
 

@@ -41,11 +41,11 @@ chosen b x y r front t e h = ap (λ (c : Bool). with_front front (cond c x y)) (
 
 pub word_line_in : (front : List ℕ) (number count w : ℕ) (line : List ℕ) (left : List (List ℕ)) (all : Result (List ℕ) WordFault) → line_says line ≡ Word w → nat_lt count most_words ≡ true → going_from front number count (line ∷ left) ≡ all → going_from (front ++ w ∷ []) (number + 1) (count + 1) left ≡ all
 word_line_in front number count w line left all e room whole =
-    let behind = words_from (number + 1) (count + 1) (map line_says left) in
-    with_front-append front (w ∷ []) behind
-    ∙ chosen (nat_lt count most_words) (with_front (w ∷ []) behind) (Err (record { line = number; kind = TooMany })) all front true room (says front number count line left (Word w) all e whole)
+    let after = words_from (number + 1) (count + 1) (map line_says left) in
+    with_front-append front (w ∷ []) after
+    ∙ chosen (nat_lt count most_words) (with_front (w ∷ []) after) (Err (record { line = number; kind = TooMany })) all front true room (says front number count line left (Word w) all e whole)
 
 pub word_too_many : (front : List ℕ) (number count w : ℕ) (line : List ℕ) (left : List (List ℕ)) (all : Result (List ℕ) WordFault) → line_says line ≡ Word w → nat_lt count most_words ≡ false → going_from front number count (line ∷ left) ≡ all → all ≡ Err (record { line = number; kind = TooMany })
 word_too_many front number count w line left all e full whole =
-    let behind = words_from (number + 1) (count + 1) (map line_says left) in
-    sym (chosen (nat_lt count most_words) (with_front (w ∷ []) behind) (Err (record { line = number; kind = TooMany })) all front false full (says front number count line left (Word w) all e whole))
+    let after = words_from (number + 1) (count + 1) (map line_says left) in
+    sym (chosen (nat_lt count most_words) (with_front (w ∷ []) after) (Err (record { line = number; kind = TooMany })) all front false full (says front number count line left (Word w) all e whole))

@@ -7,9 +7,9 @@ use Rattle.word_file.specs.declared.line.Line.{Line}
 use Rattle.word_file.specs.declared.line.Line.TheVariants.{Blank, Word, Bad}
 
 -- a line from its first byte on that is no blank
-abbrev pub behind_blanks : List ℕ → List ℕ
-behind_blanks [] = []
-behind_blanks (b ∷ bs) = if is_blank b then behind_blanks bs else b ∷ bs
+abbrev pub after_blanks : List ℕ → List ℕ
+after_blanks [] = []
+after_blanks (b ∷ bs) = if is_blank b then after_blanks bs else b ∷ bs
 
 -- the value of a hexadecimal digit of either case
 abbrev pub hexadecimal_digit : ℕ → Option ℕ
@@ -37,4 +37,4 @@ said _ = Bad
 
 -- what a line says
 abbrev pub line_says : List ℕ → Line
-line_says line = said (behind_blanks line)
+line_says line = said (after_blanks line)

@@ -21,19 +21,19 @@ pub enum Line {
 pub fn read_line(line: &[u8]) -> Line
     ensures { result ≡ spec.line_says line.now }
 {
-    said(behind_blanks(line))
+    said(after_blanks(line))
 }
 
 /// A line from its first byte on that is no blank.
-fn behind_blanks(line: &[u8]) -> &[u8]
-    ensures { result.now ≡ spec.behind_blanks line.now }
+fn after_blanks(line: &[u8]) -> &[u8]
+    ensures { result.now ≡ spec.after_blanks line.now }
 {
     let mut rest = line;
-    while let [first, behind @ ..] = rest {
+    while let [first, after @ ..] = rest {
         if !is_blank(*first) {
             return rest;
         }
-        rest = behind;
+        rest = after;
     }
     rest
 }

@@ -17,7 +17,7 @@ pub fn read_words(bytes: &[u8]) -> Result<ArrayVec<u16, 32>, WordFault>
     let mut rest = Some(bytes);
     let mut number = 1;
     while let Some(text) = rest {
-        let (line, behind) = first_line(text);
+        let (line, after) = first_line(text);
         match read_line(line) {
             Line::Blank => {}
             Line::Bad => return Err(fault(number, WordKind::BadWord)),
@@ -28,7 +28,7 @@ pub fn read_words(bytes: &[u8]) -> Result<ArrayVec<u16, 32>, WordFault>
                 words.push(word);
             }
         }
-        rest = behind;
+        rest = after;
         number += 1;
     }
     Ok(words)

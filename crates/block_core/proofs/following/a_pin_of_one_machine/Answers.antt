@@ -9,6 +9,6 @@ pub returns : goal.returns
 returns c = record {
   level = λ s memory seen host states begins follows id p inside others clock.
       ap (λ (b : BlockState). bit_at b.levels p) (follows clock)
-      ∙ own_level c.writes_are_of_pins.ensures c.a_tick_writes_its_own_pins.ensures.level c.no_write_changes_nothing.ensures.write c.the_last_write_stands.ensures.pin c.the_last_write_stands.ensures.none
+      ∙ own_level c.writes_are_of_pins.ensures c.a_tick_writes_its_own_pins.ensures.level c.no_write_changes_nothing.ensures.write c.the_last_write_counts.ensures.pin c.the_last_write_counts.ensures.none
       s memory (seen clock) (host clock) (states clock) id p inside others (setups-states s memory seen host states begins follows clock);
 }

@@ -4,6 +4,6 @@ use Rattle.block_core.proofs.laws.each_pin_gets_the_last_write.Goals as goal
 pub returns : goal.returns
 unfolding stepped
 returns c = record {
-  levels = λ memory seen d b p below writes. c.the_last_write_stands.ensures.pin p b.levels (level_writes (intents_of (view_of memory seen b) d b.machines)) below writes;
-  directions = λ memory seen d b p below writes. c.the_last_write_stands.ensures.pin p b.directions (direction_writes (intents_of (view_of memory seen b) d b.machines)) below writes;
+  levels = λ memory seen d b p below writes. c.the_last_write_counts.ensures.pin p b.levels (level_writes (intents_of (view_of memory seen b) d b.machines)) below writes;
+  directions = λ memory seen d b p below writes. c.the_last_write_counts.ensures.pin p b.directions (direction_writes (intents_of (view_of memory seen b) d b.machines)) below writes;
 }

@@ -20,8 +20,8 @@ returns-clause-run c =
     let pins : PinLaws = record {
       mapped = c.each_mapped_pin.ensures.pins;
       counted = c.each_pin_from.ensures;
-      last = c.the_last_write_stands.ensures.pin;
-      free = c.the_last_write_stands.ensures.none;
+      last = c.the_last_write_counts.ensures.pin;
+      free = c.the_last_write_counts.ensures.none;
       none = c.no_write_changes_nothing.ensures.write;
       pad = c.each_pad.ensures;
       merged_word = c.words_stay_words.ensures.merged;
@@ -29,5 +29,5 @@ returns-clause-run c =
       seen_word = c.words_stay_words.ensures.seen;
       seen = λ bypass pad pad_2 p below inside. c.what_a_machine_sees.ensures.seen pad_2 bypass pad p [] below inside;
     } in
-    let lines : LineLaws = record { set = c.the_last_pin_line_stands.ensures.set; level = c.the_last_pin_line_stands.ensures.level } in
+    let lines : LineLaws = record { set = c.the_last_pin_line_counts.ensures.set; level = c.the_last_pin_line_counts.ensures.level } in
     isolated ticks pins lines

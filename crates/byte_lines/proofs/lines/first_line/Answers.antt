@@ -8,7 +8,7 @@ returns-then-byte-eq10-clause-line c =
     let text = c.args.text.now in
     let i = c.loop-at.at in
     line_ends text i (omega arith) c.if-byte-eq10.true c.loop-at.invariant
-    ∙ ap (λ (behind : List ℕ). take i text ∷ split behind) (sym (take_rest text (i + 1)))
+    ∙ ap (λ (rest : List ℕ). take i text ∷ split rest) (sym (take_rest text (i + 1)))
 
 pub returns-clause-line : goal.returns-clause-line
 returns-clause-line c = line_last c.args.text.now c.loop-at.at (omega arith) c.loop-at.invariant

@@ -9,7 +9,7 @@ returns-then-is_blank-clause-parts c =
     let text = c.args.text.now in
     let i = c.loop-at.at in
     part_ends text i (omega arith) (sym c.is_blank.ensures ∙ c.if-is_blank.true) c.loop-at.invariant
-    ∙ ap (λ (behind : List ℕ). with_field (take i text) (parted behind)) (sym (take_rest text (i + 1)))
+    ∙ ap (λ (after : List ℕ). with_field (take i text) (parted after)) (sym (take_rest text (i + 1)))
 
 pub returns-clause-parts : goal.returns-clause-parts
 returns-clause-parts c = part_last c.args.text.now c.loop-at.at (omega arith) c.loop-at.invariant

@@ -5,6 +5,6 @@ use Rattle.edge_rows.proofs.trace_tests.tell_all.Given as goal
 abbrev pub invariant-loop-clock : goal.invariant-loop-clock
 invariant-loop-clock g l = record {
   whole : g.T.Trace.has_failed l.trace ≡ false;
-  told : (b : Option (List ℕ)) → g.T.Trace.ready l.fn.trace b → g.T.Trace.stands l.trace b (take l.clock l.samples) false;
+  told : (b : Option (List ℕ)) → g.T.Trace.ready l.fn.trace b → g.T.Trace.holds l.trace b (take l.clock l.samples) false;
   same : g.T.Trace.name l.trace ≡ g.T.Trace.name l.fn.trace;
 }

@@ -100,8 +100,8 @@ clocks-preserved g c =
     let n = c.clocks.clock in
     let later = c.rest-clock.result in
     let worked = c.step-due.new.block.run in
-    let quiet_due = c.a_quiet_clock_changes_nothing.ensures.due in
-    let quiet_transfers = c.a_quiet_clock_changes_nothing.ensures.transfers in
+    let quiet_due = c.a_clock_without_acts_does_nothing.ensures.due in
+    let quiet_transfers = c.a_clock_without_acts_does_nothing.ensures.transfers in
     let run = run-next start lines c.clocks.ports.lines n c.clocks.block.run worked c.clocks.ports.transfers inv.run inv.in_clock inv.lines inv.transfers c.step-due.ensures.run in
     let s = shown-run start lines n worked c.view.result run c.view.ensures in
     let in_clock = ap (λ (r : Run). r.clock) c.step-due.ensures.run ∙ clock-next _ c.clocks.block.run ∙ ap (λ (k : ℕ). k + 1) inv.in_clock in
@@ -124,7 +124,7 @@ clocks-preserved g c =
       first = λ e. absurd (omega arith);
       held = after.held;
       working = search rules;
-      told = λ b r. subst (λ (l : List Sample). g.T.Trace.stands c.sample.new.self b l false) (told_at-held start lines inv.last n c.view.result inv.held s) (c.in_ok-sample.ensures.ok b (samples start lines inv.last) (inv.told b r) (next-held start lines inv.last n inv.before inv.first));
+      told = λ b r. subst (λ (l : List Sample). g.T.Trace.holds c.sample.new.self b l false) (told_at-held start lines inv.last n c.view.result inv.held s) (c.in_ok-sample.ensures.ok b (samples start lines inv.last) (inv.told b r) (next-held start lines inv.last n inv.before inv.first));
       count = search rules;
       name = search rules;
       steps = search rules;
@@ -151,7 +151,7 @@ returns-clause-ok g c =
     let next = subst (λ (k : ℕ). IsNext (samples start lines inv.last) k) at_end (next-held start lines inv.last c.clocks.clock inv.before inv.first) in
     let held = subst (λ (k : ℕ). held_to k (samples start lines inv.last) ≡ samples start lines k) at_end inv.held in
     ok_then c.end.result c.end.ensures.ok (λ end b r.
-    subst (λ (l : List Sample). g.T.Trace.stands c.end.new.self b l true) held (end b (samples start lines inv.last) (inv.told b r) next))
+    subst (λ (l : List Sample). g.T.Trace.holds c.end.new.self b l true) held (end b (samples start lines inv.last) (inv.told b r) next))
 
 pub returns-clause-err : goal.returns-clause-err
 returns-clause-err g c =

@@ -26,7 +26,7 @@ invariant-clocks g l =
       first : last ≡ 0 → l.clock ≡ 0;
       held : held_to l.clock (samples l.fn.block.run l.fn.schedule last) ≡ samples l.fn.block.run l.fn.schedule l.clock;
       working : g.T.Trace.has_failed l.trace ≡ false;
-      told : (b : Option (List ℕ)) → g.T.Trace.ready l.fn.trace b → g.T.Trace.stands l.trace b (samples l.fn.block.run l.fn.schedule last) false;
+      told : (b : Option (List ℕ)) → g.T.Trace.ready l.fn.trace b → g.T.Trace.holds l.trace b (samples l.fn.block.run l.fn.schedule last) false;
       count : g.T.Trace.faults l.trace ≡ g.T.Trace.faults l.fn.trace;
       name : g.T.Trace.name l.trace ≡ g.T.Trace.name l.fn.trace;
       steps : l.steps + l.fn.block.calls ≡ l.fn.steps + l.block.calls;

@@ -1,11 +1,11 @@
 use Rattle.std.proofs.Common.{◌≡◌, length}
-use Rattle.pio_assemble.specs.Source.{scope_from, behind_program}
+use Rattle.pio_assemble.specs.Source.{scope_from, after_program}
 use Rattle.pio_assemble.proofs.symbols_of.add_symbols.Given as goal
 
 abbrev pub invariant-loop-line : goal.invariant-loop-line
 invariant-loop-line l = record {
   symbols : scope_from l.lines.items l.scope l.words ≡ scope_from l.fn.lines.items l.fn.scope 0;
-  rest : behind_program l.lines.items ≡ behind_program l.fn.lines.items;
+  rest : after_program l.lines.items ≡ after_program l.fn.lines.items;
 }
 
 abbrev pub decreases-loop-line : goal.decreases-loop-line

@@ -17,10 +17,10 @@ loop-at-preserved c =
     let text : List ℕ = take (length source - at) (drop at source) in
     let same : text ≡ drop at source = take_rest source at in
     let last : c.last_kind.result ≡ last_kind tokens = search rules in
-    let stands : piece_at (last_kind tokens) (drop at source) ≡ Ok p =
+    let there : piece_at (last_kind tokens) (drop at source) ≡ Ok p =
     ap (λ (xs : List ℕ). piece_at (last_kind tokens) xs) (sym same) ∙ ap (λ k. piece_at k text) (sym last) ∙ sym c.in-Ok.ensures.value in
     let fits : IsWithin (size p) (drop at source) = subst (λ (xs : List ℕ). IsWithin (size p) xs) same c.in-Ok.ensures.within in
     let counted : c.newlines-line.result ≡ count_by is_newline (take (size p) (drop at source)) =
     c.newlines-line.ensures.value ∙ ap (λ (n : ℕ). count_by is_newline (take n text)) c.size.ensures ∙ ap (λ (xs : List ℕ). count_by is_newline (take (size p) xs)) same in
-    let more = reading_more source tokens at line p c.add.new.tokens.items c.loop-at.invariant (omega arith) stands fits c.in_ok-add.ensures.ok in
+    let more = reading_more source tokens at line p c.add.new.tokens.items c.loop-at.invariant (omega arith) there fits c.in_ok-add.ensures.ok in
     rw (c.size-at.ensures, counted) more

@@ -8,7 +8,7 @@ returns-then-byte-eq32 c =
     let text = c.args.text.now in
     let i = c.loop-at.at in
     field_ends text i (omega arith) c.if-byte-eq32.true c.loop-at.invariant
-    ∙ ap (λ (behind : List ℕ). take i text ∷ split behind) (sym (take_rest text (i + 1)))
+    ∙ ap (λ (after : List ℕ). take i text ∷ split after) (sym (take_rest text (i + 1)))
 
 pub returns : goal.returns
 returns c = field_last c.args.text.now c.loop-at.at (omega arith) c.loop-at.invariant

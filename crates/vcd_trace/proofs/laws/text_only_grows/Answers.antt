@@ -1,4 +1,4 @@
-use Rattle.vcd_trace.specs.Standing.{last_sample, added_text}
+use Rattle.vcd_trace.specs.Written.{last_sample, added_text}
 use Rattle.vcd_trace.proofs.ToldLaws.{open_text-told}
 use Rattle.vcd_trace.proofs.laws.text_only_grows.Goals as goal
 

@@ -2,7 +2,7 @@ use Rattle.std.proofs.Common.{refl, arith}
 use Rattle.block_core.specs.Slots.{doing}
 use Rattle.block_core.proofs.Steps.{in_step_after}
 use Rattle.block_core.proofs.Told.{place_told}
-use Rattle.block_core.proofs.Wanting.{IsStep, next_run, any_used, levels_stand, directions_stand}
+use Rattle.block_core.proofs.Wanting.{IsStep, next_run, any_used, levels_are_last, directions_are_last}
 use Rattle.block_core.proofs.block.Block.step.Given as given
 use Rattle.block_core.proofs.block.Block.step.Goals as goal
 
@@ -56,11 +56,11 @@ returns-clause-used g c =
 pub returns-clause-levels : goal.returns-clause-levels
 returns-clause-levels g c =
     let b = c.self.inside in
-    let stand = levels_stand _ b.view.memory b.clock b.levels b.directions b.view.flags.up b.outside b.sync b.first b.second b.third b.fourth _ _ _ _ _ _ _ _ (step_of g c) c.the_last_write_stands.ensures.pin c.no_write_changes_nothing.ensures.write c.step-first.ensures.level c.step-second.ensures.level c.step-third.ensures.level c.step-fourth.ensures.level in
-    rw (← c.self.view_is) stand
+    let last = levels_are_last _ b.view.memory b.clock b.levels b.directions b.view.flags.up b.outside b.sync b.first b.second b.third b.fourth _ _ _ _ _ _ _ _ (step_of g c) c.the_last_write_counts.ensures.pin c.no_write_changes_nothing.ensures.write c.step-first.ensures.level c.step-second.ensures.level c.step-third.ensures.level c.step-fourth.ensures.level in
+    rw (← c.self.view_is) last
 
 pub returns-clause-directions : goal.returns-clause-directions
 returns-clause-directions g c =
     let b = c.self.inside in
-    let stand = directions_stand _ b.view.memory b.clock b.levels b.directions b.view.flags.up b.outside b.sync b.first b.second b.third b.fourth _ _ _ _ _ _ _ _ (step_of g c) c.the_last_write_stands.ensures.pin c.no_write_changes_nothing.ensures.write c.step-first.ensures.direction c.step-second.ensures.direction c.step-third.ensures.direction c.step-fourth.ensures.direction in
-    rw (← c.self.view_is) stand
+    let last = directions_are_last _ b.view.memory b.clock b.levels b.directions b.view.flags.up b.outside b.sync b.first b.second b.third b.fourth _ _ _ _ _ _ _ _ (step_of g c) c.the_last_write_counts.ensures.pin c.no_write_changes_nothing.ensures.write c.step-first.ensures.direction c.step-second.ensures.direction c.step-third.ensures.direction c.step-fourth.ensures.direction in
+    rw (← c.self.view_is) last

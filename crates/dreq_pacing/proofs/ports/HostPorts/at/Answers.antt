@@ -22,7 +22,7 @@ returns-then-not-moves-clause-due c =
     let p = c.args.self.now in
     let still = quiet_in p.lines c.take_lines-here.result.now c.args.clock c.args.requests.now p.transfers c.take_lines-here.new.self.transfers
     c.take_lines-here.ensures.lines c.if-is_empty.ensures (ap (λ (q : Ports). q.transfers) c.take_lines-here.ensures.after) c.if-not-moves.ensures in
-    c.quiet.ensures ∙ sym (c.a_quiet_clock_changes_nothing.ensures.due p.lines c.args.clock c.args.requests.now p.transfers still)
+    c.quiet.ensures ∙ sym (c.a_clock_without_acts_does_nothing.ensures.due p.lines c.args.clock c.args.requests.now p.transfers still)
 
 pub returns-then-not-moves-clause-after : goal.returns-then-not-moves-clause-after
 returns-then-not-moves-clause-after c =
@@ -30,4 +30,4 @@ returns-then-not-moves-clause-after c =
     let still = quiet_in p.lines c.take_lines-here.result.now c.args.clock c.args.requests.now p.transfers c.take_lines-here.new.self.transfers
     c.take_lines-here.ensures.lines c.if-is_empty.ensures (ap (λ (q : Ports). q.transfers) c.take_lines-here.ensures.after) c.if-not-moves.ensures in
     c.take_lines-here.ensures.after
-    ∙ ap (λ (t : Transfers). record { lines = p.lines; next = c.args.clock + 1; transfers = t }) (sym (c.a_quiet_clock_changes_nothing.ensures.transfers p.lines c.args.clock c.args.requests.now p.transfers still))
+    ∙ ap (λ (t : Transfers). record { lines = p.lines; next = c.args.clock + 1; transfers = t }) (sym (c.a_clock_without_acts_does_nothing.ensures.transfers p.lines c.args.clock c.args.requests.now p.transfers still))

@@ -3,8 +3,8 @@ use Rattle.std.proofs.lemmas.List.{drop_all}
 use Rattle.answers.specs.Answers as answers
 use Rattle.pio_assemble.specs.Answers.{told, located}
 use Rattle.pio_assemble.specs.Program.{assembled_of}
-use Rattle.pio_assemble.specs.Source.{with_programs, programs_from, program_scope, behind_program}
-use Rattle.pio_assemble.proofs.Programs.{begins_left, behind_begins, adds_left, behind_adds, fault_left}
+use Rattle.pio_assemble.specs.Source.{with_programs, programs_from, program_scope, after_program}
+use Rattle.pio_assemble.proofs.Programs.{begins_left, after_begins, adds_left, after_adds, fault_left}
 use Rattle.pio_assemble.proofs.assembly.Assembly.read.Goals as goal
 use Rattle.pio_assemble.proofs.assembly.Assembly.read.Goals.{in-Some+in_ok-begin_program-in-Some, in-None+in_default}
 
@@ -27,12 +27,12 @@ loop-line-preserved c =
       | in-Some+in_ok-begin_program-in-Some w ↦
           let begins = sym w.in-Some.ensures.name in
           let after = w.in_ok-begin_program-in-Some.ensures in
-          let behind = c.loop-line.invariant.symbols ∙ behind_begins lines i l c.loop-line-test.true c.line-item.is w.in-Some.name.now begins in
+          let following = c.loop-line.invariant.symbols ∙ after_begins lines i l c.loop-line-test.true c.line-item.is w.in-Some.name.now begins in
           let programs = begins_left lines i l c.loop-line-test.true c.line-item.is first it.scope it.draft w.in-Some.name.now begins ∙ c.loop-line.invariant.programs in
-          let scoped = ap (λ s. s.scope) w.self-is ∙ after.scope ∙ ap (program_scope it.scope) behind in
+          let scoped = ap (λ s. s.scope) w.self-is ∙ after.scope ∙ ap (program_scope it.scope) following in
           record {
             programs = rw (ap (λ s. map assembled_of s.programs.items) w.self-is ∙ after.programs, scoped, ap (λ s. s.draft) w.self-is ∙ after.draft) programs;
-            symbols = ap (λ s. s.symbols.items) w.self-is ∙ after.symbols ∙ ap behind_program behind;
+            symbols = ap (λ s. s.symbols.items) w.self-is ∙ after.symbols ∙ ap after_program following;
           }
       | in-None+in_default w ↦
           let goes_on = sym w.in-None.ensures.name in
@@ -40,7 +40,7 @@ loop-line-preserved c =
           let adds = adds_left lines i l c.loop-line-test.true c.line-item.is it.scope it.draft w.draft_line.new.self.draft goes_on after.value in
           record {
             programs = rw (ap (λ s. map assembled_of s.programs.items) w.self-is ∙ ap (λ v. map assembled_of v.items) after.programs, ap (λ s. s.scope) w.self-is ∙ after.scope, ap (λ s. s.draft) w.self-is) (ap (with_programs first) adds ∙ c.loop-line.invariant.programs);
-            symbols = ap (λ s. s.symbols.items) w.self-is ∙ ap (λ q. q.items) after.symbols ∙ c.loop-line.invariant.symbols ∙ sym (behind_adds lines i l c.loop-line-test.true c.line-item.is goes_on);
+            symbols = ap (λ s. s.symbols.items) w.self-is ∙ ap (λ q. q.items) after.symbols ∙ c.loop-line.invariant.symbols ∙ sym (after_adds lines i l c.loop-line-test.true c.line-item.is goes_on);
           }
     ]
 

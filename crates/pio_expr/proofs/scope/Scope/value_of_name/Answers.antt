@@ -1,14 +1,14 @@
 use Rattle.std.proofs.Common.{◌≡◌, ◌∙◌, ℕ, pos, ap, sym, rules, true, Ok, Some, None, to_z, w32, subst}
 use Rattle.pio_expr.specs.declared.symbol.Symbol.TheVariants.{Define, Label}
 use Rattle.pio_expr.specs.Values.{found, Gives}
-use Rattle.pio_expr.proofs.Finding.{found_stands}
+use Rattle.pio_expr.proofs.Finding.{found_is_there}
 use Rattle.pio_expr.proofs.Naming.{name_unknown, name_label, name_define}
 use Rattle.pio_expr.proofs.scope.Scope.value_of_name.Goals as goal
 
 pub work_out-requires-clause-own : goal.work_out-requires-clause-own
 work_out-requires-clause-own c =
     let at : found c.self.inside.symbols true c.args.name.now ≡ Some (c.in-Some-default-Define.place, Define c.items.result.now) = search rules in
-    found_stands c.self.inside.symbols true c.args.name.now c.in-Some-default-Define.place (Define c.items.result.now) at
+    found_is_there c.self.inside.symbols true c.args.name.now c.in-Some-default-Define.place (Define c.items.result.now) at
 
 pub returns-in-None-clause-value : goal.returns-in-None-clause-value
 returns-in-None-clause-value c =

@@ -11,7 +11,7 @@ last_sample [] = None
 last_sample (s ∷ rest) = Some (last_of s rest)
 
 -- after what was taken before, the sink has taken the text of these samples, and their last one is remembered
-pub record Standing (before : Option (List ℕ)) (told : List Sample) (ended : Bool) (taken : Option (List ℕ)) (last : Option Sample) : Type 0 where
+pub record HasWritten (before : Option (List ℕ)) (told : List Sample) (ended : Bool) (taken : Option (List ℕ)) (last : Option Sample) : Type 0 where
   pub text : taken ≡ with_bytes before (text_of told ended)
   pub remembered : last ≡ last_sample told
 

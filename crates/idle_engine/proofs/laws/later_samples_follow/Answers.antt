@@ -1,5 +1,5 @@
 use Rattle.idle_engine.proofs.SampleLists.{samples-from}
-use Rattle.idle_engine.proofs.laws.later_samples_stand_behind.Goals as goal
+use Rattle.idle_engine.proofs.laws.later_samples_follow.Goals as goal
 
 pub returns : goal.returns
 returns c = samples-from
