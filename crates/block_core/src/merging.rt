@@ -71,9 +71,12 @@ impl Wanted {
 fn written(old: u32, writes: &[(u32, u32); 2]) -> u32
     ensures { result ≡ merged old (two_writes writes.now) }
 {
-    if writes[0].0 == 0 && writes[1].0 == 0 {
-        old
+    let [own, side_set] = writes;
+    if side_set.0 != 0 {
+        merge(old, &[*own, *side_set])
+    } else if own.0 != 0 {
+        merge(old, &[*own])
     } else {
-        merge(old, &[writes[0], writes[1]])
+        old
     }
 }

@@ -89,7 +89,7 @@ impl<F: Fifo> Machine<F> {
     }
 
     /// The same, with the intent put into one that wants nothing so far, which spares a copy in each clock.
-    #[inline(always)]
+    #[inline(never)]
     pub fn tick_into(&mut self, view: &View, intent: &mut Intent)
         requires { intent.old ≡ no_intent }
         ensures intent { intent.new ≡ (spec_tick.tick_of self.old.setup view.now (queues_of self.old.ports.fifos) self.old.registers).1 }

@@ -71,10 +71,7 @@ fn tick_current<F: Fifo>(
     ensures same { decoded.new.rule ≡ decoded.old.rule }
 {
     match registers.pending {
-        Some(word) => {
-            let op = decode(word, &setup.side_rule);
-            tick_op(&op, setup, view, fifos, registers, intent);
-        }
+        Some(word) => tick_pending(word, setup, view, fifos, registers, intent),
         None => {
             let address = registers.pc;
             decoded.read(address, view.memory[usize::from(address)]);
@@ -83,8 +80,30 @@ fn tick_current<F: Fifo>(
     }
 }
 
-/// A tick of an instruction. The intent, of nothing so far, gets what it does outside the registers.
+/// A tick of a pending word, which is rare.
+#[cold]
 #[inline(never)]
+fn tick_pending<F: Fifo>(
+    word: u16,
+    setup: &MachineSetup,
+    view: &View,
+    fifos: &Pair<F>,
+    registers: &mut Registers,
+    intent: &mut Intent,
+)
+    requires placed { IsPlaced registers.old }
+    requires fresh { intent.old ≡ no_intent }
+    ensures value { (registers.new, intent.new)
+        ≡ spec.tick_word (reading_of word setup.now.side_rule) setup.now view.now (queues_of fifos.now) registers.old }
+    ensures level { AllByRecursion IsWrite intent.new.level }
+    ensures direction { AllByRecursion IsWrite intent.new.direction }
+{
+    let op = decode(word, &setup.side_rule);
+    tick_op(&op, setup, view, fifos, registers, intent);
+}
+
+/// A tick of an instruction. The intent, of nothing so far, gets what it does outside the registers.
+#[inline(always)]
 #[tactic(auto, unfolding(crate::specs::Tick::tick_word, crate::specs::Tick::tick_by))]
 fn tick_op<F: Fifo>(
     op: &Op,
