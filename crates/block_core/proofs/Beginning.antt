@@ -77,9 +77,3 @@ pub by_machines : (memory : List ℕ) (clock levels directions flags outside : �
 unfolding plainly_moves_on
 by_machines memory clock levels directions flags outside sync a b c e result settled h =
     h ∙ sym (ap (λ p. p || list_any begins_now (a ∷ b ∷ c ∷ e ∷ [])) settled)
-
-pub any_begins_now : (a b c e : Option Slot) (p q r s : Bool) → p ≡ begins_now a → q ≡ begins_now b → r ≡ begins_now c → s ≡ begins_now e → (p || (q || (r || s))) ≡ list_any begins_now (a ∷ b ∷ c ∷ e ∷ [])
-any_begins_now a b c e p q r s ea eb ec ee = rw (ea, eb, ec, ee) (sym (ap (λ x. begins_now a || (begins_now b || (begins_now c || x))) (or_none (begins_now e)))) where
-  or_none : (x : Bool) → (x || false) ≡ x
-  or_none true = refl
-  or_none false = refl

@@ -1,6 +1,6 @@
 //! The block: four machines that share instruction memory, pins and IRQ flags.
 ghost use Rattle.std.specs.Prelude.{◌≡◌, ℕ, ◌<◌, ◌≤◌, ◌^◌, ◌+◌, false, option_map, IfOk};
-ghost use Rattle.std.specs.List.{AllByRecursion};
+ghost use Rattle.std.specs.List.{AllByRecursion, list_any};
 ghost use Rattle.pin_matrix.specs.Pins.{IsWrite};
 ghost use Rattle.dreq_pacing.specs.Due.{quiet};
 ghost use Rattle.dreq_pacing.specs.Ports.{IsFirst};
@@ -10,6 +10,7 @@ ghost use Rattle.block_core.specs.Shown.{sample_of, requests_of, moved_of, shown
 ghost use Rattle.block_core.specs.Slots.{doing, first_slot, place_after, place_intent, place_uses_fifos};
 ghost use Rattle.block_core.specs.Merging.{with_intent};
 ghost use Rattle.block_core.specs.Resting.{rested};
+ghost use Rattle.block_core.specs.Stirring as stirring;
 ghost use Rattle.block_core.specs.Stirring.{moves_on, plainly_moves_on};
 
 use crate::Sample;
@@ -163,6 +164,14 @@ impl<F: Fifo> Block<F> {
         if !self.sync.settled(pad) {
             return true;
         }
+        self.begins_some()
+    }
+
+    /// Whether a machine begins an instruction in the present clock, if no line acts in it.
+    #[inline(never)]
+    fn begins_some(&self) -> bool
+        ensures { result ≡ list_any stirring.begins_now self.now.run.state.machines }
+    {
         let (first, second) = (begins_now(&self.first), begins_now(&self.second));
         let (third, fourth) = (begins_now(&self.third), begins_now(&self.fourth));
         first | (second | (third | fourth))

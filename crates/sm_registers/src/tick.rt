@@ -130,6 +130,7 @@ fn tick_op<F: Fifo>(
 }
 
 /// Ends an instruction's tick, by the registers before it. The intent, of nothing so far, gets side-set and what it does.
+#[inline(always)]
 #[tactic(auto, unfolding(crate::specs::Tick::after_effect))]
 fn conclude(
     outcome: &Outcome,
@@ -162,6 +163,7 @@ fn conclude(
 }
 
 /// Ends an instruction that is finished: PC, pending word and delay. The intent, of side-set alone so far, gets its deed.
+#[inline(always)]
 #[tactic(auto, unfolding(crate::specs::Tick::after_effect))]
 fn finish(
     deed: &Deed,
@@ -228,6 +230,7 @@ fn refill<F: Fifo>(setup: &MachineSetup, fifos: &Pair<F>, registers: &mut Regist
 }
 
 /// Gives an intent, of nothing so far, its kind and what side-set writes, in the first tick of an instruction alone.
+#[inline(always)]
 fn set_side(side: Option<u8>, begun: bool, setup: &MachineSetup, intent: &mut Intent)
     requires { intent.old ≡ no_intent }
     ensures value { intent.new ≡ side_intent side setup.now begun }

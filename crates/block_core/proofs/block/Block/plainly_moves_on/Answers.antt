@@ -1,7 +1,8 @@
-use Rattle.std.proofs.Common.{◌≡◌, true, false, ◌||◌, subst}
+use Rattle.std.proofs.Common.{◌≡◌, true, false, ◌∷◌, [], subst, sym}
+use Rattle.std.specs.List.{list_any}
 use Rattle.block_core.specs.Block.{Worked}
-use Rattle.block_core.specs.Stirring.{plainly_moves_on}
-use Rattle.block_core.proofs.Beginning.{by_pads, by_machines, any_begins_now}
+use Rattle.block_core.specs.Stirring.{begins_now, plainly_moves_on}
+use Rattle.block_core.proofs.Beginning.{by_pads, by_machines}
 use Rattle.block_core.proofs.Leaping.{settled_pads, unsettled_pads, unsettled}
 use Rattle.block_core.proofs.block.Block.plainly_moves_on.Goals as goal
 
@@ -16,6 +17,7 @@ pub returns : goal.returns
 returns g c =
     let b = c.self.inside in
     let stay : unsettled c.pad_of-pad.result b.sync ≡ false = settled_pads c.settled.result c.pad_of-pad.result b.sync c.settled.ensures c.if-not-settled.false in
-    subst (λ (w : Worked). (c.begins_now-first.result || (c.begins_now-second.result || (c.begins_now-third.result || c.begins_now-fourth.result))) ≡ plainly_moves_on w.run) c.self.view_is
-    (by_machines b.view.memory b.clock b.levels b.directions b.view.flags.up b.outside b.sync b.first b.second b.third b.fourth _ (subst (λ pad. unsettled pad b.sync ≡ false) c.pad_of-pad.ensures stay)
-    (any_begins_now b.first b.second b.third b.fourth _ _ _ _ c.begins_now-first.ensures c.begins_now-second.ensures c.begins_now-third.ensures c.begins_now-fourth.ensures))
+    let some : c.begins_some.result ≡ list_any begins_now (b.first ∷ b.second ∷ b.third ∷ b.fourth ∷ []) =
+    subst (λ (w : Worked). c.begins_some.result ≡ list_any begins_now w.run.state.machines) (sym c.self.view_is) c.begins_some.ensures in
+    subst (λ (w : Worked). c.begins_some.result ≡ plainly_moves_on w.run) c.self.view_is
+    (by_machines b.view.memory b.clock b.levels b.directions b.view.flags.up b.outside b.sync b.first b.second b.third b.fourth _ (subst (λ pad. unsettled pad b.sync ≡ false) c.pad_of-pad.ensures stay) some)
