@@ -171,7 +171,8 @@ const SENDER: &str =
 /// Pin 0 falls in clock 0 and stays low.
 const BREAK: &str = ".program p\nset pins, 0\n";
 
-const HIGH: &str = "[pins]\nlevel = [0]\n[[load]]\nprogram = \"p\"\n[[machine]]\nid = 0\nprogram = \"p\"\n";
+const HIGH: &str =
+    "[pins]\nlevel = [0]\n[[load]]\nprogram = \"p\"\n[[machine]]\nid = 0\nprogram = \"p\"\n";
 
 const RECEIVE_86: &[&str] = &[
     "piotool",
@@ -292,8 +293,8 @@ pub static RECEIVED: [Row; 13] = [
     Row {
         name: "a span that isn't provable is no hindrance",
         words: &[
-            "piotool", "receive", "--source", "s", "--config", "c", "--clocks", "20", "--pin",
-            "0", "--bit", "2",
+            "piotool", "receive", "--source", "s", "--config", "c", "--clocks", "20", "--pin", "0",
+            "--bit", "2",
         ],
         source: Some(BREAK),
         config: Some(HIGH_BEFORE),
@@ -321,8 +322,7 @@ pub static RECEIVED: [Row; 13] = [
     Row {
         name: "and 65,535 at most",
         words: &[
-            "piotool", "receive", "--source", "s", "--clocks", "4", "--pin", "0", "--bit",
-            "65536",
+            "piotool", "receive", "--source", "s", "--clocks", "4", "--pin", "0", "--bit", "65536",
         ],
         status: 2,
         err: "piotool: usage\n",

@@ -49,7 +49,7 @@ pub fn receive<F: Shelf, O: Sink, L: Ledger>(
     requires pin { line.pin < 32 }
     requires bit { 2 ≤ line.bit }
     ensures ends { CommandEnds
-        (receive_asked files.entry.source.now (option_map (λ t. t.now) files.entry.config) (option_map (λ t. t.now) files.entry.stimulus) clocks line.entry.pin line.entry.bit)
+        (receive_asked files.entry.source.now (option_map (λ t. t.now) files.entry.config) (option_map (λ t. t.now) files.entry.stimulus) clocks line.pin line.bit)
         (call_of (F.holds shelf.old) (F.faults shelf.old) (F.faults shelf.new)
         (output_of (O.taken out.old) (O.waiting out.old) (O.faults out.old))
         (output_of (O.taken out.new) (O.waiting out.new) (O.faults out.new)))
@@ -57,7 +57,7 @@ pub fn receive<F: Shelf, O: Sink, L: Ledger>(
     ensures same { F.holds shelf.new ≡ F.holds shelf.old }
     ensures steps { steps.new ≤ steps.old + clocks }
     ensures worked { steps.new ≤ steps.old + most_worked (F.holds shelf.old)
-        (receive_asked files.entry.source.now (option_map (λ t. t.now) files.entry.config) (option_map (λ t. t.now) files.entry.stimulus) clocks line.entry.pin line.entry.bit) }
+        (receive_asked files.entry.source.now (option_map (λ t. t.now) files.entry.config) (option_map (λ t. t.now) files.entry.stimulus) clocks line.pin line.bit) }
 {
     let (setup, schedule) = prepare(alloc, shelf, files)?;
     write_received(alloc, &setup, &schedule, clocks, line, out, steps)
@@ -78,7 +78,7 @@ fn write_received<O: Sink, L: Ledger>(
     requires bit { 2 ≤ line.bit }
     ensures ends { Writes (output_of (O.taken out.old) (O.waiting out.old) (O.faults out.old))
         (output_of (O.taken out.new) (O.waiting out.new) (O.faults out.new))
-        (received_text (first_run setup.now) line.entry.pin line.entry.bit schedule.now clocks) result }
+        (received_text (first_run setup.now) line.pin line.bit schedule.now clocks) result }
     ensures steps { steps.new ≤ steps.old + clocks }
     ensures stirring { steps.new ≤ steps.old + stirring (first_run setup.now) schedule.now clocks + 1 }
 {
@@ -103,7 +103,7 @@ fn write_frames<O: Sink, L: Ledger>(
     requires bit { 2 ≤ line.bit }
     ensures ends { Writes (output_of (O.taken out.old) (O.waiting out.old) (O.faults out.old))
         (output_of (O.taken out.new) (O.waiting out.new) (O.faults out.new))
-        (received_text block.old.run line.entry.pin line.entry.bit schedule.now clocks) result }
+        (received_text block.old.run line.pin line.bit schedule.now clocks) result }
     ensures steps { steps.new ≤ steps.old + clocks }
     ensures stirring { steps.new ≤ steps.old + stirring block.old.run schedule.now clocks + 1 }
 {
@@ -130,7 +130,7 @@ fn put_frames<O: Sink, L: Ledger>(
     requires within { clocks ≤ 10 ^ 12 }
     requires pin { line.pin < 32 }
     requires bit { 2 ≤ line.bit }
-    ensures bytes { Takes (O.taken out.old) (received_text block.old.run line.entry.pin line.entry.bit schedule.now clocks) (O.taken out.new) result }
+    ensures bytes { Takes (O.taken out.old) (received_text block.old.run line.pin line.bit schedule.now clocks) (O.taken out.new) result }
     ensures cause { PutCounts (O.faults out.old) (O.faults out.new) result }
     ensures steps { steps.new ≤ steps.old + clocks }
     ensures stirring { steps.new ≤ steps.old + stirring block.old.run schedule.now clocks + 1 }

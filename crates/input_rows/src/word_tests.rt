@@ -166,7 +166,11 @@ static HEARD: [(&[&str], u64, u8, u16); 3] = [
     ),
     (
         &[
-            "receive", "--bit=65535", "--pin=31", "--clocks=0", "--source=a.pio",
+            "receive",
+            "--bit=65535",
+            "--pin=31",
+            "--clocks=0",
+            "--source=a.pio",
         ],
         0,
         31,
@@ -186,10 +190,16 @@ static HEARD: [(&[&str], u64, u8, u16); 3] = [
 static REFUSED: [&[&str]; 65] = [
     &["measure", "--source", "a.pio"],
     &["measure", "--clocks", "8"],
-    &["measure", "--source", "a.pio", "--clocks", "8", "--span", "h"],
+    &[
+        "measure", "--source", "a.pio", "--clocks", "8", "--span", "h",
+    ],
     &["measure", "--source", "a.pio", "--clocks", "1000000000001"],
-    &["receive", "--source", "a.pio", "--clocks", "8", "--pin", "0"],
-    &["receive", "--source", "a.pio", "--clocks", "8", "--bit", "8"],
+    &[
+        "receive", "--source", "a.pio", "--clocks", "8", "--pin", "0",
+    ],
+    &[
+        "receive", "--source", "a.pio", "--clocks", "8", "--bit", "8",
+    ],
     &[
         "receive", "--source", "a.pio", "--clocks", "8", "--pin", "32", "--bit", "8",
     ],
@@ -349,7 +359,14 @@ fn shared(rt: HostRuntime) -> Result<(), Fail> {
 #[test]
 fn measured(rt: HostRuntime) -> Result<(), Fail> {
     let words: &[&str] = &[
-        "measure", "--clocks", "8", "--source", "a.pio", "--config", "c", "--stimulus=t",
+        "measure",
+        "--clocks",
+        "8",
+        "--source",
+        "a.pio",
+        "--config",
+        "c",
+        "--stimulus=t",
     ];
     let order = Order::Measure {
         source: "a.pio",

@@ -99,7 +99,7 @@ all_good e levels shown same n Good asked k (suc count) within =
     let rest : List Sample = samples_from shown (suc k) count in
     let P : ℕ → Type 0 = λ v. AllByRecursion Good (cond (meter.is_from e (levels k) v) (with_distance (clocks_to e v rest) (measured e v rest)) (measured e v rest)) in
     subst P (sym (same k)) (where_from (from_at e levels) (to_at e levels) n Good asked k count within (from_at e levels k) refl (clocks_to e (levels (suc k)) rest) (first_to e levels shown same (suc k) count)
-        (measured e (levels (suc k)) rest) (all_good e levels shown same n Good asked (suc k) count (omega arith)))
+    (measured e (levels (suc k)) rest) (all_good e levels shown same n Good asked (suc k) count (omega arith)))
 
 -- within some bounds
 abbrev IsBetween : (min max d : ℕ) → Type 0
@@ -158,8 +158,8 @@ seen_within u sp clocks holds lines n calm =
     let levels : ℕ → ℕ = λ k. (state_beside u lines k).levels in
     let e = ends_in sp in
     let asked : Asked (from_at e levels) (to_at e levels) n (IsBetween sp.min sp.max) = λ s d start some within to first.
-        in_clocks sp.unit sp.min sp.max n (marks_in sp u lines) clocks (holds.beside lines n) (λ c low. breaks_mark sp u lines c ∙ calm c low)
-        s d (from_mark sp u lines s ∙ start) some within (to_mark sp u lines (s + d) ∙ to) (λ c low high. to_mark sp u lines c ∙ first c low high) in
+    in_clocks sp.unit sp.min sp.max n (marks_in sp u lines) clocks (holds.beside lines n) (λ c low. breaks_mark sp u lines c ∙ calm c low)
+    s d (from_mark sp u lines s ∙ start) some within (to_mark sp u lines (s + d) ∙ to) (λ c low high. to_mark sp u lines c ∙ first c low high) in
     let all = all_good e levels (sample_at (first_run u) lines) (shown_levels u lines) n (IsBetween sp.min sp.max) asked 0 n (omega arith) in
     let good = seen_between sp.min sp.max (measured e (levels 0) (samples_from (sample_at (first_run u) lines) 0 n)) all in
     let P : List Sample → Type 0 = λ xs. IsWithin sp.min sp.max (seen_of (measured e (levels 0) xs)) in

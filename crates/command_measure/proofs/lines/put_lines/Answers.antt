@@ -6,11 +6,11 @@ use Rattle.command_measure.proofs.lines.put_lines.Goals as goal
 
 pub returns-in-Err-clause-bytes : goal.returns-in-Err-clause-bytes
 returns-in-Err-clause-bytes g c =
-    going_stops _ _ _ _ _ _ _ c.loop-place.invariant.going (seen_lines-turn c.args.spans.now (seen_so_far c.args.meter.now) c.loop-place.place c.index.result c.seen.result c.loop-place-test.true c.index.is c.seen.ensures) c.in-Err.ensures.bytes
+    going_stops _ _ _ _ _ _ _ c.loop-place.invariant.going (seen_lines-turn c.args.spans.now (seen_so_far c.args.meter.now) c.loop-place.place c.index-spans-place.result c.seen.result c.loop-place-test.true c.index-spans-place.is c.seen.ensures) c.in-Err.ensures.bytes
 
 pub loop-place-preserved : goal.loop-place-preserved
 loop-place-preserved g c = record {
-  going = going_on _ _ _ _ _ _ _ c.loop-place.invariant.going (seen_lines-turn c.args.spans.now (seen_so_far c.args.meter.now) c.loop-place.place c.index.result c.seen.result c.loop-place-test.true c.index.is c.seen.ensures) c.in-Ok.ensures.bytes;
+  going = going_on _ _ _ _ _ _ _ c.loop-place.invariant.going (seen_lines-turn c.args.spans.now (seen_so_far c.args.meter.now) c.loop-place.place c.index-spans-place.result c.seen.result c.loop-place-test.true c.index-spans-place.is c.seen.ensures) c.in-Ok.ensures.bytes;
   count = c.in-Ok.ensures.cause.ok ∙ c.loop-place.invariant.count;
 }
 
