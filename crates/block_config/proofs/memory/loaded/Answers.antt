@@ -1,7 +1,7 @@
 use Rattle.std.proofs.Common.{rules, get_or, unwrap_or}
 use Rattle.std.proofs.lemmas.List.FromFn.{fill_by_all}
 use Rattle.block_config.specs.Memory.{word_at}
-use Rattle.block_config.proofs.load.loaded.Goals as goal
+use Rattle.block_config.proofs.memory.loaded.Goals as goal
 
 pub returns : goal.returns
 returns c =

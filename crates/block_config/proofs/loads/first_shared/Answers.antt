@@ -1,9 +1,8 @@
 use Rattle.std.proofs.Common.{◌&&◌, map, refl, sym, ◌∙◌}
-use Rattle.block_config.specs.LoadView.{loaded_of}
-use Rattle.block_config.specs.Loads.{covers, is_covered, first_shared}
+use Rattle.block_config.specs.Loads.{loaded_of, covers, is_covered, first_shared}
 use Rattle.block_config.proofs.Covered.{find_more, first_fails, second_fails}
-use Rattle.block_config.proofs.load_table.first_shared.Goals as goal
-use Rattle.block_config.proofs.load_table.first_shared.Goals.{else-covers-via-then-covers+else-is_covered, else-covers-via-else-covers}
+use Rattle.block_config.proofs.loads.first_shared.Goals as goal
+use Rattle.block_config.proofs.loads.first_shared.Goals.{else-covers-via-then-covers+else-is_covered, else-covers-via-else-covers}
 
 pub loop-address-init : goal.loop-address-init
 unfolding first_shared

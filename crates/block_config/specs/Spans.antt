@@ -1,4 +1,4 @@
--- The table of a span: its keys in order, and the span that it says (choice of this profile).
+-- The tables of spans: the keys of one in order, the span that it says, and all spans (choice of this profile).
 --   name_at     its name
 --   ends_at     the machine and the two edges, Ends by name
 --   bounds_at   what is counted, from where to where, Bounds by name
@@ -20,10 +20,9 @@ use Rattle.block_config.specs.Arrays.{count_items, all_items, gather}
 use Rattle.setup_keys.specs.Block.{MachineKeys, SpanKeys}
 use Rattle.block_config.specs.Keys.{Numbered}
 use Rattle.block_config.specs.Loads.{covers}
-use Rattle.block_config.specs.Machines.{section_at, element_of}
-use Rattle.block_config.specs.MachineTable.{moved_place}
+use Rattle.block_config.specs.Machines.{moved_place}
 use Rattle.block_config.specs.Programs.{Loaded, label_of}
-use Rattle.block_config.specs.Tables.{and_then, on_key, number_at, each_at}
+use Rattle.block_config.specs.Tables.{and_then, on_key, number_at, each_at, section_at, element_of}
 use Rattle.block_config.specs.Values.{text_of}
 
 -- every key of a span's table

@@ -1,8 +1,7 @@
 use Rattle.std.proofs.Common.{◌≡◌, ◌-◌, ◌&&◌, map}
 use Rattle.std.specs.List.{find, range_with_len}
-use Rattle.block_config.specs.LoadView.{loaded_of}
-use Rattle.block_config.specs.Loads.{covers, is_covered, first_shared}
-use Rattle.block_config.proofs.load_table.first_shared.Given as goal
+use Rattle.block_config.specs.Loads.{loaded_of, covers, is_covered, first_shared}
+use Rattle.block_config.proofs.loads.first_shared.Given as goal
 
 -- the first address that is shared isn't before this one
 abbrev pub invariant-loop-address : goal.invariant-loop-address

@@ -1,6 +1,6 @@
 use Rattle.std.proofs.Common.{◌≡◌, ℕ, ◌<◌, length, get_or, unwrap_or}
 use Rattle.block_config.specs.Memory.{word_at}
-use Rattle.block_config.proofs.load.loaded.Given as goal
+use Rattle.block_config.proofs.memory.loaded.Given as goal
 
 -- the addresses so far hold the program's words, and what stood there where it has none
 abbrev pub invariant-loop-address : goal.invariant-loop-address
