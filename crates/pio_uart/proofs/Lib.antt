@@ -1,0 +1,13 @@
+pub mod Rows
+pub mod Scaling
+pub mod Whole
+pub mod Pacing
+pub mod Steady
+pub mod Instructions
+pub mod TickRuns
+pub mod Clocks
+pub mod Ticks
+pub mod Transmitting
+pub mod Framed
+pub mod Sent
+pub mod WorkedRows

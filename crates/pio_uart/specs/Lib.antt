@@ -1,0 +1,3 @@
+pub mod Transmitter
+pub mod Accepted
+pub mod Sending
