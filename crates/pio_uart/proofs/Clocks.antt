@@ -158,12 +158,12 @@ regs_after : (v : View) (d : Due) (m : Slot) → (slot_after v d m).machine.regi
 unfolding settled_slot
 regs_after v d m = refl
 
-tx_after_clock : (v : View) (d : Due) (m : Slot) → (slot_after v d m).machine.ports.fifos.tx
+pub tx_after_clock : (v : View) (d : Due) (m : Slot) → (slot_after v d m).machine.ports.fifos.tx
     ≡ queued (if_room m.machine.ports.fifos.tx_room m.machine.ports.fifos.tx (slice_index_or d.word m.machine.setup.id None)) (less_front (acted v (lined d m)).1.take m.machine.ports.fifos.tx)
 unfolding settled_slot settled_ports settled
 tx_after_clock v d m = refl
 
-begins : (u : Setup) (lines : List Line) → state_in u lines 0 ≡ first_state u
+pub begins : (u : Setup) (lines : List Line) → state_in u lines 0 ≡ first_state u
 unfolding hosted_at
 begins u lines = refl
 
@@ -172,11 +172,14 @@ module _ (laws : Laws) (u : Setup) (lines : List Line) (id : ℕ) (s : MachineSe
   timed zero = record { setup = refl; enabled = refl; running = refl }
   timed (suc c) = timed_after s c (view_in u lines c) (host_in u lines c) (slots u lines s c) (left c) (timed c)
 
-  place_is : (c : ℕ) → place_at (state_in u lines c) id ≡ Some (slots u lines s c)
+  pub place_is : (c : ℕ) → place_at (state_in u lines c) id ≡ Some (slots u lines s c)
   place_is zero = ap (λ (b : BlockState). place_at b id) (begins u lines) ∙ laws.places_start u id own.in_block ∙ ap (option_map first_slot) own.configured
   place_is (suc c) =
       laws.places_go_on u.memory _ (host_in u lines) (state_in u lines) (laws.follows u lines) c id
       ∙ ap (place_after (view_in u lines c) (host_in u lines c)) (place_is c)
+
+  pub setup_is : (c : ℕ) → (slots u lines s c).machine.setup ≡ s
+  setup_is c = (timed c).setup
 
   acts_in : (c : ℕ) → act_in u lines s c ≡ cond (is_tick 0 (period_of s.int s.frac) c) (tick_of s (view_in u lines c) (queues_of (slots u lines s c).machine.ports.fifos) (regs_in u lines s c)) (regs_in u lines s c, no_intent)
   acts_in c = acts s c (view_in u lines c) (host_in u lines c) (slots u lines s c) (left c) (timed c)
@@ -200,15 +203,16 @@ module _ (laws : Laws) (u : Setup) (lines : List Line) (id : ℕ) (s : MachineSe
   idle_taken c h = ap (λ (x : Registers × Intent). cond x.1.take (slice_get (tx_in u lines s c) 0) None) (acts_in c ∙ ap (λ b. cond b (tick_of s (view_in u lines c) (queues_of (slots u lines s c).machine.ports.fifos) (regs_in u lines s c)) (regs_in u lines s c, no_intent)) h)
 
   -- one with a tick
-  pub tick_step : (c : ℕ) → is_tick 0 (period_of s.int s.frac) c ≡ true → IsStep s u.memory pin (regs_in u lines s c) (level_in u lines pin c) (regs_in u lines s (suc c)) (level_in u lines pin (suc c)) (taken_in u lines s c)
-  tick_step c h = record {
+  pub tick_fed : (c : ℕ) → is_tick 0 (period_of s.int s.frac) c ≡ true
+      → (k : IsStep s u.memory pin (regs_in u lines s c) (level_in u lines pin c) (regs_in u lines s (suc c)) (level_in u lines pin (suc c)) (taken_in u lines s c)) × (k.queues.front ≡ slice_get (tx_in u lines s c) 0)
+  tick_fed c h = (record {
     view = view_in u lines c;
     queues = queues_of (slots u lines s c).machine.ports.fifos;
     memory_is = refl;
     registers = regs_after (view_in u lines c) (host_in u lines c) (slots u lines s c) ∙ ap (λ (x : Registers × Intent). x.0) act;
     level_is = level_after c ∙ ap (λ (x : Registers × Intent). last_of pin (level_in u lines pin c) (two_writes x.1.level)) act;
     taken_is = ap (λ (x : Registers × Intent). cond x.1.take (slice_get (tx_in u lines s c) 0) None) act;
-  } where
+  }, refl) where
     act : act_in u lines s c ≡ tick_of s (view_in u lines c) (queues_of (slots u lines s c).machine.ports.fifos) (regs_in u lines s c)
     act = acts_in c ∙ ap (λ b. cond b (tick_of s (view_in u lines c) (queues_of (slots u lines s c).machine.ports.fifos) (regs_in u lines s c)) (regs_in u lines s c, no_intent)) h
 

@@ -5,7 +5,7 @@ use Rattle.std.specs.Prelude.{option_to_list}
 use Rattle.std.specs.List.{AllByRecursion}
 use Rattle.pin_matrix.specs.declared.machine.MachineSetup.{MachineSetup}
 use Rattle.sm_registers.specs.declared.registers.Registers.{Registers}
-use Rattle.serial_receiver.specs.declared.frame.Frame.{Frame}
+use Rattle.pio_uart.specs.Heard.{Frame}
 use Rattle.serial_receiver.specs.Frames.{frames_from, middle}
 use Rattle.pio_uart.proofs.Rows.{row}
 use Rattle.pio_uart.proofs.Whole.{IsFrame, frame_of, stays_high, cut_off, given}
@@ -42,12 +42,12 @@ cases_lt a b = grind arith
 module _ (int : ℕ) (s : MachineSetup) (h : IsUartMachine int s) (regs : ℕ → Registers) (levels : ℕ → ℕ) (taken : ℕ → Option ℕ)
     (run : (t : ℕ) → IsStep s uart_memory 0 (regs t) (levels t) (regs (t + 1)) (levels (t + 1)) (taken t)) where
   -- a PULL that begins
-  ready : (t : ℕ) → IsAt 0 0 (regs t) → IsReady (regs t) (levels t)
+  pub ready : (t : ℕ) → IsAt 0 0 (regs t) → IsReady (regs t) (levels t)
   ready t a = record { at = record { pc = a.pc; delay = a.delay; pending = a.pending }; level_is = λ b. absurd (never (sym a.begun ∙ b)) } where
     never : false ≡ true → ⊥
     never e = cc
 
-  nothing_before : (t word : ℕ) → Keeps levels taken t 8 0 → ((i : ℕ) → i < 8 → Keeps levels taken (t + 8 + 8 * i) 8 (word / 2 ^ i % 2)) → (j : ℕ) → j < 72 → taken (t + j) ≡ None
+  pub nothing_before : (t word : ℕ) → Keeps levels taken t 8 0 → ((i : ℕ) → i < 8 → Keeps levels taken (t + 8 + 8 * i) 8 (word / 2 ^ i % 2)) → (j : ℕ) → j < 72 → taken (t + j) ≡ None
   nothing_before t word start bits j l = elim (cases_lt j 8) [
     | inl first ↦ start.nothing j first
     | inr later ↦

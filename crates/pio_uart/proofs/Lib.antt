@@ -10,4 +10,7 @@ pub mod Ticks
 pub mod Transmitting
 pub mod Framed
 pub mod Sent
+pub mod InTime
+pub mod Fed
+pub mod Timely
 pub mod WorkedRows

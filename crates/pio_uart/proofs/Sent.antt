@@ -1,5 +1,5 @@
 -- The transmitter sends what it is fed.
-use Rattle.std.proofs.Common.{◌≡◌, ◌==◌, ℕ, zero, suc, ◌+◌, ◌-◌, ◌*◌, ◌/◌, ◌%◌, ◌<◌, ◌≤◌, Bool, true, false, cond, not, ◌&&◌, ◌||◌, Option, Some, None, IfSome, List, [], ◌∷◌, ◌++◌, map, slice_index_or, refl, sym, ap, subst, ◌∙◌, arith, append_assoc}
+use Rattle.std.proofs.Common.{◌≡◌, ◌==◌, ℕ, zero, suc, ◌+◌, ◌-◌, ◌*◌, ◌/◌, ◌%◌, ◌<◌, ◌≤◌, Bool, true, false, cond, not, ◌&&◌, ◌||◌, Option, Some, None, IfSome, List, [], ◌∷◌, ◌++◌, map, slice_get, slice_index_or, refl, sym, ap, subst, ◌∙◌, arith, append_assoc}
 use Rattle.std.proofs.lemmas.List.{map-append}
 use Rattle.std.specs.Int.{bit_at}
 use Rattle.std.specs.List.{AllByRecursion}
@@ -12,7 +12,7 @@ use Rattle.block_core.specs.Block.{Run, first_run}
 use Rattle.block_core.specs.Following.{OthersLeave, leaves_level}
 use Rattle.block_core.specs.Hosted.{hosted_at, samples, sample_at}
 use Rattle.block_core.specs.Shown.{sample_of}
-use Rattle.serial_receiver.specs.declared.frame.Frame.{Frame}
+use Rattle.pio_uart.specs.Heard.{Frame}
 use Rattle.serial_receiver.specs.Frames.{frames, frames_from, levels_of}
 use Rattle.pio_uart.specs.Accepted.{accepted}
 use Rattle.pio_uart.specs.Sending.{IsSteady, IsFirstPart, IsSent, SendsWhatItIsFed, frames_in}
@@ -64,16 +64,16 @@ at_clocks every words fs h = record {
 }
 
 -- how many ticks are in so many clocks
-ticks_in : (int n : ℕ) → ℕ
+abbrev pub ticks_in : (int n : ℕ) → ℕ
 ticks_in int n = (n + (int - 1)) / int
 
-ticks_most : (int n : ℕ) → 1 ≤ int → n ≤ int * ticks_in int n
+pub ticks_most : (int n : ℕ) → 1 ≤ int → n ≤ int * ticks_in int n
 ticks_most int n some = omega (arith, some)
 
-ticks_least : (int n : ℕ) → 1 ≤ int → int * ticks_in int n < n + int
+pub ticks_least : (int n : ℕ) → 1 ≤ int → int * ticks_in int n < n + int
 ticks_least int n some = omega (arith, some)
 
-nothing_times : (int : ℕ) → int * 0 ≡ 0
+pub nothing_times : (int : ℕ) → int * 0 ≡ 0
 nothing_times int = omega arith
 
 -- no other machine is there
@@ -85,7 +85,7 @@ others_leave s (suc (suc (suc zero))) apart = tt
 others_leave s (suc (suc (suc (suc other)))) apart = tt
 
 module _ (laws : Laws) (int : ℕ) (some : 1 ≤ int) (u : Setup) (t : IsTransmitter int u) (lines : List Line) (steady : IsSteady lines) where
-  own : IsOwn u 0 t.machine 0
+  pub own : IsOwn u 0 t.machine 0
   own = record {
     in_block = omega arith;
     configured = ap (λ ms. slice_index_or ms 0 None) t.machines;
@@ -94,23 +94,36 @@ module _ (laws : Laws) (int : ℕ) (some : 1 ≤ int) (u : Setup) (t : IsTransmi
     alone = subst (OthersLeave 0 0) (sym t.machines) (others_leave t.machine);
   }
 
-  left : (clock : ℕ) → IsLeft (host_in u lines clock) t.machine.id
+  pub left : (clock : ℕ) → IsLeft (host_in u lines clock) t.machine.id
   left clock = left_alone (first_run u) lines steady clock t.machine.id
 
-  -- tick by tick
-  run : (k : ℕ) → IsStep t.machine uart_memory 0 (regs_in u lines t.machine (int * k)) (level_in u lines 0 (int * k)) (regs_in u lines t.machine (int * (k + 1))) (level_in u lines 0 (int * (k + 1))) (taken_in u lines t.machine (int * k))
-  run k = subst (λ m. IsStep t.machine m 0 (regs_in u lines t.machine (int * k)) (level_in u lines 0 (int * k)) (regs_in u lines t.machine (int * (k + 1))) (level_in u lines 0 (int * (k + 1))) (taken_in u lines t.machine (int * k))) t.memory
-      (tick_run laws u lines 0 t.machine 0 own left int some t.is_set_up.divider t.is_set_up.frac k)
+  -- tick by tick, with what TX holds
+  pub run_fed : (k : ℕ)
+      → (step : IsStep t.machine uart_memory 0 (regs_in u lines t.machine (int * k)) (level_in u lines 0 (int * k)) (regs_in u lines t.machine (int * (k + 1))) (level_in u lines 0 (int * (k + 1))) (taken_in u lines t.machine (int * k))) × (step.queues.front ≡ slice_get (tx_in u lines t.machine (int * k)) 0)
+  run_fed k = let both = tick_run laws u lines 0 t.machine 0 own left int some t.is_set_up.divider t.is_set_up.frac k in let step = both.0 in (record {
+    view = step.view;
+    queues = step.queues;
+    memory_is = step.memory_is ∙ t.memory;
+    registers = step.registers;
+    level_is = step.level_is;
+    taken_is = step.taken_is;
+  }, both.1)
 
   high : level_in u lines 0 0 ≡ 1
   high = ap (λ b. bit_at b.levels 0) (begins u lines) ∙ ap (λ l. bit_at l 0) t.level
 
+  pub high_at_first : level_in u lines 0 (int * 0) ≡ 1
+  high_at_first = ap (level_in u lines 0) (nothing_times int) ∙ high
+
+  pub ready_at_first : IsReady (regs_in u lines t.machine (int * 0)) (level_in u lines 0 (int * 0))
+  ready_at_first = subst (λ c. IsReady (regs_in u lines t.machine c) (level_in u lines 0 c)) (sym (nothing_times int))
+      (record { at = record { pc = t.is_set_up.start; delay = refl; pending = refl }; level_is = λ b. high })
+
   waits : IsWaiting (regs_in u lines t.machine (int * 0)) (level_in u lines 0 (int * 0)) 0 []
-  waits = subst (λ c. IsWaiting (regs_in u lines t.machine c) (level_in u lines 0 c) 0 []) (sym (nothing_times int))
-      (pulls (record { at = record { pc = t.is_set_up.start; delay = refl; pending = refl }; level_is = λ b. high }) high refl)
+  waits = pulls ready_at_first high_at_first refl
 
   -- the frames of its ticks
-  frames_are : (n : ℕ) → frames_in u lines (8 * int) n ≡ map (at_clock int) (frames_from 8 0 0 true (row (is_up (λ k. level_in u lines 0 (int * k))) 0 (ticks_in int n)))
+  pub frames_are : (n : ℕ) → frames_in u lines (8 * int) n ≡ map (at_clock int) (frames_from 8 0 0 true (row (is_up (λ k. level_in u lines 0 (int * k))) 0 (ticks_in int n)))
   frames_are n =
       ap (λ l. frames_from (8 * int) 0 0 (is_high l 0) (levels_of 0 (samples (first_run u) lines n))) t.level
       ∙ ap (frames_from (8 * int) 0 0 true) (levels_told u lines n)
@@ -131,7 +144,7 @@ module _ (laws : Laws) (int : ℕ) (some : 1 ≤ int) (u : Setup) (t : IsTransmi
       let ticks = ticks_in int n in
       let words = takes (λ k. taken_in u lines t.machine (int * k)) 0 ticks in
       let by_ticks : IsSent words (frames_from 8 0 0 true (row (is_up (λ k. level_in u lines 0 (int * k))) 0 ticks)) =
-      all_sent int t.machine t.is_set_up (λ k. regs_in u lines t.machine (int * k)) (λ k. level_in u lines 0 (int * k)) (λ k. taken_in u lines t.machine (int * k)) run ticks ticks 0 [] (omega arith) waits in
+      all_sent int t.machine t.is_set_up (λ k. regs_in u lines t.machine (int * k)) (λ k. level_in u lines 0 (int * k)) (λ k. taken_in u lines t.machine (int * k)) (λ k. (run_fed k).0) ticks ticks 0 [] (omega arith) waits in
       subst (λ ws. IsSent ws (frames_in u lines (8 * int) n)) (sym (words_are n))
       (subst (IsSent (words ++ tx_in u lines t.machine n)) (sym (frames_are n))
       (at_clocks int (words ++ tx_in u lines t.machine n) _ (more_words words (tx_in u lines t.machine n) _ by_ticks)))

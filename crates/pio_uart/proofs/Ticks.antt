@@ -1,6 +1,6 @@
 -- From clocks to ticks: a machine whose divider has no fraction has a tick every so many clocks, and between two ticks nothing of it
 -- changes.
-use Rattle.std.proofs.Common.{◌≡◌, ◌==◌, ℕ, zero, suc, ◌+◌, ◌-◌, ◌*◌, ◌<◌, ◌≤◌, ◌⊎◌, inl, inr, Bool, true, false, Option, Some, None, option_to_list, List, [], ◌∷◌, ◌++◌, refl, sym, ap, ◌∙◌, arith}
+use Rattle.std.proofs.Common.{◌≡◌, ◌==◌, ℕ, zero, suc, ◌+◌, ◌-◌, ◌*◌, ◌<◌, ◌≤◌, ◌⊎◌, inl, inr, Bool, true, false, Option, Some, None, option_to_list, slice_get, List, [], ◌∷◌, ◌++◌, refl, sym, ap, ◌∙◌, arith}
 use Rattle.clock_divider.specs.Timing.{period_of}
 use Rattle.clock_divider.specs.Ticks.{is_tick}
 use Rattle.pin_matrix.specs.declared.machine.MachineSetup.{MachineSetup}
@@ -9,7 +9,7 @@ use Rattle.dreq_pacing.specs.declared.line.Line.{Line}
 use Rattle.pio_uart.proofs.Pacing.{period, on_tick, off_tick}
 use Rattle.pio_uart.proofs.Steady.{IsLeft}
 use Rattle.pio_uart.proofs.TickRuns.{IsStep, takes, takes-split, takes-none}
-use Rattle.pio_uart.proofs.Clocks.{Laws, IsOwn, host_in, regs_in, level_in, taken_in, idle_regs, idle_level, idle_taken, tick_step}
+use Rattle.pio_uart.proofs.Clocks.{Laws, IsOwn, host_in, regs_in, level_in, taken_in, idle_regs, idle_level, idle_taken, tx_in, tick_fed}
 
 cases_le : (a b : ℕ) → (a ≤ b) ⊎ (b < a)
 cases_le a b = grind arith
@@ -39,6 +39,19 @@ module _ (int : ℕ) (some : 1 ≤ int) (taken : ℕ → Option ℕ) (pauses : (
       let more : int * suc ticks ≡ int * ticks + int = ap (λ k. int * k) (let q : suc ticks ≡ ticks + 1 = omega arith in q) ∙ mul_suc int ticks in
       ap (λ ws. option_to_list (taken (int * t)) ++ ws) (after_tick t n ∙ taken_by_ticks ticks (suc n - int) (t + 1) (omega (arith, most, more)) (omega (arith, least, more)))
 
+  -- of words that are left: what is left after the clocks of a tick
+  left_held : (left : ℕ → List ℕ) → ((c : ℕ) → option_to_list (taken c) ++ left (suc c) ≡ left c) → (t e : ℕ) → e < int → left (int * t + suc e) ≡ left (suc (int * t))
+  left_held left goes t zero l = ap left (let q : int * t + 1 ≡ suc (int * t) = omega arith in q)
+  left_held left goes t (suc e) l =
+      ap left (let q : int * t + suc (suc e) ≡ suc (int * t + suc e) = omega arith in q)
+      ∙ ap (λ o. option_to_list o ++ left (suc (int * t + suc e))) (sym (pauses t (suc e) (omega arith) l)) ∙ goes (int * t + suc e)
+      ∙ left_held left goes t e (omega (arith, l))
+
+  pub left_by_ticks : (left : ℕ → List ℕ) → ((c : ℕ) → option_to_list (taken c) ++ left (suc c) ≡ left c) → (t : ℕ) → option_to_list (taken (int * t)) ++ left (int * (t + 1)) ≡ left (int * t)
+  left_by_ticks left goes t =
+      ap (λ ws. option_to_list (taken (int * t)) ++ ws) (ap left (let m = mul_suc int t in let q : int * (t + 1) ≡ int * t + suc (int - 1) = omega (arith, m, some) in q) ∙ left_held left goes t (int - 1) (omega (arith, some)))
+      ∙ goes (int * t)
+
 module _ (laws : Laws) (u : Setup) (lines : List Line) (id : ℕ) (s : MachineSetup) (pin : ℕ) (own : IsOwn u id s pin) (left : (clock : ℕ) → IsLeft (host_in u lines clock) s.id)
     (int : ℕ) (some : 1 ≤ int) (divider : s.int ≡ int) (frac : s.frac ≡ 0) where
   ticks_on : (t : ℕ) → is_tick 0 (period_of s.int s.frac) (int * t) ≡ true
@@ -64,15 +77,16 @@ module _ (laws : Laws) (u : Setup) (lines : List Line) (id : ℕ) (s : MachineSe
   next_tick t = let m = mul_suc int t in omega (arith, m, some)
 
   -- the machine tick by tick
-  pub tick_run : (t : ℕ) → IsStep s u.memory pin (regs_in u lines s (int * t)) (level_in u lines pin (int * t)) (regs_in u lines s (int * (t + 1))) (level_in u lines pin (int * (t + 1))) (taken_in u lines s (int * t))
-  tick_run t = let k = tick_step laws u lines id s pin own left (int * t) (ticks_on t) in record {
+  pub tick_run : (t : ℕ)
+      → (k : IsStep s u.memory pin (regs_in u lines s (int * t)) (level_in u lines pin (int * t)) (regs_in u lines s (int * (t + 1))) (level_in u lines pin (int * (t + 1))) (taken_in u lines s (int * t))) × (k.queues.front ≡ slice_get (tx_in u lines s (int * t)) 0)
+  tick_run t = let both = tick_fed laws u lines id s pin own left (int * t) (ticks_on t) in let k = both.0 in (record {
     view = k.view;
     queues = k.queues;
     memory_is = k.memory_is;
     registers = ap (regs_in u lines s) (next_tick t) ∙ held_regs t (int - 1) (omega (arith, some)) ∙ k.registers;
     level_is = ap (level_in u lines pin) (next_tick t) ∙ held_level t (int - 1) (omega (arith, some)) ∙ k.level_is;
     taken_is = k.taken_is;
-  }
+  }, both.1)
 
   -- the level after each clock of a tick is that after the tick
   pub level_of_tick : (t e : ℕ) → e < int → level_in u lines pin (suc (int * t + e)) ≡ level_in u lines pin (int * (t + 1))

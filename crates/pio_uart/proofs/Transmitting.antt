@@ -55,7 +55,7 @@ module _ (int : ℕ) (s : MachineSetup) (h : IsUartMachine int s) (regs : ℕ �
   keeps_at t u n m now e f k = subst (λ a. Keeps levels taken a m now) e (subst (λ a. Keeps levels taken t a now) f k)
 
   -- the ticks of a delay
-  rests_for : (n t address left x osr now : ℕ) → IsThere (regs t) (levels t) address (n + left) x osr now → IsThere (regs (t + n)) (levels (t + n)) address left x osr now × Keeps levels taken t n now
+  pub rests_for : (n t address left x osr now : ℕ) → IsThere (regs t) (levels t) address (n + left) x osr now → IsThere (regs (t + n)) (levels (t + n)) address left x osr now × Keeps levels taken t n now
   rests_for zero t address left x osr now g = (
     there_at t (t + 0) address left x osr now (omega arith) (subst (λ k. IsThere (regs t) (levels t) address k x osr now) (let e : 0 + left ≡ left = omega arith in e) g),
     record { levels_are = λ j l. absurd (omega (arith, l)); nothing = λ j l. absurd (omega (arith, l)) },
@@ -128,7 +128,7 @@ module _ (int : ℕ) (s : MachineSetup) (h : IsUartMachine int s) (regs : ℕ �
   high t least words (pulls ready one none) = one
   high t least words (rests left m at one has) = one
 
-  side_one : (begun : Bool) (old : ℕ) → (begun ≡ true → old ≡ 1) → cond begun old 1 ≡ 1
+  pub side_one : (begun : Bool) (old : ℕ) → (begun ≡ true → old ≡ 1) → cond begun old 1 ≡ 1
   side_one true old f = f refl
   side_one false old f = refl
 

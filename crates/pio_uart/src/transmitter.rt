@@ -1,9 +1,10 @@
 //! The setup that transmits.
-ghost use Rattle.std.specs.Prelude.{◌*◌, ◌≤◌};
+ghost use Rattle.std.specs.Prelude.{◌≡◌, ℕ, ◌*◌, ◌≤◌};
+ghost use Rattle.pio_uart.specs.Feeding.{SendsInTime};
 ghost use Rattle.pio_uart.specs.Sending.{SendsWhatItIsFed};
 ghost use Rattle.pio_uart.specs.Transmitter.{IsTransmitter, IsUartMachine};
 
-use crate::laws::a_transmitter_sends_what_it_is_fed;
+use crate::laws::{a_transmitter_sends_in_time, a_transmitter_sends_what_it_is_fed};
 use pin_matrix::{MachineSetup, Mapping, Setup, Spans};
 use pio_encode::SideRule;
 use std::alloc::Global;
@@ -15,11 +16,20 @@ const WORDS: [u16; 4] = [0x9fa0, 0xf727, 0x6001, 0x0642];
 /// no memory.
 pub fn uart_setup(alloc: Global, int: u16) -> Setup
     requires some { 1 ≤ int }
-    requires most { int ≤ 8191 }
     ensures setup { IsTransmitter int result }
     ensures sends { SendsWhatItIsFed (8 * int) result }
+    ensures in_time { SendsInTime int result }
 {
     a_transmitter_sends_what_it_is_fed();
+    a_transmitter_sends_in_time();
+    block_of(alloc, machine(int))
+}
+
+/// The block of this machine alone.
+fn block_of(alloc: Global, machine: MachineSetup) -> Setup
+    requires { machine.id ≡ 0 }
+    ensures { (int : ℕ) → IsUartMachine int machine → IsTransmitter int result }
+{
     let mut memory = [0; 32];
     memory[0] = WORDS[0];
     memory[1] = WORDS[1];
@@ -27,7 +37,7 @@ pub fn uart_setup(alloc: Global, int: u16) -> Setup
     memory[3] = WORDS[3];
     Setup {
         memory,
-        machines: [Some(machine(int)), None, None, None],
+        machines: [Some(machine), None, None, None],
         high: 0,
         level: 1,
         out: 1,
