@@ -205,14 +205,17 @@ module _ (laws : Laws) (u : Setup) (lines : List Line) (id : ℕ) (s : MachineSe
   -- one with a tick
   pub tick_fed : (c : ℕ) → is_tick 0 (period_of s.int s.frac) c ≡ true
       → (k : IsStep s u.memory pin (regs_in u lines s c) (level_in u lines pin c) (regs_in u lines s (suc c)) (level_in u lines pin (suc c)) (taken_in u lines s c)) × (k.queues.front ≡ slice_get (tx_in u lines s c) 0)
-  tick_fed c h = (record {
-    view = view_in u lines c;
-    queues = queues_of (slots u lines s c).machine.ports.fifos;
-    memory_is = refl;
-    registers = regs_after (view_in u lines c) (host_in u lines c) (slots u lines s c) ∙ ap (λ (x : Registers × Intent). x.0) act;
-    level_is = level_after c ∙ ap (λ (x : Registers × Intent). last_of pin (level_in u lines pin c) (two_writes x.1.level)) act;
-    taken_is = ap (λ (x : Registers × Intent). cond x.1.take (slice_get (tx_in u lines s c) 0) None) act;
-  }, refl) where
+  tick_fed c h = (
+    record {
+      view = view_in u lines c;
+      queues = queues_of (slots u lines s c).machine.ports.fifos;
+      memory_is = refl;
+      registers = regs_after (view_in u lines c) (host_in u lines c) (slots u lines s c) ∙ ap (λ (x : Registers × Intent). x.0) act;
+      level_is = level_after c ∙ ap (λ (x : Registers × Intent). last_of pin (level_in u lines pin c) (two_writes x.1.level)) act;
+      taken_is = ap (λ (x : Registers × Intent). cond x.1.take (slice_get (tx_in u lines s c) 0) None) act;
+    },
+    refl,
+  ) where
     act : act_in u lines s c ≡ tick_of s (view_in u lines c) (queues_of (slots u lines s c).machine.ports.fifos) (regs_in u lines s c)
     act = acts_in c ∙ ap (λ b. cond b (tick_of s (view_in u lines c) (queues_of (slots u lines s c).machine.ports.fifos) (regs_in u lines s c)) (regs_in u lines s c, no_intent)) h
 

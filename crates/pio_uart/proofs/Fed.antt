@@ -64,8 +64,8 @@ is_moved take tx words clock every due few past = by (nat_lt (length tx) 4) refl
     due = rw (e, leb_true due clock past) (omega (arith, past));
   }
   by true e (w ∷ ws) = record {
-    goes = rw (e, leb_true due clock past) (ap (λ xs. option_to_list (cond take (slice_get tx 0) None) ++ xs) (append_assoc (less_front take tx) (w ∷ []) ws) ∙ front_and_rest take tx (w ∷ ws));
-    dry = rw (e, leb_true due clock past) (λ q. absurd (not_empty (less_front take tx) w q));
+    goes = rw (e, leb_true due clock past, e) (ap (λ xs. option_to_list (cond take (slice_get tx 0) None) ++ xs) (append_assoc (less_front take tx) (w ∷ []) ws) ∙ front_and_rest take tx (w ∷ ws));
+    dry = rw (e, leb_true due clock past, e) (λ q. absurd (not_empty (less_front take tx) w q));
     every = rw (e, leb_true due clock past) refl;
     due = rw (e, leb_true due clock past) (omega (arith, few));
   }

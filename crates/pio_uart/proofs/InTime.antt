@@ -53,7 +53,6 @@ ltb_false a b h = grind (arith, nat_tests)
 module _ (int : ℕ) (s : MachineSetup) (h : IsUartMachine int s) (regs : ℕ → Registers) (levels : ℕ → ℕ) (taken : ℕ → Option ℕ)
     (run : (t : ℕ) → IsStep s uart_memory 0 (regs t) (levels t) (regs (t + 1)) (levels (t + 1)) (taken t))
     (left : ℕ → List ℕ) (goes : (t : ℕ) → option_to_list (taken t) ++ left (t + 1) ≡ left t) (supply : (t : ℕ) → 1 ≤ t → (run t).queues.front ≡ slice_get (left t) 0) where
-
   -- a PULL that takes a word
   pulls_word : (t word : ℕ) (words : List ℕ) → 1 ≤ t → IsReady (regs t) (levels t) → left t ≡ word ∷ words
       → IsThere (regs (t + 1)) (levels (t + 1)) 1 7 (regs t).x word 1 × (left (t + 1) ≡ words)

@@ -100,14 +100,17 @@ module _ (laws : Laws) (int : ℕ) (some : 1 ≤ int) (u : Setup) (t : IsTransmi
   -- tick by tick, with what TX holds
   pub run_fed : (k : ℕ)
       → (step : IsStep t.machine uart_memory 0 (regs_in u lines t.machine (int * k)) (level_in u lines 0 (int * k)) (regs_in u lines t.machine (int * (k + 1))) (level_in u lines 0 (int * (k + 1))) (taken_in u lines t.machine (int * k))) × (step.queues.front ≡ slice_get (tx_in u lines t.machine (int * k)) 0)
-  run_fed k = let both = tick_run laws u lines 0 t.machine 0 own left int some t.is_set_up.divider t.is_set_up.frac k in let step = both.0 in (record {
-    view = step.view;
-    queues = step.queues;
-    memory_is = step.memory_is ∙ t.memory;
-    registers = step.registers;
-    level_is = step.level_is;
-    taken_is = step.taken_is;
-  }, both.1)
+  run_fed k = let both = tick_run laws u lines 0 t.machine 0 own left int some t.is_set_up.divider t.is_set_up.frac k in let step = both.0 in (
+    record {
+      view = step.view;
+      queues = step.queues;
+      memory_is = step.memory_is ∙ t.memory;
+      registers = step.registers;
+      level_is = step.level_is;
+      taken_is = step.taken_is;
+    },
+    both.1,
+  )
 
   high : level_in u lines 0 0 ≡ 1
   high = ap (λ b. bit_at b.levels 0) (begins u lines) ∙ ap (λ l. bit_at l 0) t.level

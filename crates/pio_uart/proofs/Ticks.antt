@@ -79,14 +79,17 @@ module _ (laws : Laws) (u : Setup) (lines : List Line) (id : ℕ) (s : MachineSe
   -- the machine tick by tick
   pub tick_run : (t : ℕ)
       → (k : IsStep s u.memory pin (regs_in u lines s (int * t)) (level_in u lines pin (int * t)) (regs_in u lines s (int * (t + 1))) (level_in u lines pin (int * (t + 1))) (taken_in u lines s (int * t))) × (k.queues.front ≡ slice_get (tx_in u lines s (int * t)) 0)
-  tick_run t = let both = tick_fed laws u lines id s pin own left (int * t) (ticks_on t) in let k = both.0 in (record {
-    view = k.view;
-    queues = k.queues;
-    memory_is = k.memory_is;
-    registers = ap (regs_in u lines s) (next_tick t) ∙ held_regs t (int - 1) (omega (arith, some)) ∙ k.registers;
-    level_is = ap (level_in u lines pin) (next_tick t) ∙ held_level t (int - 1) (omega (arith, some)) ∙ k.level_is;
-    taken_is = k.taken_is;
-  }, both.1)
+  tick_run t = let both = tick_fed laws u lines id s pin own left (int * t) (ticks_on t) in let k = both.0 in (
+    record {
+      view = k.view;
+      queues = k.queues;
+      memory_is = k.memory_is;
+      registers = ap (regs_in u lines s) (next_tick t) ∙ held_regs t (int - 1) (omega (arith, some)) ∙ k.registers;
+      level_is = ap (level_in u lines pin) (next_tick t) ∙ held_level t (int - 1) (omega (arith, some)) ∙ k.level_is;
+      taken_is = k.taken_is;
+    },
+    both.1,
+  )
 
   -- the level after each clock of a tick is that after the tick
   pub level_of_tick : (t e : ℕ) → e < int → level_in u lines pin (suc (int * t + e)) ≡ level_in u lines pin (int * (t + 1))
