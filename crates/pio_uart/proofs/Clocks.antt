@@ -3,13 +3,13 @@
 --   Laws             what the laws of the crates below say, as one premise
 --   IsOwn            the machine and the pin that are looked at
 --   slots            its place at the start of each clock
-use Rattle.std.proofs.Common.{◌≡◌, ◌==◌, ℕ, zero, suc, ◌+◌, ◌<◌, Bool, true, false, ◌&&◌, cond, Option, Some, None, option_map, option_to_list, List, [], ◌∷◌, ◌++◌, drop, slice_get, slice_index_or, refl, sym, ap, subst, ◌∙◌, arith, add-one, append-nil, append_assoc}
+use Rattle.std.proofs.Common.{◌≡◌, ℕ, zero, suc, ◌+◌, ◌<◌, Bool, true, false, ◌&&◌, cond, Option, Some, None, option_map, option_to_list, List, [], ◌∷◌, ◌++◌, slice_get, slice_index_or, refl, sym, ap, ◌∙◌, arith, add-one, append-nil, append_assoc}
 use Rattle.std.specs.Int.{bit_at}
 use Rattle.std.proofs.lemmas.Nat.Bits.{bit_at-zero}
 use Rattle.clock_divider.specs.Timing.{Timing, period_of}
 use Rattle.clock_divider.specs.Timing as timing
 use Rattle.clock_divider.specs.Ticks.{is_tick}
-use Rattle.fifo_pair.specs.Fifos.{Fifos, queued, less_front, if_room, tx_after, settled}
+use Rattle.fifo_pair.specs.Fifos.{queued, less_front, if_room, settled}
 use Rattle.pin_matrix.specs.Pads.{seen_of}
 use Rattle.pin_matrix.specs.Pins.{last_of}
 use Rattle.pin_matrix.specs.declared.machine.MachineSetup.{MachineSetup}
@@ -22,7 +22,7 @@ use Rattle.sm_registers.specs.State.{queues_of, settled_ports}
 use Rattle.sm_registers.specs.Tick.{tick_of}
 use Rattle.dreq_pacing.specs.declared.due.Due.{Due}
 use Rattle.dreq_pacing.specs.declared.line.Line.{Line}
-use Rattle.block_core.specs.Slots.{Slot, first_slot, lined, has_tick, acted, settled_slot, slot_after, slot_intent, place_after, place_intent}
+use Rattle.block_core.specs.Slots.{Slot, first_slot, lined, has_tick, acted, settled_slot, slot_after, place_after, place_intent}
 use Rattle.block_core.specs.Block.{BlockState, first_run, first_state, first_place, view_of, two_writes}
 use Rattle.block_core.specs.Following.{Follows, place_at, intent_in, OthersLeave}
 use Rattle.block_core.specs.History.{pad_at, pad_before}

@@ -1,11 +1,10 @@
 -- A feed with a word a clock: from clock 1 on TX has a word wherever one is left.
-use Rattle.std.proofs.Common.{◌≡◌, ◌==◌, ℕ, zero, suc, ◌+◌, ◌<◌, ◌≤◌, Bool, true, false, not, ◌&&◌, cond, leb, nat_lt, nat_le, Option, Some, None, is_some, option_to_list, List, [], ◌∷◌, ◌++◌, length, drop, slice_get, slice_index_or, refl, sym, ap, subst, ◌∙◌, arith, append-nil, append_assoc}
+use Rattle.std.proofs.Common.{◌≡◌, ◌==◌, ℕ, zero, suc, ◌+◌, ◌≤◌, Bool, true, false, not, cond, leb, nat_lt, None, option_to_list, List, [], ◌∷◌, ◌++◌, length, slice_get, slice_index_or, refl, sym, ap, subst, ◌∙◌, arith, append_assoc}
 use Rattle.std.proofs.Math.ListN.{get_or-map}
 use Rattle.std.proofs.lemmas.Bool.Decides.{nat_tests}
-use Rattle.fifo_pair.specs.Fifos.{queued, less_front, if_room, is_full, settled, room_of}
+use Rattle.fifo_pair.specs.Fifos.{queued, less_front, if_room, is_full, settled}
 use Rattle.pin_matrix.specs.declared.machine.MachineSetup.{MachineSetup}
 use Rattle.pin_matrix.specs.declared.setup.Setup.{Setup}
-use Rattle.sm_registers.specs.declared.view.View.{View}
 use Rattle.sm_registers.specs.State.{settled_ports}
 use Rattle.dreq_pacing.specs.declared.due.Due.{Due}
 use Rattle.dreq_pacing.specs.declared.line.Line.{Line}
@@ -15,9 +14,8 @@ use Rattle.dreq_pacing.specs.Due.{quiet, with_lines}
 use Rattle.dreq_pacing.specs.Transfers.{Feeding, Paced, begun, fed_word, feed_moves, has_words}
 use Rattle.dreq_pacing.specs.Transfers as transfers
 use Rattle.dreq_pacing.specs.Ports.{tx_ready, either_word, due_in, transfers_after}
-use Rattle.block_core.specs.Slots.{Slot, settled_slot, slot_after}
+use Rattle.block_core.specs.Slots.{settled_slot}
 use Rattle.block_core.specs.Block.{first_run, next}
-use Rattle.block_core.specs.Following.{place_at}
 use Rattle.block_core.specs.Hosted.{hosted_at, hosted_next}
 use Rattle.block_core.specs.Shown.{shown_in, requests_of}
 use Rattle.pio_uart.specs.Feeding.{fed}

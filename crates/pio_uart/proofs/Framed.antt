@@ -1,8 +1,7 @@
 -- The transmitter's frames, tick by tick.
 --   IsWhole          what comes of a word from its start bit on
-use Rattle.std.proofs.Common.{◌≡◌, ◌==◌, ℕ, zero, suc, ◌+◌, ◌-◌, ◌*◌, ◌/◌, ◌%◌, ◌^◌, ◌<◌, ◌≤◌, ◌⊎◌, inl, inr, Bool, true, false, cond, Option, Some, None, List, [], ◌∷◌, ◌++◌, map, refl, sym, ap, ◌∙◌, subst, arith, append-nil, append_assoc}
+use Rattle.std.proofs.Common.{◌≡◌, ◌==◌, ℕ, zero, suc, ◌+◌, ◌-◌, ◌*◌, ◌/◌, ◌%◌, ◌^◌, ◌<◌, ◌≤◌, ◌⊎◌, inl, inr, Bool, true, false, Option, None, List, [], ◌∷◌, ◌++◌, map, refl, sym, ap, ◌∙◌, subst, arith, append_assoc}
 use Rattle.std.specs.Prelude.{option_to_list}
-use Rattle.std.specs.List.{AllByRecursion}
 use Rattle.pin_matrix.specs.declared.machine.MachineSetup.{MachineSetup}
 use Rattle.sm_registers.specs.declared.registers.Registers.{Registers}
 use Rattle.pio_uart.specs.Heard.{Frame}
@@ -10,8 +9,8 @@ use Rattle.serial_receiver.specs.Frames.{frames_from, middle}
 use Rattle.pio_uart.proofs.Rows.{row}
 use Rattle.pio_uart.proofs.Whole.{IsFrame, frame_of, stays_high, cut_off, given}
 use Rattle.pio_uart.specs.Transmitter.{uart_memory, IsUartMachine}
-use Rattle.pio_uart.specs.Sending.{IsFirstPart, IsSent}
-use Rattle.pio_uart.proofs.Instructions.{IsAt, delay_tick}
+use Rattle.pio_uart.specs.Sending.{IsSent}
+use Rattle.pio_uart.proofs.Instructions.{IsAt}
 use Rattle.pio_uart.proofs.TickRuns.{IsStep, takes, takes-split, takes-none, Keeps}
 use Rattle.pio_uart.proofs.Transmitting.{IsReady, IsWaiting, pulls, rests, sends, pull, wait, wait_for, weaken, high}
 

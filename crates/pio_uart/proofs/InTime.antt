@@ -1,6 +1,6 @@
 -- The transmitter tick by tick, where a word is there whenever one is left: exactly which frames it sends, and when.
 --   frames_after     the frames of words, of which the first is pulled at a tick
-use Rattle.std.proofs.Common.{◌≡◌, ◌==◌, ℕ, zero, suc, ◌+◌, ◌-◌, ◌*◌, ◌/◌, ◌%◌, ◌^◌, ◌<◌, ◌≤◌, ◌⊎◌, inl, inr, Bool, true, false, cond, ltb, Option, Some, None, option_to_list, List, [], ◌∷◌, ◌++◌, map, slice_get, refl, sym, ap, ◌∙◌, subst, arith}
+use Rattle.std.proofs.Common.{◌≡◌, ◌==◌, ℕ, zero, suc, ◌+◌, ◌-◌, ◌*◌, ◌/◌, ◌%◌, ◌^◌, ◌<◌, ◌≤◌, ◌⊎◌, inl, inr, Bool, true, false, cond, ltb, Option, Some, None, option_to_list, List, [], ◌∷◌, ◌++◌, slice_get, refl, sym, ap, ◌∙◌, subst, arith}
 use Rattle.std.proofs.lemmas.Bool.Decides.{nat_tests}
 use Rattle.pin_matrix.specs.declared.machine.MachineSetup.{MachineSetup}
 use Rattle.sm_registers.specs.declared.registers.Registers.{Registers}
@@ -11,8 +11,8 @@ use Rattle.pio_uart.proofs.Rows.{row}
 use Rattle.pio_uart.proofs.Whole.{frame_of, stays_high, cut_off, given}
 use Rattle.pio_uart.proofs.Instructions.{IsAt, IsPulling, pull_tick, stall_tick}
 use Rattle.pio_uart.proofs.TickRuns.{IsStep, Keeps}
-use Rattle.pio_uart.proofs.Transmitting.{IsThere, IsReady, IsWaiting, pulls, side_one, rests_for, sends, wait_for}
-use Rattle.pio_uart.proofs.Framed.{is_up, IsWhole, ready, nothing_before, whole}
+use Rattle.pio_uart.proofs.Transmitting.{IsThere, IsReady, pulls, side_one, rests_for, sends, wait_for}
+use Rattle.pio_uart.proofs.Framed.{is_up, ready, nothing_before, whole}
 
 -- the frames of these words in the n ticks from the fifth tick after t on, where the first is pulled at tick t
 abbrev pub frames_after : (t n : ℕ) → List ℕ → List Frame

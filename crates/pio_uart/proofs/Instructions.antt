@@ -1,7 +1,7 @@
 -- A tick of each instruction of the transmitter.
 --   IsAt             a machine is at an address, with so many ticks of delay left before it
 --   IsTicked         what a tick leaves, takes, and writes to pin 0
-use Rattle.std.proofs.Common.{◌≡◌, ◌==◌, ℕ, zero, suc, ◌+◌, ◌-◌, ◌*◌, ◌/◌, ◌%◌, ◌^◌, ◌<◌, ◌≤◌, nat_lt, min, Bool, true, false, cond, Option, Some, None, is_some, List, [], ◌∷◌, slice_index, slice_index_or, refl, sym, ap, subst, ◌∙◌, arith}
+use Rattle.std.proofs.Common.{◌≡◌, ◌==◌, ℕ, suc, ◌+◌, ◌-◌, ◌*◌, ◌/◌, ◌%◌, ◌^◌, ◌<◌, nat_lt, min, Bool, true, false, cond, Option, Some, None, List, [], ◌∷◌, slice_index, refl, ap, ◌∙◌, arith}
 use Rattle.std.proofs.lemmas.Bool.Decides.{nat_tests}
 use Rattle.std.specs.Int.{bit_at}
 use Rattle.pio_encode.specs.declared.act.Act.TheVariants.{Jmp, Out, Pull, Set}

@@ -1,12 +1,12 @@
 -- A line that changes only every so many clocks: its frames are those of one that changes in every clock, so many times later.
 --   at_clock         a frame's clock from its tick
-use Rattle.std.proofs.Common.{◌≡◌, ℕ, zero, suc, ◌+◌, ◌-◌, ◌*◌, ◌/◌, ◌<◌, ◌≤◌, ◌⊎◌, inl, inr, Bool, true, false, cond, leb, ltb, List, [], ◌∷◌, ◌++◌, length, map, refl, sym, ap, subst, ◌∙◌, arith, append-nil, replicate, get_or}
+use Rattle.std.proofs.Common.{◌≡◌, ℕ, zero, suc, ◌+◌, ◌-◌, ◌*◌, ◌<◌, ◌≤◌, ◌⊎◌, inl, inr, Bool, true, false, cond, leb, ltb, List, [], ◌∷◌, ◌++◌, map, refl, sym, ap, ◌∙◌, arith, append-nil, replicate}
 use Rattle.std.specs.Prelude.{◌&&◌}
 use Rattle.std.proofs.lemmas.Bool.Decides.{nat_tests}
 use Rattle.std.proofs.Math.Nat.{mul-le-mul_right}
 use Rattle.pio_uart.specs.Heard.{Frame}
-use Rattle.serial_receiver.specs.Frames.{bits_read, falls, frame_at, frames_from, level_in, middle}
-use Rattle.pio_uart.proofs.Rows.{row, length-row, get-row, row-split, row-same, level_stays, frame_of_row, same_frame}
+use Rattle.serial_receiver.specs.Frames.{falls, frame_at, frames_from, level_in, middle}
+use Rattle.pio_uart.proofs.Rows.{row, get-row, row-split, row-same, level_stays, frame_of_row, same_frame}
 
 -- a frame by the clock of its fall, where it has the tick's number and a tick comes every so many clocks
 abbrev pub at_clock : ℕ → Frame → Frame

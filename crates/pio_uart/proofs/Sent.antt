@@ -1,27 +1,26 @@
 -- The transmitter sends what it is fed.
-use Rattle.std.proofs.Common.{◌≡◌, ◌==◌, ℕ, zero, suc, ◌+◌, ◌-◌, ◌*◌, ◌/◌, ◌%◌, ◌<◌, ◌≤◌, Bool, true, false, cond, not, ◌&&◌, ◌||◌, Option, Some, None, IfSome, List, [], ◌∷◌, ◌++◌, map, slice_get, slice_index_or, refl, sym, ap, subst, ◌∙◌, arith, append_assoc}
+use Rattle.std.proofs.Common.{◌≡◌, ◌==◌, ℕ, zero, suc, ◌+◌, ◌-◌, ◌*◌, ◌/◌, ◌%◌, ◌<◌, ◌≤◌, Bool, true, Some, None, IfSome, List, [], ◌∷◌, ◌++◌, map, slice_get, slice_index_or, refl, sym, ap, subst, ◌∙◌, arith, append_assoc}
 use Rattle.std.proofs.lemmas.List.{map-append}
 use Rattle.std.specs.Int.{bit_at}
 use Rattle.std.specs.List.{AllByRecursion}
 use Rattle.pin_matrix.specs.Pins.{is_high}
 use Rattle.pin_matrix.specs.declared.machine.MachineSetup.{MachineSetup}
 use Rattle.pin_matrix.specs.declared.setup.Setup.{Setup}
-use Rattle.sm_registers.specs.declared.registers.Registers.{Registers}
 use Rattle.dreq_pacing.specs.declared.line.Line.{Line}
-use Rattle.block_core.specs.Block.{Run, first_run}
+use Rattle.block_core.specs.Block.{first_run}
 use Rattle.block_core.specs.Following.{OthersLeave, leaves_level}
-use Rattle.block_core.specs.Hosted.{hosted_at, samples, sample_at}
+use Rattle.block_core.specs.Hosted.{samples, sample_at}
 use Rattle.block_core.specs.Shown.{sample_of}
 use Rattle.pio_uart.specs.Heard.{Frame}
-use Rattle.serial_receiver.specs.Frames.{frames, frames_from, levels_of}
+use Rattle.serial_receiver.specs.Frames.{frames_from, levels_of}
 use Rattle.pio_uart.specs.Accepted.{accepted}
-use Rattle.pio_uart.specs.Sending.{IsSteady, IsFirstPart, IsSent, SendsWhatItIsFed, frames_in}
-use Rattle.pio_uart.specs.Transmitter.{uart_memory, IsUartMachine, IsTransmitter}
-use Rattle.pio_uart.proofs.Rows.{row, row-more, row-alike}
-use Rattle.pio_uart.proofs.Scaling.{at_clock, IsFrom, from_start, scaled}
+use Rattle.pio_uart.specs.Sending.{IsSteady, IsSent, SendsWhatItIsFed, frames_in}
+use Rattle.pio_uart.specs.Transmitter.{uart_memory, IsTransmitter}
+use Rattle.pio_uart.proofs.Rows.{row, row-more}
+use Rattle.pio_uart.proofs.Scaling.{at_clock, from_start, scaled}
 use Rattle.pio_uart.proofs.Steady.{IsLeft, left_alone}
 use Rattle.pio_uart.proofs.TickRuns.{IsStep, takes}
-use Rattle.pio_uart.proofs.Clocks.{Laws, IsOwn, host_in, state_in, slots, regs_in, tx_in, level_in, taken_in, accepted_words, begins}
+use Rattle.pio_uart.proofs.Clocks.{Laws, IsOwn, host_in, regs_in, tx_in, level_in, taken_in, accepted_words, begins}
 use Rattle.pio_uart.proofs.Ticks.{taken_by_ticks, tick_run, level_of_tick, none_between}
 use Rattle.pio_uart.proofs.Transmitting.{IsReady, IsWaiting, pulls}
 use Rattle.pio_uart.proofs.Framed.{is_up, all_sent}

@@ -1,6 +1,6 @@
 -- From clocks to ticks: a machine whose divider has no fraction has a tick every so many clocks, and between two ticks nothing of it
 -- changes.
-use Rattle.std.proofs.Common.{◌≡◌, ◌==◌, ℕ, zero, suc, ◌+◌, ◌-◌, ◌*◌, ◌<◌, ◌≤◌, ◌⊎◌, inl, inr, Bool, true, false, Option, Some, None, option_to_list, slice_get, List, [], ◌∷◌, ◌++◌, refl, sym, ap, ◌∙◌, arith}
+use Rattle.std.proofs.Common.{◌≡◌, ℕ, zero, suc, ◌+◌, ◌-◌, ◌*◌, ◌<◌, ◌≤◌, ◌⊎◌, inl, inr, true, false, Option, None, option_to_list, slice_get, List, ◌++◌, refl, sym, ap, ◌∙◌, arith}
 use Rattle.clock_divider.specs.Timing.{period_of}
 use Rattle.clock_divider.specs.Ticks.{is_tick}
 use Rattle.pin_matrix.specs.declared.machine.MachineSetup.{MachineSetup}

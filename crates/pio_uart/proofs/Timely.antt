@@ -1,21 +1,17 @@
 -- The transmitter sends what one feed gives it, each frame at its clock.
-use Rattle.std.proofs.Common.{◌≡◌, ◌==◌, ℕ, zero, suc, ◌+◌, ◌-◌, ◌*◌, ◌/◌, ◌%◌, ◌<◌, ◌≤◌, ◌⊎◌, inl, inr, Bool, true, false, cond, ltb, Option, Some, None, option_to_list, List, [], ◌∷◌, ◌++◌, map, slice_get, refl, sym, ap, subst, ◌∙◌, arith}
+use Rattle.std.proofs.Common.{◌≡◌, ℕ, ◌+◌, ◌-◌, ◌*◌, ◌%◌, ◌<◌, ◌≤◌, ◌⊎◌, inl, inr, Bool, true, false, cond, ltb, option_to_list, List, [], ◌∷◌, ◌++◌, map, slice_get, refl, ap, ◌∙◌, arith}
 use Rattle.std.proofs.Math.Nat.{mul-le-mul_right}
 use Rattle.std.proofs.lemmas.Bool.Decides.{nat_tests}
 use Rattle.pin_matrix.specs.declared.machine.MachineSetup.{MachineSetup}
 use Rattle.pin_matrix.specs.declared.setup.Setup.{Setup}
 use Rattle.pio_uart.specs.Heard.{Frame}
-use Rattle.serial_receiver.specs.Frames.{frames_from}
-use Rattle.pio_uart.specs.Sending.{IsSteady, frames_in}
+use Rattle.pio_uart.specs.Sending.{IsSteady}
 use Rattle.pio_uart.specs.Feeding.{fed, frames_fed, SendsInTime}
-use Rattle.pio_uart.specs.Transmitter.{uart_memory, IsUartMachine, IsTransmitter}
-use Rattle.pio_uart.proofs.Rows.{row}
+use Rattle.pio_uart.specs.Transmitter.{IsTransmitter}
 use Rattle.pio_uart.proofs.Scaling.{at_clock}
 use Rattle.pio_uart.proofs.Whole.{frame_of}
-use Rattle.pio_uart.proofs.TickRuns.{IsStep}
 use Rattle.pio_uart.proofs.Clocks.{Laws, tx_in, taken_in, regs_in, level_in}
 use Rattle.pio_uart.proofs.Ticks.{left_by_ticks, none_between}
-use Rattle.pio_uart.proofs.Framed.{is_up}
 use Rattle.pio_uart.proofs.Sent.{ticks_in, ticks_most, ticks_least, nothing_times, own, left, run_fed, frames_are, ready_at_first, high_at_first}
 use Rattle.pio_uart.proofs.Fed.{left_in, goes, front_is, at_first}
 use Rattle.pio_uart.proofs.InTime.{frames_after, from_the_start}

@@ -1,15 +1,14 @@
 -- The transmitter tick by tick: how it waits for a word, and what it sends of one.
-use Rattle.std.proofs.Common.{◌≡◌, ℕ, zero, suc, ◌+◌, ◌-◌, ◌*◌, ◌/◌, ◌%◌, ◌^◌, ◌<◌, ◌≤◌, ◌⊎◌, inl, inr, Bool, true, false, cond, Option, Some, None, List, [], ◌∷◌, ◌++◌, refl, sym, ap, ◌∙◌, subst, arith, append-nil, append_assoc}
+use Rattle.std.proofs.Common.{◌≡◌, ℕ, zero, suc, ◌+◌, ◌-◌, ◌*◌, ◌/◌, ◌%◌, ◌^◌, ◌<◌, ◌≤◌, Bool, true, false, cond, Option, Some, None, List, [], ◌∷◌, ◌++◌, refl, sym, ap, ◌∙◌, subst, arith, append-nil, append_assoc}
 use Rattle.std.specs.Prelude.{option_to_list}
 use Rattle.std.proofs.lemmas.Nat.{shr-shr}
 use Rattle.pin_matrix.specs.declared.machine.MachineSetup.{MachineSetup}
-use Rattle.pin_matrix.specs.Pins.{last_of}
 use Rattle.sm_registers.specs.declared.registers.Registers.{Registers}
 use Rattle.sm_registers.specs.declared.view.View.{View}
 use Rattle.sm_registers.specs.Queues.{Queues}
 use Rattle.sm_registers.specs.Tick.{tick_of}
 use Rattle.pio_uart.specs.Transmitter.{uart_memory, IsUartMachine}
-use Rattle.pio_uart.proofs.Instructions.{IsAt, IsTicked, IsPulling, IsStalled, delay_tick, set_tick, out_tick, loop_tick, last_tick, pull_tick, stall_tick}
+use Rattle.pio_uart.proofs.Instructions.{IsAt, IsTicked, IsPulling, delay_tick, set_tick, out_tick, loop_tick, last_tick, pull_tick, stall_tick}
 use Rattle.pio_uart.proofs.TickRuns.{IsStep, takes, Keeps, keeps-join, keeps-one}
 
 -- the machine at the start of a tick: where it is, with X, OSR and pin 0's level

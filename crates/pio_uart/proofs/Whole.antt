@@ -1,12 +1,12 @@
 -- Frames of levels in a row: none begins where the level stays high, and one that is whole is given.
 --   IsFrame          the levels from a fall on make a good frame of a byte
-use Rattle.std.proofs.Common.{◌≡◌, ◌==◌, ℕ, zero, suc, ◌+◌, ◌-◌, ◌*◌, ◌/◌, ◌%◌, ◌^◌, ◌<◌, ◌≤◌, ◌⊎◌, inl, inr, Bool, true, false, cond, leb, ltb, List, [], ◌∷◌, ◌++◌, length, refl, sym, ap, subst, ◌∙◌, arith, get_or}
+use Rattle.std.proofs.Common.{◌≡◌, ◌==◌, ℕ, zero, suc, ◌+◌, ◌-◌, ◌*◌, ◌/◌, ◌%◌, ◌^◌, ◌<◌, ◌≤◌, Bool, true, false, cond, leb, ltb, List, [], ◌∷◌, refl, sym, ap, ◌∙◌, arith}
 use Rattle.std.specs.Prelude.{◌&&◌}
 use Rattle.std.proofs.lemmas.Bool.Decides.{nat_tests}
 use Rattle.std.proofs.lemmas.Nat.{mod-pow-add}
 use Rattle.pio_uart.specs.Heard.{Frame}
 use Rattle.serial_receiver.specs.Frames.{bits_read, bit_value, falls, frame_at, frames_from, level_in, middle}
-use Rattle.pio_uart.proofs.Rows.{row, length-row, get-row, no_fall, frame_of_row, same_frame}
+use Rattle.pio_uart.proofs.Rows.{row, get-row, no_fall, frame_of_row, same_frame}
 
 -- bit i of a word as a level
 abbrev pub bit_level : (word i : ℕ) → Bool

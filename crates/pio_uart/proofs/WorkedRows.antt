@@ -1,5 +1,5 @@
 -- Worked rows: what the definitions give for runs that were worked out by hand.
-use Rattle.std.proofs.Common.{◌≡◌, ℕ, IsTrue, true, false, Some, None, List, [], ◌∷◌, ◌++◌, replicate, refl, arith}
+use Rattle.std.proofs.Common.{◌≡◌, ℕ, true, false, Some, None, List, [], ◌∷◌, ◌++◌, replicate, refl, arith}
 use Rattle.clock_divider.specs.Ticks.{is_tick}
 use Rattle.fifo_pair.specs.Fifos.{settled}
 use Rattle.pin_matrix.specs.Pins.{merged}
@@ -9,7 +9,7 @@ use Rattle.pio_encode.specs.Word.{reading_of, act_of, push_or_pull_at, delay_of,
 use Rattle.sm_registers.specs.Effects.{effect_of, jmp_effect, out_effect, pull_effect, set_effect}
 use Rattle.sm_registers.specs.State.{settled_ports}
 use Rattle.sm_registers.specs.Tick.{tick_of, tick_delay, tick_word, tick_by, after_effect}
-use Rattle.dreq_pacing.specs.declared.line.Act.TheVariants.{Tx, Feed}
+use Rattle.dreq_pacing.specs.declared.line.Act.TheVariants.{Feed}
 use Rattle.dreq_pacing.specs.declared.line.Line.{Line}
 use Rattle.dreq_pacing.specs.Ports.{due_in, transfers_after}
 use Rattle.block_core.specs.Shown.{requests_of, sample_of}
