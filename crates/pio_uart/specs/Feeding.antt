@@ -9,14 +9,15 @@ use Rattle.dreq_pacing.specs.declared.line.Line.{Line}
 use Rattle.pio_uart.specs.Heard.{Frame}
 use Rattle.pio_uart.specs.Sending.{frames_in}
 
--- From clock 0 on a feed writes these words to the TX of machine 0, one a clock where there is room. There is no feed of no words.
+-- From clock 0 on a feed writes these words to the TX of machine 0, one a clock where there is room. There is no feed
+-- of no words.
 abbrev pub fed : List ℕ → List Line
 fed [] = []
 fed (word ∷ words) = record { clock = 0; act = Feed 0 1 (word ∷ words) } ∷ []
 
--- Frame j of these words and those after it, as far as their stop bits are read before the last of these clocks, with a tick every
--- `int` clocks. The first word is pulled at tick 1, and a frame begins eight ticks after its word is pulled. A frame with its stop
--- bit is 80 ticks, and its stop bit is read 76 ticks after it begins.
+-- Frame j of these words and those after it, as far as their stop bits are read before the last of these clocks, with
+-- a tick every `int` clocks. The first word is pulled at tick 1, and a frame begins eight ticks after its word is
+-- pulled. A frame with its stop bit is 80 ticks, and its stop bit is read 76 ticks after it begins.
 abbrev pub frames_fed : (int clocks j : ℕ) → List ℕ → List Frame
 frames_fed int clocks j [] = []
 frames_fed int clocks j (word ∷ words) =

@@ -32,8 +32,8 @@ is_steady (Restart machine) = false
 abbrev pub IsSteady : List Line → Type 0
 IsSteady lines = AllByRecursion (λ l. is_steady l.act ≡ true) lines
 
--- the frames that a serial receiver hears on pin 0 in the first n clocks of a setup's run beside these lines, where a bit takes so
--- many clocks
+-- the frames that a serial receiver hears on pin 0 in the first n clocks of a setup's run beside these lines, where a
+-- bit takes so many clocks
 abbrev pub frames_in : Setup → List Line → (bit n : ℕ) → List Frame
 frames_in u lines bit n = frames bit (is_high u.level 0) (levels_of 0 (samples (first_run u) lines n))
 
@@ -47,8 +47,8 @@ pub record IsSent (words : List ℕ) (sent : List Frame) : Type 0 where
   pub good : AllByRecursion (λ f. f.good ≡ true) sent
   pub bytes : IsFirstPart (map (λ f. f.byte) sent) (map (λ word. word % 256) words)
 
--- Beside every stimulus that leaves the machines' ticks alone, and up to every clock, pin 0 sends the words that the TX of machine 0
--- accepted, a byte each, where a bit takes so many clocks.
+-- Beside every stimulus that leaves the machines' ticks alone, and up to every clock, pin 0 sends the words that the
+-- TX of machine 0 accepted, a byte each, where a bit takes so many clocks.
 abbrev pub SendsWhatItIsFed : (bit : ℕ) → Setup → Type 0
 SendsWhatItIsFed bit u =
     (lines : List Line) → IsSteady lines → (n : ℕ) → IsSent (accepted (first_run u) lines 0 n) (frames_in u lines bit n)

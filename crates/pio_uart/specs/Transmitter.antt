@@ -9,8 +9,8 @@ use Rattle.pin_matrix.specs.declared.machine.MachineSetup.{MachineSetup}
 use Rattle.pin_matrix.specs.declared.setup.Setup.{Setup}
 use Rattle.pin_matrix.specs.Setups.{IsRow}
 
--- `pull side 1 [7]`, `set x, 7 side 0 [7]`, `bitloop: out pins, 1`, `jmp x-- bitloop [6]`, under `.side_set 1 opt`: eight data bits,
--- no parity, one stop bit, eight ticks a bit (RP2040 Datasheet, section 3.6.3)
+-- `pull side 1 [7]`, `set x, 7 side 0 [7]`, `bitloop: out pins, 1`, `jmp x-- bitloop [6]`, under `.side_set 1 opt`:
+-- eight data bits, no parity, one stop bit, eight ticks a bit (RP2040 Datasheet, section 3.6.3)
 abbrev pub uart_words : List ℕ
 uart_words = 0x9fa0 ∷ 0xf727 ∷ 0x6001 ∷ 0x0642 ∷ []
 
@@ -24,8 +24,8 @@ pub record IsUartRule (rule : SideRule) : Type 0 where
   pub opt : rule.opt ≡ true
   pub pindirs : rule.pindirs ≡ false
 
--- Machine 0 with a tick every so many clocks, which begins at address 0 and wraps from address 3 to it, with OUT and side-set on
--- pin 0. All else is as it is by default.
+-- Machine 0 with a tick every so many clocks, which begins at address 0 and wraps from address 3 to it, with OUT and
+-- side-set on pin 0. All else is as it is by default.
 pub record IsUartMachine (int : ℕ) (s : MachineSetup) : Type 0 where
   pub id : s.id ≡ 0
   pub start : s.start ≡ 0

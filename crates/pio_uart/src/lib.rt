@@ -1,5 +1,5 @@
-//! A program for a state machine, proved from its words to the bytes on its pin: the UART transmitter of the RP2040 Datasheet,
-//! section 3.6.3, which sends what it is fed.
+//! A program for a state machine, proved from its words to the bytes on its pin: the UART transmitter of the
+//! RP2040 Datasheet, section 3.6.3, which sends what it is fed.
 #![tactic(auto)]
 
 mod laws;

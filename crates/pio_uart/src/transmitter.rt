@@ -12,8 +12,8 @@ use std::alloc::Global;
 /// The program's words: `pull side 1 [7]`, `set x, 7 side 0 [7]`, `out pins, 1`, `jmp x--, 2 [6]`.
 const WORDS: [u16; 4] = [0x9fa0, 0xf727, 0x6001, 0x0642];
 
-/// A block whose machine 0 sends the low byte of each word that its TX gets on pin 0 (8n1), a bit every `8 * int` clocks. It takes
-/// no memory.
+/// A block whose machine 0 sends the low byte of each word that its TX gets on pin 0 (8n1), a bit every
+/// `8 * int` clocks. It takes no memory.
 pub fn uart_setup(alloc: Global, int: u16) -> Setup
     requires some { 1 ≤ int }
     ensures setup { IsTransmitter int result }
