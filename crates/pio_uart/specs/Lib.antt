@@ -1,0 +1,5 @@
+pub mod Transmitter
+pub mod Accepted
+pub mod Heard
+pub mod Sending
+pub mod Feeding

@@ -1,0 +1,32 @@
+//! What the transmitter does, as a law on a function that does nothing.
+ghost use Rattle.std.specs.Prelude.{ℕ, ◌*◌, ◌≤◌};
+ghost use Rattle.pin_matrix.specs.declared.setup.Setup.{Setup};
+ghost use Rattle.pio_uart.specs.Transmitter.{IsTransmitter};
+ghost use Rattle.pio_uart.specs.Sending.{SendsWhatItIsFed};
+ghost use Rattle.pio_uart.specs.Feeding.{SendsInTime};
+
+use block_core::{a_block_sees_its_own_pads, a_pin_of_one_machine, each_place_goes_its_own_way};
+use clock_divider::tick_test;
+
+/// A transmitter whose divider is this whole number sends what it is fed, a bit in eight times as many
+/// clocks: whatever the stimulus, where it leaves the machines' ticks alone, and whatever the length of the
+/// run.
+pub fn a_transmitter_sends_what_it_is_fed()
+    ensures { (int : ℕ) (u : Setup) → 1 ≤ int → IsTransmitter int u → SendsWhatItIsFed (8 * int) u }
+{
+    a_block_sees_its_own_pads();
+    each_place_goes_its_own_way();
+    a_pin_of_one_machine();
+    tick_test();
+}
+
+/// Fed by one feed with a word a clock, such a transmitter sends exactly these words, each frame at its
+/// clock: frame j begins in clock `int * (9 + 80 * j)`.
+pub fn a_transmitter_sends_in_time()
+    ensures { (int : ℕ) (u : Setup) → 1 ≤ int → IsTransmitter int u → SendsInTime int u }
+{
+    a_block_sees_its_own_pads();
+    each_place_goes_its_own_way();
+    a_pin_of_one_machine();
+    tick_test();
+}
