@@ -10,7 +10,7 @@ use Rattle.pio_uart.proofs.Rows.{row}
 use Rattle.pio_uart.proofs.Whole.{IsFrame, frame_of, stays_high, cut_off, given}
 use Rattle.pio_uart.specs.Transmitter.{uart_memory, IsUartMachine}
 use Rattle.pio_uart.specs.Sending.{IsSent}
-use Rattle.pio_uart.proofs.Instructions.{IsAt}
+use Rattle.pio_uart.specs.Phases.{IsAt}
 use Rattle.pio_uart.proofs.TickRuns.{IsStep, takes, takes-split, takes-none, Keeps}
 use Rattle.pio_uart.proofs.Transmitting.{IsReady, IsWaiting, pulls, rests, sends, pull, wait, wait_for, weaken, high}
 

@@ -9,7 +9,8 @@ use Rattle.serial_receiver.specs.Frames.{frames_from}
 use Rattle.pio_uart.specs.Transmitter.{uart_memory, IsUartMachine}
 use Rattle.pio_uart.proofs.Rows.{row}
 use Rattle.pio_uart.proofs.Whole.{frame_of, stays_high, cut_off, given}
-use Rattle.pio_uart.proofs.Instructions.{IsAt, IsPulling, pull_tick, stall_tick}
+use Rattle.pio_uart.specs.Phases.{IsAt, IsPulling}
+use Rattle.pio_uart.proofs.Instructions.{pull_tick, stall_tick}
 use Rattle.pio_uart.proofs.TickRuns.{IsStep, Keeps}
 use Rattle.pio_uart.proofs.Transmitting.{IsThere, IsReady, pulls, side_one, rests_for, sends, wait_for}
 use Rattle.pio_uart.proofs.Framed.{is_up, ready, nothing_before, whole}

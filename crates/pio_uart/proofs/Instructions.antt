@@ -1,5 +1,4 @@
 -- A tick of each instruction of the transmitter.
---   IsAt             a machine is at an address, with so many ticks of delay left before it
 --   IsTicked         what a tick leaves, takes, and writes to pin 0
 use Rattle.std.proofs.Common.{◌≡◌, ◌==◌, ℕ, suc, ◌+◌, ◌-◌, ◌*◌, ◌/◌, ◌%◌, ◌^◌, ◌<◌, nat_lt, min, Bool, true, false, cond, Option, Some, None, List, [], ◌∷◌, slice_index, refl, ap, ◌∙◌, arith}
 use Rattle.std.proofs.lemmas.Bool.Decides.{nat_tests}
@@ -21,14 +20,8 @@ use Rattle.sm_registers.specs.Queues.{Queues}
 use Rattle.sm_registers.specs.Effects.{Effect, quiet, stall, osr_filled, effect_of, jmp_effect, out_effect, pull_effect, set_effect}
 use Rattle.sm_registers.specs.Tick.{tick_of, tick_delay, tick_word, tick_by, after_effect, current_word, word_at}
 use Rattle.block_core.specs.Block.{two_writes}
+use Rattle.pio_uart.specs.Phases.{IsAt, IsPulling}
 use Rattle.pio_uart.specs.Transmitter.{uart_memory, IsUartRule, IsUartMachine}
-
--- at an instruction, or in the delay before it, with nothing pending and nothing begun
-pub record IsAt (address left : ℕ) (r : Registers) : Type 0 where
-  pub pc : r.pc ≡ address
-  pub delay : r.delay ≡ left
-  pub pending : r.pending ≡ None
-  pub begun : r.begun ≡ false
 
 -- what a tick leaves: an address and a delay, X and OSR; whether it takes a word; and pin 0's level after it
 pub record IsTicked (t : Registers × Intent) (address left x osr : ℕ) (take : Bool) (level : ℕ → ℕ) : Type 0 where
@@ -87,12 +80,6 @@ down x l = omega (arith, l)
 
 not_zero : (x : ℕ) → (suc x == 0) ≡ false
 not_zero x = grind (arith, nat_tests)
-
--- where a PULL is, having stalled or not
-pub record IsPulling (r : Registers) : Type 0 where
-  pub pc : r.pc ≡ 0
-  pub delay : r.delay ≡ 0
-  pub pending : r.pending ≡ None
 
 -- a PULL that stalls: it stays, takes nothing, and leaves the level high; in its first tick it writes it
 pub record IsStalled (before : Registers) (t : Registers × Intent) : Type 0 where

@@ -4,6 +4,7 @@ pub mod Whole
 pub mod Pacing
 pub mod Steady
 pub mod Instructions
+pub mod Phased
 pub mod TickRuns
 pub mod Clocks
 pub mod Ticks

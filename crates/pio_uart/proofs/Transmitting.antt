@@ -8,7 +8,8 @@ use Rattle.sm_registers.specs.declared.view.View.{View}
 use Rattle.sm_registers.specs.Queues.{Queues}
 use Rattle.sm_registers.specs.Tick.{tick_of}
 use Rattle.pio_uart.specs.Transmitter.{uart_memory, IsUartMachine}
-use Rattle.pio_uart.proofs.Instructions.{IsAt, IsTicked, IsPulling, delay_tick, set_tick, out_tick, loop_tick, last_tick, pull_tick, stall_tick}
+use Rattle.pio_uart.specs.Phases.{IsAt, IsPulling}
+use Rattle.pio_uart.proofs.Instructions.{IsTicked, delay_tick, set_tick, out_tick, loop_tick, last_tick, pull_tick, stall_tick}
 use Rattle.pio_uart.proofs.TickRuns.{IsStep, takes, Keeps, keeps-join, keeps-one}
 
 -- the machine at the start of a tick: where it is, with X, OSR and pin 0's level

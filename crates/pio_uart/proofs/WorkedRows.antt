@@ -1,5 +1,5 @@
 -- Worked rows: what the definitions give for runs that were worked out by hand.
-use Rattle.std.proofs.Common.{◌≡◌, ℕ, true, false, Some, None, List, [], ◌∷◌, ◌++◌, replicate, refl, arith}
+use Rattle.std.proofs.Common.{◌≡◌, ℕ, true, false, Some, None, List, [], ◌∷◌, ◌++◌, replicate, refl, sym, ap, ◌∙◌, subst, arith}
 use Rattle.clock_divider.specs.Ticks.{is_tick}
 use Rattle.fifo_pair.specs.Fifos.{settled}
 use Rattle.pin_matrix.specs.Pins.{merged}
@@ -9,8 +9,6 @@ use Rattle.pio_encode.specs.Word.{reading_of, act_of, push_or_pull_at, delay_of,
 use Rattle.sm_registers.specs.Effects.{effect_of, jmp_effect, out_effect, pull_effect, set_effect}
 use Rattle.sm_registers.specs.State.{settled_ports}
 use Rattle.sm_registers.specs.Tick.{tick_of, tick_delay, tick_word, tick_by, after_effect}
-use Rattle.dreq_pacing.specs.declared.line.Act.TheVariants.{Feed}
-use Rattle.dreq_pacing.specs.declared.line.Line.{Line}
 use Rattle.dreq_pacing.specs.Ports.{due_in, transfers_after}
 use Rattle.block_core.specs.Shown.{requests_of, sample_of}
 use Rattle.block_core.specs.Block.{stepped, next, first_run}
@@ -19,7 +17,8 @@ use Rattle.block_core.specs.Slots.{acted, settled_slot}
 use Rattle.pio_uart.specs.Heard.{Frame}
 use Rattle.serial_receiver.specs.Frames.{frame_at, frames_from}
 use Rattle.pio_uart.specs.Accepted.{accepted}
-use Rattle.pio_uart.specs.Sending.{frames_in}
+use Rattle.pio_uart.specs.Sending.{frames_in, IsSent, SendsWhatItIsFed}
+use Rattle.pio_uart.specs.Feeding.{fed, frames_fed, SendsInTime}
 use Rattle.pio_uart.specs.Transmitter.{uart_words}
 
 -- the transmitter's machine, with a tick in each clock
@@ -85,10 +84,6 @@ uart = over uart_words
 half : Setup
 half = record uart { machines = Some (record machine { int = 2; divides = refl }) ∷ None ∷ None ∷ None ∷ []; at_their_places = refl }
 
--- the words of a feed of machine 0 from clock 0 on, one a clock where there is room
-abbrev fed : List ℕ → List Line
-fed words = record { clock = 0; act = Feed 0 1 words } ∷ []
-
 -- a good frame
 abbrev byte_at : (byte start : ℕ) → Frame
 byte_at byte start = record { start = start; byte = byte; good = true }
@@ -113,12 +108,42 @@ slow_byte : frames_in half (fed (0xff ∷ [])) 16 171 ≡ byte_at 0xff 18 ∷ []
 unfolding uart half frames_from frame_at samples sample_of hosted_at hosted_next next stepped acted settled_slot is_tick settled merged reading_of act_of push_or_pull_at delay_of side_of set_at effect_of jmp_effect out_effect pull_effect set_effect settled_ports tick_of tick_delay tick_word tick_by after_effect due_in transfers_after requests_of
 slow_byte = refl
 
--- with `set x, 7 side 0 [3]` the start bit has four ticks, and each bit is read a bit late
-short_start : frames_in (over (0x9fa0 ∷ 0xf327 ∷ 0x6001 ∷ 0x0642 ∷ [])) (fed (0x41 ∷ [])) 8 90 ≡ byte_at 0xa0 9 ∷ []
-unfolding frames_from frame_at samples sample_of hosted_at hosted_next next stepped acted settled_slot is_tick settled merged reading_of act_of push_or_pull_at delay_of side_of set_at effect_of jmp_effect out_effect pull_effect set_effect settled_ports tick_of tick_delay tick_word tick_by after_effect due_in transfers_after requests_of
-short_start = refl
+-- the same by the frames that are whole
+in_time : (frames_fed 1 166 0 (0x41 ∷ 0x00 ∷ []) ≡ byte_at 0x41 9 ∷ byte_at 0x00 89 ∷ []) × (frames_fed 1 165 0 (0x41 ∷ 0x00 ∷ []) ≡ byte_at 0x41 9 ∷ []) × (frames_fed 2 171 0 (0xff ∷ []) ≡ byte_at 0xff 18 ∷ [])
+in_time = (refl, refl, refl)
 
--- with `[6]` it has seven: the bytes are right, and the second one comes a clock early
-early_byte : frames_in (over (0x9fa0 ∷ 0xf627 ∷ 0x6001 ∷ 0x0642 ∷ [])) (fed (0x41 ∷ 0x00 ∷ [])) 8 166 ≡ byte_at 0x41 9 ∷ byte_at 0x00 88 ∷ []
-unfolding frames_from frame_at samples sample_of hosted_at hosted_next next stepped acted settled_slot is_tick settled merged reading_of act_of push_or_pull_at delay_of side_of set_at effect_of jmp_effect out_effect pull_effect set_effect settled_ports tick_of tick_delay tick_word tick_by after_effect due_in transfers_after requests_of
+-- with `set x, 7 side 0 [3]` the start bit has four ticks
+short_start : Setup
+short_start = over (0x9fa0 ∷ 0xf327 ∷ 0x6001 ∷ 0x0642 ∷ [])
+
+-- each bit is read a bit late
+late_bits : (frames_in short_start (fed (0x41 ∷ [])) 8 90 ≡ byte_at 0xa0 9 ∷ []) × (accepted (first_run short_start) (fed (0x41 ∷ [])) 0 90 ≡ 0x41 ∷ [])
+unfolding short_start accepted frames_from frame_at samples sample_of hosted_at hosted_next next stepped acted settled_slot is_tick settled merged reading_of act_of push_or_pull_at delay_of side_of set_at effect_of jmp_effect out_effect pull_effect set_effect settled_ports tick_of tick_delay tick_word tick_by after_effect due_in transfers_after requests_of
+late_bits = (refl, refl)
+
+-- so it doesn't send what it is fed
+wrong_byte : IsSent (0x41 ∷ []) (byte_at 0xa0 9 ∷ []) → ⊥
+wrong_byte h = let e : ◌≡◌ {A = List ℕ} (65 ∷ []) (160 ∷ h.bytes.rest) = h.bytes.parts in let k : ◌≡◌ {A = ℕ} 65 160 = cc in omega (arith, k)
+
+short_start_fails : SendsWhatItIsFed 8 short_start → ⊥
+short_start_fails h = wrong_byte (subst (IsSent (0x41 ∷ [])) late_bits.0 (subst (λ ws. IsSent ws (frames_in short_start (fed (0x41 ∷ [])) 8 90)) late_bits.1 (h (fed (0x41 ∷ [])) (refl, tt) 90)))
+
+-- with `[6]` it has seven
+long_start : Setup
+long_start = over (0x9fa0 ∷ 0xf627 ∷ 0x6001 ∷ 0x0642 ∷ [])
+
+-- the bytes are right, and the second one comes a clock early
+early_byte : frames_in long_start (fed (0x41 ∷ 0x00 ∷ [])) 8 166 ≡ byte_at 0x41 9 ∷ byte_at 0x00 88 ∷ []
+unfolding long_start frames_from frame_at samples sample_of hosted_at hosted_next next stepped acted settled_slot is_tick settled merged reading_of act_of push_or_pull_at delay_of side_of set_at effect_of jmp_effect out_effect pull_effect set_effect settled_ports tick_of tick_delay tick_word tick_by after_effect due_in transfers_after requests_of
 early_byte = refl
+
+-- so it doesn't send in time
+long_start_fails : SendsInTime 1 long_start → ⊥
+long_start_fails h = let e : byte_at 0x41 9 ∷ byte_at 0x00 88 ∷ [] ≡ byte_at 0x41 9 ∷ byte_at 0x00 89 ∷ [] = sym early_byte ∙ h (0x41 ∷ 0x00 ∷ []) 166 in early (ap starts e) where
+  starts : List Frame → ℕ
+  starts [] = 0
+  starts (f ∷ []) = 0
+  starts (f ∷ g ∷ fs) = g.start
+
+  early : ◌≡◌ {A = ℕ} 88 89 → ⊥
+  early k = omega (arith, k)

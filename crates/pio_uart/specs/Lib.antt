@@ -1,4 +1,5 @@
 pub mod Transmitter
+pub mod Phases
 pub mod Accepted
 pub mod Heard
 pub mod Sending

@@ -1,7 +1,14 @@
 //! What the transmitter does, as a law on a function that does nothing.
-ghost use Rattle.std.specs.Prelude.{ℕ, ◌*◌, ◌≤◌};
+ghost use Rattle.std.specs.Prelude.{◌≡◌, ℕ, ◌*◌, ◌≤◌};
+ghost use Rattle.pin_matrix.specs.declared.machine.MachineSetup.{MachineSetup};
 ghost use Rattle.pin_matrix.specs.declared.setup.Setup.{Setup};
-ghost use Rattle.pio_uart.specs.Transmitter.{IsTransmitter};
+ghost use Rattle.sm_registers.specs.declared.registers.Registers.{Registers};
+ghost use Rattle.sm_registers.specs.declared.view.View.{View};
+ghost use Rattle.sm_registers.specs.Queues.{Queues};
+ghost use Rattle.sm_registers.specs.State.{first_registers};
+ghost use Rattle.sm_registers.specs.Tick.{tick_of};
+ghost use Rattle.pio_uart.specs.Phases.{IsOnCourse, MovesOn};
+ghost use Rattle.pio_uart.specs.Transmitter.{uart_memory, IsTransmitter, IsUartMachine};
 ghost use Rattle.pio_uart.specs.Sending.{SendsWhatItIsFed};
 ghost use Rattle.pio_uart.specs.Feeding.{SendsInTime};
 
@@ -30,3 +37,11 @@ pub fn a_transmitter_sends_in_time()
     a_pin_of_one_machine();
     tick_test();
 }
+
+/// The machine has 80 phases. It begins at phase 0, the PULL, and each tick moves it to the next one modulo 80,
+/// or it stalls at phase 0 where TX is empty.
+pub fn a_tick_moves_the_phase()
+    ensures start { (int : ℕ) (s : MachineSetup) → IsUartMachine int s → IsOnCourse (first_registers s) }
+    ensures tick { (int : ℕ) (s : MachineSetup) (v : View) (q : Queues) (r : Registers) → IsUartMachine int s
+        → v.memory ≡ uart_memory → IsOnCourse r → MovesOn q.front r (tick_of s v q r).0 }
+{}

@@ -5,5 +5,7 @@
 mod laws;
 mod transmitter;
 
-pub use laws::{a_transmitter_sends_in_time, a_transmitter_sends_what_it_is_fed};
+pub use laws::{
+    a_tick_moves_the_phase, a_transmitter_sends_in_time, a_transmitter_sends_what_it_is_fed,
+};
 pub use transmitter::uart_setup;
