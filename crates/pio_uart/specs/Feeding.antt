@@ -2,7 +2,8 @@
 --   fed              the stimulus: one feed of machine 0
 --   frames_fed       the frames that are whole by some clock
 --   SendsInTime      so it is
-use Rattle.std.specs.Prelude.{◌≡◌, ℕ, ◌+◌, ◌*◌, ◌%◌, true, List, [], ◌∷◌, nat_lt, if◌then◌else◌}
+--   SendsAll         in the end all words are sent
+use Rattle.std.specs.Prelude.{◌≡◌, ℕ, ◌+◌, ◌*◌, ◌%◌, ◌<◌, true, List, [], ◌∷◌, length, map, nat_lt, if◌then◌else◌}
 use Rattle.pin_matrix.specs.declared.setup.Setup.{Setup}
 use Rattle.dreq_pacing.specs.declared.line.Act.TheVariants.{Feed}
 use Rattle.dreq_pacing.specs.declared.line.Line.{Line}
@@ -28,3 +29,9 @@ frames_fed int clocks j (word ∷ words) =
 -- The frames of the run are exactly those, whatever is fed and up to every clock.
 abbrev pub SendsInTime : (int : ℕ) → Setup → Type 0
 SendsInTime int u = (words : List ℕ) (n : ℕ) → frames_in u (fed words) (8 * int) n ≡ frames_fed int n 0 words
+
+-- Where the clocks are enough for the stop bit of the last word, the frames are those of all words.
+abbrev pub SendsAll : (int : ℕ) → Setup → Type 0
+SendsAll int u =
+    (words : List ℕ) (n : ℕ) → int * (80 * length words + 5) < n
+    → map (λ f. f.byte) (frames_in u (fed words) (8 * int) n) ≡ map (λ word. word % 256) words

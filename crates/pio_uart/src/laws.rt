@@ -10,7 +10,7 @@ ghost use Rattle.sm_registers.specs.Tick.{tick_of};
 ghost use Rattle.pio_uart.specs.Phases.{IsOnCourse, MovesOn};
 ghost use Rattle.pio_uart.specs.Transmitter.{uart_memory, IsTransmitter, IsUartMachine};
 ghost use Rattle.pio_uart.specs.Sending.{SendsWhatItIsFed};
-ghost use Rattle.pio_uart.specs.Feeding.{SendsInTime};
+ghost use Rattle.pio_uart.specs.Feeding.{SendsAll, SendsInTime};
 
 use block_core::{a_block_sees_its_own_pads, a_pin_of_one_machine, each_place_goes_its_own_way};
 use clock_divider::tick_test;
@@ -28,9 +28,10 @@ pub fn a_transmitter_sends_what_it_is_fed()
 }
 
 /// Fed by one feed with a word a clock, such a transmitter sends exactly these words, each frame at its
-/// clock: frame j begins in clock `int * (9 + 80 * j)`.
+/// clock: frame j begins in clock `int * (9 + 80 * j)`. With clocks enough it sends all of them.
 pub fn a_transmitter_sends_in_time()
-    ensures { (int : ℕ) (u : Setup) → 1 ≤ int → IsTransmitter int u → SendsInTime int u }
+    ensures frames { (int : ℕ) (u : Setup) → 1 ≤ int → IsTransmitter int u → SendsInTime int u }
+    ensures whole { (int : ℕ) (u : Setup) → 1 ≤ int → IsTransmitter int u → SendsAll int u }
 {
     a_block_sees_its_own_pads();
     each_place_goes_its_own_way();

@@ -1,6 +1,6 @@
 //! The setup that transmits.
 ghost use Rattle.std.specs.Prelude.{◌≡◌, ℕ, ◌*◌, ◌≤◌};
-ghost use Rattle.pio_uart.specs.Feeding.{SendsInTime};
+ghost use Rattle.pio_uart.specs.Feeding.{SendsAll, SendsInTime};
 ghost use Rattle.pio_uart.specs.Sending.{SendsWhatItIsFed};
 ghost use Rattle.pio_uart.specs.Transmitter.{IsTransmitter, IsUartMachine};
 
@@ -19,6 +19,7 @@ pub fn uart_setup(alloc: Global, int: u16) -> Setup
     ensures setup { IsTransmitter int result }
     ensures sends { SendsWhatItIsFed (8 * int) result }
     ensures in_time { SendsInTime int result }
+    ensures whole { SendsAll int result }
 {
     a_transmitter_sends_what_it_is_fed();
     a_transmitter_sends_in_time();
