@@ -120,6 +120,63 @@ class Run:
         self.stimulus += f"{clock} {word} {' '.join(map(str, numbers))}\n"
 
 
+# What is observed of a run: spans of any edges, and a serial line.
+
+
+def observed_spans(random, setups):
+    """Some spans, whether provable or not, as a configuration says them."""
+    return [
+        {
+            "name": f"s{number}",
+            "machine": random.choice(list(setups)),
+            "from_pin": random.choice([0, 1, 2, random.randrange(32)]),
+            "to_pin": random.choice([0, 1, 2, random.randrange(32)]),
+            "from_edge": random.choice(["rise", "fall"]),
+            "to_edge": random.choice(["rise", "fall"]),
+            "unit": random.choice(["ticks", "clocks"]),
+            "min": 1,
+            "max": random.randrange(1, 20),
+        }
+        for number in range(random.randrange(6))
+    ]
+
+
+def as_tables(spans):
+    """The tables of spans in a configuration."""
+    quoted = [{key: f'"{value}"' if isinstance(value, str) else value for key, value in span.items()} for span in spans]
+    return "".join("[[span]]\n" + "".join(f"{key} = {value}\n" for key, value in span.items()) for span in quoted)
+
+
+class SerialLine:
+    """A UART transmitter with some bytes, whose machine is disabled now and then."""
+
+    def __init__(self, random):
+        self.random, self.pin, self.divider = random, random.randrange(32), random.choice([1, 1, 2, 3])
+        self.memory = [0x9FA0, 0xF727, 0x6001, 0x0642] + [0] * 28
+        self.source = ".program q\n.side_set 1 opt\n" + "".join(f".word {word}\n" for word in self.memory[:4])
+        keys = {key: False if limits is None else limits[0] for key, limits in MACHINE_KEYS.items()}
+        keys |= {"out_base": self.pin, "side_base": self.pin, "out_count": 1, "divider": self.divider, "out_right": True}
+        keys |= {"push_threshold": 32, "pull_threshold": 32}
+        self.config = '[[load]]\nprogram = "q"\n[[machine]]\nid = 0\nprogram = "q"\n'
+        self.config += "".join(f"{key} = {str(value).lower()}\n" for key, value in keys.items())
+        rule = {"side_bits": 1, "side_opt": 1, "side_pindirs": False, "wrap_bottom": 0, "wrap_top": 3, "start": 0}
+        self.setups = {0: keys | rule}
+        self.pins = {key: 0 for key in PIN_KEYS} | {"level": random.choice([0, 1]) << self.pin}
+        self.config += f"[pins]\nlevel = {[self.pin] if self.pins['level'] else []}\n"
+        self.clocks, self.stimulus, self.lines = random.randrange(900), "version 2\n", []
+        clock = 0
+        for _ in range(random.randrange(8)):
+            clock += random.choice([1, 3, random.randrange(1, 200)])
+            word = random.choice(["tx", "tx", "tx", "tx", "disable", "enable"])
+            numbers = [0, random.randrange(256)] if word == "tx" else [0]
+            self.lines.append((clock, word, numbers))
+            self.stimulus += f"{clock} {word} {' '.join(map(str, numbers))}\n"
+
+    def pin_and_bit(self):
+        """The line's own, or a bit that is a little too short or too long."""
+        return self.pin, max(2, 8 * self.divider + self.random.choice([0, 0, 0, 0, -1, 1, -5, 7]))
+
+
 # Sources.
 
 

@@ -11,10 +11,9 @@ use Rattle.block_config.specs.Answer.{Refusal}
 use Rattle.block_config.specs.Apart.{AreApart}
 use Rattle.block_config.specs.Arrays.{gather}
 use Rattle.block_config.specs.Loads.{covers, is_covered, first_shared, unshared, keeps_origin, placed_at, at_key, load_names, program_at, load_at, load_of_table, load_in, all_loads}
-use Rattle.block_config.specs.Machines.{in_section, section_at, element_of}
+use Rattle.block_config.specs.Tables.{in_section, section_at, element_of, are_known}
 use Rattle.block_config.specs.Memory.{fits_at}
 use Rattle.block_config.specs.Programs.{Loaded}
-use Rattle.block_config.specs.Tables.{are_known}
 use Rattle.block_config.specs.Values.{number_of}
 use Rattle.block_config.proofs.Outside.{neither}
 use Rattle.block_config.proofs.Ranges.{goes_on, off_key}

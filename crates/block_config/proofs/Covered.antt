@@ -9,8 +9,7 @@ use Rattle.std.specs.Str.{bytes_eq}
 use Rattle.pio_assemble.specs.declared.program.Program.{Program}
 use Rattle.pio_assemble.specs.Program.{assembled_of}
 use Rattle.block_config.specs.declared.programs.Load.{Load}
-use Rattle.block_config.specs.LoadView.{loaded_of}
-use Rattle.block_config.specs.Loads.{covers, is_covered, find_program, memory_of}
+use Rattle.block_config.specs.Loads.{loaded_of, covers, is_covered, find_program, memory_of}
 use Rattle.block_config.specs.Memory.{loaded}
 use Rattle.block_config.proofs.Found.{find_map}
 

@@ -9,7 +9,7 @@ use Rattle.block_config.specs.Arrays.{count_items, gather}
 use Rattle.setup_keys.specs.Block.{MachineKeys, keys_of_span}
 use Rattle.block_config.specs.Config.{Sections, top_names, tables_at, pins_at, few_spans, spans_at, sections_of, sections_at}
 use Rattle.block_config.specs.Programs.{Loaded}
-use Rattle.block_config.specs.SpanTable.{span_in, all_spans}
+use Rattle.block_config.specs.Spans.{span_in, all_spans}
 use Rattle.block_config.specs.Tables.{and_then, are_known}
 use Rattle.block_config.proofs.Ranges.{goes_on, ok_same}
 

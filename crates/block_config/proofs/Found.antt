@@ -3,9 +3,8 @@ use Rattle.std.proofs.Common.{◌≡◌, ℕ, ◌||◌, cond, Bool, true, false,
 use Rattle.std.specs.List.{find, list_any}
 use Rattle.std.specs.Str.{bytes_eq}
 use Rattle.block_config.specs.declared.programs.Load.{Load}
-use Rattle.block_config.specs.LoadView.{loaded_of}
+use Rattle.block_config.specs.Loads.{loaded_of, covers, is_covered}
 use Rattle.block_config.specs.Programs.{Loaded, find_loaded}
-use Rattle.block_config.specs.Loads.{covers, is_covered}
 
 first_or : {A B : Type 0} (f : A → B) (b : Bool) (x : A) (rest : Option A) → option_map f (cond b (Some x) rest) ≡ cond b (Some (f x)) (option_map f rest)
 first_or f true x rest = refl

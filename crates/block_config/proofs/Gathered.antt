@@ -4,8 +4,7 @@ use Rattle.std.specs.List.{find, AllByRecursion}
 use Rattle.toml.specs.Data.{Data, Items, no_items, item, Members}
 use Rattle.block_config.specs.Answer.{Refusal}
 use Rattle.block_config.specs.Arrays.{gather}
-use Rattle.block_config.specs.Machines.{in_section, section_at, element_of}
-use Rattle.block_config.specs.Tables.{are_known}
+use Rattle.block_config.specs.Tables.{in_section, section_at, element_of, are_known}
 use Rattle.block_config.specs.declared.fault.ConfigKind.TheVariants.{UnknownKey}
 use Rattle.block_config.specs.declared.path.Section.{Section}
 use Rattle.block_config.proofs.Ranges.{goes_on}

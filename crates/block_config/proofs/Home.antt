@@ -7,10 +7,10 @@ use Rattle.toml.specs.Data.{Members, get_member}
 use Rattle.pio_assemble.specs.declared.symbols.Symbol.{Symbol}
 use Rattle.block_config.specs.Apart.{AreApart}
 use Rattle.block_config.specs.declared.fault.ConfigKind.TheVariants.{NoProgram}
-use Rattle.block_config.specs.SpanTable.{load_of_machine}
+use Rattle.block_config.specs.Spans.{load_of_machine}
 use Rattle.setup_keys.specs.Block.{MachineKeys}
 use Rattle.block_config.specs.Loads.{covers}
-use Rattle.block_config.specs.MachineTable.{named_load, load_at, moved_place, start_of, start_at, run_at, machine_of_table, id_at, clock_at, pins_at, flags_at, counts_at, machine_keys_of, RunKeys}
+use Rattle.block_config.specs.Machines.{named_load, load_at, moved_place, start_of, start_at, run_at, machine_of_table, id_at, clock_at, pins_at, flags_at, counts_at, machine_keys_of, RunKeys}
 use Rattle.block_config.specs.Programs.{Loaded, find_loaded, place_in, place_of, label_of}
 use Rattle.block_config.specs.Tables.{and_then}
 use Rattle.block_config.specs.Values.{or_fault, text_of}

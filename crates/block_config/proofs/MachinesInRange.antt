@@ -7,8 +7,7 @@ use Rattle.block_config.specs.Answer.{Refusal}
 use Rattle.setup_keys.specs.Block.{MachineKeys}
 use Rattle.setup_keys.specs.InRange.{IsMachine, ArePlaced}
 use Rattle.block_config.specs.declared.path.Section.TheVariants.{Machine}
-use Rattle.block_config.specs.MachineTable.{id_key, clock_keys, pin_keys, flag_keys, status_key, count_keys, ClockKeys, clock_keys_of, divides, clock_at, PinKeys, pin_keys_of, pins_at, FlagKeys, flag_keys_of, joins_one_way, flags_at, CountKeys, count_keys_of, counts_at, free_at, id_at, named_load, load_at, start_of, start_at, RunKeys, run_at, machine_keys_of, machine_of_table}
-use Rattle.block_config.specs.Machines.{machine_names, machine_in, machines_from}
+use Rattle.block_config.specs.Machines.{id_key, clock_keys, pin_keys, flag_keys, status_key, count_keys, ClockKeys, clock_keys_of, divides, clock_at, PinKeys, pin_keys_of, pins_at, FlagKeys, flag_keys_of, joins_one_way, flags_at, CountKeys, count_keys_of, counts_at, free_at, id_at, named_load, load_at, start_of, start_at, RunKeys, run_at, machine_keys_of, machine_of_table, machine_names, machine_in, machines_from}
 use Rattle.block_config.specs.Programs.{Loaded}
 use Rattle.block_config.specs.Tables.{and_then, number_at, flag_at, each_at}
 use Rattle.block_config.specs.Values.{text_of}

@@ -11,7 +11,7 @@ use Rattle.setup_keys.specs.Block.{MachineKeys, SpanKeys}
 use Rattle.block_config.specs.declared.fault.ConfigKind.TheVariants.{Many, WrongType, Range}
 use Rattle.block_config.specs.declared.path.Section.TheVariants.{Span}
 use Rattle.block_config.specs.Programs.{Loaded}
-use Rattle.block_config.specs.SpanTable.{span_names, required, name_of, name_at, configured, machine_at, span_pins, edge_at, Ends, ends_at, unit_at, bound_keys, Bounds, ordered, bounds_at, load_of_machine, stall_addresses, stalls_in, stalls_of, stalls_at, SpanValues, values_at, span_keys_of, span_of_table, span_in, all_spans}
+use Rattle.block_config.specs.Spans.{span_names, required, name_of, name_at, configured, machine_at, span_pins, edge_at, Ends, ends_at, unit_at, bound_keys, Bounds, ordered, bounds_at, load_of_machine, stall_addresses, stalls_in, stalls_of, stalls_at, SpanValues, values_at, span_keys_of, span_of_table, span_in, all_spans}
 use Rattle.block_config.specs.Tables.{and_then, number_at, each_at}
 use Rattle.block_config.specs.Values.{text_of}
 use Rattle.setup_keys.specs.InRange.{IsSpan}

@@ -6,15 +6,16 @@ use Rattle.pio_assemble.specs.Program.{Assembled, assembled_of}
 use Rattle.answers.specs.Answers.{made}
 use Rattle.block_config.specs.Answer.{Refusal}
 use Rattle.setup_keys.specs.Block.{MachineKeys, SpanKeys, BlockKeys, keys_of_machine, keys_of_span, keys_of_block}
-use Rattle.block_config.specs.Config.{document_of, parsed, sections_at, Sections, pins_in, no_machines, block_with, block_over, block_of_sections, block_of_table, config_block, config_setup_of}
+use Rattle.block_config.specs.Config.{document_of, parsed, sections_at, Sections, no_machines, block_with, block_over, block_of_sections, block_of_table, config_block, config_setup_of}
 use Rattle.block_config.specs.Default.{machine_keys, quiet_block, default_block, default_setup_of}
 use Rattle.block_config.specs.Exact.{SaysExactly}
 use Rattle.block_config.specs.Loads.{all_loads, memory_of}
 use Rattle.block_config.specs.Machines.{machines_from}
 use Rattle.block_config.specs.Memory.{no_words, fits_at, loaded}
+use Rattle.block_config.specs.Pins.{pins_in}
 use Rattle.block_config.specs.Programs.{Loaded}
 use Rattle.block_config.specs.SetupOf.{setup_of}
-use Rattle.block_config.specs.SpanTable.{all_spans}
+use Rattle.block_config.specs.Spans.{all_spans}
 use Rattle.block_config.specs.Tables.{and_then}
 use Rattle.setup_keys.specs.InRange.{IsMachine, IsSpan}
 use Rattle.setup_keys.proofs.Making.{a_setup_says}

@@ -12,18 +12,17 @@ use Rattle.pio_assemble.specs.Program.{Assembled}
 use Rattle.pin_matrix.specs.declared.setup.Setup.{Setup}
 use Rattle.block_config.specs.declared.fault.ConfigKind.{ConfigKind}
 use Rattle.block_config.specs.declared.fault.ConfigKind.TheVariants.{NotToml, UnknownKey, WrongType, Many}
-use Rattle.block_config.specs.declared.path.Section.TheVariants.{Pins}
 use Rattle.answers.specs.Answers.{made}
 use Rattle.block_config.specs.Answer.{Refusal, refused}
 use Rattle.block_config.specs.Arrays.{count_items, all_items}
 use Rattle.setup_keys.specs.Block.{MachineKeys, SpanKeys, BlockKeys}
 use Rattle.block_config.specs.SetupOf.{setup_of}
 use Rattle.block_config.specs.Loads.{all_loads, memory_of}
-use Rattle.block_config.specs.Machines.{machines_from, section_at}
+use Rattle.block_config.specs.Machines.{machines_from}
 use Rattle.block_config.specs.Memory.{no_words}
-use Rattle.block_config.specs.Pins.{PinTable, pin_table_at}
+use Rattle.block_config.specs.Pins.{PinTable, pins_in}
 use Rattle.block_config.specs.Programs.{Loaded}
-use Rattle.block_config.specs.SpanTable.{all_spans}
+use Rattle.block_config.specs.Spans.{all_spans}
 use Rattle.block_config.specs.Tables.{and_then, on_key, are_known}
 
 -- the table that the bytes are: TOML is UTF-8
@@ -87,15 +86,6 @@ sections_of t =
 -- the sections of a table
 abbrev pub sections_at : Members → Result Sections Refusal
 sections_at t = if are_known top_names t then sections_of t else refused (codes "top") UnknownKey
-
--- every key of the table of pins
-abbrev pub pin_names : List (List ℕ)
-pin_names = codes "high" ∷ codes "level" ∷ codes "out" ∷ codes "bypass" ∷ []
-
--- the pins of the table, none where it is absent
-abbrev pub pins_in : Option Members → Result PinTable Refusal
-pins_in None = Ok (record { high = 0; level = 0; out = 0; bypass = 0 })
-pins_in (Some t) = section_at Pins pin_names t (pin_table_at t)
 
 -- no machine is configured
 abbrev pub no_machines : List (Option MachineKeys)

@@ -6,21 +6,22 @@
 --   first_shared   the least address that a load covers and an earlier one too
 --   all_loads      the loads of all tables
 --   memory_of      the instruction memory with programs loaded into it
+--   loaded_of      what the code's load says
 use Rattle.std.specs.Prelude.{ℕ, nat_le, nat_lt, ◌+◌, ◌==◌, ◌&&◌, is_some, Bool, true, if◌then◌else◌, unwrap_or, Option, Some, None, List, [], ◌∷◌, Result, Ok, Err, length, codes}
 use Rattle.std.specs.List.{find, list_any, range_with_len}
 use Rattle.std.specs.Str.{bytes_eq}
 use Rattle.toml.specs.Data.{Data, Items, Members, get_member, as_table}
-use Rattle.pio_assemble.specs.Program.{Assembled}
+use Rattle.pio_assemble.specs.Program.{Assembled, assembled_of}
 use Rattle.block_config.specs.declared.fault.ConfigKind.{ConfigKind}
 use Rattle.block_config.specs.declared.fault.ConfigKind.TheVariants.{Missing, Range, NoProgram, DoesNotFit, Overlap}
 use Rattle.block_config.specs.declared.path.Section.TheVariants.{Load}
+use Rattle.block_config.specs.declared.programs.Load as code
 use Rattle.block_config.specs.Answer.{Refusal}
 use Rattle.block_config.specs.Arrays.{gather}
 use Rattle.block_config.specs.Keys.{Numbered}
-use Rattle.block_config.specs.Machines.{section_at, element_of}
 use Rattle.block_config.specs.Memory.{fits_at, loaded}
 use Rattle.block_config.specs.Programs.{Loaded, find_loaded}
-use Rattle.block_config.specs.Tables.{and_then, on_key}
+use Rattle.block_config.specs.Tables.{and_then, on_key, section_at, element_of}
 use Rattle.block_config.specs.Values.{or_fault, text_of, number_of}
 
 -- every key of a load's table
@@ -93,3 +94,7 @@ all_loads programs tables = gather (load_in programs) 0 [] tables
 unfoldable pub memory_of : List ℕ → List Loaded → List ℕ
 memory_of memory [] = memory
 memory_of memory (l ∷ ls) = memory_of (loaded memory l.address l.program.words) ls
+
+-- what the code's load says: a program and its address
+abbrev pub loaded_of : code.Load → Loaded
+loaded_of l = record { program = assembled_of l.program.now; address = l.address }

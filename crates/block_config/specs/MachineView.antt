@@ -1,9 +1,15 @@
 -- What the code's parts of a machine's table say.
-use Rattle.block_config.specs.declared.machine.PinValues.{PinValues}
-use Rattle.block_config.specs.declared.machine_parts.ClockValues.{ClockValues}
-use Rattle.block_config.specs.declared.machine_parts.FlagValues.{FlagValues}
-use Rattle.block_config.specs.declared.machine_parts.CountValues.{CountValues}
-use Rattle.block_config.specs.MachineTable.{PinKeys, ClockKeys, FlagKeys, CountKeys}
+use Rattle.block_config.specs.declared.machines.PinValues.{PinValues}
+use Rattle.block_config.specs.declared.machines.ClockValues.{ClockValues}
+use Rattle.block_config.specs.declared.machines.FlagValues.{FlagValues}
+use Rattle.block_config.specs.declared.machines.CountValues.{CountValues}
+use Rattle.block_config.specs.declared.machines.Running.{Running}
+use Rattle.block_config.specs.Loads.{loaded_of}
+use Rattle.block_config.specs.Machines.{RunKeys, PinKeys, ClockKeys, FlagKeys, CountKeys}
+
+-- the machine's number, its load and its start
+abbrev pub run_view : Running → RunKeys
+run_view r = record { id = r.id; load = loaded_of r.load; start = r.start }
 
 -- the pins
 abbrev pub pins_view : PinValues → PinKeys

@@ -3,14 +3,18 @@
 --   mask_from     the pins of a list, beside those of a number
 --   mask_at       the pins of a key; an element of another type comes before one out of range
 --   PinTable      the four lists
-use Rattle.std.specs.Prelude.{ℕ, ◌^◌, bit_or, Bool, if◌then◌else◌, is_some, Option, Some, None, List, Result, Ok, Err, codes}
+--   pins_in       the pins of a configuration
+--   pin_view      what the code's lists of pins say
+use Rattle.std.specs.Prelude.{ℕ, ◌^◌, bit_or, Bool, if◌then◌else◌, is_some, Option, Some, None, List, [], ◌∷◌, Result, Ok, Err, codes}
 use Rattle.toml.specs.Data.{Data, Items, no_items, item, Members, get_member, as_array, as_integer}
 use Rattle.block_config.specs.declared.fault.ConfigKind.{ConfigKind}
 use Rattle.block_config.specs.declared.fault.ConfigKind.TheVariants.{WrongType}
+use Rattle.block_config.specs.declared.path.Section.TheVariants.{Pins}
+use Rattle.block_config.specs.declared.pins.PinLists.{PinLists}
 use Rattle.block_config.specs.Answer.{Refusal}
 use Rattle.block_config.specs.Arrays.{all_items}
 use Rattle.block_config.specs.Values.{number_in}
-use Rattle.block_config.specs.Tables.{and_then, on_key}
+use Rattle.block_config.specs.Tables.{and_then, on_key, section_at}
 
 -- each element is a number
 abbrev pub all_numbers : Items → Bool
@@ -48,3 +52,16 @@ pin_table_at t =
     and_then (mask_at t (codes "high")) (λ high. and_then (mask_at t (codes "level")) (λ level.
     and_then (mask_at t (codes "out")) (λ out. and_then (mask_at t (codes "bypass")) (λ bypass.
     Ok (record { high = high; level = level; out = out; bypass = bypass })))))
+
+-- every key of the table of pins
+abbrev pub pin_names : List (List ℕ)
+pin_names = codes "high" ∷ codes "level" ∷ codes "out" ∷ codes "bypass" ∷ []
+
+-- the pins of the table, none where it is absent
+abbrev pub pins_in : Option Members → Result PinTable Refusal
+pins_in None = Ok (record { high = 0; level = 0; out = 0; bypass = 0 })
+pins_in (Some t) = section_at Pins pin_names t (pin_table_at t)
+
+-- what the code's lists of pins say
+abbrev pub pin_view : PinLists → PinTable
+pin_view p = record { high = p.high; level = p.level; out = p.out; bypass = p.bypass }

@@ -1,8 +1,8 @@
 -- What the code's parts of a span's table say.
-use Rattle.block_config.specs.declared.span_parts.EndValues.{EndValues}
-use Rattle.block_config.specs.declared.span_parts.BoundValues.{BoundValues}
-use Rattle.block_config.specs.declared.span_table.SpanValues.{SpanValues as Code}
-use Rattle.block_config.specs.SpanTable.{Ends, Bounds, SpanValues}
+use Rattle.block_config.specs.declared.spans.EndValues.{EndValues}
+use Rattle.block_config.specs.declared.spans.BoundValues.{BoundValues}
+use Rattle.block_config.specs.declared.spans.SpanValues.{SpanValues as Code}
+use Rattle.block_config.specs.Spans.{Ends, Bounds, SpanValues}
 
 -- the machine, the pins and the edges
 abbrev pub ends_view : EndValues → Ends

@@ -5,13 +5,18 @@
 --   each_at      the values of keys in order, or the first fault
 --   AreWithin    values are in the ranges of keys
 --   are_known    a table has no key but these
-use Rattle.std.specs.Prelude.{ℕ, ◌+◌, ◌≤◌, slice_index, Bool, true, ◌&&◌, List, [], ◌∷◌, Result, Ok, Err}
+--   section_at   what a table gives: an unknown key comes first, and other faults are told of the table's keys
+--   element_of   an element of an array of tables
+use Rattle.std.specs.Prelude.{ℕ, ◌+◌, ◌≤◌, slice_index, Bool, true, ◌&&◌, if◌then◌else◌, Option, Some, None, List, [], ◌∷◌, Result, Ok, Err}
 use Rattle.std.specs.List.{list_any}
 use Rattle.std.specs.Str.{bytes_eq}
 use Rattle.toml.specs.Data.{Members, no_members, member, get_member}
 use Rattle.block_config.specs.declared.fault.ConfigKind.{ConfigKind}
+use Rattle.block_config.specs.declared.fault.ConfigKind.TheVariants.{UnknownKey, WrongType}
+use Rattle.block_config.specs.declared.path.Section.{Section}
 use Rattle.block_config.specs.declared.table.Lack.{Lack}
 use Rattle.block_config.specs.Answer.{Refusal, refused}
+use Rattle.block_config.specs.Fault.{section_path, key_path}
 use Rattle.block_config.specs.Keys.{Numbered, Flagged}
 use Rattle.block_config.specs.Values.{number_of, flag_of}
 
@@ -56,3 +61,17 @@ AreWithin place (k ∷ ks) values = (k.low ≤ slice_index values place) × (sli
 abbrev pub are_known : List (List ℕ) → Members → Bool
 are_known names no_members = true
 are_known names (member key d rest) = list_any (bytes_eq key) names && are_known names rest
+
+-- a fault of a key is told with its table
+abbrev pub in_section : {X : Type 0} → Section → Result X Refusal → Result X Refusal
+in_section section (Ok x) = Ok x
+in_section section (Err r) = refused (key_path section r.key) r.kind
+
+-- an unknown key comes first, and is on the table
+abbrev pub section_at : {X : Type 0} → Section → List (List ℕ) → Members → Result X Refusal → Result X Refusal
+section_at section names t inner = if are_known names t then in_section section inner else refused (section_path section) UnknownKey
+
+-- an element of an array of tables; that it is a table is looked at before any element is read
+abbrev pub element_of : {X : Type 0} → List ℕ → Option Members → (Members → Result X Refusal) → Result X Refusal
+element_of name None read = refused name WrongType
+element_of name (Some t) read = read t

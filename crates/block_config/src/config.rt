@@ -9,19 +9,17 @@ ghost use Rattle.setup_keys.specs.Block.{keys_of_block, keys_of_span};
 ghost use Rattle.block_config.specs.Config as spec;
 ghost use Rattle.block_config.specs.Config.{config_setup_of};
 ghost use Rattle.block_config.specs.Default.{quiet_block};
-ghost use Rattle.block_config.specs.LoadView.{loaded_of};
-ghost use Rattle.block_config.specs.Loads.{memory_of};
+ghost use Rattle.block_config.specs.Loads.{loaded_of, memory_of};
 ghost use Rattle.block_config.specs.Machines.{machines_from};
 ghost use Rattle.block_config.specs.Memory.{no_words};
-ghost use Rattle.block_config.specs.PinView.{pin_view};
+ghost use Rattle.block_config.specs.Pins.{pin_view};
 ghost use Rattle.block_config.specs.SectionView.{sections_view};
 
 use crate::fault::{ConfigFault, ConfigKind};
 use crate::loads::{memory_of, read_loads};
 use crate::machines::place_machines;
 use crate::path::fault_at;
-use crate::pin_section::read_pins;
-use crate::pins::PinLists;
+use crate::pins::{PinLists, read_pins};
 use crate::programs::Load;
 use crate::sections::{Sections, sections_at};
 use crate::spans::{few_spans, read_spans};
@@ -37,10 +35,8 @@ use toml::{Table, Value};
 pub fn read_config(alloc: Global, bytes: &[u8], programs: &[Program]) -> Result<Setup, ConfigFault>
     ensures value { Answers told result (config_setup_of bytes.now (map assembled_of programs.now)) }
 {
-    match read_block(alloc, bytes, programs) {
-        Ok(setup) => Ok(setup),
-        Err(fault) => Err(fault),
-    }
+    let setup = read_block(alloc, bytes, programs)?;
+    Ok(setup)
 }
 
 /// The setup, by what it says.
@@ -48,10 +44,8 @@ fn read_block(alloc: Global, bytes: &[u8], programs: &[Program]) -> Result<Setup
     ensures { Gives told keys_of_block result
         (spec.config_block bytes.now (map assembled_of programs.now)) }
 {
-    match document_of(alloc, bytes) {
-        Ok(table) => block_of_table(alloc, &table, programs),
-        Err(fault) => Err(fault),
-    }
+    let table = document_of(alloc, bytes)?;
+    block_of_table(alloc, &table, programs)
 }
 
 /// The table that the bytes are.
@@ -71,10 +65,8 @@ fn block_of_table(alloc: Global, table: &Table, programs: &[Program]) -> Result<
     ensures { Gives told keys_of_block result
         (spec.block_of_table (map assembled_of programs.now) (table_view table.now)) }
 {
-    match sections_at(alloc, table) {
-        Ok(sections) => block_of_sections(alloc, &sections, programs),
-        Err(fault) => Err(fault),
-    }
+    let sections = sections_at(alloc, table)?;
+    block_of_sections(alloc, &sections, programs)
 }
 
 /// The setup of the sections.
@@ -87,10 +79,8 @@ fn block_of_sections(
     ensures { Gives told keys_of_block result
         (spec.block_of_sections (map assembled_of programs.now) (sections_view sections.now)) }
 {
-    match read_loads(alloc, programs, sections.loads) {
-        Ok(loads) => block_over(alloc, sections, &loads),
-        Err(fault) => Err(fault),
-    }
+    let loads = read_loads(alloc, programs, sections.loads)?;
+    block_over(alloc, sections, &loads)
 }
 
 /// The setup over the loads.
@@ -100,18 +90,10 @@ fn block_over(alloc: Global, sections: &Sections, loads: &[Load]) -> Result<Setu
     ensures { Gives told keys_of_block result
         (spec.block_over (sections_view sections.now) (map loaded_of loads.now)) }
 {
-    let setup = match bare_block(alloc, loads, sections.machines) {
-        Ok(setup) => setup,
-        Err(fault) => return Err(fault),
-    };
-    let pins = match read_pins(alloc, sections.pins) {
-        Ok(pins) => pins,
-        Err(fault) => return Err(fault),
-    };
-    match read_spans(alloc, &setup.machines, loads, sections.spans) {
-        Ok(spans) => Ok(block_with(&setup, &pins, few_spans(alloc, spans))),
-        Err(fault) => Err(fault),
-    }
+    let setup = bare_block(alloc, loads, sections.machines)?;
+    let pins = read_pins(alloc, sections.pins)?;
+    let spans = read_spans(alloc, &setup.machines, loads, sections.spans)?;
+    Ok(block_with(&setup, &pins, few_spans(alloc, spans)))
 }
 
 /// The memory and the machines.
@@ -121,10 +103,8 @@ fn bare_block(alloc: Global, loads: &[Load], values: &[Value]) -> Result<Setup, 
         (machines_from 0 spec.no_machines (map loaded_of loads.now) (items_view values.now))) }
 {
     let mut setup = Setup::of(memory_of(loads), Spans::empty(alloc));
-    match place_machines(alloc, loads, values, &mut setup) {
-        Ok(()) => Ok(setup),
-        Err(fault) => Err(fault),
-    }
+    place_machines(alloc, loads, values, &mut setup)?;
+    Ok(setup)
 }
 
 /// A block with these pins and spans.

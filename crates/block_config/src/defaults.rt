@@ -3,15 +3,15 @@ ghost use Rattle.std.specs.Prelude.{◌≡◌, ◌+◌, ◌≤◌, length, map, 
 ghost use Rattle.pio_assemble.specs.Program.{assembled_of};
 ghost use Rattle.answers.specs.Answers.{Answers, made};
 ghost use Rattle.block_config.specs.Answer.{told};
-ghost use Rattle.setup_keys.specs.Block.{keys_of_machine};
+ghost use Rattle.setup_keys.specs.Block.{keys_of_block, keys_of_machine};
 ghost use Rattle.block_config.specs.Default as default;
 ghost use Rattle.block_config.specs.Default.{default_setup_of};
 ghost use Rattle.block_config.specs.SetupOf as spec;
 
 use crate::fault::{ConfigFault, ConfigKind};
-use crate::load::{fits_at, loaded};
+use crate::memory::{fits_at, loaded};
 use crate::path::fault_at;
-use pin_matrix::{MachineSetup, Mapping, Setup, Spans};
+use pin_matrix::{MachineSetup, Setup, Spans};
 use pio_assemble::Program;
 use std::alloc::Global;
 
@@ -41,33 +41,19 @@ fn setup_of(alloc: Global, program: &Program) -> Result<Setup, ConfigFault>
     if !fits_at(address, &program.words) {
         return Err(fault_at(alloc, "default", ConfigKind::DoesNotFit));
     }
-    Ok(quiet_block(
-        loaded(&[0; 32], address, &program.words),
-        machine_of(program, address),
-        Spans::empty(alloc),
-    ))
+    let memory = loaded(&[0; 32], address, &program.words);
+    Ok(block_of(alloc, memory, machine_of(program, address)))
 }
 
-/// A block with machine 0 alone, whose pins are low, inputs and synchronised.
-fn quiet_block(memory: [u16; 32], machine: MachineSetup, spans: Spans) -> Setup
+/// A block with machine 0 alone.
+fn block_of(alloc: Global, memory: [u16; 32], machine: MachineSetup) -> Setup
     requires first { machine.id ≡ 0 }
-    ensures memory { result.memory ≡ memory }
-    ensures machines { result.machines ≡ Some machine ∷ None ∷ None ∷ None ∷ [] }
-    ensures high { result.high ≡ 0 }
-    ensures level { result.level ≡ 0 }
-    ensures out { result.out ≡ 0 }
-    ensures bypass { result.bypass ≡ 0 }
-    ensures spans { result.spans ≡ spans }
+    ensures { keys_of_block result
+        ≡ default.quiet_block memory (Some (keys_of_machine machine) ∷ None ∷ None ∷ None ∷ []) }
 {
-    Setup {
-        memory,
-        machines: [Some(machine), None, None, None],
-        high: 0,
-        level: 0,
-        out: 0,
-        bypass: 0,
-        spans,
-    }
+    let mut setup = Setup::of(memory, Spans::empty(alloc));
+    setup.place(machine);
+    setup
 }
 
 /// Machine 0 with a program that is loaded at an address, and all else at its default.
@@ -75,33 +61,9 @@ fn machine_of(program: &Program, address: u8) -> MachineSetup
     requires { address + length program.now.words.items ≤ 32 }
     ensures { keys_of_machine result ≡ default.machine_keys 0 address (assembled_of program.now) }
 {
-    MachineSetup {
-        id: 0,
-        start: address,
-        x: 0,
-        y: 0,
-        int: 1,
-        frac: 0,
-        side_rule: program.side,
-        wrap_bottom: address + program.wrap_bottom,
-        wrap_top: address + program.wrap_top,
-        in_base: 0,
-        jmp_pin: 0,
-        out: Mapping { base: 0, count: 0 },
-        set: Mapping { base: 0, count: 5 },
-        side: Mapping {
-            base: 0,
-            count: program.side.bits,
-        },
-        in_right: true,
-        out_right: true,
-        autopush: false,
-        autopull: false,
-        push_threshold: 32,
-        pull_threshold: 32,
-        join_tx: false,
-        join_rx: false,
-        status_rx: false,
-        status_n: 0,
-    }
+    let mut machine = MachineSetup::of(0, program.side);
+    machine.start = address;
+    machine.wrap_bottom = address + program.wrap_bottom;
+    machine.wrap_top = address + program.wrap_top;
+    machine
 }

@@ -10,11 +10,11 @@ ghost use Rattle.block_config.specs.Config.{config_block, config_setup_of};
 ghost use Rattle.block_config.specs.Default.{default_block, default_setup_of};
 ghost use Rattle.block_config.specs.Exact.{SaysExactly};
 ghost use Rattle.block_config.specs.Loads.{all_loads, is_covered, memory_of};
-ghost use Rattle.block_config.specs.MachineTable.{load_at, machine_of_table};
+ghost use Rattle.block_config.specs.Machines.{load_at, machine_of_table};
 ghost use Rattle.block_config.specs.Memory.{no_words};
 ghost use Rattle.block_config.specs.Programs.{Loaded};
 ghost use Rattle.block_config.specs.SetupOf.{setup_of};
-ghost use Rattle.block_config.specs.SpanTable.{load_of_machine};
+ghost use Rattle.block_config.specs.Spans.{load_of_machine};
 
 /// A setup is what it says: of the plain numbers of a setup, the definitions make that setup again.
 pub fn a_setup_is_what_it_says()

@@ -1,14 +1,19 @@
-//! The table of pins: lists of pins as numbers in which bit i is for pin i.
+//! The table of pins, which may be absent: lists of pins as numbers in which bit i is for pin i.
 ghost use Rattle.std.specs.Prelude.{◌≡◌, Some, option_map};
 ghost use Rattle.toml.specs.View.{items_view, table_view, view};
-ghost use Rattle.block_config.specs.PinView.{pin_view};
+ghost use Rattle.answers.specs.Answers.{Gives};
+ghost use Rattle.block_config.specs.Answer.{told};
 ghost use Rattle.block_config.specs.Pins as spec;
-ghost use Rattle.block_config.specs.Tables.{seen};
+ghost use Rattle.block_config.specs.Pins.{pin_view};
+ghost use Rattle.block_config.specs.Tables.{section_at, seen};
 
 use crate::arrays::{Element, are_all};
-use crate::fault::ConfigKind;
-use crate::table::{Lack, value_at};
+use crate::fault::{ConfigFault, ConfigKind};
+use crate::keys;
+use crate::path::{Section, fault_of_key, fault_of_section};
+use crate::table::{Lack, are_known, value_at};
 use crate::value::number_in;
+use std::alloc::Global;
 use toml::{Table, Value};
 
 /// The pins that a configuration sets at the start.
@@ -20,14 +25,45 @@ pub struct PinLists {
     pub bypass: u32,
 }
 
+/// The pins of a configuration.
+pub fn read_pins(alloc: Global, table: Option<&Table>) -> Result<PinLists, ConfigFault>
+    ensures { Gives told pin_view result
+        (spec.pins_in (option_map (λ t. table_view t.now) table.entry)) }
+{
+    match table {
+        Some(table) => pins_of(alloc, Section::Pins, table),
+        None => Ok(PinLists {
+            high: 0,
+            level: 0,
+            out: 0,
+            bypass: 0,
+        }),
+    }
+}
+
+/// The pins of a table.
+fn pins_of(alloc: Global, section: Section, table: &Table) -> Result<PinLists, ConfigFault>
+    ensures { Gives told pin_view result
+        (section_at section spec.pin_names (table_view table.now)
+        (spec.pin_table_at (table_view table.now))) }
+{
+    if !are_known(table, &keys::PIN_LISTS) {
+        return Err(fault_of_section(alloc, section, ConfigKind::UnknownKey));
+    }
+    match pin_lists_at(table) {
+        Ok(pins) => Ok(pins),
+        Err(lack) => Err(fault_of_key(alloc, section, lack.key, lack.kind)),
+    }
+}
+
 /// The lists of a table whose keys are known.
-pub fn pin_lists_at(table: &Table) -> Result<PinLists, Lack>
+fn pin_lists_at(table: &Table) -> Result<PinLists, Lack>
     ensures { seen pin_view result ≡ spec.pin_table_at (table_view table.now) }
 {
-    let high = mask_at(table, "high")?;
-    let level = mask_at(table, "level")?;
-    let out = mask_at(table, "out")?;
-    let bypass = mask_at(table, "bypass")?;
+    let high = mask_at(table, keys::HIGH)?;
+    let level = mask_at(table, keys::LEVEL)?;
+    let out = mask_at(table, keys::OUT)?;
+    let bypass = mask_at(table, keys::BYPASS)?;
     Ok(PinLists {
         high,
         level,

@@ -1,8 +1,10 @@
-//! The programs that a configuration names.
-ghost use Rattle.std.specs.Prelude.{◌≡◌, ◌+◌, ◌≤◌, length};
+//! The programs that a configuration names, at their addresses, and their labels.
+ghost use Rattle.std.specs.Prelude.{◌≡◌, ◌+◌, ◌<◌, ◌≤◌, IfSome, length};
 ghost use Rattle.std.specs.Str.{bytes_eq};
+ghost use Rattle.pio_assemble.specs.Program.{assembled_of};
+ghost use Rattle.block_config.specs.Programs as spec;
 
-use pio_assemble::Program;
+use pio_assemble::{Program, Symbol};
 
 /// A program that is loaded at an address.
 #[derive(Clone, Copy)]
@@ -13,12 +15,9 @@ pub struct Load<'a> {
 }
 
 impl<'a> Load<'a> {
-    ghost use Rattle.std.specs.Prelude.{◌≡◌, map, option_copied, option_map};
+    ghost use Rattle.std.specs.Prelude.{map, option_copied, option_map};
     ghost use Rattle.std.specs.List.{find};
-    ghost use Rattle.std.specs.Str.{bytes_eq};
-    ghost use Rattle.block_config.specs.LoadView.{loaded_of};
-    ghost use Rattle.block_config.specs.Loads.{covers};
-    ghost use Rattle.block_config.specs.Programs as spec;
+    ghost use Rattle.block_config.specs.Loads.{covers, loaded_of};
 
     /// The load of a program's name.
     pub fn find(loads: &[Load<'a>], name: &[u8]) -> Option<Load<'a>>
@@ -63,4 +62,30 @@ pub fn is_named(program: &Program, name: &[u8]) -> bool
     ensures { result ≡ bytes_eq program.now.name name.now }
 {
     program.name.as_bytes() == name
+}
+
+/// The place of a label in its program: below the number of its words.
+pub fn label_of(program: &Program, name: &[u8]) -> Option<u8>
+    ensures place { result ≡ spec.label_of (assembled_of program.now) name.now }
+    ensures within { IfSome result (λ place. place < length program.now.words.items) }
+{
+    match program.symbols.get(name) {
+        Some(symbol) => place_of(program.words.as_slice(), symbol),
+        None => None,
+    }
+}
+
+/// The place of a symbol that a label made, and that comes before a word.
+fn place_of(words: &[u16], symbol: &Symbol) -> Option<u8>
+    requires { length words.now ≤ 32 }
+    ensures place { result ≡ spec.symbol_place words.now symbol.now }
+    ensures within { IfSome result (λ place. place < length words.now) }
+{
+    if !symbol.is_label {
+        return None;
+    }
+    match u8::try_from(symbol.value) {
+        Ok(place) if usize::from(place) < words.len() => Some(place),
+        _ => None,
+    }
 }

@@ -10,12 +10,11 @@ ghost use Rattle.block_config.specs.Values.{map_ok};
 
 use crate::arrays::{Element, are_all, count_of};
 use crate::fault::{ConfigFault, ConfigKind};
+use crate::keys;
 use crate::path::fault_at;
 use crate::table::{Lack, are_known, value_at};
 use std::alloc::Global;
 use toml::{Table, Value};
-
-const NAMES: [&str; 4] = ["load", "machine", "pins", "span"];
 
 /// The sections of a configuration; an array that is absent is empty.
 #[derive(Clone, Copy)]
@@ -30,7 +29,7 @@ pub struct Sections<'t> {
 pub fn sections_at<'t>(alloc: Global, table: &'t Table) -> Result<Sections<'t>, ConfigFault>
     ensures { Gives told sections_view result (spec.sections_at (table_view table.entry.now)) }
 {
-    if !are_known(table, &NAMES) {
+    if !are_known(table, &keys::SECTIONS) {
         return Err(fault_at(alloc, "top", ConfigKind::UnknownKey));
     }
     match sections_of(table) {
@@ -43,8 +42,8 @@ pub fn sections_at<'t>(alloc: Global, table: &'t Table) -> Result<Sections<'t>, 
 fn sections_of<'t>(table: &'t Table) -> Result<Sections<'t>, Lack>
     ensures { seen sections_view result ≡ spec.sections_of (table_view table.entry.now) }
 {
-    let loads = tables_at(table, "load")?;
-    let machines = tables_at(table, "machine")?;
+    let loads = tables_at(table, keys::LOAD)?;
+    let machines = tables_at(table, keys::MACHINE)?;
     let pins = pins_at(table)?;
     let spans = spans_at(table)?;
     Ok(Sections {
@@ -59,10 +58,10 @@ fn sections_of<'t>(table: &'t Table) -> Result<Sections<'t>, Lack>
 fn spans_at<'t>(table: &'t Table) -> Result<&'t [Value], Lack>
     ensures { seen (λ vs. items_view vs.now) result ≡ spec.spans_at (table_view table.entry.now) }
 {
-    let spans = tables_at(table, "span")?;
+    let spans = tables_at(table, keys::SPAN)?;
     if count_of(spans) > 64 {
         return Err(Lack {
-            key: "span",
+            key: keys::SPAN,
             kind: ConfigKind::Many,
         });
     }
@@ -74,11 +73,11 @@ fn pins_at<'t>(table: &'t Table) -> Result<Option<&'t Table>, Lack>
     ensures { seen (option_map (λ t. table_view t.now)) result
         ≡ spec.pins_at (table_view table.entry.now) }
 {
-    match value_at(table, "pins") {
+    match value_at(table, keys::PINS) {
         Some(value) => match value.as_table() {
             Some(pins) => Ok(Some(pins)),
             None => Err(Lack {
-                key: "pins",
+                key: keys::PINS,
                 kind: ConfigKind::WrongType,
             }),
         },

@@ -1,38 +1,27 @@
-//! All tables of spans.
-ghost use Rattle.std.specs.Prelude.{◌≡◌, ◌≤◌, Ok, [], length, map, option_map, IsTrue};
-ghost use Rattle.pin_matrix.specs.Spans.{is_span_name};
+//! All tables of spans: the keys of one in order, and the span that they name.
+ghost use Rattle.std.specs.Prelude.{◌≡◌, ◌≤◌, ◌<◌, ◌^◌, ◌==◌, ◌||◌, Ok, [], length, map, option_map, IfOk, IsTrue};
+ghost use Rattle.pin_matrix.specs.Spans.{are_addresses, is_in_ticks, is_span_name};
 ghost use Rattle.toml.specs.View.{items_view, table_view, view};
 ghost use Rattle.answers.specs.Answers.{Gives};
-ghost use Rattle.block_config.specs.Answer.{told};
 ghost use Rattle.setup_keys.specs.Block.{keys_of_machine, keys_of_span};
-ghost use Rattle.block_config.specs.LoadView.{loaded_of};
-ghost use Rattle.block_config.specs.Machines.{section_at};
-ghost use Rattle.block_config.specs.SpanTable as spec;
-ghost use Rattle.block_config.specs.SpanView.{values_view};
+ghost use Rattle.block_config.specs.Answer.{told};
+ghost use Rattle.block_config.specs.Loads.{loaded_of};
+ghost use Rattle.block_config.specs.Spans as spec;
+ghost use Rattle.block_config.specs.Tables.{section_at, seen};
+ghost use Rattle.block_config.specs.Values.{map_ok};
 
 use crate::fault::{ConfigFault, ConfigKind};
+use crate::keys;
 use crate::path::{Section, fault_at, fault_of_key, fault_of_section};
 use crate::programs::Load;
-use crate::span_name::name_at;
-use crate::span_table::SpanValues;
-use crate::table::are_known;
-use pin_matrix::{MachineSetup, Span, Spans, Stalls};
+use crate::stalls::stalls_at;
+use crate::table::{Lack, are_known, number_at, numbers_at, value_at};
+use crate::value::text_of;
+use arrayvec::ArrayVec;
+use pin_matrix::{MachineSetup, Span, SpanUnit, Spans, Stalls, is_span_name};
 use pio_encode::Name;
 use std::alloc::Global;
 use toml::{Table, Value};
-
-const NAMES: [&str; 10] = [
-    "name",
-    "machine",
-    "from_pin",
-    "to_pin",
-    "from_edge",
-    "to_edge",
-    "unit",
-    "min",
-    "max",
-    "stalls",
-];
 
 /// The spans of all tables.
 pub fn read_spans(
@@ -80,7 +69,7 @@ fn span_in(
 {
     match value.as_table() {
         Some(table) => span_at(alloc, Section::Span(place), machines, loads, table),
-        None => Err(fault_at(alloc, "span", ConfigKind::WrongType)),
+        None => Err(fault_at(alloc, keys::SPAN, ConfigKind::WrongType)),
     }
 }
 
@@ -97,7 +86,7 @@ fn span_at(
         (section_at section spec.span_names (table_view table.now)
         (spec.span_of_table (map (option_map keys_of_machine) machines.now) (map loaded_of loads.now) (table_view table.now))) }
 {
-    if !are_known(table, &NAMES) {
+    if !are_known(table, &keys::SPAN_KEYS) {
         return Err(fault_of_section(alloc, section, ConfigKind::UnknownKey));
     }
     let name = match name_at(table) {
@@ -105,39 +94,260 @@ fn span_at(
         Err(lack) => return Err(fault_of_key(alloc, section, lack.key, lack.kind)),
     };
     match SpanValues::read(table, machines, loads) {
-        Ok(values) => span_of(alloc, name, &values),
+        Ok(values) => values.span(alloc, name),
         Err(lack) => Err(fault_of_key(alloc, section, lack.key, lack.kind)),
     }
 }
 
-/// A span of its parts; only for want of memory there is none.
-fn span_of(alloc: Global, name: &str, values: &SpanValues) -> Result<Span, ConfigFault>
-    requires { IsTrue (is_span_name name.now) }
-    ensures { Gives told keys_of_span result (Ok (spec.span_keys_of name.now (values_view values.now))) }
+/// The name of a table: 1 to 32 letters, digits, `_` or `-`.
+fn name_at<'t>(table: &'t Table) -> Result<&'t str, Lack>
+    ensures { seen (λ n. n.now) result ≡ spec.name_at (table_view table.entry.now) }
 {
-    let text = name.to_string(alloc)?;
-    let stalls = stalls_of(alloc, values)?;
-    Ok(Span {
-        name: Name::new(text),
-        machine: values.ends.machine,
-        from_pin: values.ends.from_pin,
-        from_rise: values.ends.from_rise,
-        to_pin: values.ends.to_pin,
-        to_rise: values.ends.to_rise,
-        unit: values.bounds.unit,
-        min: values.bounds.min,
-        max: values.bounds.max,
-        stalls,
-    })
+    let name = match text_of(value_at(table, keys::NAME)) {
+        Ok(name) => name_of(name),
+        Err(kind) => Err(kind),
+    };
+    match name {
+        Ok(name) => Ok(name),
+        Err(kind) => Err(Lack {
+            key: keys::NAME,
+            kind,
+        }),
+    }
 }
 
-/// The stalls of a span.
-fn stalls_of(alloc: Global, values: &SpanValues) -> Result<Stalls, ConfigFault>
-    ensures { Gives told (λ s. s) result (Ok values.now.stalls.items) }
+/// A text that is a name.
+fn name_of<'t>(name: Option<&'t str>) -> Result<&'t str, ConfigKind>
+    ensures { map_ok (λ n. n.now) result ≡ spec.name_of (option_map (λ n. n.now) name.entry) }
 {
-    let addresses = values.stalls.as_slice().to_vec(alloc)?;
-    match Stalls::new(addresses) {
-        Some(stalls) => Ok(stalls),
-        None => Ok(Stalls::empty(alloc)),
+    match name {
+        Some(name) if is_span_name(name.as_bytes()) => Ok(name),
+        Some(_) => Err(ConfigKind::Range),
+        None => Err(ConfigKind::Missing),
+    }
+}
+
+/// What a span says after its name.
+#[derive(Drop)]
+pub struct SpanValues {
+    pub ends: EndValues,
+    pub bounds: BoundValues,
+    pub stalls: ArrayVec<u8, 16>,
+    pub ghost in_memory: { IsTrue (are_addresses stalls.items) },
+    pub ghost in_ticks: { IsTrue (is_in_ticks bounds.unit || length stalls.items == 0) },
+}
+
+impl SpanValues {
+    ghost use Rattle.block_config.specs.SpanView.{values_view};
+
+    /// The load of the program that a machine runs.
+    fn load_of<'a>(loads: &[Load<'a>], machine: &Option<MachineSetup>) -> Option<Load<'a>>
+        ensures { option_map loaded_of result
+            ≡ spec.load_of_machine (map loaded_of loads.now)
+            (option_map keys_of_machine machine.now) }
+    {
+        match machine {
+            Some(machine) => Load::at(loads, machine.start),
+            None => None,
+        }
+    }
+
+    /// The values of a table whose keys are known.
+    fn read(
+        table: &Table,
+        machines: &[Option<MachineSetup>; 4],
+        loads: &[Load],
+    ) -> Result<Self, Lack>
+        ensures { seen values_view result
+            ≡ spec.values_at (map (option_map keys_of_machine) machines.now)
+            (map loaded_of loads.now) (table_view table.now) }
+    {
+        let ends = EndValues::read(table, machines)?;
+        let bounds = BoundValues::read(table)?;
+        let load = Self::load_of(loads, &machines[usize::from(ends.machine)]);
+        let stalls = stalls_at(table, bounds.unit, load)?;
+        Ok(SpanValues {
+            ends,
+            bounds,
+            stalls,
+        })
+    }
+    /// The span of this name; only for want of memory there is none.
+    fn span(&self, alloc: Global, name: &str) -> Result<Span, ConfigFault>
+        requires { IsTrue (is_span_name name.now) }
+        ensures { Gives told keys_of_span result (Ok (spec.span_keys_of name.now (values_view self.now))) }
+    {
+        let text = name.to_string(alloc)?;
+        let stalls = self.stalls(alloc)?;
+        Ok(Span {
+            name: Name::new(text),
+            machine: self.ends.machine,
+            from_pin: self.ends.from_pin,
+            from_rise: self.ends.from_rise,
+            to_pin: self.ends.to_pin,
+            to_rise: self.ends.to_rise,
+            unit: self.bounds.unit,
+            min: self.bounds.min,
+            max: self.bounds.max,
+            stalls,
+        })
+    }
+
+    /// The stalls of the span.
+    fn stalls(&self, alloc: Global) -> Result<Stalls, ConfigFault>
+        ensures { Gives told (λ s. s) result (Ok self.now.stalls.items) }
+    {
+        let addresses = self.stalls.as_slice().to_vec(alloc)?;
+        match Stalls::new(addresses) {
+            Some(stalls) => Ok(stalls),
+            None => Ok(Stalls::empty(alloc)),
+        }
+    }
+}
+
+/// From where to where a span goes.
+#[derive(Clone, Copy)]
+pub struct EndValues {
+    pub machine: u8,
+    pub from_pin: u8,
+    pub to_pin: u8,
+    pub from_rise: bool,
+    pub to_rise: bool,
+    pub ghost machine_in_block: { machine < 4 },
+    pub ghost from_pin_is_a_pin: { from_pin < 32 },
+    pub ghost to_pin_is_a_pin: { to_pin < 32 },
+}
+
+impl EndValues {
+    ghost use Rattle.block_config.specs.SpanView.{ends_view};
+
+    /// The machine, which has to be configured.
+    fn machine(table: &Table, machines: &[Option<MachineSetup>; 4]) -> Result<u8, Lack>
+        ensures value { seen (λ n. n) result
+            ≡ spec.machine_at (map (option_map keys_of_machine) machines.now)
+            (table_view table.now) }
+        ensures in_block { IfOk result (λ n. n < 4) }
+    {
+        let id = number_at(table, &keys::SPAN_MACHINE)? as u8;
+        if machines[usize::from(id)].is_some() {
+            Ok(id)
+        } else {
+            Err(Lack {
+                key: keys::MACHINE,
+                kind: ConfigKind::NoProgram,
+            })
+        }
+    }
+
+    /// Whether the edge of a key is a rise.
+    fn edge(table: &Table, key: &'static str) -> Result<bool, Lack>
+        ensures { seen (λ b. b) result ≡ spec.edge_at (table_view table.now) key.now }
+    {
+        let edge = match text_of(value_at(table, key)) {
+            Ok(word) => Self::edge_of(word),
+            Err(kind) => Err(kind),
+        };
+        match edge {
+            Ok(rise) => Ok(rise),
+            Err(kind) => Err(Lack { key, kind }),
+        }
+    }
+
+    fn edge_of(word: Option<&str>) -> Result<bool, ConfigKind>
+        ensures { result ≡ spec.edge_of (option_map (λ n. n.now) word.entry) }
+    {
+        let Some(word) = word else {
+            return Err(ConfigKind::Missing);
+        };
+        if word == "rise" {
+            Ok(true)
+        } else if word == "fall" {
+            Ok(false)
+        } else {
+            Err(ConfigKind::Range)
+        }
+    }
+
+    /// The machine, the pins and the edges of a table.
+    #[tactic(auto, unfolding(crate::specs::Tables::each_at))]
+    fn read(table: &Table, machines: &[Option<MachineSetup>; 4]) -> Result<Self, Lack>
+        ensures { seen ends_view result
+            ≡ spec.ends_at (map (option_map keys_of_machine) machines.now) (table_view table.now) }
+    {
+        let machine = Self::machine(table, machines)?;
+        let pins = numbers_at(table, &keys::SPAN_PINS)?;
+        let from_rise = Self::edge(table, keys::FROM_EDGE)?;
+        let to_rise = Self::edge(table, keys::TO_EDGE)?;
+        Ok(EndValues {
+            machine,
+            from_pin: pins[0] as u8,
+            to_pin: pins[1] as u8,
+            from_rise,
+            to_rise,
+        })
+    }
+}
+
+/// How long a span lasts.
+#[derive(Clone, Copy)]
+pub struct BoundValues {
+    pub unit: SpanUnit,
+    pub min: u32,
+    pub max: u32,
+    pub ghost ordered: { min ≤ max },
+    pub ghost bounded: { max < 2 ^ 24 },
+}
+
+impl BoundValues {
+    ghost use Rattle.block_config.specs.SpanView.{bounds_view};
+
+    /// What the bounds count.
+    fn unit(table: &Table) -> Result<SpanUnit, Lack>
+        ensures { seen (λ u. u) result ≡ spec.unit_at (table_view table.now) }
+    {
+        let unit = match text_of(value_at(table, keys::UNIT)) {
+            Ok(word) => Self::unit_of(word),
+            Err(kind) => Err(kind),
+        };
+        match unit {
+            Ok(unit) => Ok(unit),
+            Err(kind) => Err(Lack {
+                key: keys::UNIT,
+                kind,
+            }),
+        }
+    }
+
+    fn unit_of(word: Option<&str>) -> Result<SpanUnit, ConfigKind>
+        ensures { result ≡ spec.unit_of (option_map (λ n. n.now) word.entry) }
+    {
+        let Some(word) = word else {
+            return Ok(SpanUnit::Ticks);
+        };
+        if word == "ticks" {
+            Ok(SpanUnit::Ticks)
+        } else if word == "clocks" {
+            Ok(SpanUnit::Clocks)
+        } else {
+            Err(ConfigKind::Range)
+        }
+    }
+
+    /// The unit and the bounds of a table.
+    #[tactic(auto, unfolding(crate::specs::Tables::each_at))]
+    fn read(table: &Table) -> Result<Self, Lack>
+        ensures { seen bounds_view result ≡ spec.bounds_at (table_view table.now) }
+    {
+        let unit = Self::unit(table)?;
+        let bounds = numbers_at(table, &keys::BOUND_KEYS)?;
+        let min = bounds[0];
+        let max = bounds[1];
+        if max < min {
+            return Err(Lack {
+                key: keys::MAX,
+                kind: ConfigKind::Range,
+            });
+        }
+        Ok(BoundValues { unit, min, max })
     }
 }

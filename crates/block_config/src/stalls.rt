@@ -4,15 +4,15 @@ ghost use Rattle.pin_matrix.specs.Spans.{are_addresses, is_in_ticks};
 ghost use Rattle.toml.specs.Data.{as_str};
 ghost use Rattle.toml.specs.View.{items_view, table_view, view};
 ghost use Rattle.block_config.specs.Arrays.{count_items};
-ghost use Rattle.block_config.specs.LoadView.{loaded_of};
-ghost use Rattle.block_config.specs.SpanTable as spec;
+ghost use Rattle.block_config.specs.Loads.{loaded_of};
+ghost use Rattle.block_config.specs.Spans as spec;
 ghost use Rattle.block_config.specs.Tables.{seen};
 ghost use Rattle.block_config.specs.Values.{map_ok};
 
 use crate::arrays::{Element, are_all, count_of};
 use crate::fault::ConfigKind;
-use crate::label::label_of;
-use crate::programs::Load;
+use crate::keys;
+use crate::programs::{Load, label_of};
 use crate::table::{Lack, value_at};
 use arrayvec::ArrayVec;
 use pin_matrix::SpanUnit;
@@ -29,10 +29,10 @@ pub fn stalls_at(
     ensures in_memory { IfOk result (λ v. IsTrue (are_addresses v.items)) }
     ensures in_ticks { IfOk result (λ v. IsTrue (is_in_ticks unit || length v.items == 0)) }
 {
-    match stalls_of(value_at(table, "stalls"), unit, load) {
+    match stalls_of(value_at(table, keys::STALLS), unit, load) {
         Ok(addresses) => Ok(addresses),
         Err(kind) => Err(Lack {
-            key: "stalls",
+            key: keys::STALLS,
             kind,
         }),
     }

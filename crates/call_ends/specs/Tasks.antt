@@ -5,9 +5,16 @@
 --   need_of     what a task needs of spans, beside its text
 --   file_in     which file a command reads in a role; reaches: when it comes to it
 use Rattle.std.specs.Prelude.{ℕ, Bool, true, Option, None, IfSome, List}
+use Rattle.std.specs.List.{flat_map}
 use Rattle.pio_edge.specs.Edge.{Files}
 use Rattle.fault_lines.specs.declared.fault.File.{File}
 use Rattle.vcd_trace.specs.VcdText.{vcd_text}
+use Rattle.span_meter.specs.Measured.{ends_in, measured, seen_of}
+use Rattle.span_meter.specs.SeenText.{seen_line}
+use Rattle.span_meter.specs.declared.seen.Seen.{Seen}
+use Rattle.serial_receiver.specs.Frames.{frames, levels_of}
+use Rattle.serial_receiver.specs.FrameText.{frames_text}
+use Rattle.pin_matrix.specs.Pins.{is_high}
 use Rattle.dreq_pacing.specs.declared.line.Line.{Line}
 use Rattle.block_core.specs.Block.{Run, first_run}
 use Rattle.block_core.specs.Hosted.{samples}
@@ -17,7 +24,7 @@ use Rattle.span_bounds.specs.declared.row.Row.{Row}
 use Rattle.span_bounds.specs.Answers.{IsGoodLeast}
 use Rattle.table_files.specs.Rows.{table_text}
 use Rattle.table_files.specs.FlawLines.{rechecked_line}
-use Rattle.command_line.specs.Words.{Asked, asm, run, check, table, recheck, shares, gen, dis}
+use Rattle.command_line.specs.Words.{Asked, asm, run, check, table, recheck, shares, gen, dis, measure, receive}
 use Rattle.program_listing.specs.Listing.{listing_text}
 use Rattle.word_file.specs.Listing.{word_lines, rule_for}
 use Rattle.block_shares.specs.Report.{shares_text}
@@ -41,6 +48,19 @@ pub data Task : Type 0 where
 unfoldable pub trace_text : Run → List Line → ℕ → List ℕ
 trace_text start lines clocks = vcd_text (samples start lines clocks)
 
+-- what a span measures in so many clocks from a start, beside the lines of a stimulus: before clock 0 the levels are the start's
+abbrev pub seen_in : Run → Span → List Line → ℕ → Seen
+seen_in start sp lines clocks = seen_of (measured (ends_in sp) start.state.levels (samples start lines clocks))
+
+-- the line of what each span measures, in order
+unfoldable pub measured_text : Run → List Span → List Line → ℕ → List ℕ
+measured_text start spans lines clocks = flat_map (λ sp. seen_line sp.name (seen_in start sp lines clocks)) spans
+
+-- the line of each frame that a pin sends at so many clocks a bit: before clock 0 its level is the start's
+unfoldable pub received_text : Run → (pin bit : ℕ) → List Line → ℕ → List ℕ
+received_text start pin bit lines clocks =
+    frames_text (frames bit (is_high start.state.levels pin) (levels_of pin (samples start lines clocks)))
+
 -- what a command comes to; `check`, `table` and `shares` read what a run without a stimulus reads
 unfoldable pub judge : Files → Asked → Judged Task
 judge files (asm name) = and_then (source_at files name) (λ programs. right (listing (listing_text programs)))
@@ -55,6 +75,12 @@ judge files (shares source config) =
     and_then (prepared_at files source config None) (λ prepared. right (listing (shares_text prepared.0)))
 judge files (gen seed clocks) = right (listing (summary_text (summary_of seed clocks)))
 judge files (dis name side opt) = and_then (words_at files name) (λ words. right (listing (word_lines (rule_for side opt) words)))
+judge files (measure source config stimulus clocks) =
+    and_then (prepared_at files source config stimulus)
+    (λ prepared. right (listing (measured_text (first_run prepared.0) prepared.0.spans prepared.1 clocks)))
+judge files (receive source config stimulus clocks pin bit) =
+    and_then (prepared_at files source config stimulus)
+    (λ prepared. right (listing (received_text (first_run prepared.0) pin bit prepared.1 clocks)))
 
 -- the told files come to a task that is such
 abbrev pub ComesTo : Call → Asked → (Task → Type 0) → Type 0
@@ -95,6 +121,8 @@ file_in (recheck source config name file) role = recheck_files source config fil
 file_in (shares source config) role = run_files source config None role
 file_in (gen seed clocks) role = no_file role
 file_in (dis name side opt) role = words_alone name role
+file_in (measure source config stimulus clocks) role = run_files source config stimulus role
+file_in (receive source config stimulus clocks pin bit) role = run_files source config stimulus role
 
 -- a command comes to the file of this role: what it reads before is right
 abbrev pub reaches : Files → Asked → File → Bool
@@ -106,3 +134,5 @@ reaches files (recheck source config name file) role = recheck_reaches files sou
 reaches files (shares source config) role = run_reaches files source config role
 reaches files (gen seed clocks) role = true
 reaches files (dis name side opt) role = true
+reaches files (measure source config stimulus clocks) role = run_reaches files source config role
+reaches files (receive source config stimulus clocks pin bit) role = run_reaches files source config role

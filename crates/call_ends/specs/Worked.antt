@@ -1,5 +1,6 @@
 -- How many clocks a command works out singly at most.
 --   run_worked    of a run whose files come to this
+--   worked_of     of a run, where the files are told or not
 --   most_worked   of a command, where the files are told or not
 use Rattle.std.specs.Prelude.{ℕ, ◌+◌, Option, Some, None, List}
 use Rattle.pio_edge.specs.Edge.{Files}
@@ -9,7 +10,7 @@ use Rattle.block_core.specs.Stirring.{stirring}
 use Rattle.pin_matrix.specs.declared.setup.Setup.{Setup}
 use Rattle.drawn_load.specs.Loads.{lines_of}
 use Rattle.load_summary.specs.Summaries.{start_of}
-use Rattle.command_line.specs.Words.{Asked, asm, run, check, table, recheck, shares, gen, dis}
+use Rattle.command_line.specs.Words.{Asked, asm, run, check, table, recheck, shares, gen, dis, measure, receive}
 use Rattle.file_stages.specs.Judged.{Judged, right, wrong, prepared_at}
 
 -- the clocks of a run that stir, and one more; none where its files have a fault
@@ -18,9 +19,15 @@ run_worked clocks (right prepared) = stirring (first_run prepared.0) prepared.1 
 run_worked clocks (wrong e) = 0
 
 -- At most the clocks that stir, and one more. Of files that aren't told no more is said than that it is the clocks asked.
+abbrev pub worked_of : Option Files → (source : List ℕ) → (config stimulus : Option (List ℕ)) → (clocks : ℕ) → ℕ
+worked_of (Some files) source config stimulus clocks = run_worked clocks (prepared_at files source config stimulus)
+worked_of None source config stimulus clocks = clocks
+
+-- the same of a command
 abbrev pub most_worked : Option Files → Asked → ℕ
-most_worked (Some files) (run source config stimulus clocks) = run_worked clocks (prepared_at files source config stimulus)
-most_worked None (run source config stimulus clocks) = clocks
+most_worked files (run source config stimulus clocks) = worked_of files source config stimulus clocks
+most_worked files (measure source config stimulus clocks) = worked_of files source config stimulus clocks
+most_worked files (receive source config stimulus clocks pin bit) = worked_of files source config stimulus clocks
 most_worked files (gen seed clocks) = stirring (start_of seed) (lines_of seed) clocks + 1
 most_worked files (asm name) = 0
 most_worked files (check source config) = 0

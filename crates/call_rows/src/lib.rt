@@ -6,6 +6,8 @@ mod listing_rows;
 #[cfg(test)]
 mod listing_tests;
 #[cfg(test)]
+mod observer_tests;
+#[cfg(test)]
 mod rows;
 #[cfg(test)]
 mod rows_bounds;
@@ -15,6 +17,8 @@ mod rows_config;
 mod rows_loads;
 #[cfg(test)]
 mod rows_machine;
+#[cfg(test)]
+mod rows_observers;
 #[cfg(test)]
 mod rows_refused;
 #[cfg(test)]

@@ -1,6 +1,6 @@
 -- What words as the usage has them ask for.
 use Rattle.std.proofs.Common.{◌≡◌, ◌≢◌, ◌∙◌, ◌≤◌, ◌^◌, ◌==◌, ◌&&◌, zero, suc, ℕ, Bool, true, false, not, List, [], ◌∷◌, Option, None, Some, refl, ap, arith, inl, inr, nat_lt, length, leb-true, if◌then◌else◌}
-use Rattle.std.specs.Prelude.{min, nat_le}
+use Rattle.std.specs.Prelude.{min, max, nat_le}
 use Rattle.std.specs.List.{list_all}
 use Rattle.std.specs.Char.{digit_value}
 use Rattle.std.specs.Str.Parse.{without_leading_plus}
@@ -12,22 +12,37 @@ use Rattle.clap.specs.ValueTests.{is_unsigned_in, is_numeral}
 use Rattle.clap.specs.declared.error.kind.ErrorKind.TheVariants as kind
 use Rattle.clap.proofs.OnLiterals.{clap_on_literals}
 use Rattle.clap.proofs.WalkLemmas.{both}
-use Rattle.command_line.specs.Tool.{clock_limit, seed_limit, side_limit, tool}
-use Rattle.command_line.specs.Words.{Asked, IsTaken, asm, run, check, table, recheck, shares, gen, dis, asked_of, number_in, has_no_room}
-use Rattle.command_line.specs.Laws.{number_of, asm_words, run_words, check_words, table_words, recheck_words, shares_words, gen_words, dis_words, AskWhere, AsmWords, RunWords, CheckWords, TableWords, RecheckWords, SharesWords, GenWords, DisWords}
+use Rattle.command_line.specs.Tool.{bit_limit, clock_limit, least_bit, pin_limit, seed_limit, side_limit, tool}
+use Rattle.command_line.specs.Words.{Asked, IsTaken, asm, run, check, table, recheck, shares, gen, dis, measure, receive, asked_of, number_in, has_no_room}
+use Rattle.command_line.specs.Laws.{number_of, asm_words, run_words, check_words, table_words, recheck_words, shares_words, gen_words, dis_words, measure_words, receive_words, are_in_range, AskWhere, AsmWords, RunWords, CheckWords, TableWords, RecheckWords, SharesWords, GenWords, DisWords, MeasureWords, ReceiveWords}
 
 -- ---- a number in range
 
-range_read : (most : ℕ) (text : Text) → is_unsigned_in 0 most text ≡ true → min (number_in text) most ≡ number_of text
-range_read most text e =
+-- the number that is read, and its ends
+record Reads (low most : ℕ) (text : Text) : Type 0 where
+  same : number_in text ≡ number_of text
+  least : low ≤ number_of text
+  greatest : number_of text ≤ most
+
+in_range : (low most : ℕ) (text : Text) → is_unsigned_in low most text ≡ true → Reads low most text
+in_range low most text e =
     let digits = without_leading_plus text in
     let n = number_of text in
-    let outer = both (is_numeral digits) (nat_lt n (2 ^ 64) && (nat_le 0 n && nat_le n most)) e in
+    let outer = both (is_numeral digits) (nat_lt n (2 ^ 64) && (nat_le low n && nat_le n most)) e in
     let numeral = both (nat_lt 0 (length digits)) (list_all (λ d. nat_lt (digit_value d) 10) digits) outer.0 in
-    let inner = both (nat_lt n (2 ^ 64)) (nat_le 0 n && nat_le n most) outer.1 in
-    let ends = both (nat_le 0 n) (nat_le n most) inner.1 in
-    let below : n ≤ most = leb-true _ _ ends.1 in
-    rw (numeral.0, numeral.1, inner.0) (omega arith)
+    let inner = both (nat_lt n (2 ^ 64)) (nat_le low n && nat_le n most) outer.1 in
+    let ends = both (nat_le low n) (nat_le n most) inner.1 in
+    record { same = rw (numeral.0, numeral.1, inner.0) refl; least = leb-true _ _ ends.0; greatest = leb-true _ _ ends.1 }
+
+range_read : (most : ℕ) (text : Text) → is_unsigned_in 0 most text ≡ true → min (number_in text) most ≡ number_of text
+range_read most text e = let r = in_range 0 most text e in let below = r.greatest in rw r.same (omega (arith, below))
+
+bit_read : (text : Text) → is_unsigned_in least_bit bit_limit text ≡ true → max (min (number_in text) bit_limit) least_bit ≡ number_of text
+bit_read text e =
+    let r = in_range least_bit bit_limit text e in
+    let below = r.greatest in
+    let above = r.least in
+    rw r.same (omega (arith, above, below))
 
 -- ---- run
 
@@ -242,3 +257,125 @@ dis_words_law name file side opt h = go (side == side_limit && opt) refl (dis_gi
         → AskWhere (not full) (dis_words name file side opt) (dis file side opt)
     go true e g = inr (dis file side opt, record { taken = g.passes; asked = g.asked }, e)
     go false e g = (taken_by _ _ g.takes g.asked e, record { taken = g.passes; asked = g.asked })
+
+-- ---- measure
+
+measure_asks : (name source : Text) (config stimulus : Option Text) (clocks : Text)
+    → asked_of (measure_words name source config stimulus clocks) ≡ Some (measure source config stimulus (min (number_in clocks) clock_limit))
+unfolding clap_on_literals tool asked_of
+measure_asks name source None None clocks = refl
+measure_asks name source None (Some stimulus) clocks = refl
+measure_asks name source (Some config) None clocks = refl
+measure_asks name source (Some config) (Some stimulus) clocks = refl
+
+measure_takes : (name source : Text) (config stimulus : Option Text) (clocks : Text) → is_unsigned_in 0 clock_limit clocks ≡ true
+    → takes tool (measure_words name source config stimulus clocks) ≡ true
+unfolding clap_on_literals tool
+measure_takes name source None None clocks e = with_the_others _ e
+measure_takes name source None (Some stimulus) clocks e = with_the_others _ e
+measure_takes name source (Some config) None clocks e = with_the_others _ e
+measure_takes name source (Some config) (Some stimulus) clocks e = with_the_others _ e
+
+measure_computes : (name source : Text) (config stimulus : Option Text) (clocks : Text)
+    → fault_of tool (measure_words name source config stimulus clocks) ≡ within 5 (fault_where (is_unsigned_in 0 clock_limit clocks))
+unfolding clap_on_literals tool within
+measure_computes name source None None clocks = refl
+measure_computes name source None (Some stimulus) clocks = refl
+measure_computes name source (Some config) None clocks = refl
+measure_computes name source (Some config) (Some stimulus) clocks = refl
+
+measure_fault : (name source : Text) (config stimulus : Option Text) (clocks : Text) (b : Bool) → is_unsigned_in 0 clock_limit clocks ≡ b
+    → fault_of tool (measure_words name source config stimulus clocks) ≡ fault_where b
+measure_fault name source config stimulus clocks b e =
+    measure_computes name source config stimulus clocks ∙ within_is 5 _ ∙ ap fault_where e
+
+pub measure_words_law : MeasureWords
+measure_words_law name source config stimulus clocks = go (is_unsigned_in 0 clock_limit clocks) refl
+  where
+    go : (b : Bool) → is_unsigned_in 0 clock_limit clocks ≡ b
+        → AskWhere b (measure_words name source config stimulus clocks) (measure source config stimulus (number_of clocks))
+    go true e =
+        let asked = measure_asks name source config stimulus clocks
+        ∙ ap (λ n. Some (measure source config stimulus n)) (range_read clock_limit clocks e) in
+        let takes = measure_takes name source config stimulus clocks e in
+        (taken_by _ _ takes asked refl, record { taken = measure_fault name source config stimulus clocks true e; asked = asked })
+    go false e = inl (not_empty _ (measure_fault name source config stimulus clocks false e))
+
+-- ---- receive
+
+receive_asks : (name source : Text) (config stimulus : Option Text) (clocks pin bit : Text)
+    → asked_of (receive_words name source config stimulus clocks pin bit)
+    ≡ Some (receive source config stimulus (min (number_in clocks) clock_limit) (min (number_in pin) pin_limit)
+    (max (min (number_in bit) bit_limit) least_bit))
+unfolding clap_on_literals tool asked_of
+receive_asks name source None None clocks pin bit = refl
+receive_asks name source None (Some stimulus) clocks pin bit = refl
+receive_asks name source (Some config) None clocks pin bit = refl
+receive_asks name source (Some config) (Some stimulus) clocks pin bit = refl
+
+-- the tests of three numbers, among tests that pass
+three_tests : (c p b : Bool) → c ≡ true → p ≡ true → b ≡ true
+    → ((((c && true) && true) && (((p && true) && true) && (((b && true) && true) && true))) && true && true) ≡ true
+three_tests true true true e f g = refl
+three_tests true true false e f g = g
+three_tests true false b e f g = f
+three_tests false p b e f g = e
+
+receive_takes : (name source : Text) (config stimulus : Option Text) (clocks pin bit : Text) → is_unsigned_in 0 clock_limit clocks ≡ true
+    → is_unsigned_in 0 pin_limit pin ≡ true → is_unsigned_in least_bit bit_limit bit ≡ true
+    → takes tool (receive_words name source config stimulus clocks pin bit) ≡ true
+unfolding clap_on_literals tool
+receive_takes name source None None clocks pin bit e f g = three_tests _ _ _ e f g
+receive_takes name source None (Some stimulus) clocks pin bit e f g = three_tests _ _ _ e f g
+receive_takes name source (Some config) None clocks pin bit e f g = three_tests _ _ _ e f g
+receive_takes name source (Some config) (Some stimulus) clocks pin bit e f g = three_tests _ _ _ e f g
+
+-- the first fault of the three numbers, where clap's definition meets it
+first_of_three : Bool → Bool → Bool → Kinds
+first_of_three c p b = within 2 (or_else (within 2 (fault_where c)) (or_else (within 2 (fault_where p)) (within 3 (fault_where b))))
+
+receive_computes : (name source : Text) (config stimulus : Option Text) (clocks pin bit : Text)
+    → fault_of tool (receive_words name source config stimulus clocks pin bit)
+    ≡ first_of_three (is_unsigned_in 0 clock_limit clocks) (is_unsigned_in 0 pin_limit pin) (is_unsigned_in least_bit bit_limit bit)
+unfolding clap_on_literals tool within first_of_three
+receive_computes name source None None clocks pin bit = refl
+receive_computes name source None (Some stimulus) clocks pin bit = refl
+receive_computes name source (Some config) None clocks pin bit = refl
+receive_computes name source (Some config) (Some stimulus) clocks pin bit = refl
+
+first_of_three_is : (c p b : Bool) → first_of_three c p b ≡ fault_where (c && p && b)
+unfolding within first_of_three
+first_of_three_is true true true = refl
+first_of_three_is true true false = refl
+first_of_three_is true false b = refl
+first_of_three_is false p b = refl
+
+receive_fault : (name source : Text) (config stimulus : Option Text) (clocks pin bit : Text) (c p b : Bool)
+    → is_unsigned_in 0 clock_limit clocks ≡ c → is_unsigned_in 0 pin_limit pin ≡ p → is_unsigned_in least_bit bit_limit bit ≡ b
+    → fault_of tool (receive_words name source config stimulus clocks pin bit) ≡ fault_where (c && p && b)
+receive_fault name source config stimulus clocks pin bit c p b e f g =
+    receive_computes name source config stimulus clocks pin bit
+    ∙ ap (λ x. first_of_three x (is_unsigned_in 0 pin_limit pin) (is_unsigned_in least_bit bit_limit bit)) e
+    ∙ ap (λ x. first_of_three c x (is_unsigned_in least_bit bit_limit bit)) f ∙ ap (first_of_three c p) g ∙ first_of_three_is c p b
+
+pub receive_words_law : ReceiveWords
+receive_words_law name source config stimulus clocks pin bit =
+    go (is_unsigned_in 0 clock_limit clocks) (is_unsigned_in 0 pin_limit pin) (is_unsigned_in least_bit bit_limit bit) refl refl refl
+  where
+    go : (c p b : Bool) → is_unsigned_in 0 clock_limit clocks ≡ c → is_unsigned_in 0 pin_limit pin ≡ p
+        → is_unsigned_in least_bit bit_limit bit ≡ b
+        → AskWhere (c && p && b) (receive_words name source config stimulus clocks pin bit)
+        (receive source config stimulus (number_of clocks) (number_of pin) (number_of bit))
+    go true true true e f g =
+        let asked = receive_asks name source config stimulus clocks pin bit
+        ∙ ap (λ n. Some (receive source config stimulus n (min (number_in pin) pin_limit) (max (min (number_in bit) bit_limit) least_bit)))
+        (range_read clock_limit clocks e)
+        ∙ ap (λ n. Some (receive source config stimulus (number_of clocks) n (max (min (number_in bit) bit_limit) least_bit)))
+        (range_read pin_limit pin f)
+        ∙ ap (λ n. Some (receive source config stimulus (number_of clocks) (number_of pin) n)) (bit_read bit g) in (
+          taken_by _ _ (receive_takes name source config stimulus clocks pin bit e f g) asked refl,
+          record { taken = receive_fault name source config stimulus clocks pin bit true true true e f g; asked = asked },
+        )
+    go true true false e f g = inl (not_empty _ (receive_fault name source config stimulus clocks pin bit true true false e f g))
+    go true false b e f g = inl (not_empty _ (receive_fault name source config stimulus clocks pin bit true false b e f g))
+    go false p b e f g = inl (not_empty _ (receive_fault name source config stimulus clocks pin bit false p b e f g))

@@ -3,8 +3,8 @@ use Rattle.std.specs.Prelude.{◌++◌, ◌+◌, ◌≤◌, ◌==◌, ◌&&◌, 
 use Rattle.std.specs.Str.Parse.{digits_value, without_leading_plus}
 use Rattle.clap.specs.ValueTests.{is_unsigned_in}
 use Rattle.clap.specs.Walk.{Text}
-use Rattle.command_line.specs.Tool.{clock_limit, seed_limit, side_limit}
-use Rattle.command_line.specs.Words.{Asked, Asks, IsRefused, IsTaken, asm, check, dis, gen, recheck, run, shares, table}
+use Rattle.command_line.specs.Tool.{bit_limit, clock_limit, least_bit, pin_limit, seed_limit, side_limit}
+use Rattle.command_line.specs.Words.{Asked, Asks, IsRefused, IsTaken, asm, check, dis, gen, measure, receive, recheck, run, shares, table}
 
 -- the number of decimal digits, where a plus may come first
 abbrev pub number_of : Text → ℕ
@@ -86,6 +86,37 @@ abbrev pub GenWords : Type 0
 GenWords = (name seed clocks : Text)
     → AskWhere (is_unsigned_in 0 seed_limit seed && is_unsigned_in 0 clock_limit clocks) (gen_words name seed clocks)
     (gen (number_of seed) (number_of clocks))
+
+-- `measure --source=S [--config=C] [--stimulus=T] --clocks=N`, of a program of any name
+abbrev pub measure_words : Text → Text → Option Text → Option Text → Text → List Text
+measure_words name source config stimulus clocks =
+    name ∷ codes "measure" ∷ (codes "--source=" ++ source) ∷ (given (codes "--config=") config
+    ++ given (codes "--stimulus=") stimulus ++ (codes "--clocks=" ++ clocks) ∷ [])
+
+-- they ask for what N clocks show of the spans of C over S, exactly where N is a whole number in range, whatever S, C and T are
+abbrev pub MeasureWords : Type 0
+MeasureWords = (name source : Text) (config stimulus : Option Text) (clocks : Text)
+    → AskWhere (is_unsigned_in 0 clock_limit clocks) (measure_words name source config stimulus clocks)
+    (measure source config stimulus (number_of clocks))
+
+-- `receive --source=S [--config=C] [--stimulus=T] --clocks=N --pin=P --bit=B`, of a program of any name
+abbrev pub receive_words : Text → Text → Option Text → Option Text → Text → Text → Text → List Text
+receive_words name source config stimulus clocks pin bit =
+    name ∷ codes "receive" ∷ (codes "--source=" ++ source) ∷ (given (codes "--config=") config
+    ++ given (codes "--stimulus=") stimulus
+    ++ (codes "--clocks=" ++ clocks) ∷ (codes "--pin=" ++ pin) ∷ (codes "--bit=" ++ bit) ∷ [])
+
+-- the three numbers are in range
+abbrev pub are_in_range : Text → Text → Text → Bool
+are_in_range clocks pin bit =
+    is_unsigned_in 0 clock_limit clocks && is_unsigned_in 0 pin_limit pin && is_unsigned_in least_bit bit_limit bit
+
+-- they ask for the bytes on pin P at B clocks a bit in N clocks of S under C and T, exactly where the three are whole numbers in
+-- range, whatever S, C and T are
+abbrev pub ReceiveWords : Type 0
+ReceiveWords = (name source : Text) (config stimulus : Option Text) (clocks pin bit : Text)
+    → AskWhere (are_in_range clocks pin bit) (receive_words name source config stimulus clocks pin bit)
+    (receive source config stimulus (number_of clocks) (number_of pin) (number_of bit))
 
 -- the digit `0`; the others follow it
 abbrev pub digit_0 : ℕ

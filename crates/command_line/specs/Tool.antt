@@ -18,6 +18,17 @@ seed_limit = 2 ^ 64 - 1
 abbrev pub side_limit : ℕ
 side_limit = 5
 
+-- the number of the last pin (RP2040 Datasheet, section 3.1)
+abbrev pub pin_limit : ℕ
+pin_limit = 31
+
+-- the fewest and the most clocks of a bit of a serial line (choice of this profile)
+abbrev pub least_bit : ℕ
+least_bit = 2
+
+abbrev pub bit_limit : ℕ
+bit_limit = 65535
+
 -- `--name X`, where X is any text (choice of this profile)
 abbrev pub option_rule : Text → Rule
 option_rule name = record (new_rule name) { long = Some name; action = Some Set }
@@ -57,6 +68,14 @@ clocks_rule = up_to clock_limit (required (option_rule (codes "clocks")))
 -- `--seed K`: a number of 64 bits
 unfoldable pub seed_rule : Rule
 seed_rule = up_to seed_limit (required (option_rule (codes "seed")))
+
+-- `--pin P`: the number of a pin
+unfoldable pub pin_rule : Rule
+pin_rule = up_to pin_limit (required (option_rule (codes "pin")))
+
+-- `--bit B`: how many clocks a bit takes
+unfoldable pub bit_rule : Rule
+bit_rule = record (required (option_rule (codes "bit"))) { parser = Some (Unsigned least_bit bit_limit) }
 
 -- `FILE`, a name alone
 unfoldable pub file_rule : Rule
@@ -114,6 +133,14 @@ recheck_app = subcommand (codes "recheck") (source_rule ∷ config_rule ∷ span
 unfoldable pub shares_app : App
 shares_app = subcommand (codes "shares") (source_rule ∷ config_rule ∷ [])
 
+-- `measure --source S [--config C] [--stimulus T] --clocks N`
+unfoldable pub measure_app : App
+measure_app = subcommand (codes "measure") (source_rule ∷ config_rule ∷ stimulus_rule ∷ clocks_rule ∷ [])
+
+-- `receive --source S [--config C] [--stimulus T] --clocks N --pin P --bit B`
+unfoldable pub receive_app : App
+receive_app = subcommand (codes "receive") (source_rule ∷ config_rule ∷ stimulus_rule ∷ clocks_rule ∷ pin_rule ∷ bit_rule ∷ [])
+
 -- `piotool` with no arguments of its own, which wants a subcommand
 unfoldable pub bare_app : App
 bare_app = record (new_app (codes "piotool")) {
@@ -122,5 +149,6 @@ bare_app = record (new_app (codes "piotool")) {
 
 -- `piotool` with its subcommands; who unfolds it unfolds all that it is made of
 unfoldable pub tool : App
-unfolding taking offering bare_app asm_app run_app dis_app check_app gen_app table_app recheck_app shares_app file_rule source_rule config_rule stimulus_rule clocks_rule seed_rule span_rule table_rule side_rule opt_rule
-tool = fold offering bare_app (asm_app ∷ run_app ∷ dis_app ∷ check_app ∷ gen_app ∷ table_app ∷ recheck_app ∷ shares_app ∷ [])
+unfolding taking offering bare_app asm_app run_app dis_app check_app gen_app table_app recheck_app shares_app measure_app receive_app file_rule source_rule config_rule stimulus_rule clocks_rule seed_rule span_rule table_rule pin_rule bit_rule side_rule opt_rule
+tool = fold offering bare_app (asm_app ∷ run_app ∷ dis_app ∷ check_app ∷ gen_app ∷ table_app ∷ recheck_app ∷ shares_app
+    ∷ measure_app ∷ receive_app ∷ [])

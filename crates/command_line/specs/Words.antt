@@ -1,5 +1,5 @@
 -- What the words of a call ask for: the order, when it is given, and when the words are refused.
-use Rattle.std.specs.Prelude.{◌≡◌, ◌≢◌, ◌⊎◌, ◌+◌, ◌≤◌, ◌&&◌, ◌==◌, ◌^◌, ℕ, Bool, true, false, Option, Some, List, [], min, codes, length, nat_lt, unwrap_or, option_map, if◌then◌else◌, ⊤}
+use Rattle.std.specs.Prelude.{◌≡◌, ◌≢◌, ◌⊎◌, ◌+◌, ◌≤◌, ◌&&◌, ◌==◌, ◌^◌, ℕ, Bool, true, false, Option, Some, List, [], min, max, codes, length, nat_lt, unwrap_or, option_map, if◌then◌else◌, ⊤}
 use Rattle.std.specs.List.{list_all}
 use Rattle.std.specs.Option.{option_map_or}
 use Rattle.std.specs.Char.{digit_value}
@@ -9,14 +9,15 @@ use Rattle.clap.specs.Walk.{Row, Text, first_of, one_of}
 use Rattle.clap.specs.Simple.{subcommand_of}
 use Rattle.clap.specs.Takes.{takes}
 use Rattle.clap.specs.Faults.{fault_of}
-use Rattle.command_line.specs.Tool.{clock_limit, seed_limit, side_limit, tool}
+use Rattle.command_line.specs.Tool.{bit_limit, clock_limit, least_bit, pin_limit, seed_limit, side_limit, tool}
 use Rattle.command_line.specs.declared.order.Order.{Order}
-use Rattle.command_line.specs.declared.order.Order.TheVariants.{Asm, Run, Check, Table, Recheck, Shares, Gen, Dis}
+use Rattle.command_line.specs.declared.order.Order.TheVariants.{Asm, Run, Check, Table, Recheck, Shares, Gen, Dis, Measure, Receive}
 use Rattle.command_line.specs.declared.order.WordsFault.{WordsFault}
 use Rattle.command_line.specs.declared.order.WordsFault.TheVariants.{Usage, Memory}
 
 -- a subcommand with its arguments: file; source, configuration and stimulus if there are some, and clocks; source, and
--- configuration if there is one; the same with a span's name, and then with a table; seed and clocks; or file, side-set bits and whether their value is optional
+-- configuration if there is one; the same with a span's name, and then with a table; seed and clocks; file, side-set bits and whether
+-- their value is optional; and the arguments of `run`, alone or with a pin and the clocks of a bit
 pub data Asked : Type 0 where
   asm : Text → Asked
   run : Text → Option Text → Option Text → ℕ → Asked
@@ -26,6 +27,8 @@ pub data Asked : Type 0 where
   shares : Text → Option Text → Asked
   gen : ℕ → ℕ → Asked
   dis : Text → ℕ → Bool → Asked
+  measure : Text → Option Text → Option Text → ℕ → Asked
+  receive : Text → Option Text → Option Text → ℕ → ℕ → ℕ → Asked
 
 -- what an order asks for
 abbrev pub asked_by : Order → Asked
@@ -37,6 +40,10 @@ asked_by (Recheck source config span file) = recheck source.now (option_map (λ 
 asked_by (Shares source config) = shares source.now (option_map (λ t. t.now) config)
 asked_by (Gen seed clocks) = gen seed clocks
 asked_by (Dis file side opt) = dis file.now side opt
+asked_by (Measure source config stimulus clocks) =
+    measure source.now (option_map (λ t. t.now) config) (option_map (λ t. t.now) stimulus) clocks
+asked_by (Receive source config stimulus clocks pin bit) =
+    receive source.now (option_map (λ t. t.now) config) (option_map (λ t. t.now) stimulus) clocks pin bit
 
 -- ---- what clap's matches of a subcommand ask for
 
@@ -95,22 +102,40 @@ gen_asked rows = gen (number_at seed_limit (codes "seed") rows) (number_at clock
 abbrev pub dis_asked : List Row → Asked
 dis_asked rows = dis (text_at (codes "file") rows) (number_at side_limit (codes "side") rows) (flag_at (codes "opt") rows)
 
+-- the arguments of `measure`
+abbrev pub measure_asked : List Row → Asked
+measure_asked rows =
+    measure (text_at (codes "source") rows) (first_of (codes "config") rows) (first_of (codes "stimulus") rows)
+    (number_at clock_limit (codes "clocks") rows)
+
+-- the arguments of `receive`; a bit takes two clocks at least
+abbrev pub receive_asked : List Row → Asked
+receive_asked rows =
+    receive (text_at (codes "source") rows) (first_of (codes "config") rows) (first_of (codes "stimulus") rows)
+    (number_at clock_limit (codes "clocks") rows) (number_at pin_limit (codes "pin") rows)
+    (max (number_at bit_limit (codes "bit") rows) least_bit)
+
 -- the arguments of the subcommand of this name
 abbrev pub subcommand_asked : Text → List Row → Asked
 subcommand_asked name rows =
     if bytes_eq name (codes "asm") then asm_asked rows else if bytes_eq name (codes "run") then run_asked rows
     else if bytes_eq name (codes "check") then check_asked rows else if bytes_eq name (codes "table") then table_asked rows
     else if bytes_eq name (codes "recheck") then recheck_asked rows
-    else if bytes_eq name (codes "shares") then shares_asked rows else if bytes_eq name (codes "gen") then gen_asked rows else dis_asked rows
+    else if bytes_eq name (codes "shares") then shares_asked rows else if bytes_eq name (codes "gen") then gen_asked rows
+    else if bytes_eq name (codes "measure") then measure_asked rows
+    else if bytes_eq name (codes "receive") then receive_asked rows else dis_asked rows
 
 -- what the matches that clap's definition gives for `tool` and the words ask for
 unfoldable pub asked_of : List Text → Option Asked
 asked_of words = option_map (λ met. subcommand_asked met.0 met.1) (subcommand_of tool words)
 
--- the seed and the clocks are in range, and so are the side-set bits with the one of `--opt`
+-- the seed and the clocks are in range, and so are the pin, the clocks of a bit, and the side-set bits with the one of `--opt`
 abbrev pub IsWithinRange : Asked → Type 0
 IsWithinRange (run source config stimulus clocks) = clocks ≤ clock_limit
 IsWithinRange (gen seed clocks) = (seed ≤ seed_limit) × (clocks ≤ clock_limit)
+IsWithinRange (measure source config stimulus clocks) = clocks ≤ clock_limit
+IsWithinRange (receive source config stimulus clocks pin bit) =
+    (clocks ≤ clock_limit) × (pin ≤ pin_limit) × (least_bit ≤ bit) × (bit ≤ bit_limit)
 IsWithinRange (dis file side opt) = side + (if opt then 1 else 0) ≤ side_limit
 IsWithinRange _ = ⊤
 
@@ -144,6 +169,8 @@ HasCause words Memory = ⊤
 abbrev pub clocks_asked : Asked → ℕ
 clocks_asked (run source config stimulus clocks) = clocks
 clocks_asked (gen seed clocks) = clocks
+clocks_asked (measure source config stimulus clocks) = clocks
+clocks_asked (receive source config stimulus clocks pin bit) = clocks
 clocks_asked _ = 0
 
 -- how many clocks words ask for at most

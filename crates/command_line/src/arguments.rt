@@ -1,8 +1,8 @@
 //! The arguments of the subcommands, one function each.
 ghost use Rattle.command_line.specs.Making.{IsRule};
-ghost use Rattle.command_line.specs.Tool.{clocks_rule, config_rule, file_rule, opt_rule, option_rule, seed_rule, side_rule, source_rule, span_rule, stimulus_rule, table_rule};
+ghost use Rattle.command_line.specs.Tool.{bit_rule, clocks_rule, config_rule, file_rule, opt_rule, option_rule, pin_rule, seed_rule, side_rule, source_rule, span_rule, stimulus_rule, table_rule};
 
-use crate::order::{MOST_CLOCKS, MOST_SEED, MOST_SIDE_BITS};
+use crate::order::{LAST_PIN, LEAST_BIT, MOST_BIT, MOST_CLOCKS, MOST_SEED, MOST_SIDE_BITS};
 use clap::builder::ValueParser;
 use clap::{Arg, ArgAction};
 use std::alloc::Global;
@@ -80,6 +80,28 @@ pub fn seed<'a>(alloc: Global) -> Arg<'a>
         .required(true)
         .value_parser(ValueParser::Unsigned(0, MOST_SEED))
         .help("Which load is drawn: any number below 2^64")
+}
+
+/// `--pin P`: 0 to 31, the number of a pin.
+#[tactic(auto, unfolding(crate::specs::Tool::pin_rule))]
+pub fn pin<'a>(alloc: Global) -> Arg<'a>
+    ensures { IsRule pin_rule result }
+{
+    option(alloc, "pin")
+        .required(true)
+        .value_parser(ValueParser::Unsigned(0, LAST_PIN))
+        .help("The pin of the line, 0 to 31")
+}
+
+/// `--bit B`: 2 to 65,535, how many clocks a bit takes.
+#[tactic(auto, unfolding(crate::specs::Tool::bit_rule))]
+pub fn bit<'a>(alloc: Global) -> Arg<'a>
+    ensures { IsRule bit_rule result }
+{
+    option(alloc, "bit")
+        .required(true)
+        .value_parser(ValueParser::Unsigned(LEAST_BIT, MOST_BIT))
+        .help("How many clocks a bit takes, 2 to 65535")
 }
 
 /// `FILE`: the name of a file, any text.

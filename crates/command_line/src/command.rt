@@ -2,7 +2,7 @@
 ghost use Rattle.std.specs.Prelude.{IfOk};
 ghost use Rattle.clap.specs.Simple.{new_app};
 ghost use Rattle.command_line.specs.Making.{IsApp, Offers, Takes};
-ghost use Rattle.command_line.specs.Tool.{asm_app, check_app, dis_app, gen_app, recheck_app, run_app, shares_app, table_app, bare_app, tool as tool_app};
+ghost use Rattle.command_line.specs.Tool.{asm_app, check_app, dis_app, gen_app, measure_app, receive_app, recheck_app, run_app, shares_app, table_app, bare_app, tool as tool_app};
 
 use crate::arguments;
 use clap::{Arg, Command};
@@ -23,7 +23,9 @@ pub fn tool<'a>(alloc: Global) -> Result<Command<'a>, AllocError>
     let command = add(command, generate(alloc));
     let command = add(command, table(alloc));
     let command = add(command, recheck(alloc));
-    add(command, shares(alloc))
+    let command = add(command, shares(alloc));
+    let command = add(command, measure(alloc));
+    add(command, receive(alloc))
 }
 
 #[tactic(auto, unfolding(crate::specs::Tool::bare_app))]
@@ -156,6 +158,40 @@ fn shares<'a>(alloc: Global) -> Result<Command<'a>, AllocError>
     );
     let command = with_argument(command, arguments::source(alloc));
     with_argument(command, arguments::config(alloc))
+}
+
+#[tactic(auto, unfolding(crate::specs::Tool::measure_app))]
+fn measure<'a>(alloc: Global) -> Result<Command<'a>, AllocError>
+    ensures { IfOk result (IsApp measure_app) }
+{
+    let command = named(
+        alloc,
+        "measure",
+        "Counts each span of the configuration in a run, and writes the fewest and the most clocks that it took",
+        "Example: piotool measure --source uart.pio --config uart.toml --stimulus uart.stim --clocks 100000",
+    );
+    let command = with_argument(command, arguments::source(alloc));
+    let command = with_argument(command, arguments::config(alloc));
+    let command = with_argument(command, arguments::stimulus(alloc));
+    with_argument(command, arguments::clocks(alloc))
+}
+
+#[tactic(auto, unfolding(crate::specs::Tool::receive_app))]
+fn receive<'a>(alloc: Global) -> Result<Command<'a>, AllocError>
+    ensures { IfOk result (IsApp receive_app) }
+{
+    let command = named(
+        alloc,
+        "receive",
+        "Reads a pin as a UART does, and writes each byte with the clock of its start bit",
+        "Example: piotool receive --source uart.pio --config uart.toml --stimulus uart.stim --clocks 100000 --pin 0 --bit 8",
+    );
+    let command = with_argument(command, arguments::source(alloc));
+    let command = with_argument(command, arguments::config(alloc));
+    let command = with_argument(command, arguments::stimulus(alloc));
+    let command = with_argument(command, arguments::clocks(alloc));
+    let command = with_argument(command, arguments::pin(alloc));
+    with_argument(command, arguments::bit(alloc))
 }
 
 /// A subcommand that takes no arguments yet: its name, and for its help what it writes and an example.

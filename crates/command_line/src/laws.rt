@@ -1,5 +1,5 @@
 //! Laws above clap's definition of a parse: what words as the usage has them ask for. The functions do nothing.
-ghost use Rattle.command_line.specs.Laws.{AsmWords, CheckWords, DisWords, GenWords, RecheckWords, RunWords, SharesWords, TableWords};
+ghost use Rattle.command_line.specs.Laws.{AsmWords, CheckWords, DisWords, GenWords, MeasureWords, ReceiveWords, RecheckWords, RunWords, SharesWords, TableWords};
 
 /// `asm -- FILE` asks for the listing of FILE.
 pub fn asm_words()
@@ -40,4 +40,16 @@ pub fn gen_words()
 /// `dis --side=n [--opt] -- FILE` asks for the text of FILE exactly where n leaves room for `--opt`.
 pub fn dis_words()
     ensures { DisWords }
+{}
+
+/// `measure --source=S [--config=C] [--stimulus=T] --clocks=N` asks for what N clocks show of the spans of C over S exactly where
+/// N is a whole number in range.
+pub fn measure_words()
+    ensures { MeasureWords }
+{}
+
+/// `receive --source=S [--config=C] [--stimulus=T] --clocks=N --pin=P --bit=B` asks for the bytes on pin P at B clocks a bit
+/// exactly where N, P and B are whole numbers in range.
+pub fn receive_words()
+    ensures { ReceiveWords }
 {}

@@ -9,6 +9,15 @@ pub const MOST_SEED: u64 = u64::MAX;
 /// The most side-set bits: the side-set values of a program's words take at most five pins.
 pub const MOST_SIDE_BITS: u64 = 5;
 
+/// The last pin.
+pub const LAST_PIN: u64 = 31;
+
+/// The fewest clocks of a bit of a serial line.
+pub const LEAST_BIT: u64 = 2;
+
+/// The most clocks of a bit of a serial line.
+pub const MOST_BIT: u64 = 65_535;
+
 /// What the words of a call ask for.
 #[derive(Clone, Copy, PartialEq)]
 pub enum Order<'a> {
@@ -58,6 +67,24 @@ pub enum Order<'a> {
         file: &'a str,
         side: u8,
         opt: bool,
+    },
+    /// How many clocks each span of a configuration takes in so many clocks (0 to 10^12) of the programs in a source, beside
+    /// a stimulus where one is named.
+    Measure {
+        source: &'a str,
+        config: Option<&'a str>,
+        stimulus: Option<&'a str>,
+        clocks: u64,
+    },
+    /// The bytes that a pin (0 to 31) sends at so many clocks a bit (2 to 65,535), in so many clocks (0 to 10^12) of the
+    /// programs in a source, under a configuration and beside a stimulus where they are named.
+    Receive {
+        source: &'a str,
+        config: Option<&'a str>,
+        stimulus: Option<&'a str>,
+        clocks: u64,
+        pin: u8,
+        bit: u16,
     },
 }
 

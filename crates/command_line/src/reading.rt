@@ -4,12 +4,14 @@ ghost use Rattle.clap.specs.Matches.{found_of, has_subcommand};
 ghost use Rattle.clap.specs.Simple.{subcommand_rows_of};
 ghost use Rattle.clap.specs.Walk.{rows_of};
 ghost use Rattle.std.specs.Option.{option_map};
-ghost use Rattle.command_line.specs.Words.{Asks, HasCause, IsTaken, IsWithinRange, asked_by, asm_asked, check_asked, dis_asked, gen_asked};
-ghost use Rattle.command_line.specs.Words.{has_no_room as has_no_room_of, recheck_asked, run_asked, shares_asked, subcommand_asked, table_asked};
+ghost use Rattle.command_line.specs.Words.{Asks, HasCause, IsTaken, IsWithinRange, asked_by, asm_asked, check_asked, dis_asked, gen_asked, measure_asked};
+ghost use Rattle.command_line.specs.Words.{has_no_room as has_no_room_of, receive_asked, recheck_asked, run_asked, shares_asked, subcommand_asked, table_asked};
 
 use crate::getters::{flag, number, option_text, text};
 use crate::matching::matched;
-use crate::order::{MOST_CLOCKS, MOST_SEED, MOST_SIDE_BITS, Order, WordsFault};
+use crate::order::{
+    LAST_PIN, LEAST_BIT, MOST_BIT, MOST_CLOCKS, MOST_SEED, MOST_SIDE_BITS, Order, WordsFault,
+};
 use clap::ArgMatches;
 use std::alloc::Global;
 
@@ -39,7 +41,9 @@ fn has_no_room(order: Order<'_>) -> bool
         | Order::Table { .. }
         | Order::Recheck { .. }
         | Order::Shares { .. }
-        | Order::Gen { .. } => false,
+        | Order::Gen { .. }
+        | Order::Measure { .. }
+        | Order::Receive { .. } => false,
         Order::Dis { side, opt, .. } => u64::from(side) == MOST_SIDE_BITS && opt,
     }
 }
@@ -67,6 +71,10 @@ fn order_of<'a>(matches: &ArgMatches<'a>) -> Order<'a>
         shares_order(found)
     } else if name == "gen" {
         gen_order(found)
+    } else if name == "measure" {
+        measure_order(found)
+    } else if name == "receive" {
+        receive_order(found)
     } else {
         dis_order(found)
     }
@@ -147,5 +155,31 @@ fn dis_order<'a>(matches: &ArgMatches<'a>) -> Order<'a>
         file: text(matches, "file"),
         side: side as u8,
         opt: flag(matches, "opt"),
+    }
+}
+
+fn measure_order<'a>(matches: &ArgMatches<'a>) -> Order<'a>
+    ensures { asked_by result ≡ measure_asked (rows_of (found_of matches.now)) }
+{
+    Order::Measure {
+        source: text(matches, "source"),
+        config: option_text(matches, "config"),
+        stimulus: option_text(matches, "stimulus"),
+        clocks: number(matches, "clocks", MOST_CLOCKS),
+    }
+}
+
+fn receive_order<'a>(matches: &ArgMatches<'a>) -> Order<'a>
+    ensures { asked_by result ≡ receive_asked (rows_of (found_of matches.now)) }
+{
+    let pin = number(matches, "pin", LAST_PIN);
+    let bit = number(matches, "bit", MOST_BIT).max(LEAST_BIT);
+    Order::Receive {
+        source: text(matches, "source"),
+        config: option_text(matches, "config"),
+        stimulus: option_text(matches, "stimulus"),
+        clocks: number(matches, "clocks", MOST_CLOCKS),
+        pin: pin as u8,
+        bit: bit as u16,
     }
 }

@@ -28,7 +28,7 @@ use vcd_trace::{TraceFailed, VcdTrace};
 /// Writes the trace of so many clocks of the block that a source sets up, by a configuration or by default, beside a
 /// stimulus where one is named. Each span of the block has to be provable; the first one that isn't ends the run, and nothing
 /// is written. All memory is taken before the first piece is put.
-#[tactic(auto, unfolding(call_ends::specs::Tasks::judge), using(crate::proofs::Working::worked_by))]
+#[tactic(auto, unfolding(call_ends::specs::Tasks::judge), using(call_ends::proofs::Working::worked_by))]
 pub fn run<F: Shelf, O: Sink, L: Ledger>(
     alloc: Global,
     files: RunFiles,

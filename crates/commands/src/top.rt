@@ -15,6 +15,8 @@ use command_check::check;
 use command_gen::generate;
 use command_line::{Order, WordsFault, read};
 use command_listing::{asm, dis};
+use command_measure::measure;
+use command_receive::{SerialLine, receive};
 use command_run::run;
 use command_shares::shares;
 use command_table::{recheck, table};
@@ -131,5 +133,34 @@ fn obey<F: Shelf, O: Sink, L: Ledger>(
         Order::Shares { source, config } => shares(alloc, source, config, shelf, out),
         Order::Gen { seed, clocks } => generate(alloc, seed, clocks, shelf, out, steps),
         Order::Dis { file, side, opt } => dis(alloc, file, side, opt, shelf, out),
+        Order::Measure {
+            source,
+            config,
+            stimulus,
+            clocks,
+        } => {
+            let files = RunFiles {
+                source,
+                config,
+                stimulus,
+            };
+            measure(alloc, files, clocks, shelf, out, steps)
+        }
+        Order::Receive {
+            source,
+            config,
+            stimulus,
+            clocks,
+            pin,
+            bit,
+        } => {
+            let files = RunFiles {
+                source,
+                config,
+                stimulus,
+            };
+            let line = SerialLine { pin, bit };
+            receive(alloc, files, clocks, line, shelf, out, steps)
+        }
     }
 }

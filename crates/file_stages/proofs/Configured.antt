@@ -10,17 +10,18 @@ use Rattle.pin_matrix.specs.declared.span.Span.{Span}
 use Rattle.block_config.specs.Answer.{Refusal}
 use Rattle.block_config.specs.Arrays.{gather}
 use Rattle.block_config.specs.Block.{MachineKeys, SpanKeys, BlockKeys, keys_of_machine, keys_of_span, keys_of_block}
-use Rattle.block_config.specs.Config.{document_of, parsed, sections_at, Sections, pins_in, no_machines, block_with, block_over, block_of_sections, block_of_table, config_block, config_setup_of}
+use Rattle.block_config.specs.Config.{document_of, parsed, sections_at, Sections, no_machines, block_with, block_over, block_of_sections, block_of_table, config_block, config_setup_of}
 use Rattle.block_config.specs.Default.{default_block, default_setup_of}
 use Rattle.block_config.specs.Exact.{SaysExactly}
 use Rattle.block_config.specs.Loads.{all_loads, memory_of}
-use Rattle.block_config.specs.Machines.{in_section, section_at, element_of, machines_from}
+use Rattle.block_config.specs.Machines.{machines_from}
 use Rattle.block_config.specs.Memory.{no_words}
+use Rattle.block_config.specs.Pins.{pins_in}
 use Rattle.block_config.specs.Programs.{Loaded}
-use Rattle.block_config.specs.SpanTable.{span_names, configured, machine_at, span_pins, edge_at, required, Ends, ends_at, bounds_at, stalls_at, load_of_machine, SpanValues, values_at, span_keys_of, name_at, span_of_table, span_in, all_spans}
+use Rattle.block_config.specs.Spans.{span_names, configured, machine_at, span_pins, edge_at, required, Ends, ends_at, bounds_at, stalls_at, load_of_machine, SpanValues, values_at, span_keys_of, name_at, span_of_table, span_in, all_spans}
 use Rattle.block_config.specs.declared.path.Section.{Section}
 use Rattle.block_config.specs.declared.path.Section.TheVariants as section
-use Rattle.block_config.specs.Tables.{and_then, number_at, each_at, are_known}
+use Rattle.block_config.specs.Tables.{and_then, number_at, each_at, are_known, in_section, section_at, element_of}
 use Rattle.span_stage.specs.Configured.{AreConfigured}
 
 -- what a step that came out right was made of

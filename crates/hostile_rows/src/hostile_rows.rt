@@ -133,6 +133,10 @@ run --source s --clocks 0 ~ .program p|jmp 31|.origin 1 ~ - ~ - ~ 1 ~ - ~ piotoo
 run --source s --clocks 0 ~ .program p|jmp 30|.origin 1 ~ - ~ - ~ 0 ~ |^230| ~ -
 run --source s --clocks 1000000000001 ~ .program p|wait 1 gpio 0 ~ - ~ - ~ 2 ~ - ~ piotool: usage|
 run --source s --clocks 1000000000000 ~ .program p|wait 1 gpio 0 ~ - ~ - ~ 0 ~ |^231000000000000| ~ -
+measure --source s --config c --stimulus t --clocks 1000000000000 ~ .program p|set pins, 1|wait 1 gpio 9|set pins, 0 ~ [[load]]|program = \"p\"|[[machine]]|id = 0|program = \"p\"|[[span]]|name = \"h\"|machine = 0|from_pin = 0|to_pin = 0|from_edge = \"rise\"|to_edge = \"fall\"|min = 1|max = 1 ~ 999999999990 pin 9 1 ~ 0 ~ span h seen 3 least 2 most 999999999993| ~ -
+receive --source s --config c --clocks 1000000000000 --pin 0 --bit 65535 ~ .program p|set pins, 0|wait 1 gpio 9 ~ [pins]|level = [0]|[[load]]|program = \"p\"|[[machine]]|id = 0|program = \"p\"| ~ - ~ 0 ~ bad at 0| ~ -
+receive --source s --clocks 1 --pin 31 --bit 65536 ~ .program p|nop ~ - ~ - ~ 2 ~ - ~ piotool: usage|
+receive --source s --clocks 1 --pin 31 --bit 65535 ~ .program p|nop ~ - ~ - ~ 0 ~ - ~ -
 ";
 
 /// Configurations at a limit, and each with its fault and just without it; the last one runs for 10^12 clocks.

@@ -154,8 +154,64 @@ static SHARED: [(&[&str], Option<&str>); 2] = [
     (&["shares", "--config=c", "--source=a.pio"], Some("c")),
 ];
 
+/// Words that ask what is heard on a pin, in so many clocks of `a.pio`: then the clocks, the pin and the clocks of a bit.
+static HEARD: [(&[&str], u64, u8, u16); 3] = [
+    (
+        &[
+            "receive", "--source", "a.pio", "--clocks", "8", "--pin", "0", "--bit", "2",
+        ],
+        8,
+        0,
+        2,
+    ),
+    (
+        &[
+            "receive",
+            "--bit=65535",
+            "--pin=31",
+            "--clocks=0",
+            "--source=a.pio",
+        ],
+        0,
+        31,
+        65_535,
+    ),
+    (
+        &[
+            "receive", "--source", "a.pio", "--clocks", "+08", "--pin", "007", "--bit", "016",
+        ],
+        8,
+        7,
+        16,
+    ),
+];
+
 /// Words that ask for nothing.
-static REFUSED: [&[&str]; 55] = [
+static REFUSED: [&[&str]; 65] = [
+    &["measure", "--source", "a.pio"],
+    &["measure", "--clocks", "8"],
+    &[
+        "measure", "--source", "a.pio", "--clocks", "8", "--span", "h",
+    ],
+    &["measure", "--source", "a.pio", "--clocks", "1000000000001"],
+    &[
+        "receive", "--source", "a.pio", "--clocks", "8", "--pin", "0",
+    ],
+    &[
+        "receive", "--source", "a.pio", "--clocks", "8", "--bit", "8",
+    ],
+    &[
+        "receive", "--source", "a.pio", "--clocks", "8", "--pin", "32", "--bit", "8",
+    ],
+    &[
+        "receive", "--source", "a.pio", "--clocks", "8", "--pin", "-1", "--bit", "8",
+    ],
+    &[
+        "receive", "--source", "a.pio", "--clocks", "8", "--pin", "0", "--bit", "1",
+    ],
+    &[
+        "receive", "--source", "a.pio", "--clocks", "8", "--pin", "0", "--bit", "65536",
+    ],
     &["gen", "--seed", "18446744073709551616", "--clocks", "8"],
     &["gen", "--seed", "-1", "--clocks", "8"],
     &["gen", "--seed", "7", "--clocks", "1000000000001"],
@@ -294,6 +350,44 @@ fn shared(rt: HostRuntime) -> Result<(), Fail> {
         let order = Order::Shares {
             source: "a.pio",
             config,
+        };
+        assert!(rt; gives(rt.alloc(), words, Ok(order))?, "{words:?}");
+    }
+    Ok(())
+}
+
+#[test]
+fn measured(rt: HostRuntime) -> Result<(), Fail> {
+    let words: &[&str] = &[
+        "measure",
+        "--clocks",
+        "8",
+        "--source",
+        "a.pio",
+        "--config",
+        "c",
+        "--stimulus=t",
+    ];
+    let order = Order::Measure {
+        source: "a.pio",
+        config: Some("c"),
+        stimulus: Some("t"),
+        clocks: 8,
+    };
+    assert!(rt; gives(rt.alloc(), words, Ok(order))?, "{words:?}");
+    Ok(())
+}
+
+#[test]
+fn heard(rt: HostRuntime) -> Result<(), Fail> {
+    for &(words, clocks, pin, bit) in &HEARD {
+        let order = Order::Receive {
+            source: "a.pio",
+            config: None,
+            stimulus: None,
+            clocks,
+            pin,
+            bit,
         };
         assert!(rt; gives(rt.alloc(), words, Ok(order))?, "{words:?}");
     }

@@ -35,6 +35,18 @@ a_fall_at_the_stop : frames 2 true (replicate 18 false ++ true ∷ false ∷ tru
 unfolding frames_from frame_at
 a_fall_at_the_stop = refl
 
+-- After a bad frame a line that stays low begins none: the next one begins with the fall after its rise.
+a_rise_after_a_break : frames 2 true (replicate 30 false ++ replicate 3 true ++ replicate 2 false ++ replicate 20 true)
+    ≡ record { start = 0; byte = 0; good = false } ∷ record { start = 33; byte = 0xff; good = true } ∷ []
+unfolding frames_from frame_at
+a_rise_after_a_break = refl
+
+-- Half of five clocks is two: the bits 0 and 7 and the stop bit are high in their middle clocks alone.
+odd_middles : frames 5 true (replicate 7 false ++ true ∷ replicate 34 false ++ true ∷ replicate 4 false ++ true ∷ [])
+    ≡ record { start = 0; byte = 0x81; good = true } ∷ []
+unfolding frames_from frame_at
+odd_middles = refl
+
 -- a byte in two digits
 two_digits : hexadecimal 0x4f ≡ codes "4f"
 two_digits = refl

@@ -4,7 +4,9 @@
 mod begun;
 mod bits;
 mod frame;
+mod laws;
 mod line;
 mod receiver;
 
+pub use laws::stopping_early_leaves_a_first_part;
 pub use receiver::Receiver;

@@ -1,6 +1,5 @@
 use Rattle.std.proofs.Common.{◌≡◌, map, drop}
-use Rattle.block_config.specs.LoadView.{loaded_of}
-use Rattle.block_config.specs.Loads.{memory_of}
+use Rattle.block_config.specs.Loads.{loaded_of, memory_of}
 use Rattle.block_config.specs.Memory.{no_words}
 use Rattle.block_config.proofs.loads.memory_of.Given as goal
 

@@ -1,8 +1,7 @@
 use Rattle.std.proofs.Common.{map}
 use Rattle.pio_assemble.specs.Program.{assembled_of}
 use Rattle.toml.specs.View.{view}
-use Rattle.block_config.specs.LoadView.{loaded_of}
-use Rattle.block_config.specs.Loads.{load_in}
+use Rattle.block_config.specs.Loads.{loaded_of, load_in}
 use Rattle.block_config.proofs.Gather.{gather_more, gather_fails, gather_ends}
 use Rattle.block_config.proofs.Placing.{refuses_on}
 use Rattle.block_config.proofs.loads.read_loads.Goals as goal

@@ -2,8 +2,7 @@ use Rattle.std.proofs.Common.{◌≡◌, map, drop}
 use Rattle.pio_assemble.specs.Program.{assembled_of}
 use Rattle.toml.specs.View.{items_view}
 use Rattle.block_config.specs.Arrays.{gather}
-use Rattle.block_config.specs.LoadView.{loaded_of}
-use Rattle.block_config.specs.Loads.{load_in, all_loads}
+use Rattle.block_config.specs.Loads.{loaded_of, load_in, all_loads}
 use Rattle.block_config.proofs.loads.read_loads.Given as goal
 
 -- the tables that are left go on from the loads so far

@@ -1,6 +1,6 @@
 use Rattle.std.proofs.Common.{map}
 use Rattle.toml.specs.View.{view}
-use Rattle.block_config.specs.LoadView.{loaded_of}
+use Rattle.block_config.specs.Loads.{loaded_of}
 use Rattle.block_config.specs.Machines.{machine_in}
 use Rattle.block_config.proofs.Placing.{all_keys, place_more, place_fails, place_ends, refuses_on, rest_kept}
 use Rattle.block_config.proofs.machines.place_machines.Goals as goal

@@ -2,7 +2,7 @@ use Rattle.std.proofs.Common.{◌≡◌, map, option_map, drop}
 use Rattle.pin_matrix.specs.Placing.{HasRestOf}
 use Rattle.toml.specs.View.{items_view}
 use Rattle.setup_keys.specs.Block.{keys_of_machine}
-use Rattle.block_config.specs.LoadView.{loaded_of}
+use Rattle.block_config.specs.Loads.{loaded_of}
 use Rattle.block_config.specs.Machines.{machines_from}
 use Rattle.block_config.proofs.machines.place_machines.Given as goal
 

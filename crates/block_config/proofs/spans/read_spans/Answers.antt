@@ -1,8 +1,8 @@
 use Rattle.std.proofs.Common.{map, option_map}
 use Rattle.toml.specs.View.{view}
 use Rattle.setup_keys.specs.Block.{keys_of_machine, keys_of_span}
-use Rattle.block_config.specs.LoadView.{loaded_of}
-use Rattle.block_config.specs.SpanTable.{span_in}
+use Rattle.block_config.specs.Loads.{loaded_of}
+use Rattle.block_config.specs.Spans.{span_in}
 use Rattle.block_config.proofs.Gather.{gather_more, gather_fails, gather_ends}
 use Rattle.block_config.proofs.Placing.{refuses_on}
 use Rattle.block_config.proofs.spans.read_spans.Goals as goal

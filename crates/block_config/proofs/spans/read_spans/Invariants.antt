@@ -2,8 +2,8 @@ use Rattle.std.proofs.Common.{◌≡◌, map, option_map, drop}
 use Rattle.toml.specs.View.{items_view}
 use Rattle.block_config.specs.Arrays.{gather}
 use Rattle.setup_keys.specs.Block.{keys_of_machine, keys_of_span}
-use Rattle.block_config.specs.LoadView.{loaded_of}
-use Rattle.block_config.specs.SpanTable.{span_in, all_spans}
+use Rattle.block_config.specs.Loads.{loaded_of}
+use Rattle.block_config.specs.Spans.{span_in, all_spans}
 use Rattle.block_config.proofs.spans.read_spans.Given as goal
 
 -- the tables that are left go on from the spans so far

@@ -1,8 +1,8 @@
 use Rattle.std.proofs.Common.{ℕ, Ok, ◌<◌, length, option_map, sym, ap, ◌∙◌, arith, rules}
 use Rattle.std.proofs.lemmas.List.{map-id}
 use Rattle.toml.specs.Data.{as_str}
-use Rattle.block_config.specs.LoadView.{loaded_of}
-use Rattle.block_config.specs.SpanTable.{stall_of}
+use Rattle.block_config.specs.Loads.{loaded_of}
+use Rattle.block_config.specs.Spans.{stall_of}
 use Rattle.block_config.proofs.Covered.{addresses_more}
 use Rattle.block_config.proofs.Gather.{gather_more, gather_fails, gather_ends, count_seen}
 use Rattle.block_config.proofs.stalls.stall_addresses.Goals as goal

@@ -3,8 +3,8 @@ use Rattle.pin_matrix.specs.Spans.{are_addresses}
 use Rattle.toml.specs.Data.{as_str}
 use Rattle.toml.specs.View.{items_view}
 use Rattle.block_config.specs.Arrays.{gather}
-use Rattle.block_config.specs.LoadView.{loaded_of}
-use Rattle.block_config.specs.SpanTable.{stall_of, stall_addresses}
+use Rattle.block_config.specs.Loads.{loaded_of}
+use Rattle.block_config.specs.Spans.{stall_of, stall_addresses}
 use Rattle.block_config.proofs.stalls.stall_addresses.Given as goal
 
 -- the elements that are left go on from the addresses so far, each in memory

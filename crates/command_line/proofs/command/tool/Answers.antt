@@ -7,4 +7,5 @@ returns c =
     let run = c.add-command-2.ensures _ _ (c.add-command.ensures _ _ c.bare.ensures c.asm.ensures) c.run.ensures in
     let check = c.add-command-4.ensures _ _ (c.add-command-3.ensures _ _ run c.dis.ensures) c.check.ensures in
     let table = c.add-command-6.ensures _ _ (c.add-command-5.ensures _ _ check c.generate.ensures) c.table.ensures in
-    c.add.ensures _ _ (c.add-command-7.ensures _ _ table c.recheck.ensures) c.shares.ensures
+    let shares = c.add-command-8.ensures _ _ (c.add-command-7.ensures _ _ table c.recheck.ensures) c.shares.ensures in
+    c.add.ensures _ _ (c.add-command-9.ensures _ _ shares c.measure.ensures) c.receive.ensures

@@ -1,6 +1,5 @@
 use Rattle.std.proofs.Common.{option_map, ap, ◌∙◌}
-use Rattle.block_config.specs.LoadView.{loaded_of}
-use Rattle.block_config.specs.Loads.{covers}
+use Rattle.block_config.specs.Loads.{loaded_of, covers}
 use Rattle.block_config.proofs.Found.{find_map}
 use Rattle.block_config.proofs.programs.Load.at.Goals as goal
 

@@ -1,5 +1,5 @@
 use Rattle.std.proofs.Common.{option_map, ap, ◌∙◌}
-use Rattle.block_config.specs.LoadView.{loaded_of}
+use Rattle.block_config.specs.Loads.{loaded_of}
 use Rattle.block_config.proofs.Found.{loaded_found}
 use Rattle.block_config.proofs.programs.Load.find.Goals as goal
 

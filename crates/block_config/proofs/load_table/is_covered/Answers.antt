@@ -1,7 +1,0 @@
-use Rattle.std.proofs.Common.{◌∙◌, map, sym}
-use Rattle.block_config.specs.LoadView.{loaded_of}
-use Rattle.block_config.proofs.Found.{is_covered_found, seen_or_not}
-use Rattle.block_config.proofs.load_table.is_covered.Goals as goal
-
-pub returns : goal.returns
-returns c = c.is_some.ensures ∙ sym (seen_or_not loaded_of c.at.result) ∙ is_covered_found (map loaded_of c.args.loads.now) c.args.address _ c.at.ensures

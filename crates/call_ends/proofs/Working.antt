@@ -1,0 +1,24 @@
+-- A run works out no more clocks than those of its files that stir, and one.
+use Rattle.std.proofs.Common.{◌≡◌, ◌+◌, ◌≤◌, ℕ, Option, Some, None, List, IfSome, sym, subst, arith}
+use Rattle.pio_edge.specs.Edge.{Files}
+use Rattle.pin_matrix.specs.declared.setup.Setup.{Setup}
+use Rattle.dreq_pacing.specs.declared.line.Line.{Line}
+use Rattle.block_core.specs.Block.{first_run}
+use Rattle.block_core.specs.Stirring.{stirring}
+use Rattle.file_stages.specs.Judged.{Judged, right, prepared_at}
+use Rattle.call_ends.specs.Worked.{run_worked, worked_of}
+
+of_right : (clocks before after : ℕ) (j : Judged (Setup × List Line)) (u : Setup) (lines : List Line) → j ≡ right (u, lines)
+    → after ≤ before + stirring (first_run u) lines clocks + 1 → after ≤ before + run_worked clocks j
+of_right clocks before after j u lines same h =
+    let most : after ≤ before + (stirring (first_run u) lines clocks + 1) = omega (arith, h) in
+    subst (λ (k : Judged (Setup × List Line)). after ≤ before + run_worked clocks k) (sym same) most
+
+-- where the files come to this setup and these lines
+pub worked_by : (files : Option Files) (source : List ℕ) (config stimulus : Option (List ℕ)) (clocks before after : ℕ) (u : Setup) (lines : List Line)
+    → IfSome files (λ f. prepared_at f source config stimulus ≡ right (u, lines))
+    → after ≤ before + clocks → after ≤ before + stirring (first_run u) lines clocks + 1
+    → after ≤ before + worked_of files source config stimulus clocks
+worked_by None source config stimulus clocks before after u lines same within h = within
+worked_by (Some f) source config stimulus clocks before after u lines same within h =
+    of_right clocks before after (prepared_at f source config stimulus) u lines same h

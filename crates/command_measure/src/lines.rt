@@ -1,0 +1,57 @@
+//! The lines of what was measured of spans.
+ghost use Rattle.std.specs.Prelude.{◌≡◌, length};
+ghost use Rattle.call_ends.specs.Written.{Writes};
+ghost use Rattle.command_measure.specs.Lines.{seen_lines};
+ghost use Rattle.fault_lines.specs.Output.{output_of};
+ghost use Rattle.pio_edge.specs.Edge.{PutCounts, Takes};
+ghost use Rattle.span_meter.specs.Meters.{seen_so_far};
+ghost use Rattle.span_meter.specs.SeenText.{seen_line};
+
+use fault_lines::Fault;
+use pin_matrix::Span;
+use pio_edge::{Sink, SinkFailed};
+use span_meter::{Seen, SpanMeter, put_seen};
+
+/// Writes the lines of what a meter of these spans has measured, and hands on what the output still keeps. It takes no memory.
+pub(crate) fn write_lines<O: Sink>(
+    out: &mut O,
+    spans: &[Span],
+    meter: &SpanMeter,
+) -> Result<(), Fault>
+    requires { length (seen_so_far meter.now) ≡ length spans.now }
+    ensures { Writes (output_of (O.taken out.old) (O.waiting out.old) (O.faults out.old))
+        (output_of (O.taken out.new) (O.waiting out.new) (O.faults out.new))
+        (seen_lines spans.now (seen_so_far meter.now)) result }
+{
+    match put_lines(out, spans, meter) {
+        Ok(()) => {}
+        Err(SinkFailed) => return Err(Fault::Out),
+    }
+    match out.finish() {
+        Ok(()) => Ok(()),
+        Err(SinkFailed) => Err(Fault::Out),
+    }
+}
+
+/// Puts the lines of what a meter of these spans has measured.
+fn put_lines<O: Sink>(out: &mut O, spans: &[Span], meter: &SpanMeter) -> Result<(), SinkFailed>
+    requires { length (seen_so_far meter.now) ≡ length spans.now }
+    ensures bytes { Takes (O.taken out.old) (seen_lines spans.now (seen_so_far meter.now)) (O.taken out.new) result }
+    ensures cause { PutCounts (O.faults out.old) (O.faults out.new) result }
+{
+    for place in 0..spans.len() {
+        match put_line(out, &spans[place], meter.seen(place)) {
+            Ok(()) => {}
+            Err(failed) => return Err(failed),
+        }
+    }
+    Ok(())
+}
+
+/// Puts the line of what was measured of a span.
+fn put_line<O: Sink>(out: &mut O, span: &Span, seen: Seen) -> Result<(), SinkFailed>
+    ensures bytes { Takes (O.taken out.old) (seen_line span.now.name seen) (O.taken out.new) result }
+    ensures cause { PutCounts (O.faults out.old) (O.faults out.new) result }
+{
+    put_seen(out, &span.name, seen)
+}

@@ -1,0 +1,121 @@
+//! The command `measure`: what each span of a configuration measures in the first clocks of a run.
+ghost use Rattle.std.specs.Prelude.{◌≡◌, ◌+◌, ◌≤◌, ◌^◌, ℕ, IfOk, List, [], map, option_map};
+ghost use Rattle.block_core.specs.Block.{first_run};
+ghost use Rattle.block_core.specs.Hosted.{samples};
+ghost use Rattle.block_core.specs.Stirring.{stirring};
+ghost use Rattle.command_line.specs.Words.{measure as measure_asked};
+ghost use Rattle.call_ends.specs.Tasks.{measured_text, seen_in};
+ghost use Rattle.call_ends.specs.Outside.{call_of};
+ghost use Rattle.call_ends.specs.Promise.{CommandEnds};
+ghost use Rattle.call_ends.specs.Worked.{most_worked};
+ghost use Rattle.call_ends.specs.Written.{Writes};
+ghost use Rattle.fault_lines.specs.Output.{output_of};
+ghost use Rattle.span_meter.specs.Measured.{Ends};
+ghost use Rattle.span_meter.specs.Meters.{HasMeasured, seen_so_far};
+
+use crate::lines::write_lines;
+use block_core::Block;
+use dreq_pacing::Schedule;
+use fault_lines::Fault;
+use fifo_pair::{Fifo, RingFifo};
+use file_stages::{RunFiles, prepare};
+use idle_engine::simulate;
+use pin_matrix::Setup;
+use pio_edge::{Shelf, Sink};
+use span_meter::SpanMeter;
+use std::alloc::{AllocError, Global};
+use std::sync::ledger::Ledger;
+use step_count::Steps;
+use vcd_trace::TraceFailed;
+
+/// Writes a line for each span of the block that a source sets up, by a configuration or by default: what it measures in so
+/// many clocks, beside a stimulus where one is named. It doesn't ask whether a span is provable. All memory is taken before the
+/// first piece is put.
+#[tactic(auto, unfolding(call_ends::specs::Tasks::judge), using(call_ends::proofs::Working::worked_by))]
+pub fn measure<F: Shelf, O: Sink, L: Ledger>(
+    alloc: Global,
+    files: RunFiles,
+    clocks: u64,
+    shelf: &mut F,
+    out: &mut O,
+    steps: &mut Steps<L>,
+) -> Result<(), Fault>
+    requires { clocks ≤ 10 ^ 12 }
+    ensures ends { CommandEnds
+        (measure_asked files.entry.source.now (option_map (λ t. t.now) files.entry.config) (option_map (λ t. t.now) files.entry.stimulus) clocks)
+        (call_of (F.holds shelf.old) (F.faults shelf.old) (F.faults shelf.new)
+        (output_of (O.taken out.old) (O.waiting out.old) (O.faults out.old))
+        (output_of (O.taken out.new) (O.waiting out.new) (O.faults out.new)))
+        result }
+    ensures same { F.holds shelf.new ≡ F.holds shelf.old }
+    ensures steps { steps.new ≤ steps.old + clocks }
+    ensures worked { steps.new ≤ steps.old + most_worked (F.holds shelf.old)
+        (measure_asked files.entry.source.now (option_map (λ t. t.now) files.entry.config) (option_map (λ t. t.now) files.entry.stimulus) clocks) }
+{
+    let (setup, schedule) = prepare(alloc, shelf, files)?;
+    write_measured(alloc, &setup, &schedule, clocks, out, steps)
+}
+
+/// Writes the lines of what the spans of a setup measure in so many clocks, or answers want of memory before it has put
+/// anything.
+fn write_measured<O: Sink, L: Ledger>(
+    alloc: Global,
+    setup: &Setup,
+    schedule: &Schedule,
+    clocks: u64,
+    out: &mut O,
+    steps: &mut Steps<L>,
+) -> Result<(), Fault>
+    requires { clocks ≤ 10 ^ 12 }
+    ensures ends { Writes (output_of (O.taken out.old) (O.waiting out.old) (O.faults out.old))
+        (output_of (O.taken out.new) (O.waiting out.new) (O.faults out.new))
+        (measured_text (first_run setup.now) setup.now.spans schedule.now clocks) result }
+    ensures steps { steps.new ≤ steps.old + clocks }
+    ensures stirring { steps.new ≤ steps.old + stirring (first_run setup.now) schedule.now clocks + 1 }
+{
+    match metered(alloc, setup, schedule, clocks, steps) {
+        Ok(meter) => write_lines(out, setup.spans.as_slice(), &meter),
+        Err(_) => Err(Fault::Memory),
+    }
+}
+
+/// A meter that was told so many clocks of a setup. All memory is taken before the first clock; the error is want of it.
+fn metered<L: Ledger>(
+    alloc: Global,
+    setup: &Setup,
+    schedule: &Schedule,
+    clocks: u64,
+    steps: &mut Steps<L>,
+) -> Result<SpanMeter, AllocError>
+    requires { clocks ≤ 10 ^ 12 }
+    ensures seen { IfOk result (λ meter. seen_so_far meter
+        ≡ map (λ sp. seen_in (first_run setup.now) sp schedule.now clocks) setup.now.spans) }
+    ensures steps { steps.new ≤ steps.old + clocks }
+    ensures stirring { steps.new ≤ steps.old + stirring (first_run setup.now) schedule.now clocks + 1 }
+{
+    let mut block = Block::<RingFifo>::new(alloc, setup)?;
+    let mut meter = SpanMeter::new(alloc, setup.spans.as_slice(), block.view().level)?;
+    meter_run(&mut block, schedule, clocks, &mut meter, steps);
+    Ok(meter)
+}
+
+/// Tells a meter so many clocks of a block.
+fn meter_run<F: Fifo, L: Ledger>(
+    block: &mut Block<F>,
+    schedule: &Schedule,
+    clocks: u64,
+    meter: &mut SpanMeter,
+    steps: &mut Steps<L>,
+)
+    requires fresh { block.old.run.clock ≡ 0 }
+    requires within { clocks ≤ 10 ^ 12 }
+    ensures measured { (levels : ℕ) (ends : List Ends) → HasMeasured levels ends [] meter.old
+        → HasMeasured levels ends (samples block.old.run schedule.now clocks) meter.new }
+    ensures steps { steps.new ≤ steps.old + clocks }
+    ensures stirring { steps.new ≤ steps.old + stirring block.old.run schedule.now clocks + 1 }
+{
+    match simulate(block, schedule, clocks, meter, steps) {
+        Ok(()) => {}
+        Err(TraceFailed) => unreachable!(),
+    }
+}

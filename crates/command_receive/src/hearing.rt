@@ -1,0 +1,177 @@
+//! The command `receive`: the bytes that one pin sends in the first clocks of a run.
+ghost use Rattle.std.specs.Prelude.{◌≡◌, ◌+◌, ◌<◌, ◌≤◌, ◌^◌, false, option_map};
+ghost use Rattle.block_core.specs.Block.{first_run};
+ghost use Rattle.block_core.specs.Stirring.{stirring};
+ghost use Rattle.command_line.specs.Words.{receive as receive_asked};
+ghost use Rattle.pin_matrix.specs.Pins.{is_high as is_high_in};
+ghost use Rattle.pio_edge.specs.Edge.{PutCounts, Takes};
+ghost use Rattle.call_ends.specs.Tasks.{received_text};
+ghost use Rattle.call_ends.specs.Outside.{call_of};
+ghost use Rattle.call_ends.specs.Promise.{CommandEnds};
+ghost use Rattle.call_ends.specs.Worked.{most_worked};
+ghost use Rattle.call_ends.specs.Written.{Writes};
+ghost use Rattle.fault_lines.specs.Output.{output_of};
+
+use block_core::Block;
+use dreq_pacing::Schedule;
+use fault_lines::Fault;
+use fifo_pair::RingFifo;
+use file_stages::{RunFiles, prepare};
+use idle_engine::{later_samples_follow, simulate};
+use pin_matrix::{Setup, is_high};
+use pio_edge::{Shelf, Sink, SinkFailed};
+use serial_receiver::{Receiver, stopping_early_leaves_a_first_part};
+use std::alloc::Global;
+use std::sync::ledger::Ledger;
+use step_count::Steps;
+use vcd_trace::TraceFailed;
+
+/// A line of one pin, 0 to 31, and the clocks of a bit on it, 2 to 65,535.
+#[derive(Clone, Copy)]
+pub struct SerialLine {
+    pub pin: u8,
+    pub bit: u16,
+}
+
+/// Writes a line for each frame that a pin sends in so many clocks of the block that a source sets up, by a configuration or by
+/// default, beside a stimulus where one is named. No span is asked. All memory is taken before the first piece is put.
+#[tactic(auto, unfolding(call_ends::specs::Tasks::judge), using(call_ends::proofs::Working::worked_by))]
+pub fn receive<F: Shelf, O: Sink, L: Ledger>(
+    alloc: Global,
+    files: RunFiles,
+    clocks: u64,
+    line: SerialLine,
+    shelf: &mut F,
+    out: &mut O,
+    steps: &mut Steps<L>,
+) -> Result<(), Fault>
+    requires within { clocks ≤ 10 ^ 12 }
+    requires pin { line.pin < 32 }
+    requires bit { 2 ≤ line.bit }
+    ensures ends { CommandEnds
+        (receive_asked files.entry.source.now (option_map (λ t. t.now) files.entry.config) (option_map (λ t. t.now) files.entry.stimulus) clocks line.pin line.bit)
+        (call_of (F.holds shelf.old) (F.faults shelf.old) (F.faults shelf.new)
+        (output_of (O.taken out.old) (O.waiting out.old) (O.faults out.old))
+        (output_of (O.taken out.new) (O.waiting out.new) (O.faults out.new)))
+        result }
+    ensures same { F.holds shelf.new ≡ F.holds shelf.old }
+    ensures steps { steps.new ≤ steps.old + clocks }
+    ensures worked { steps.new ≤ steps.old + most_worked (F.holds shelf.old)
+        (receive_asked files.entry.source.now (option_map (λ t. t.now) files.entry.config) (option_map (λ t. t.now) files.entry.stimulus) clocks line.pin line.bit) }
+{
+    let (setup, schedule) = prepare(alloc, shelf, files)?;
+    write_received(alloc, &setup, &schedule, clocks, line, out, steps)
+}
+
+/// Writes the lines of the frames in so many clocks of a setup, or answers want of memory before it has put anything.
+fn write_received<O: Sink, L: Ledger>(
+    alloc: Global,
+    setup: &Setup,
+    schedule: &Schedule,
+    clocks: u64,
+    line: SerialLine,
+    out: &mut O,
+    steps: &mut Steps<L>,
+) -> Result<(), Fault>
+    requires within { clocks ≤ 10 ^ 12 }
+    requires pin { line.pin < 32 }
+    requires bit { 2 ≤ line.bit }
+    ensures ends { Writes (output_of (O.taken out.old) (O.waiting out.old) (O.faults out.old))
+        (output_of (O.taken out.new) (O.waiting out.new) (O.faults out.new))
+        (received_text (first_run setup.now) line.pin line.bit schedule.now clocks) result }
+    ensures steps { steps.new ≤ steps.old + clocks }
+    ensures stirring { steps.new ≤ steps.old + stirring (first_run setup.now) schedule.now clocks + 1 }
+{
+    match Block::<RingFifo>::new(alloc, setup) {
+        Ok(mut block) => write_frames(&mut block, schedule, clocks, line, out, steps),
+        Err(_) => Err(Fault::Memory),
+    }
+}
+
+/// Writes the lines of the frames in so many clocks, and hands on what the output still keeps.
+fn write_frames<O: Sink, L: Ledger>(
+    block: &mut Block<RingFifo>,
+    schedule: &Schedule,
+    clocks: u64,
+    line: SerialLine,
+    out: &mut O,
+    steps: &mut Steps<L>,
+) -> Result<(), Fault>
+    requires fresh { block.old.run.clock ≡ 0 }
+    requires within { clocks ≤ 10 ^ 12 }
+    requires pin { line.pin < 32 }
+    requires bit { 2 ≤ line.bit }
+    ensures ends { Writes (output_of (O.taken out.old) (O.waiting out.old) (O.faults out.old))
+        (output_of (O.taken out.new) (O.waiting out.new) (O.faults out.new))
+        (received_text block.old.run line.pin line.bit schedule.now clocks) result }
+    ensures steps { steps.new ≤ steps.old + clocks }
+    ensures stirring { steps.new ≤ steps.old + stirring block.old.run schedule.now clocks + 1 }
+{
+    match put_frames(block, schedule, clocks, line, out, steps) {
+        Ok(()) => {}
+        Err(TraceFailed) => return Err(Fault::Out),
+    }
+    match out.finish() {
+        Ok(()) => Ok(()),
+        Err(SinkFailed) => Err(Fault::Out),
+    }
+}
+
+/// Puts the lines of the frames in so many clocks.
+fn put_frames<O: Sink, L: Ledger>(
+    block: &mut Block<RingFifo>,
+    schedule: &Schedule,
+    clocks: u64,
+    line: SerialLine,
+    out: &mut O,
+    steps: &mut Steps<L>,
+) -> Result<(), TraceFailed>
+    requires fresh { block.old.run.clock ≡ 0 }
+    requires within { clocks ≤ 10 ^ 12 }
+    requires pin { line.pin < 32 }
+    requires bit { 2 ≤ line.bit }
+    ensures bytes { Takes (O.taken out.old) (received_text block.old.run line.pin line.bit schedule.now clocks) (O.taken out.new) result }
+    ensures cause { PutCounts (O.faults out.old) (O.faults out.new) result }
+    ensures steps { steps.new ≤ steps.old + clocks }
+    ensures stirring { steps.new ≤ steps.old + stirring block.old.run schedule.now clocks + 1 }
+{
+    let first = first_level(block, line.pin);
+    let mut trace = Receiver::new(out, line.pin, line.bit, first);
+    hear_run(block, schedule, clocks, &mut trace, steps)
+}
+
+/// The level of a pin before clock 0.
+fn first_level(block: &Block<RingFifo>, pin: u8) -> bool
+    requires { pin < 32 }
+    ensures { result ≡ is_high_in block.now.run.state.levels pin }
+{
+    is_high(block.view().level, pin)
+}
+
+/// Tells a receiver so many clocks of a block, whose level before clock 0 it has.
+#[tactic(auto, unfolding(call_ends::specs::Tasks::received_text))]
+fn hear_run<O: Sink, L: Ledger>(
+    block: &mut Block<RingFifo>,
+    schedule: &Schedule,
+    clocks: u64,
+    trace: &mut Receiver<'_, O>,
+    steps: &mut Steps<L>,
+) -> Result<(), TraceFailed>
+    requires fresh { block.old.run.clock ≡ 0 }
+    requires within { clocks ≤ 10 ^ 12 }
+    requires working { trace.old.failed ≡ false }
+    requires level { trace.old.first ≡ is_high_in block.old.run.state.levels trace.old.pin }
+    ensures bytes { Takes (O.taken trace.old.sink.now) (received_text block.old.run trace.old.pin trace.old.bit schedule.now clocks)
+        (O.taken trace.new.sink.now) result }
+    ensures cause { PutCounts (O.faults trace.old.sink.now) (O.faults trace.new.sink.now) result }
+    ensures same { trace.new.sink.ghost_name ≡ trace.old.sink.ghost_name }
+    ensures steps { steps.new ≤ steps.old + clocks }
+    ensures stirring { steps.new ≤ steps.old + stirring block.old.run schedule.now clocks + 1 }
+{
+    later_samples_follow();
+    stopping_early_leaves_a_first_part();
+    match simulate(block, schedule, clocks, trace, steps) {
+        Ok(()) => Ok(()),
+        Err(failed) => Err(failed),
+    }
+}

@@ -1,0 +1,17 @@
+pub mod Rows
+pub mod Scaling
+pub mod Whole
+pub mod Pacing
+pub mod Steady
+pub mod Instructions
+pub mod Phased
+pub mod TickRuns
+pub mod Clocks
+pub mod Ticks
+pub mod Transmitting
+pub mod Framed
+pub mod Sent
+pub mod InTime
+pub mod Fed
+pub mod Timely
+pub mod WorkedRows

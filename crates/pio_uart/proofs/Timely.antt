@@ -1,0 +1,84 @@
+-- The transmitter sends what one feed gives it, each frame at its clock.
+use Rattle.std.proofs.Common.{◌≡◌, ℕ, ◌+◌, ◌-◌, ◌*◌, ◌%◌, ◌<◌, ◌≤◌, ◌⊎◌, inl, inr, Bool, true, false, cond, ltb, option_to_list, List, [], ◌∷◌, ◌++◌, map, slice_get, refl, ap, ◌∙◌, arith, length, subst, suc}
+use Rattle.std.proofs.Math.Nat.{mul-le-mul_right}
+use Rattle.std.proofs.lemmas.Bool.Decides.{nat_tests}
+use Rattle.pin_matrix.specs.declared.machine.MachineSetup.{MachineSetup}
+use Rattle.pin_matrix.specs.declared.setup.Setup.{Setup}
+use Rattle.pio_uart.specs.Heard.{Frame}
+use Rattle.pio_uart.specs.Sending.{IsSteady}
+use Rattle.pio_uart.specs.Feeding.{fed, frames_fed, SendsInTime, SendsAll}
+use Rattle.pio_uart.specs.Transmitter.{IsTransmitter}
+use Rattle.pio_uart.proofs.Scaling.{at_clock}
+use Rattle.pio_uart.proofs.Whole.{frame_of}
+use Rattle.pio_uart.proofs.Clocks.{Laws, tx_in, taken_in, regs_in, level_in}
+use Rattle.pio_uart.proofs.Ticks.{left_by_ticks, none_between}
+use Rattle.pio_uart.proofs.Sent.{ticks_in, ticks_most, ticks_least, nothing_times, own, left, run_fed, frames_are, ready_at_first, high_at_first}
+use Rattle.pio_uart.proofs.Fed.{left_in, goes, front_is, at_first}
+use Rattle.pio_uart.proofs.InTime.{frames_after, from_the_start}
+
+steady : (words : List ℕ) → IsSteady (fed words)
+steady [] = tt
+steady (word ∷ words) = (refl, tt)
+
+cases_le : (a b : ℕ) → (a ≤ b) ⊎ (b < a)
+cases_le a b = grind arith
+
+lt_both : (a b c d : ℕ) → (a < b → c < d) → (c < d → a < b) → ltb a b ≡ ltb c d
+lt_both a b c d f g = grind (arith, nat_tests)
+
+mul_up : (int a b : ℕ) → a ≤ b → int * a ≤ int * b
+mul_up int a b h = let m = mul-le-mul_right {m = a} {n = b} int h in grind arith
+
+mul_suc : (int a : ℕ) → int * (a + 1) ≡ int * a + int
+mul_suc int a = grind arith
+
+-- a frame is whole among the clocks where it is among the ticks
+same_test : (int n ticks k : ℕ) → n ≤ int * ticks → int * ticks < n + int → ltb 79 (ticks - 6 - 80 * k) ≡ ltb (int * (85 + 80 * k)) n
+same_test int n ticks k most least = lt_both 79 (ticks - 6 - 80 * k) (int * (85 + 80 * k)) n
+    (λ h. let m = mul_up int (85 + 80 * k + 1) ticks (omega (arith, h)) in let e = mul_suc int (85 + 80 * k) in omega (arith, m, e, least))
+    (λ h. elim (cases_le ticks (85 + 80 * k)) [ inl few ↦ absurd (let m = mul_up int ticks (85 + 80 * k) few in omega (arith, m, h, most)) | inr many ↦ omega (arith, many) ])
+
+same_choice : (int : ℕ) (a b : Bool) (f g : Frame) (xs ys : List Frame) → a ≡ b → at_clock int f ≡ g → map (at_clock int) xs ≡ ys → map (at_clock int) (cond a (f ∷ xs) []) ≡ cond b (g ∷ ys) []
+same_choice int true b f g xs ys e p q = ap (λ x. x ∷ map (at_clock int) xs) p ∙ ap (λ zs. g ∷ zs) q ∙ ap (λ z. cond z (g ∷ ys) []) e
+same_choice int false b f g xs ys e p q = ap (λ z. cond z (g ∷ ys) []) e
+
+in_clocks : (int n ticks k : ℕ) (words : List ℕ) → n ≤ int * ticks → int * ticks < n + int → map (at_clock int) (frames_after (1 + 80 * k) (ticks - 6 - 80 * k) words) ≡ frames_fed int n k words
+in_clocks int n ticks k [] most least = refl
+in_clocks int n ticks k (word ∷ words) most least =
+    same_choice int (ltb 79 (ticks - 6 - 80 * k)) (ltb (int * (85 + 80 * k)) n) (frame_of (1 + 80 * k + 8) word) _ _ _
+    (same_test int n ticks k most least)
+    (ap (λ t. let f : Frame = record { start = int * t; byte = word % 256; good = true } in f) (let e : 1 + 80 * k + 8 ≡ 9 + 80 * k = omega arith in e))
+    (ap (λ t. map (at_clock int) (frames_after t (ticks - 6 - 80 * k - 80) words)) (let e : 1 + 80 * k + 80 ≡ 1 + 80 * (k + 1) = omega arith in e)
+    ∙ ap (λ m. map (at_clock int) (frames_after (1 + 80 * (k + 1)) m words)) (let e : ticks - 6 - 80 * k - 80 ≡ ticks - 6 - 80 * (k + 1) = omega arith in e)
+    ∙ in_clocks int n ticks (k + 1) words most least)
+
+pub sends_in_time : Laws → (int : ℕ) → 1 ≤ int → (u : Setup) → IsTransmitter int u → SendsInTime int u
+sends_in_time laws int some u t words n =
+    let lines = fed words in
+    let h = steady words in
+    let s : MachineSetup = t.machine in
+    let ticks = ticks_in int n in
+    let tick_words : (k : ℕ) → option_to_list (taken_in u lines s (int * k)) ++ left_in u words s (int * (k + 1)) ≡ left_in u words s (int * k) =
+    left_by_ticks int some (taken_in u lines s) (none_between laws u lines 0 s 0 (own laws int some u t lines h) (left laws int some u t lines h) int some t.is_set_up.divider t.is_set_up.frac) (left_in u words s) (goes laws u words s (own laws int some u t lines h) (left laws int some u t lines h) (t.is_set_up.join_tx, t.is_set_up.join_rx)) in
+    frames_are laws int some u t lines h n
+    ∙ ap (map (at_clock int)) (from_the_start int s t.is_set_up (λ k. regs_in u lines s (int * k)) (λ k. level_in u lines 0 (int * k)) (λ k. taken_in u lines s (int * k)) (λ k. (run_fed laws int some u t lines h k).0)
+    (λ k. left_in u words s (int * k)) tick_words
+    (λ k l. (run_fed laws int some u t lines h k).1 ∙ front_is laws u words s (own laws int some u t lines h) (left laws int some u t lines h) (t.is_set_up.join_tx, t.is_set_up.join_rx) (int * k) (let m = mul_up int 1 k l in omega (arith, m, some)))
+    words ticks (ready_at_first laws int some u t lines h) (high_at_first laws int some u t lines h) ((run_fed laws int some u t lines h 0).1 ∙ ap (λ c. slice_get (tx_in u lines s c) 0) (nothing_times int))
+    (ap (left_in u words s) (nothing_times int) ∙ at_first laws u words s (own laws int some u t lines h) (left laws int some u t lines h) (t.is_set_up.join_tx, t.is_set_up.join_rx)))
+    ∙ ap (λ m. map (at_clock int) (frames_after 1 m words)) (let e : ticks - 6 ≡ ticks - 6 - 80 * 0 = omega arith in e)
+    ∙ in_clocks int n ticks 0 words (ticks_most int n some) (ticks_least int n some)
+
+lt_true : (a b : ℕ) → a < b → ltb a b ≡ true
+lt_true a b h = grind (arith, nat_tests)
+
+-- with clocks enough, all frames are whole
+all_whole : (int n k : ℕ) (words : List ℕ) → int * (80 * (k + length words) + 5) < n → map (λ f. f.byte) (frames_fed int n k words) ≡ map (λ w. w % 256) words
+all_whole int n k [] enough = refl
+all_whole int n k (word ∷ words) enough =
+    ap (λ b. map (λ f. f.byte) (cond {A = List Frame} b (record { start = int * (9 + 80 * k); byte = word % 256; good = true } ∷ frames_fed int n (k + 1) words) []))
+    (lt_true (int * (85 + 80 * k)) n (let m = mul_up int (85 + 80 * k) (80 * (k + suc (length words)) + 5) (omega arith) in omega (arith, m, enough)))
+    ∙ ap (λ bs. word % 256 ∷ bs) (all_whole int n (k + 1) words (subst (λ j. int * (80 * j + 5) < n) (let e : k + suc (length words) ≡ k + 1 + length words = omega arith in e) enough))
+
+pub sends_all : (int : ℕ) (u : Setup) → SendsInTime int u → SendsAll int u
+sends_all int u h words n enough = ap (map (λ f. f.byte)) (h words n) ∙ all_whole int n 0 words (subst (λ j. int * (80 * j + 5) < n) (let e : length words ≡ 0 + length words = omega arith in e) enough)

@@ -1,0 +1,13 @@
+use Rattle.pio_uart.proofs.transmitter.uart_setup.Goals as goal
+
+pub returns-clause-setup : goal.returns-clause-setup
+returns-clause-setup c = c.block_of.ensures c.args.int c.machine.ensures
+
+pub returns-clause-sends : goal.returns-clause-sends
+returns-clause-sends c = c.a_transmitter_sends_what_it_is_fed.ensures c.args.int c.block_of.result c.requires.some (c.block_of.ensures c.args.int c.machine.ensures)
+
+pub returns-clause-in_time : goal.returns-clause-in_time
+returns-clause-in_time c = c.a_transmitter_sends_in_time.ensures.frames c.args.int c.block_of.result c.requires.some (c.block_of.ensures c.args.int c.machine.ensures)
+
+pub returns-clause-whole : goal.returns-clause-whole
+returns-clause-whole c = c.a_transmitter_sends_in_time.ensures.whole c.args.int c.block_of.result c.requires.some (c.block_of.ensures c.args.int c.machine.ensures)

@@ -1,0 +1,54 @@
+-- What it means that a transmitter sends what it is fed.
+--   IsSteady           a stimulus leaves the machines' ticks alone
+--   frames_in          the frames on pin 0 in a run
+--   IsFirstPart        a list begins with another one
+--   IsSent             frames are those of words
+--   SendsWhatItIsFed   so it is in every run
+use Rattle.std.specs.Prelude.{◌≡◌, ℕ, ◌%◌, Bool, true, false, List, ◌++◌, map}
+use Rattle.std.specs.List.{AllByRecursion}
+use Rattle.pin_matrix.specs.declared.setup.Setup.{Setup}
+use Rattle.pin_matrix.specs.Pins.{is_high}
+use Rattle.dreq_pacing.specs.declared.line.Act.{Act}
+use Rattle.dreq_pacing.specs.declared.line.Act.TheVariants.{Pin, Tx, Rx, Feed, Drain, Enable, Disable, Restart}
+use Rattle.dreq_pacing.specs.declared.line.Line.{Line}
+use Rattle.block_core.specs.Block.{first_run}
+use Rattle.block_core.specs.Hosted.{samples}
+use Rattle.pio_uart.specs.Heard.{Frame}
+use Rattle.serial_receiver.specs.Frames.{frames, levels_of}
+use Rattle.pio_uart.specs.Accepted.{accepted}
+
+-- the act enables or disables no machine, and restarts no divider
+abbrev pub is_steady : Act → Bool
+is_steady (Pin pin level) = true
+is_steady (Tx machine word) = true
+is_steady (Rx machine) = true
+is_steady (Feed machine every words) = true
+is_steady (Drain machine every) = true
+is_steady (Enable machine) = false
+is_steady (Disable machine) = false
+is_steady (Restart machine) = false
+
+-- no line enables, disables or restarts a machine
+abbrev pub IsSteady : List Line → Type 0
+IsSteady lines = AllByRecursion (λ l. is_steady l.act ≡ true) lines
+
+-- the frames that a serial receiver hears on pin 0 in the first n clocks of a setup's run beside these lines, where a
+-- bit takes so many clocks
+abbrev pub frames_in : Setup → List Line → (bit n : ℕ) → List Frame
+frames_in u lines bit n = frames bit (is_high u.level 0) (levels_of 0 (samples (first_run u) lines n))
+
+-- A list begins with another one.
+pub record IsFirstPart (part whole : List ℕ) : Type 0 where
+  pub rest : List ℕ
+  pub parts : whole ≡ part ++ rest
+
+-- The frames are all good, and their bytes are the low bytes of the first words, in order.
+pub record IsSent (words : List ℕ) (sent : List Frame) : Type 0 where
+  pub good : AllByRecursion (λ f. f.good ≡ true) sent
+  pub bytes : IsFirstPart (map (λ f. f.byte) sent) (map (λ word. word % 256) words)
+
+-- Beside every stimulus that leaves the machines' ticks alone, and up to every clock, pin 0 sends the words that the
+-- TX of machine 0 accepted, a byte each, where a bit takes so many clocks.
+abbrev pub SendsWhatItIsFed : (bit : ℕ) → Setup → Type 0
+SendsWhatItIsFed bit u =
+    (lines : List Line) → IsSteady lines → (n : ℕ) → IsSent (accepted (first_run u) lines 0 n) (frames_in u lines bit n)

@@ -1,0 +1,167 @@
+-- Each measured distance goes from a from-edge to the first to-edge after it, as a span asks it.
+use Rattle.std.proofs.Common.{◌≡◌, ℕ, zero, suc, ◌+◌, ◌-◌, ◌<◌, ◌≤◌, Bool, true, false, cond, Option, Some, None, List, [], ◌∷◌, ◌++◌, length, min, max, refl, sym, ap, ◌∙◌, subst, arith, ◌⊎◌, inl, inr, ◌≢◌}
+use Rattle.std.proofs.lemmas.Bool.{cases_eq}
+use Rattle.std.specs.Option.{option_map}
+use Rattle.std.specs.List.{AllByRecursion}
+use Rattle.pin_matrix.specs.declared.setup.Setup.{Setup}
+use Rattle.pin_matrix.specs.declared.span.Span.{Span}
+use Rattle.pin_matrix.specs.declared.span.SpanUnit.{SpanUnit}
+use Rattle.pin_matrix.specs.declared.span.SpanUnit.TheVariants.{Ticks, Clocks}
+use Rattle.dreq_pacing.specs.declared.line.Line.{Line}
+use Rattle.block_core.specs.declared.sample.Sample.{Sample}
+use Rattle.block_core.specs.Block.{Run, first_run}
+use Rattle.block_core.specs.Hosted.{host_of, hosted_at, sample_at, samples}
+use Rattle.block_core.specs.Shown.{sample_of}
+use Rattle.span_check.specs.Marks as marks
+use Rattle.span_check.specs.Marks.{Mark, mark_of}
+use Rattle.span_check.specs.Holding.{Ends, Holds, HoldsFrom, IsQuiet, IsUnbroken}
+use Rattle.span_check.specs.Runs.{marks_in, state_beside}
+use Rattle.span_check.specs.Proved.{HoldsInEveryRun}
+use Rattle.span_meter.specs.Measured as meter
+use Rattle.span_meter.specs.Measured.{clocks_to, ends_in, greatest_of, least_of, least_with, measured, seen_of, with_distance}
+use Rattle.span_seen.specs.Within.{IsUndisturbed, IsWithin, seen_in}
+
+-- the samples from a clock on
+unfoldable samples_from : (ℕ → Sample) → (k count : ℕ) → List Sample
+samples_from shown k zero = []
+samples_from shown k (suc count) = shown k ∷ samples_from shown (suc k) count
+
+from-push : (shown : ℕ → Sample) (k count : ℕ) → samples_from shown k (suc count) ≡ samples_from shown k count ++ shown (k + count) ∷ []
+unfolding samples_from
+from-push shown k zero = ap (λ c. shown c ∷ []) (let e : k ≡ k + 0 = omega arith in e)
+from-push shown k (suc count) =
+    ap (λ xs. shown k ∷ xs) (from-push shown (suc k) count ∙ ap (λ c. samples_from shown (suc k) count ++ shown c ∷ []) (let e : suc k + count ≡ k + suc count = omega arith in e))
+
+samples-from : (start : Run) (lines : List Line) (n : ℕ) → samples start lines n ≡ samples_from (sample_at start lines) 0 n
+unfolding samples samples_from
+samples-from start lines zero = refl
+samples-from start lines (suc n) =
+    ap (λ xs. xs ++ sample_at start lines n ∷ []) (samples-from start lines n)
+    ∙ ap (λ c. samples_from (sample_at start lines) 0 n ++ sample_at start lines c ∷ []) (let e : n ≡ 0 + n = omega arith in e)
+    ∙ sym (from-push (sample_at start lines) 0 n)
+
+-- the first to-edge from a clock on, where one comes in so many clocks
+abbrev FirstTo : (to : ℕ → Bool) → (k count : ℕ) → Option ℕ → Type 0
+FirstTo to k count None = Unit {0}
+FirstTo to k count (Some j) = (j < count) × (to (k + j) ≡ true) × ((c : ℕ) → k ≤ c → c < k + j → to c ≡ false)
+
+-- one edge of a run with these levels before each clock
+abbrev to_at : meter.Ends → (levels : ℕ → ℕ) → ℕ → Bool
+to_at e levels c = meter.is_to e (levels c) (levels (suc c))
+
+abbrev from_at : meter.Ends → (levels : ℕ → ℕ) → ℕ → Bool
+from_at e levels c = meter.is_from e (levels c) (levels (suc c))
+
+or_first : (to : ℕ → Bool) (k c : ℕ) → to k ≡ false → (suc k ≤ c → to c ≡ false) → k ≤ c → to c ≡ false
+or_first to k c first rest low = on (cases_eq c k) where
+  on : (c ≡ k) ⊎ (c ≢ k) → to c ≡ false
+  on (inl e) = ap to e ∙ first
+  on (inr n) = rest (omega arith)
+
+next_first : (to : ℕ → Bool) (k count : ℕ) (b : Bool) (o : Option ℕ) → to k ≡ b → FirstTo to (suc k) count o → FirstTo to k (suc count) (cond b (Some 0) (option_map suc o))
+next_first to k count true o h f = (omega arith, ap to (let e : k + 0 ≡ k = omega arith in e) ∙ h, λ c low high. absurd (omega arith))
+next_first to k count false None h f = tt
+next_first to k count false (Some j) h f =
+    let a = f.0 in
+    (omega arith, ap to (let e : k + suc j ≡ suc k + j = omega arith in e) ∙ f.1, λ c low high. or_first to k c h (λ after. f.2 c after (omega arith)) low)
+
+first_to : (e : meter.Ends) (levels : ℕ → ℕ) (shown : ℕ → Sample) → ((c : ℕ) → (shown c).level ≡ levels (suc c)) → (k count : ℕ)
+    → FirstTo (to_at e levels) k count (clocks_to e (levels k) (samples_from shown k count))
+unfolding clocks_to samples_from
+first_to e levels shown same k zero = tt
+first_to e levels shown same k (suc count) =
+    let to = to_at e levels in
+    let P : ℕ → Type 0 = λ v. FirstTo to k (suc count) (cond (meter.is_to e (levels k) v) (Some 0) (option_map suc (clocks_to e v (samples_from shown (suc k) count)))) in
+    subst P (sym (same k)) (next_first to k count (to k) (clocks_to e (levels (suc k)) (samples_from shown (suc k) count)) refl (first_to e levels shown same (suc k) count))
+
+-- what is asked of each distance: from a from-edge to the first to-edge after it, before clock n
+abbrev Asked : (from to : ℕ → Bool) → (n : ℕ) → (ℕ → Type 0) → Type 0
+Asked from to n Good = (s d : ℕ) → from s ≡ true → 0 < d → s + d < n → to (s + d) ≡ true → ((c : ℕ) → s < c → c < s + d → to c ≡ false) → Good d
+
+one_good : (from to : ℕ → Bool) (n : ℕ) (Good : ℕ → Type 0) → Asked from to n Good → (k count : ℕ) → k + suc count ≤ n → from k ≡ true → (o : Option ℕ) → FirstTo to (suc k) count o
+    → (ds : List ℕ) → AllByRecursion Good ds → AllByRecursion Good (with_distance o ds)
+one_good from to n Good asked k count within start None f ds all = all
+one_good from to n Good asked k count within start (Some j) f ds all =
+    let a = f.0 in
+    (asked k (suc j) start (omega arith) (omega arith) (ap to (let e : k + suc j ≡ suc k + j = omega arith in e) ∙ f.1) (λ c low high. f.2 c low (omega arith)), all)
+
+where_from : (from to : ℕ → Bool) (n : ℕ) (Good : ℕ → Type 0) → Asked from to n Good → (k count : ℕ) → k + suc count ≤ n → (b : Bool) → from k ≡ b → (o : Option ℕ) → FirstTo to (suc k) count o
+    → (ds : List ℕ) → AllByRecursion Good ds → AllByRecursion Good (cond b (with_distance o ds) ds)
+where_from from to n Good asked k count within true start o f ds all = one_good from to n Good asked k count within start o f ds all
+where_from from to n Good asked k count within false start o f ds all = all
+
+-- so each measured distance is
+all_good : (e : meter.Ends) (levels : ℕ → ℕ) (shown : ℕ → Sample) → ((c : ℕ) → (shown c).level ≡ levels (suc c)) → (n : ℕ) (Good : ℕ → Type 0) → Asked (from_at e levels) (to_at e levels) n Good
+    → (k count : ℕ) → k + count ≤ n → AllByRecursion Good (measured e (levels k) (samples_from shown k count))
+unfolding measured samples_from
+all_good e levels shown same n Good asked k zero within = tt
+all_good e levels shown same n Good asked k (suc count) within =
+    let rest : List Sample = samples_from shown (suc k) count in
+    let P : ℕ → Type 0 = λ v. AllByRecursion Good (cond (meter.is_from e (levels k) v) (with_distance (clocks_to e v rest) (measured e v rest)) (measured e v rest)) in
+    subst P (sym (same k)) (where_from (from_at e levels) (to_at e levels) n Good asked k count within (from_at e levels k) refl (clocks_to e (levels (suc k)) rest) (first_to e levels shown same (suc k) count)
+    (measured e (levels (suc k)) rest) (all_good e levels shown same n Good asked (suc k) count (omega arith)))
+
+-- within some bounds
+abbrev IsBetween : (min max d : ℕ) → Type 0
+IsBetween min max d = (min ≤ d) × (d ≤ max)
+
+least_between : (lo hi d : ℕ) (ds : List ℕ) → IsBetween lo hi d → AllByRecursion (IsBetween lo hi) ds → lo ≤ least_with d ds
+least_between lo hi d [] h all = h.0
+least_between lo hi d (x ∷ xs) h all = let a = h.0 in let i = least_between lo hi x xs all.0 all.1 in omega arith
+
+most_between : (lo hi : ℕ) (ds : List ℕ) → AllByRecursion (IsBetween lo hi) ds → greatest_of ds ≤ hi
+most_between lo hi [] all = omega arith
+most_between lo hi (x ∷ xs) all = let a = all.0.1 in let i = most_between lo hi xs all.1 in omega arith
+
+seen_between : (lo hi : ℕ) (ds : List ℕ) → AllByRecursion (IsBetween lo hi) ds → IsWithin lo hi (seen_of ds)
+seen_between lo hi [] all = record { least = λ some. absurd (omega arith); most = λ some. absurd (omega arith) }
+seen_between lo hi (x ∷ xs) all = record { least = λ some. least_between lo hi x xs all.0 all.1; most = λ some. most_between lo hi (x ∷ xs) all }
+
+-- an edge is the same to the checker and to the meter
+same_change : (rise before after : Bool) → meter.changes rise before after ≡ marks.changes rise before after
+same_change true before after = refl
+same_change false before after = refl
+
+from_mark : (sp : Span) (u : Setup) (lines : List Line) (c : ℕ) → (marks_in sp u lines c).from ≡ from_at (ends_in sp) (λ k. (state_beside u lines k).levels) c
+unfolding mark_of
+from_mark sp u lines c = sym (same_change sp.from_rise _ _)
+
+to_mark : (sp : Span) (u : Setup) (lines : List Line) (c : ℕ) → (marks_in sp u lines c).to ≡ to_at (ends_in sp) (λ k. (state_beside u lines k).levels) c
+unfolding mark_of
+to_mark sp u lines c = sym (same_change sp.to_rise _ _)
+
+breaks_mark : (sp : Span) (u : Setup) (lines : List Line) (c : ℕ) → (marks_in sp u lines c).breaks ≡ marks.is_broken (host_of (first_run u) lines c) sp.machine
+unfolding mark_of
+breaks_mark sp u lines c = refl
+
+shown_levels : (u : Setup) (lines : List Line) (c : ℕ) → (sample_at (first_run u) lines c).level ≡ (state_beside u lines (suc c)).levels
+unfolding sample_of
+shown_levels u lines c = refl
+
+first_levels : (u : Setup) (lines : List Line) → (state_beside u lines 0).levels ≡ (first_run u).state.levels
+unfolding hosted_at
+first_levels u lines = refl
+
+in_clocks : (unit : SpanUnit) (lo hi n : ℕ) (m : ℕ → Mark) → unit ≡ Clocks → Holds unit lo hi m n → ((c : ℕ) → c < n → (m c).breaks ≡ false)
+    → (s d : ℕ) → (m s).from ≡ true → 0 < d → s + d < n → (m (s + d)).to ≡ true → ((c : ℕ) → s < c → c < s + d → (m c).to ≡ false) → IsBetween lo hi d
+in_clocks Ticks lo hi n m clocks holds calm s d start some within to first = cc
+in_clocks Clocks lo hi n m clocks holds calm s d start some within to first =
+    let h = holds s (omega arith) start in
+    let ends : Ends m s (s + d) = record { after = omega arith; first = first; edge = to } in
+    let spoken : IsUnbroken m s (suc (s + d)) = λ c low high. calm c (omega arith) in
+    let least = h.least (s + d) ends within spoken in
+    let most = h.most (s + d) ends within spoken in
+    (omega arith, omega arith)
+
+pub seen_within : (u : Setup) (sp : Span) → sp.unit ≡ Clocks → HoldsInEveryRun u sp → (lines : List Line) (n : ℕ) → IsUndisturbed u sp lines n → IsWithin sp.min sp.max (seen_in u sp lines n)
+seen_within u sp clocks holds lines n calm =
+    let levels : ℕ → ℕ = λ k. (state_beside u lines k).levels in
+    let e = ends_in sp in
+    let asked : Asked (from_at e levels) (to_at e levels) n (IsBetween sp.min sp.max) = λ s d start some within to first.
+    in_clocks sp.unit sp.min sp.max n (marks_in sp u lines) clocks (holds.beside lines n) (λ c low. breaks_mark sp u lines c ∙ calm c low)
+    s d (from_mark sp u lines s ∙ start) some within (to_mark sp u lines (s + d) ∙ to) (λ c low high. to_mark sp u lines c ∙ first c low high) in
+    let all = all_good e levels (sample_at (first_run u) lines) (shown_levels u lines) n (IsBetween sp.min sp.max) asked 0 n (omega arith) in
+    let good = seen_between sp.min sp.max (measured e (levels 0) (samples_from (sample_at (first_run u) lines) 0 n)) all in
+    let P : List Sample → Type 0 = λ xs. IsWithin sp.min sp.max (seen_of (measured e (levels 0) xs)) in
+    let Q : ℕ → Type 0 = λ v. IsWithin sp.min sp.max (seen_of (measured e v (samples (first_run u) lines n))) in
+    subst Q (first_levels u lines) (subst P (sym (samples-from (first_run u) lines n)) good)

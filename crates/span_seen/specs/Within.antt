@@ -1,0 +1,26 @@
+-- What a proved span promises of its measured distances.
+--   IsUndisturbed   no line disables or restarts the span's machine
+--   seen_in         what the span measures in a run
+--   IsWithin        the least and the greatest distance are within the bounds
+use Rattle.std.specs.Prelude.{◌≡◌, ℕ, ◌<◌, ◌≤◌, false, List}
+use Rattle.pin_matrix.specs.declared.setup.Setup.{Setup}
+use Rattle.pin_matrix.specs.declared.span.Span.{Span}
+use Rattle.dreq_pacing.specs.declared.line.Line.{Line}
+use Rattle.block_core.specs.Block.{first_run}
+use Rattle.block_core.specs.Hosted.{host_of, samples}
+use Rattle.span_check.specs.Marks.{is_broken}
+use Rattle.span_meter.specs.declared.seen.Seen.{Seen}
+use Rattle.span_meter.specs.Measured.{ends_in, measured, seen_of}
+
+-- no line of the first n clocks disables the span's machine, or restarts its divider
+abbrev pub IsUndisturbed : Setup → Span → List Line → (n : ℕ) → Type 0
+IsUndisturbed u sp lines n = (c : ℕ) → c < n → is_broken (host_of (first_run u) lines c) sp.machine ≡ false
+
+-- what the span measures in the first n clocks of the setup's run beside a stimulus
+abbrev pub seen_in : Setup → Span → List Line → (n : ℕ) → Seen
+seen_in u sp lines n = seen_of (measured (ends_in sp) (first_run u).state.levels (samples (first_run u) lines n))
+
+-- Where there are distances, the least and the greatest are within the bounds.
+pub record IsWithin (min max : ℕ) (s : Seen) : Type 0 where
+  pub least : 0 < s.pairs → min ≤ s.least
+  pub most : 0 < s.pairs → s.most ≤ max

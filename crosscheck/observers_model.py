@@ -1,0 +1,43 @@
+"""What spans measure in samples, and the bytes that a serial line carries, from the written rules (docs/SPECIFICATION.md).
+
+It shares no code and no form with the crates: edges are lists of clocks, and a frame is read from the whole list of levels.
+"""
+
+
+def levels_of(shown, pin, before):
+    """The level of a pin after each clock; the one before clock 0 has the place -1, at the end of the list."""
+    return [values[pin] for values in shown] + [before >> pin & 1]
+
+
+def edges(levels, edge):
+    """The clocks in which the level rises, or falls."""
+    after = 1 if edge == "rise" else 0
+    return [clock for clock in range(len(levels) - 1) if levels[clock] == after != levels[clock - 1]]
+
+
+def seen(spans, shown, before):
+    """The line of each span. A span has its name, its pins and its edges, as a configuration says them."""
+    text = ""
+    for span in spans:
+        starts = edges(levels_of(shown, span["from_pin"], before), span["from_edge"])
+        ends = edges(levels_of(shown, span["to_pin"], before), span["to_edge"])
+        times = [min(end for end in ends if end > start) - start for start in starts if ends and ends[-1] > start]
+        text += f"span {span['name']} seen {len(times)}"
+        text += f" least {min(times)} most {max(times)}\n" if times else "\n"
+    return text
+
+
+def received(shown, before, pin, bit):
+    """The line of each frame: a start bit, eight data bits, the lowest first, and a stop bit."""
+    levels = levels_of(shown, pin, before)
+    falls, text, free = edges(levels, "fall"), "", 0
+    for start in falls:
+        if start < free:
+            continue
+        stop = start + bit // 2 + 9 * bit
+        if stop >= len(shown):
+            break
+        byte = sum(levels[start + bit // 2 + (place + 1) * bit] << place for place in range(8))
+        text += f"byte 0x{byte:02x} at {start}\n" if levels[stop] else f"bad at {start}\n"
+        free = stop + 1
+    return text
