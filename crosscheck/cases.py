@@ -177,6 +177,17 @@ class SerialLine:
         return self.pin, max(2, 8 * self.divider + self.random.choice([0, 0, 0, 0, -1, 1, -5, 7]))
 
 
+class Sending(SerialLine):
+    """The same on pin 0, which is an output and high, fed with a file's bytes and never disabled."""
+
+    def __init__(self, random):
+        super().__init__(random)
+        self.setups[0] |= {"out_base": 0, "side_base": 0, "divider": self.divider}
+        self.pins |= {"level": 1, "out": 1}
+        self.bytes = bytes(random.randrange(256) for _ in range(random.choice([0, 1, 2, 5, 12])))
+        self.lines = [(0, "feed", [0, 1, *self.bytes])] if self.bytes else []
+
+
 # Sources.
 
 

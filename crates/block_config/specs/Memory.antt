@@ -20,7 +20,7 @@ moved first (Some word) = relocated word first
 abbrev pub word_at : ℕ → List ℕ → ℕ → Option ℕ
 word_at first words address = if nat_lt address first then None else moved first (slice_get words (address - first))
 
--- the memory with a program loaded at an address: its words there, and what stood there before elsewhere
+-- the memory with a program loaded at an address: its words there, and what was there before elsewhere
 abbrev pub loaded : List ℕ → ℕ → List ℕ → List ℕ
 loaded memory first words = map (λ address. unwrap_or (word_at first words address) (slice_index memory address)) (range_with_len 0 32)
 

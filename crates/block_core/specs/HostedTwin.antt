@@ -52,6 +52,7 @@ hosted_twin_at start first second (suc clock) = hosted_twin_next first second (h
 abbrev pub first_host_of : TwinRun → (first second : List Line) → ℕ → Due
 first_host_of start first second clock = due_of first (hosted_twin_at start first second clock).first
 
+-- what the system does at the second block
 abbrev pub second_host_of : TwinRun → (first second : List Line) → ℕ → Due
 second_host_of start first second clock = due_of second (hosted_twin_at start first second clock).second
 

@@ -23,6 +23,7 @@ use Rattle.block_core.specs.Slots.{Slot, has_tick}
 abbrev pub machines_stir_over : (pad : ℕ) → Due → Run → Bool
 machines_stir_over pad d r = list_any stirs (wanted_over pad d r)
 
+-- the same with the pads of the clock
 abbrev pub machines_stir : Due → Run → Bool
 machines_stir d r = machines_stir_over (pads_in d r.state) d r
 
@@ -31,6 +32,7 @@ machines_stir d r = machines_stir_over (pads_in d r.state) d r
 abbrev pub pads_change_over : (pad : ℕ) → Run → Bool
 pads_change_over pad r = not ((pad == r.synchroniser.pad_1) && (pad == r.synchroniser.pad_2))
 
+-- the same of the pads of the clock
 abbrev pub pads_change : Due → Run → Bool
 pads_change d r = pads_change_over (pads_in d r.state) r
 
@@ -38,6 +40,7 @@ pads_change d r = pads_change_over (pads_in d r.state) r
 abbrev pub moves_on_over : (pad : ℕ) → Due → Run → Bool
 moves_on_over pad d r = machines_stir_over pad d r || pads_change_over pad r
 
+-- The same with the pads of the clock.
 unfoldable pub moves_on : Due → Run → Bool
 moves_on d r = moves_on_over (pads_in d r.state) d r
 
@@ -55,6 +58,7 @@ abbrev pub stirs_over : (pad : ℕ) → List Line → Hosted → Bool
 stirs_over pad lines h =
     acts_in lines h.run.clock (requests_of h.run.state) h.transfers || moves_on_over pad (due_of lines h) h.run
 
+-- The same with the pads of the clock.
 unfoldable pub stirs_in : List Line → Hosted → Bool
 stirs_in lines h =
     acts_in lines h.run.clock (requests_of h.run.state) h.transfers || moves_on (due_of lines h) h.run

@@ -5,8 +5,12 @@ use Rattle.pin_matrix.specs.declared.setup.Setup.{Setup}
 use Rattle.dreq_pacing.specs.declared.line.Line.{Line}
 use Rattle.block_core.specs.Block.{first_run}
 use Rattle.block_core.specs.Stirring.{stirring}
-use Rattle.file_stages.specs.Judged.{Judged, right, prepared_at}
-use Rattle.call_ends.specs.Worked.{run_worked, worked_of}
+use Rattle.std.specs.FinMap.{get}
+use Rattle.fault_lines.specs.declared.fault.File.TheVariants.{Send}
+use Rattle.pio_uart.specs.Feeding.{fed}
+use Rattle.pio_uart.specs.OneSetup.{transmitter_of}
+use Rattle.file_stages.specs.Judged.{Judged, right, prepared_at, read_at}
+use Rattle.call_ends.specs.Worked.{run_worked, worked_of, sent_worked, uart_worked}
 
 of_right : (clocks before after : ℕ) (j : Judged (Setup × List Line)) (u : Setup) (lines : List Line) → j ≡ right (u, lines)
     → after ≤ before + stirring (first_run u) lines clocks + 1 → after ≤ before + run_worked clocks j
@@ -22,3 +26,18 @@ pub worked_by : (files : Option Files) (source : List ℕ) (config stimulus : Op
 worked_by None source config stimulus clocks before after u lines same within h = within
 worked_by (Some f) source config stimulus clocks before after u lines same within h =
     of_right clocks before after (prepared_at f source config stimulus) u lines same h
+
+of_bytes : (divider clocks before after : ℕ) (j : Judged (List ℕ)) (bytes : List ℕ) → j ≡ right bytes
+    → after ≤ before + stirring (first_run (transmitter_of divider)) (fed bytes) clocks + 1 → after ≤ before + sent_worked divider clocks j
+of_bytes divider clocks before after j bytes same h =
+    let most : after ≤ before + (stirring (first_run (transmitter_of divider)) (fed bytes) clocks + 1) = omega (arith, h) in
+    subst (λ (k : Judged (List ℕ)). after ≤ before + sent_worked divider clocks k) (sym same) most
+
+-- where the file of a transmitter comes to these bytes
+pub sent_by : (files : Option Files) (send : List ℕ) (divider clocks before after : ℕ) (bytes : List ℕ)
+    → IfSome files (λ f. read_at Send (get f send) ≡ right bytes)
+    → after ≤ before + clocks → after ≤ before + stirring (first_run (transmitter_of divider)) (fed bytes) clocks + 1
+    → after ≤ before + uart_worked files send divider clocks
+sent_by None send divider clocks before after bytes same within h = within
+sent_by (Some f) send divider clocks before after bytes same within h =
+    of_bytes divider clocks before after (read_at Send (get f send)) bytes same h

@@ -7,7 +7,7 @@ use Rattle.fault_lines.specs.declared.fault.Fault.{Fault}
 use Rattle.fault_lines.specs.declared.fault.Fault.TheVariants as fault
 use Rattle.span_verdict.specs.declared.table_flaw.Flaw.{Flaw}
 use Rattle.verdict_lines.specs.declared.refusal.Refusal.{Refusal}
-use Rattle.command_line.specs.Words.{Asked, asm, run, check, table, recheck, shares, gen, dis, measure, receive}
+use Rattle.command_line.specs.Words.{Asked, asm, run, check, table, recheck, shares, gen, dis, measure, receive, uart}
 use Rattle.file_stages.specs.Judged.{wrong}
 use Rattle.file_stages.specs.Stages.{HasSuch}
 use Rattle.call_ends.specs.Outside.{Call, Untouched, SameShelf, SameOut}
@@ -40,6 +40,7 @@ WritesRefused (gen seed clocks) c = ⊥
 WritesRefused (dis name side opt) c = ⊥
 WritesRefused (measure source config stimulus clocks) c = ⊥
 WritesRefused (receive source config stimulus clocks pin bit) c = ⊥
+WritesRefused (uart send divider clocks) c = ⊥
 
 -- this is the first span that isn't provable, and why; nothing failed
 pub record Refuses (c : Call) (a : Asked) (name : List ℕ) (refusal : Refusal) : Type 0 where

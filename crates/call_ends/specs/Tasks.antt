@@ -5,15 +5,18 @@
 --   need_of     what a task needs of spans, beside its text
 --   file_in     which file a command reads in a role; reaches: when it comes to it
 use Rattle.std.specs.Prelude.{ℕ, Bool, true, Option, None, IfSome, List}
+use Rattle.std.specs.FinMap.{get}
 use Rattle.std.specs.List.{flat_map}
 use Rattle.pio_edge.specs.Edge.{Files}
 use Rattle.fault_lines.specs.declared.fault.File.{File}
+use Rattle.fault_lines.specs.declared.fault.File.TheVariants.{Send}
 use Rattle.vcd_trace.specs.VcdText.{vcd_text}
 use Rattle.span_meter.specs.Measured.{ends_in, measured, seen_of}
 use Rattle.span_meter.specs.SeenText.{seen_line}
 use Rattle.span_meter.specs.declared.seen.Seen.{Seen}
 use Rattle.serial_receiver.specs.Frames.{frames, levels_of}
 use Rattle.serial_receiver.specs.FrameText.{frames_text}
+use Rattle.pio_uart.specs.Feeding.{frames_fed}
 use Rattle.pin_matrix.specs.Pins.{is_high}
 use Rattle.dreq_pacing.specs.declared.line.Line.{Line}
 use Rattle.block_core.specs.Block.{Run, first_run}
@@ -24,14 +27,14 @@ use Rattle.span_bounds.specs.declared.row.Row.{Row}
 use Rattle.span_bounds.specs.Answers.{IsGoodLeast}
 use Rattle.table_files.specs.Rows.{table_text}
 use Rattle.table_files.specs.FlawLines.{rechecked_line}
-use Rattle.command_line.specs.Words.{Asked, asm, run, check, table, recheck, shares, gen, dis, measure, receive}
+use Rattle.command_line.specs.Words.{Asked, asm, run, check, table, recheck, shares, gen, dis, measure, receive, uart}
 use Rattle.program_listing.specs.Listing.{listing_text}
 use Rattle.word_file.specs.Listing.{word_lines, rule_for}
 use Rattle.block_shares.specs.Report.{shares_text}
 use Rattle.load_summary.specs.Summaries.{summary_of, summary_text}
 use Rattle.span_stage.specs.Spans.{HasVerdicts}
-use Rattle.file_stages.specs.Judged.{Judged, right, and_then, IfRight, source_at, words_at, prepared_at, span_at, recheck_at}
-use Rattle.file_stages.specs.Roles.{source_alone, words_alone, run_files, no_file, run_reaches, recheck_files, recheck_reaches}
+use Rattle.file_stages.specs.Judged.{Judged, right, and_then, IfRight, source_at, words_at, prepared_at, span_at, recheck_at, read_at}
+use Rattle.file_stages.specs.Roles.{source_alone, words_alone, send_alone, run_files, no_file, run_reaches, recheck_files, recheck_reaches}
 use Rattle.call_ends.specs.Outside.{Call}
 use Rattle.call_ends.specs.Needs.{Need, nothing, all_spans, one_span, by_table, IsMet}
 
@@ -61,6 +64,10 @@ unfoldable pub received_text : Run → (pin bit : ℕ) → List Line → ℕ →
 received_text start pin bit lines clocks =
     frames_text (frames bit (is_high start.state.levels pin) (levels_of pin (samples start lines clocks)))
 
+-- the line of each byte that the transmitter sends in so many clocks of a run that feeds it these bytes: byte j at its clock
+unfoldable pub sent_text : (divider : ℕ) → (bytes : List ℕ) → (clocks : ℕ) → List ℕ
+sent_text divider bytes clocks = frames_text (frames_fed divider clocks 0 bytes)
+
 -- what a command comes to; `check`, `table` and `shares` read what a run without a stimulus reads
 unfoldable pub judge : Files → Asked → Judged Task
 judge files (asm name) = and_then (source_at files name) (λ programs. right (listing (listing_text programs)))
@@ -81,6 +88,8 @@ judge files (measure source config stimulus clocks) =
 judge files (receive source config stimulus clocks pin bit) =
     and_then (prepared_at files source config stimulus)
     (λ prepared. right (listing (received_text (first_run prepared.0) pin bit prepared.1 clocks)))
+judge files (uart send divider clocks) =
+    and_then (read_at Send (get files send)) (λ bytes. right (listing (sent_text divider bytes clocks)))
 
 -- the told files come to a task that is such
 abbrev pub ComesTo : Call → Asked → (Task → Type 0) → Type 0
@@ -123,6 +132,7 @@ file_in (gen seed clocks) role = no_file role
 file_in (dis name side opt) role = words_alone name role
 file_in (measure source config stimulus clocks) role = run_files source config stimulus role
 file_in (receive source config stimulus clocks pin bit) role = run_files source config stimulus role
+file_in (uart send divider clocks) role = send_alone send role
 
 -- a command comes to the file of this role: what it reads before is right
 abbrev pub reaches : Files → Asked → File → Bool
@@ -136,3 +146,4 @@ reaches files (gen seed clocks) role = true
 reaches files (dis name side opt) role = true
 reaches files (measure source config stimulus clocks) role = run_reaches files source config role
 reaches files (receive source config stimulus clocks pin bit) role = run_reaches files source config role
+reaches files (uart send divider clocks) role = true

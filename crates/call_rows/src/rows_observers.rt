@@ -1,4 +1,4 @@
-//! Whole calls of `measure` and `receive`, worked by hand from the rules (choice of this profile).
+//! Whole calls of `measure`, `receive` and `uart`, worked by hand from the rules (choice of this profile).
 
 use crate::rows::{Row, Text};
 
@@ -353,6 +353,202 @@ pub static RECEIVED: [Row; 13] = [
         source: Some(UART),
         config: Some(SENDER),
         stimulus: Some("0 tx 0 0x41\n"),
+        out_fails: &[(1, 0)],
+        status: 5,
+        err: "piotool: out\n",
+        ..PLAIN
+    },
+];
+
+pub static SENT: [Row; 12] = [
+    Row {
+        name: "two bytes, each at its clock",
+        words: &[
+            "piotool",
+            "uart",
+            "--send",
+            "s",
+            "--divider",
+            "1",
+            "--clocks",
+            "166",
+        ],
+        source: Some("\x41\x00"),
+        out: Text::Lines("byte 0x41 at 9\nbyte 0x00 at 89\n"),
+        ..PLAIN
+    },
+    Row {
+        name: "the stop bit of the second isn't read",
+        words: &[
+            "piotool",
+            "uart",
+            "--send",
+            "s",
+            "--divider",
+            "1",
+            "--clocks",
+            "165",
+        ],
+        source: Some("\x41\x00"),
+        out: Text::Lines("byte 0x41 at 9\n"),
+        ..PLAIN
+    },
+    Row {
+        name: "nor is that of the first",
+        words: &[
+            "piotool",
+            "uart",
+            "--send",
+            "s",
+            "--divider",
+            "1",
+            "--clocks",
+            "85",
+        ],
+        source: Some("\x41\x00"),
+        ..PLAIN
+    },
+    Row {
+        name: "two clocks a tick",
+        words: &[
+            "piotool",
+            "uart",
+            "--send",
+            "s",
+            "--divider",
+            "2",
+            "--clocks",
+            "171",
+        ],
+        source: Some("\x7f"),
+        out: Text::Lines("byte 0x7f at 18\n"),
+        ..PLAIN
+    },
+    Row {
+        name: "its stop bit isn't read",
+        words: &[
+            "piotool",
+            "uart",
+            "--send",
+            "s",
+            "--divider",
+            "2",
+            "--clocks",
+            "170",
+        ],
+        source: Some("\x7f"),
+        ..PLAIN
+    },
+    Row {
+        name: "no byte to send",
+        words: &[
+            "piotool",
+            "uart",
+            "--send",
+            "s",
+            "--divider",
+            "1",
+            "--clocks",
+            "1000000000000",
+        ],
+        source: Some(""),
+        ..PLAIN
+    },
+    Row {
+        name: "long after the last byte",
+        words: &[
+            "piotool",
+            "uart",
+            "--send",
+            "s",
+            "--divider",
+            "8191",
+            "--clocks",
+            "1000000000000",
+        ],
+        source: Some("a"),
+        out: Text::Lines("byte 0x61 at 73719\n"),
+        ..PLAIN
+    },
+    Row {
+        name: "no clock at all",
+        words: &[
+            "piotool",
+            "uart",
+            "--send",
+            "s",
+            "--divider",
+            "8191",
+            "--clocks",
+            "0",
+        ],
+        source: Some("\x41\x00"),
+        ..PLAIN
+    },
+    Row {
+        name: "a tick takes a clock at least",
+        words: &[
+            "piotool",
+            "uart",
+            "--send",
+            "s",
+            "--divider",
+            "0",
+            "--clocks",
+            "4",
+        ],
+        source: Some("\x41\x00"),
+        status: 2,
+        err: "piotool: usage\n",
+        ..PLAIN
+    },
+    Row {
+        name: "and 8,191 at most",
+        words: &[
+            "piotool",
+            "uart",
+            "--send",
+            "s",
+            "--divider",
+            "8192",
+            "--clocks",
+            "4",
+        ],
+        source: Some("\x41\x00"),
+        status: 2,
+        err: "piotool: usage\n",
+        ..PLAIN
+    },
+    Row {
+        name: "no such bytes to send",
+        words: &[
+            "piotool",
+            "uart",
+            "--send",
+            "s",
+            "--divider",
+            "1",
+            "--clocks",
+            "166",
+        ],
+        source: None,
+        status: 4,
+        err: "piotool: shelf send\n",
+        ..PLAIN
+    },
+    Row {
+        name: "the first put of a sent byte fails",
+        words: &[
+            "piotool",
+            "uart",
+            "--send",
+            "s",
+            "--divider",
+            "1",
+            "--clocks",
+            "166",
+        ],
+        source: Some("\x41\x00"),
         out_fails: &[(1, 0)],
         status: 5,
         err: "piotool: out\n",

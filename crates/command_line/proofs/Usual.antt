@@ -12,9 +12,9 @@ use Rattle.clap.specs.ValueTests.{is_unsigned_in, is_numeral}
 use Rattle.clap.specs.declared.error.kind.ErrorKind.TheVariants as kind
 use Rattle.clap.proofs.OnLiterals.{clap_on_literals}
 use Rattle.clap.proofs.WalkLemmas.{both}
-use Rattle.command_line.specs.Tool.{bit_limit, clock_limit, least_bit, pin_limit, seed_limit, side_limit, tool}
-use Rattle.command_line.specs.Words.{Asked, IsTaken, asm, run, check, table, recheck, shares, gen, dis, measure, receive, asked_of, number_in, has_no_room}
-use Rattle.command_line.specs.Laws.{number_of, asm_words, run_words, check_words, table_words, recheck_words, shares_words, gen_words, dis_words, measure_words, receive_words, are_in_range, AskWhere, AsmWords, RunWords, CheckWords, TableWords, RecheckWords, SharesWords, GenWords, DisWords, MeasureWords, ReceiveWords}
+use Rattle.command_line.specs.Tool.{bit_limit, clock_limit, divider_limit, least_bit, least_divider, pin_limit, seed_limit, side_limit, tool}
+use Rattle.command_line.specs.Words.{Asked, IsTaken, asm, run, check, table, recheck, shares, gen, dis, measure, receive, uart, asked_of, number_in, has_no_room}
+use Rattle.command_line.specs.Laws.{number_of, asm_words, run_words, check_words, table_words, recheck_words, shares_words, gen_words, dis_words, measure_words, receive_words, uart_words, are_in_range, AskWhere, AsmWords, RunWords, CheckWords, TableWords, RecheckWords, SharesWords, GenWords, DisWords, MeasureWords, ReceiveWords, UartWords}
 
 -- ---- a number in range
 
@@ -43,6 +43,14 @@ bit_read text e =
     let below = r.greatest in
     let above = r.least in
     rw r.same (omega (arith, above, below))
+
+divider_read : (text : Text) → is_unsigned_in least_divider divider_limit text ≡ true
+    → max (min (number_in text) divider_limit) least_divider ≡ number_of text
+divider_read text e =
+    let r = in_range least_divider divider_limit text e in
+    let below = r.greatest in
+    let above = r.least in
+    rw r.same (omega (arith, below, above))
 
 -- ---- run
 
@@ -379,3 +387,40 @@ receive_words_law name source config stimulus clocks pin bit =
     go true true false e f g = inl (not_empty _ (receive_fault name source config stimulus clocks pin bit true true false e f g))
     go true false b e f g = inl (not_empty _ (receive_fault name source config stimulus clocks pin bit true false b e f g))
     go false p b e f g = inl (not_empty _ (receive_fault name source config stimulus clocks pin bit false p b e f g))
+
+-- ---- uart
+
+uart_asks : (name send divider clocks : Text)
+    → asked_of (uart_words name send divider clocks)
+    ≡ Some (uart send (max (min (number_in divider) divider_limit) least_divider) (min (number_in clocks) clock_limit))
+unfolding clap_on_literals tool asked_of
+uart_asks name send divider clocks = refl
+
+uart_takes : (name send divider clocks : Text) → is_unsigned_in least_divider divider_limit divider ≡ true
+    → is_unsigned_in 0 clock_limit clocks ≡ true → takes tool (uart_words name send divider clocks) ≡ true
+unfolding clap_on_literals tool
+uart_takes name send divider clocks e f = both_tests _ _ e f
+
+uart_computes : (name send divider clocks : Text) → fault_of tool (uart_words name send divider clocks)
+    ≡ first_of_both (is_unsigned_in least_divider divider_limit divider) (is_unsigned_in 0 clock_limit clocks)
+unfolding clap_on_literals tool within first_of_both
+uart_computes name send divider clocks = refl
+
+uart_fault : (name send divider clocks : Text) (s t : Bool) → is_unsigned_in least_divider divider_limit divider ≡ s
+    → is_unsigned_in 0 clock_limit clocks ≡ t → fault_of tool (uart_words name send divider clocks) ≡ fault_where (s && t)
+uart_fault name send divider clocks s t e f =
+    uart_computes name send divider clocks ∙ ap (λ b. first_of_both b (is_unsigned_in 0 clock_limit clocks)) e ∙ ap (first_of_both s) f ∙ first_is s t
+
+pub uart_words_law : UartWords
+uart_words_law name send divider clocks =
+    go (is_unsigned_in least_divider divider_limit divider) (is_unsigned_in 0 clock_limit clocks) refl refl
+  where
+    go : (s t : Bool) → is_unsigned_in least_divider divider_limit divider ≡ s → is_unsigned_in 0 clock_limit clocks ≡ t
+        → AskWhere (s && t) (uart_words name send divider clocks) (uart send (number_of divider) (number_of clocks))
+    go true true e f =
+        let asked = uart_asks name send divider clocks
+        ∙ ap (λ k. Some (uart send k (min (number_in clocks) clock_limit))) (divider_read divider e)
+        ∙ ap (λ n. Some (uart send (number_of divider) n)) (range_read clock_limit clocks f) in
+        (taken_by _ _ (uart_takes name send divider clocks e f) asked refl, record { taken = uart_fault name send divider clocks true true e f; asked = asked })
+    go true false e f = inl (not_empty _ (uart_fault name send divider clocks true false e f))
+    go false t e f = inl (not_empty _ (uart_fault name send divider clocks false t e f))

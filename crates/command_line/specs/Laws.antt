@@ -3,8 +3,8 @@ use Rattle.std.specs.Prelude.{◌++◌, ◌+◌, ◌≤◌, ◌==◌, ◌&&◌, 
 use Rattle.std.specs.Str.Parse.{digits_value, without_leading_plus}
 use Rattle.clap.specs.ValueTests.{is_unsigned_in}
 use Rattle.clap.specs.Walk.{Text}
-use Rattle.command_line.specs.Tool.{bit_limit, clock_limit, least_bit, pin_limit, seed_limit, side_limit}
-use Rattle.command_line.specs.Words.{Asked, Asks, IsRefused, IsTaken, asm, check, dis, gen, measure, receive, recheck, run, shares, table}
+use Rattle.command_line.specs.Tool.{bit_limit, clock_limit, divider_limit, least_bit, least_divider, pin_limit, seed_limit, side_limit}
+use Rattle.command_line.specs.Words.{Asked, Asks, IsRefused, IsTaken, asm, check, dis, gen, measure, receive, recheck, run, shares, table, uart}
 
 -- the number of decimal digits, where a plus may come first
 abbrev pub number_of : Text → ℕ
@@ -117,6 +117,18 @@ abbrev pub ReceiveWords : Type 0
 ReceiveWords = (name source : Text) (config stimulus : Option Text) (clocks pin bit : Text)
     → AskWhere (are_in_range clocks pin bit) (receive_words name source config stimulus clocks pin bit)
     (receive source config stimulus (number_of clocks) (number_of pin) (number_of bit))
+
+-- `uart --send=F --divider=I --clocks=N`, of a program of any name
+abbrev pub uart_words : Text → Text → Text → Text → List Text
+uart_words name send divider clocks =
+    name ∷ codes "uart" ∷ (codes "--send=" ++ send) ∷ (codes "--divider=" ++ divider) ∷ (codes "--clocks=" ++ clocks) ∷ []
+
+-- they ask for what the transmitter sends of F in N clocks with a tick every I clocks, exactly where both are whole numbers in range,
+-- whatever F is
+abbrev pub UartWords : Type 0
+UartWords = (name send divider clocks : Text)
+    → AskWhere (is_unsigned_in least_divider divider_limit divider && is_unsigned_in 0 clock_limit clocks)
+    (uart_words name send divider clocks) (uart send (number_of divider) (number_of clocks))
 
 -- the digit `0`; the others follow it
 abbrev pub digit_0 : ℕ

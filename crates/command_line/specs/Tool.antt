@@ -26,8 +26,17 @@ pin_limit = 31
 abbrev pub least_bit : ℕ
 least_bit = 2
 
+-- the most clocks of a bit of a serial line
 abbrev pub bit_limit : ℕ
 bit_limit = 65535
+
+-- the least and the most whole part of the divider of the transmitter that sends a file (choice of this profile): eight ticks are
+-- a bit, which takes `bit_limit` clocks at most
+abbrev pub least_divider : ℕ
+least_divider = 1
+
+abbrev pub divider_limit : ℕ
+divider_limit = 8191
 
 -- `--name X`, where X is any text (choice of this profile)
 abbrev pub option_rule : Text → Rule
@@ -76,6 +85,14 @@ pin_rule = up_to pin_limit (required (option_rule (codes "pin")))
 -- `--bit B`: how many clocks a bit takes
 unfoldable pub bit_rule : Rule
 bit_rule = record (required (option_rule (codes "bit"))) { parser = Some (Unsigned least_bit bit_limit) }
+
+-- `--send F`: the name of a file of bytes
+unfoldable pub send_rule : Rule
+send_rule = required (option_rule (codes "send"))
+
+-- `--divider I`: how many clocks a tick takes
+unfoldable pub divider_rule : Rule
+divider_rule = record (required (option_rule (codes "divider"))) { parser = Some (Unsigned least_divider divider_limit) }
 
 -- `FILE`, a name alone
 unfoldable pub file_rule : Rule
@@ -141,6 +158,10 @@ measure_app = subcommand (codes "measure") (source_rule ∷ config_rule ∷ stim
 unfoldable pub receive_app : App
 receive_app = subcommand (codes "receive") (source_rule ∷ config_rule ∷ stimulus_rule ∷ clocks_rule ∷ pin_rule ∷ bit_rule ∷ [])
 
+-- `uart --send F --divider I --clocks N`
+unfoldable pub uart_app : App
+uart_app = subcommand (codes "uart") (send_rule ∷ divider_rule ∷ clocks_rule ∷ [])
+
 -- `piotool` with no arguments of its own, which wants a subcommand
 unfoldable pub bare_app : App
 bare_app = record (new_app (codes "piotool")) {
@@ -149,6 +170,6 @@ bare_app = record (new_app (codes "piotool")) {
 
 -- `piotool` with its subcommands; who unfolds it unfolds all that it is made of
 unfoldable pub tool : App
-unfolding taking offering bare_app asm_app run_app dis_app check_app gen_app table_app recheck_app shares_app measure_app receive_app file_rule source_rule config_rule stimulus_rule clocks_rule seed_rule span_rule table_rule pin_rule bit_rule side_rule opt_rule
+unfolding taking offering bare_app asm_app run_app dis_app check_app gen_app table_app recheck_app shares_app measure_app receive_app uart_app file_rule source_rule config_rule stimulus_rule clocks_rule seed_rule span_rule table_rule pin_rule bit_rule send_rule divider_rule side_rule opt_rule
 tool = fold offering bare_app (asm_app ∷ run_app ∷ dis_app ∷ check_app ∷ gen_app ∷ table_app ∷ recheck_app ∷ shares_app
-    ∷ measure_app ∷ receive_app ∷ [])
+    ∷ measure_app ∷ receive_app ∷ uart_app ∷ [])

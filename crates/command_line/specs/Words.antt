@@ -9,15 +9,16 @@ use Rattle.clap.specs.Walk.{Row, Text, first_of, one_of}
 use Rattle.clap.specs.Simple.{subcommand_of}
 use Rattle.clap.specs.Takes.{takes}
 use Rattle.clap.specs.Faults.{fault_of}
-use Rattle.command_line.specs.Tool.{bit_limit, clock_limit, least_bit, pin_limit, seed_limit, side_limit, tool}
+use Rattle.command_line.specs.Tool.{bit_limit, clock_limit, divider_limit, least_bit, least_divider, pin_limit, seed_limit, side_limit, tool}
 use Rattle.command_line.specs.declared.order.Order.{Order}
-use Rattle.command_line.specs.declared.order.Order.TheVariants.{Asm, Run, Check, Table, Recheck, Shares, Gen, Dis, Measure, Receive}
+use Rattle.command_line.specs.declared.order.Order.TheVariants.{Asm, Run, Check, Table, Recheck, Shares, Gen, Dis, Measure, Receive, Uart}
 use Rattle.command_line.specs.declared.order.WordsFault.{WordsFault}
 use Rattle.command_line.specs.declared.order.WordsFault.TheVariants.{Usage, Memory}
 
 -- a subcommand with its arguments: file; source, configuration and stimulus if there are some, and clocks; source, and
 -- configuration if there is one; the same with a span's name, and then with a table; seed and clocks; file, side-set bits and whether
--- their value is optional; and the arguments of `run`, alone or with a pin and the clocks of a bit
+-- their value is optional; the arguments of `run`, alone or with a pin and the clocks of a bit; and a file of bytes, a
+-- divider and clocks
 pub data Asked : Type 0 where
   asm : Text → Asked
   run : Text → Option Text → Option Text → ℕ → Asked
@@ -29,6 +30,7 @@ pub data Asked : Type 0 where
   dis : Text → ℕ → Bool → Asked
   measure : Text → Option Text → Option Text → ℕ → Asked
   receive : Text → Option Text → Option Text → ℕ → ℕ → ℕ → Asked
+  uart : Text → ℕ → ℕ → Asked
 
 -- what an order asks for
 abbrev pub asked_by : Order → Asked
@@ -44,6 +46,7 @@ asked_by (Measure source config stimulus clocks) =
     measure source.now (option_map (λ t. t.now) config) (option_map (λ t. t.now) stimulus) clocks
 asked_by (Receive source config stimulus clocks pin bit) =
     receive source.now (option_map (λ t. t.now) config) (option_map (λ t. t.now) stimulus) clocks pin bit
+asked_by (Uart send divider clocks) = uart send.now divider clocks
 
 -- ---- what clap's matches of a subcommand ask for
 
@@ -115,6 +118,12 @@ receive_asked rows =
     (number_at clock_limit (codes "clocks") rows) (number_at pin_limit (codes "pin") rows)
     (max (number_at bit_limit (codes "bit") rows) least_bit)
 
+-- the arguments of `uart`; a tick takes a clock at least
+abbrev pub uart_asked : List Row → Asked
+uart_asked rows =
+    uart (text_at (codes "send") rows) (max (number_at divider_limit (codes "divider") rows) least_divider)
+    (number_at clock_limit (codes "clocks") rows)
+
 -- the arguments of the subcommand of this name
 abbrev pub subcommand_asked : Text → List Row → Asked
 subcommand_asked name rows =
@@ -123,19 +132,22 @@ subcommand_asked name rows =
     else if bytes_eq name (codes "recheck") then recheck_asked rows
     else if bytes_eq name (codes "shares") then shares_asked rows else if bytes_eq name (codes "gen") then gen_asked rows
     else if bytes_eq name (codes "measure") then measure_asked rows
-    else if bytes_eq name (codes "receive") then receive_asked rows else dis_asked rows
+    else if bytes_eq name (codes "receive") then receive_asked rows
+    else if bytes_eq name (codes "uart") then uart_asked rows else dis_asked rows
 
 -- what the matches that clap's definition gives for `tool` and the words ask for
 unfoldable pub asked_of : List Text → Option Asked
 asked_of words = option_map (λ met. subcommand_asked met.0 met.1) (subcommand_of tool words)
 
--- the seed and the clocks are in range, and so are the pin, the clocks of a bit, and the side-set bits with the one of `--opt`
+-- the seed and the clocks are in range, and so are the pin, the clocks of a bit, the divider, and the side-set bits with
+-- the one of `--opt`
 abbrev pub IsWithinRange : Asked → Type 0
 IsWithinRange (run source config stimulus clocks) = clocks ≤ clock_limit
 IsWithinRange (gen seed clocks) = (seed ≤ seed_limit) × (clocks ≤ clock_limit)
 IsWithinRange (measure source config stimulus clocks) = clocks ≤ clock_limit
 IsWithinRange (receive source config stimulus clocks pin bit) =
     (clocks ≤ clock_limit) × (pin ≤ pin_limit) × (least_bit ≤ bit) × (bit ≤ bit_limit)
+IsWithinRange (uart send divider clocks) = (least_divider ≤ divider) × (divider ≤ divider_limit) × (clocks ≤ clock_limit)
 IsWithinRange (dis file side opt) = side + (if opt then 1 else 0) ≤ side_limit
 IsWithinRange _ = ⊤
 
@@ -171,6 +183,7 @@ clocks_asked (run source config stimulus clocks) = clocks
 clocks_asked (gen seed clocks) = clocks
 clocks_asked (measure source config stimulus clocks) = clocks
 clocks_asked (receive source config stimulus clocks pin bit) = clocks
+clocks_asked (uart send divider clocks) = clocks
 clocks_asked _ = 0
 
 -- how many clocks words ask for at most

@@ -6,7 +6,7 @@ ghost use Rattle.command_line.specs.Words.{IsRefused, IsTaken};
 
 use crate::command::tool;
 use crate::order::WordsFault;
-use crate::reading::read;
+use crate::orders::read;
 use clap::Error;
 use clap::error::ErrorKind;
 use std::alloc::{AllocError, Global};

@@ -1,8 +1,11 @@
 //! The arguments of the subcommands, one function each.
 ghost use Rattle.command_line.specs.Making.{IsRule};
-ghost use Rattle.command_line.specs.Tool.{bit_rule, clocks_rule, config_rule, file_rule, opt_rule, option_rule, pin_rule, seed_rule, side_rule, source_rule, span_rule, stimulus_rule, table_rule};
+ghost use Rattle.command_line.specs.Tool.{bit_rule, clocks_rule, config_rule, divider_rule, file_rule, opt_rule, option_rule, pin_rule, seed_rule, send_rule, side_rule, source_rule, span_rule, stimulus_rule, table_rule};
 
-use crate::order::{LAST_PIN, LEAST_BIT, MOST_BIT, MOST_CLOCKS, MOST_SEED, MOST_SIDE_BITS};
+use crate::order::{
+    LAST_PIN, LEAST_BIT, LEAST_DIVIDER, MOST_BIT, MOST_CLOCKS, MOST_DIVIDER, MOST_SEED,
+    MOST_SIDE_BITS,
+};
 use clap::builder::ValueParser;
 use clap::{Arg, ArgAction};
 use std::alloc::Global;
@@ -102,6 +105,27 @@ pub fn bit<'a>(alloc: Global) -> Arg<'a>
         .required(true)
         .value_parser(ValueParser::Unsigned(LEAST_BIT, MOST_BIT))
         .help("How many clocks a bit takes, 2 to 65535")
+}
+
+/// `--send F`: the name of a file of bytes, any text.
+#[tactic(auto, unfolding(crate::specs::Tool::send_rule))]
+pub fn send<'a>(alloc: Global) -> Arg<'a>
+    ensures { IsRule send_rule result }
+{
+    option(alloc, "send")
+        .required(true)
+        .help("The bytes to send, as they are")
+}
+
+/// `--divider I`: 1 to 8,191, how many clocks a tick takes.
+#[tactic(auto, unfolding(crate::specs::Tool::divider_rule))]
+pub fn divider<'a>(alloc: Global) -> Arg<'a>
+    ensures { IsRule divider_rule result }
+{
+    option(alloc, "divider")
+        .required(true)
+        .value_parser(ValueParser::Unsigned(LEAST_DIVIDER, MOST_DIVIDER))
+        .help("How many clocks a tick takes, 1 to 8191; a bit takes eight ticks")
 }
 
 /// `FILE`: the name of a file, any text.

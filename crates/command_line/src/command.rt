@@ -2,7 +2,7 @@
 ghost use Rattle.std.specs.Prelude.{IfOk};
 ghost use Rattle.clap.specs.Simple.{new_app};
 ghost use Rattle.command_line.specs.Making.{IsApp, Offers, Takes};
-ghost use Rattle.command_line.specs.Tool.{asm_app, check_app, dis_app, gen_app, measure_app, receive_app, recheck_app, run_app, shares_app, table_app, bare_app, tool as tool_app};
+ghost use Rattle.command_line.specs.Tool.{asm_app, check_app, dis_app, gen_app, measure_app, receive_app, recheck_app, run_app, shares_app, table_app, uart_app, bare_app, tool as tool_app};
 
 use crate::arguments;
 use clap::{Arg, Command};
@@ -25,7 +25,8 @@ pub fn tool<'a>(alloc: Global) -> Result<Command<'a>, AllocError>
     let command = add(command, recheck(alloc));
     let command = add(command, shares(alloc));
     let command = add(command, measure(alloc));
-    add(command, receive(alloc))
+    let command = add(command, receive(alloc));
+    add(command, uart(alloc))
 }
 
 #[tactic(auto, unfolding(crate::specs::Tool::bare_app))]
@@ -192,6 +193,21 @@ fn receive<'a>(alloc: Global) -> Result<Command<'a>, AllocError>
     let command = with_argument(command, arguments::clocks(alloc));
     let command = with_argument(command, arguments::pin(alloc));
     with_argument(command, arguments::bit(alloc))
+}
+
+#[tactic(auto, unfolding(crate::specs::Tool::uart_app))]
+fn uart<'a>(alloc: Global) -> Result<Command<'a>, AllocError>
+    ensures { IfOk result (IsApp uart_app) }
+{
+    let command = named(
+        alloc,
+        "uart",
+        "Sends the bytes of a file by the proved UART transmitter, and writes each byte with the clock of its start bit",
+        "Example: piotool uart --send hello.txt --divider 135 --clocks 1000000",
+    );
+    let command = with_argument(command, arguments::send(alloc));
+    let command = with_argument(command, arguments::divider(alloc));
+    with_argument(command, arguments::clocks(alloc))
 }
 
 /// A subcommand that takes no arguments yet: its name, and for its help what it writes and an example.

@@ -1,5 +1,5 @@
 //! Laws above clap's definition of a parse: what words as the usage has them ask for. The functions do nothing.
-ghost use Rattle.command_line.specs.Laws.{AsmWords, CheckWords, DisWords, GenWords, MeasureWords, ReceiveWords, RecheckWords, RunWords, SharesWords, TableWords};
+ghost use Rattle.command_line.specs.Laws.{AsmWords, CheckWords, DisWords, GenWords, MeasureWords, ReceiveWords, RecheckWords, RunWords, SharesWords, TableWords, UartWords};
 
 /// `asm -- FILE` asks for the listing of FILE.
 pub fn asm_words()
@@ -52,4 +52,10 @@ pub fn measure_words()
 /// exactly where N, P and B are whole numbers in range.
 pub fn receive_words()
     ensures { ReceiveWords }
+{}
+
+/// `uart --send=F --divider=I --clocks=N` asks for what the transmitter sends of F in N clocks with a tick every I clocks exactly where
+/// I and N are whole numbers in range.
+pub fn uart_words()
+    ensures { UartWords }
 {}

@@ -8,12 +8,12 @@ mod getters;
 mod laws;
 mod matching;
 mod order;
-mod reading;
+mod orders;
 
 pub use advising::advice;
 pub use laws::{
     asm_words, check_words, dis_words, gen_words, measure_words, receive_words, recheck_words,
-    run_words, shares_words, table_words,
+    run_words, shares_words, table_words, uart_words,
 };
 pub use order::{Order, WordsFault};
-pub use reading::read;
+pub use orders::read;

@@ -18,6 +18,12 @@ pub const LEAST_BIT: u64 = 2;
 /// The most clocks of a bit of a serial line.
 pub const MOST_BIT: u64 = 65_535;
 
+/// The least divider of the transmitter.
+pub const LEAST_DIVIDER: u64 = 1;
+
+/// The most of its divider: a bit takes eight times as many clocks, and at most `MOST_BIT`.
+pub const MOST_DIVIDER: u64 = 8_191;
+
 /// What the words of a call ask for.
 #[derive(Clone, Copy, PartialEq)]
 pub enum Order<'a> {
@@ -85,6 +91,13 @@ pub enum Order<'a> {
         clocks: u64,
         pin: u8,
         bit: u16,
+    },
+    /// What the UART transmitter sends of a file's bytes in so many clocks (0 to 10^12), with a tick every so many clocks
+    /// (1 to 8,191).
+    Uart {
+        send: &'a str,
+        divider: u16,
+        clocks: u64,
     },
 }
 

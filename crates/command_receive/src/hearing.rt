@@ -64,7 +64,7 @@ pub fn receive<F: Shelf, O: Sink, L: Ledger>(
 }
 
 /// Writes the lines of the frames in so many clocks of a setup, or answers want of memory before it has put anything.
-fn write_received<O: Sink, L: Ledger>(
+pub fn write_received<O: Sink, L: Ledger>(
     alloc: Global,
     setup: &Setup,
     schedule: &Schedule,

@@ -3,4 +3,4 @@
 
 mod hearing;
 
-pub use hearing::{SerialLine, receive};
+pub use hearing::{SerialLine, receive, write_received};

@@ -260,6 +260,7 @@ recheck_unread files before after out source config name table_name e h =
     named file.Config n at = at
     named file.Stimulus n at = at
     named file.Table n at = no_name n at
+    named file.Send n at = at
 
     reached : (role : File) (n : List ℕ) → run_files source config None role ≡ Some n → IfSome files (λ f. run_reaches f source config role ≡ true)
         → IfSome files (λ f. reaches f (recheck source config name table_name) role ≡ true)
@@ -268,6 +269,7 @@ recheck_unread files before after out source config name table_name e h =
     reached file.Config n at r = r
     reached file.Stimulus n at r = r
     reached file.Table n at r = no_name n at
+    reached file.Send n at r = r
 
 -- what the table file fails with ends `recheck`, where the files come to this span
 pub recheck_unread_table : (files : Option Files) (before after : Faults) (out : Output) (source : List ℕ) (config : Option (List ℕ)) (name table_name : List ℕ) (u : Setup) (sp : Span) (e : Fault)
@@ -283,6 +285,7 @@ recheck_unread_table files before after out source config name table_name u sp e
     named file.Config n at = no_name n at
     named file.Stimulus n at = no_name n at
     named file.Table n at = at
+    named file.Send n at = no_name n at
 
     reached : (role : File) (n : List ℕ) → table_alone table_name role ≡ Some n → IfSome files (λ f. ◌≡◌ {A = Bool} true true)
         → IfSome files (λ f. reaches f (recheck source config name table_name) role ≡ true)
@@ -291,6 +294,7 @@ recheck_unread_table files before after out source config name table_name u sp e
     reached file.Config n at r = no_name n at
     reached file.Stimulus n at r = no_name n at
     reached file.Table n at r = told files _ _ (λ f k. ap is_right k) s
+    reached file.Send n at r = no_name n at
 
 -- ---- the same where the shelf after a stage is told by equations
 

@@ -20,6 +20,7 @@ use command_receive::{SerialLine, receive};
 use command_run::run;
 use command_shares::shares;
 use command_table::{recheck, table};
+use command_uart::uart;
 use fault_lines::{Ended, Fault, end_with};
 use file_stages::RunFiles;
 use pio_edge::{Shelf, Sink};
@@ -162,5 +163,10 @@ fn obey<F: Shelf, O: Sink, L: Ledger>(
             let line = SerialLine { pin, bit };
             receive(alloc, files, clocks, line, shelf, out, steps)
         }
+        Order::Uart {
+            send,
+            divider,
+            clocks,
+        } => uart(alloc, send, divider, clocks, shelf, out, steps),
     }
 }

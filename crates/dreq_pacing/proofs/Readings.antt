@@ -4,7 +4,7 @@ use Rattle.std.specs.Prelude.{option_copied}
 use Rattle.byte_lines.specs.Lines.{lines_of, lines_left}
 use Rattle.dreq_pacing.specs.declared.fault.StimKind.{StimKind}
 use Rattle.dreq_pacing.specs.declared.line.Line.{Line}
-use Rattle.dreq_pacing.specs.declared.reading.Reader.{Reader}
+use Rattle.dreq_pacing.specs.declared.stimulus.Reader.{Reader}
 use Rattle.dreq_pacing.specs.Fields.{fields_of}
 use Rattle.dreq_pacing.specs.Reading.{Refusal, after_line, lines_from}
 

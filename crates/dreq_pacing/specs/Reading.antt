@@ -11,7 +11,7 @@ use Rattle.dreq_pacing.specs.declared.fault.StimKind.TheVariants.{BadLine, Range
 use Rattle.dreq_pacing.specs.declared.fault.StimFault.{StimFault}
 use Rattle.dreq_pacing.specs.declared.fault.StimFault.TheVariants.{Memory, At}
 use Rattle.dreq_pacing.specs.declared.line.Line.{Line}
-use Rattle.dreq_pacing.specs.declared.reading.Reader.{Reader}
+use Rattle.dreq_pacing.specs.declared.stimulus.Reader.{Reader}
 use Rattle.dreq_pacing.specs.Drafts.{first_draft, objection, with_line}
 use Rattle.dreq_pacing.specs.Fields.{fields_of}
 use Rattle.dreq_pacing.specs.Form.{line_of}

@@ -11,7 +11,7 @@ mod laws;
 mod line;
 mod number;
 mod ports;
-mod reading;
+mod stimulus;
 mod schedule;
 mod transfer;
 mod verb;
@@ -24,5 +24,5 @@ pub use laws::{
 };
 pub use line::{Act, Line, Words};
 pub use ports::HostPorts;
-pub use reading::read_stimulus;
+pub use stimulus::read_stimulus;
 pub use schedule::Schedule;

@@ -43,6 +43,7 @@ file_word file.Words = codes "words"
 file_word file.Config = codes "config"
 file_word file.Stimulus = codes "stimulus"
 file_word file.Table = codes "table"
+file_word file.Send = codes "send"
 
 -- the line of a file that wasn't fetched
 abbrev pub shelf_line : File → List ℕ

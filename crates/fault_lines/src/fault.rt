@@ -22,6 +22,8 @@ pub enum File {
     Stimulus,
     /// A table file.
     Table,
+    /// The bytes that a transmitter sends.
+    Send,
 }
 
 /// Why a command didn't do all that was asked.

@@ -260,5 +260,6 @@ fn word_of(file: File) -> &'static str
         File::Config => "config",
         File::Stimulus => "stimulus",
         File::Table => "table",
+        File::Send => "send",
     }
 }

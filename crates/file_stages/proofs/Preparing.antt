@@ -60,6 +60,7 @@ source_fails files before after source config stimulus (fault.Shelf file.Words) 
 source_fails files before after source config stimulus (fault.Shelf file.Config) h = absurd h.0
 source_fails files before after source config stimulus (fault.Shelf file.Stimulus) h = absurd h.0
 source_fails files before after source config stimulus (fault.Shelf file.Table) h = absurd h.0
+source_fails files before after source config stimulus (fault.Shelf file.Send) h = absurd h.0
 source_fails files before after source config stimulus fault.Memory h = h
 source_fails files before after source config stimulus fault.Usage h = absurd h
 source_fails files before after source config stimulus fault.Out h = absurd h
@@ -85,6 +86,7 @@ setup_fails_here files before after source config stimulus programs (fault.Shelf
 setup_fails_here files before after source config stimulus programs (fault.Shelf file.Config) p h = (h.0, told files _ _ (λ f k. ap is_right k) p)
 setup_fails_here files before after source config stimulus programs (fault.Shelf file.Stimulus) p h = absurd h.0
 setup_fails_here files before after source config stimulus programs (fault.Shelf file.Table) p h = absurd h.0
+setup_fails_here files before after source config stimulus programs (fault.Shelf file.Send) p h = absurd h.0
 setup_fails_here files before after source config stimulus programs fault.Memory p h = h
 setup_fails_here files before after source config stimulus programs fault.Usage p h = absurd h
 setup_fails_here files before after source config stimulus programs fault.Out p h = absurd h
@@ -123,6 +125,7 @@ lines_fail_here files before after source config stimulus programs setup (fault.
 lines_fail_here files before after source config stimulus programs setup (fault.Shelf file.Words) p h = absurd h.0
 lines_fail_here files before after source config stimulus programs setup (fault.Shelf file.Config) p h = absurd h.0
 lines_fail_here files before after source config stimulus programs setup (fault.Shelf file.Table) p h = absurd h.0
+lines_fail_here files before after source config stimulus programs setup (fault.Shelf file.Send) p h = absurd h.0
 lines_fail_here files before after source config stimulus programs setup (fault.Shelf file.Stimulus) p h =
     (h.0, told files _ _ (λ f k. stimulus_reached f source config programs setup k.0 k.1) p)
 lines_fail_here files before after source config stimulus programs setup fault.Memory p h = h

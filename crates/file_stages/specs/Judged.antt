@@ -52,6 +52,7 @@ limit file.Words = 262144
 limit file.Config = 262144
 limit file.Stimulus = 33554432
 limit file.Table = 8388608
+limit file.Send = 65536
 
 -- a file's bytes, if it is there and within its limit
 abbrev pub read_at : File → Option (List ℕ) → Judged (List ℕ)

@@ -34,6 +34,11 @@ abbrev pub table_alone : List ℕ → File → Option (List ℕ)
 table_alone name file.Table = Some name
 table_alone name role = None
 
+-- the file of bytes to send, and no other
+abbrev pub send_alone : List ℕ → File → Option (List ℕ)
+send_alone name file.Send = Some name
+send_alone name role = None
+
 -- the files of a run: a configuration and a stimulus where they are named
 abbrev pub run_files : List ℕ → Option (List ℕ) → Option (List ℕ) → File → Option (List ℕ)
 run_files source config stimulus file.Source = Some source

@@ -15,7 +15,7 @@ use Rattle.fault_lines.specs.declared.fault.File.TheVariants as file
 use Rattle.fault_lines.specs.declared.fault.Fault.{Fault}
 use Rattle.fault_lines.specs.declared.fault.Fault.TheVariants as fault
 use Rattle.file_stages.specs.Judged.{Judged, right, wrong, read_at, source_at, words_at, setup_at, schedule_at, prepared_at, table_at}
-use Rattle.file_stages.specs.Roles.{source_alone, words_alone, config_alone, stimulus_alone, table_alone, run_files, run_reaches}
+use Rattle.file_stages.specs.Roles.{source_alone, words_alone, config_alone, stimulus_alone, table_alone, send_alone, run_files, run_reaches}
 
 -- there is one, and it is such
 abbrev pub HasSuch : {X : Type 0} → Option X → (X → Type 0) → Type 0
@@ -63,6 +63,7 @@ alone file.Words name role = words_alone name role
 alone file.Config name role = config_alone (Some name) role
 alone file.Stimulus name role = stimulus_alone (Some name) role
 alone file.Table name role = table_alone name role
+alone file.Send name role = send_alone name role
 
 -- ---- what each stage reads
 

@@ -38,5 +38,6 @@ fn limit_of(role: File) -> usize
         File::Source | File::Words | File::Config => 262_144,
         File::Stimulus => 33_554_432,
         File::Table => 8_388_608,
+        File::Send => 65_536,
     }
 }

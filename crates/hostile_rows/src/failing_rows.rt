@@ -16,6 +16,7 @@ gen --seed 7 --clocks 1 ~ - ~ - ~ - ~ 0 ~ - ~ clocks 1|edges 0 1|edges 1 0|edges
 shares --source s --config c ~ .program low|set pins, 0|.program high|set pins, 1 ~ [[load]]|program = \"low\"|[[load]]|program = \"high\"|at = 1|[[machine]]|id = 1|program = \"low\"|set_base = 4|set_count = 1|[[machine]]|id = 3|program = \"high\"|set_base = 4|set_count = 1 ~ - ~ 0 ~ - ~ machine 1 from 3 pins 0x00000010 flags 0x00|machine 3 from 1 pins 0x00000010 flags 0x00| ~ - ~ source config
 measure --source s --config c --stimulus t --clocks 11 ~ .program p|set pins, 1|set pins, 0 ~ [[load]]|program = \"p\"|[[machine]]|id = 0|program = \"p\"|divider = 2|fraction = 128|[[span]]|name = \"h\"|machine = 0|from_pin = 0|to_pin = 0|from_edge = \"rise\"|to_edge = \"fall\"|unit = \"clocks\"|min = 2|max = 3 ~ 0 pin 9 1 ~ 0 ~ - ~ span h seen 2 least 2 most 2| ~ - ~ source config stimulus
 receive --source s --config c --stimulus t --clocks 166 --pin 0 --bit 8 ~ .program p|.side_set 1 opt|pull side 1 [7]|set x, 7 side 0 [7]|bit:|out pins, 1|jmp x-- bit [6] ~ [[load]]|program = \"p\"|[[machine]]|id = 0|program = \"p\"|out_count = 1 ~ 0 tx 0 0x41|1 tx 0 0 ~ 0 ~ - ~ byte 0x41 at 9|byte 0x00 at 89| ~ - ~ source config stimulus
+uart --send s --divider 2 --clocks 332 ~ ^ff^00 ~ - ~ - ~ 0 ~ - ~ byte 0xff at 18|byte 0x00 at 178| ~ - ~ send
 ";
 
 /// Calls that end with a line on the error output, and write nothing but `check`: then this line, and the text of the output.

@@ -137,6 +137,13 @@ measure --source s --config c --stimulus t --clocks 1000000000000 ~ .program p|s
 receive --source s --config c --clocks 1000000000000 --pin 0 --bit 65535 ~ .program p|set pins, 0|wait 1 gpio 9 ~ [pins]|level = [0]|[[load]]|program = \"p\"|[[machine]]|id = 0|program = \"p\"| ~ - ~ 0 ~ bad at 0| ~ -
 receive --source s --clocks 1 --pin 31 --bit 65536 ~ .program p|nop ~ - ~ - ~ 2 ~ - ~ piotool: usage|
 receive --source s --clocks 1 --pin 31 --bit 65535 ~ .program p|nop ~ - ~ - ~ 0 ~ - ~ -
+uart --send s --divider 2 --clocks 171 ~ ^ff ~ - ~ - ~ 0 ~ byte 0xff at 18| ~ -
+uart --send s --divider 2 --clocks 170 ~ ^ff ~ - ~ - ~ 0 ~ - ~ -
+uart --send s --divider 8191 --clocks 1000000000000 ~ ^ff ~ - ~ - ~ 0 ~ byte 0xff at 73719| ~ -
+uart --send s --divider 8192 --clocks 1 ~ ^ff ~ - ~ - ~ 2 ~ - ~ piotool: usage|
+uart --send s --divider 1 --clocks 0 ~ `65537 a` ~ - ~ - ~ 1 ~ - ~ piotool: long send|
+uart --send s --divider 1 --clocks 0 ~ `65536 a` ~ - ~ - ~ 0 ~ - ~ -
+uart --send x --divider 1 --clocks 1 ~ - ~ - ~ - ~ 4 ~ - ~ piotool: shelf send|
 ";
 
 /// Configurations at a limit, and each with its fault and just without it; the last one runs for 10^12 clocks.

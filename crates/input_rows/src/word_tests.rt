@@ -186,8 +186,48 @@ static HEARD: [(&[&str], u64, u8, u16); 3] = [
     ),
 ];
 
+/// Words that ask to send, with the divider and the clocks.
+static SENT: [(&[&str], u16, u64); 3] = [
+    (
+        &["uart", "--send", "a.txt", "--divider", "1", "--clocks", "8"],
+        1,
+        8,
+    ),
+    (
+        &[
+            "uart",
+            "--clocks=1000000000000",
+            "--divider=8191",
+            "--send=a.txt",
+        ],
+        8_191,
+        1_000_000_000_000,
+    ),
+    (
+        &["uart", "--send", "a.txt", "--divider", "+010", "--clocks", "00"],
+        10,
+        0,
+    ),
+];
+
 /// Words that ask for nothing.
-static REFUSED: [&[&str]; 65] = [
+static REFUSED: [&[&str]; 71] = [
+    &["uart", "--send", "a.txt", "--divider", "1"],
+    &["uart", "--send", "a.txt", "--clocks", "8"],
+    &["uart", "--divider", "1", "--clocks", "8"],
+    &["uart", "--send", "a.txt", "--divider", "0", "--clocks", "8"],
+    &[
+        "uart", "--send", "a.txt", "--divider", "8192", "--clocks", "8",
+    ],
+    &[
+        "uart",
+        "--send",
+        "a.txt",
+        "--divider",
+        "1",
+        "--clocks",
+        "1000000000001",
+    ],
     &["measure", "--source", "a.pio"],
     &["measure", "--clocks", "8"],
     &[
@@ -388,6 +428,19 @@ fn heard(rt: HostRuntime) -> Result<(), Fail> {
             clocks,
             pin,
             bit,
+        };
+        assert!(rt; gives(rt.alloc(), words, Ok(order))?, "{words:?}");
+    }
+    Ok(())
+}
+
+#[test]
+fn sent(rt: HostRuntime) -> Result<(), Fail> {
+    for &(words, divider, clocks) in &SENT {
+        let order = Order::Uart {
+            send: "a.txt",
+            divider,
+            clocks,
         };
         assert!(rt; gives(rt.alloc(), words, Ok(order))?, "{words:?}");
     }

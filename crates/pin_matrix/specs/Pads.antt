@@ -34,7 +34,7 @@ unfoldable pub after_pads : List ℕ → Synchroniser → Synchroniser
 after_pads [] s = s
 after_pads (pad ∷ pads) s = after_pads pads (stepped pad s)
 
--- The pads one clock ago and two clocks ago, where these were those of all clocks from 0 on, and another one stood before.
+-- The pads one clock ago and two clocks ago, where these were those of all clocks from 0 on, and there was another one before.
 abbrev pub one_clock_ago : ℕ → List ℕ → ℕ
 one_clock_ago before pads = slice_index_or (before ∷ pads) (length pads) before
 

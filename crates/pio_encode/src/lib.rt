@@ -9,7 +9,7 @@ mod name;
 mod numerals;
 mod op;
 mod operand_text;
-mod reading;
+mod decoding;
 mod relocation;
 mod rule;
 mod spelling;
@@ -22,7 +22,7 @@ pub use act::{
 pub use laws::{moved_reading, read_back, word_range};
 pub use name::Name;
 pub use op::Op;
-pub use reading::decode;
+pub use decoding::decode;
 pub use relocation::relocate;
 pub use rule::SideRule;
 pub use spelling::spell;

@@ -10,7 +10,7 @@ use crate::fields::bits;
 use crate::instruction_text::act_text;
 use crate::numerals::{push_digit, push_number};
 use crate::op::Op;
-use crate::reading::decode;
+use crate::decoding::decode;
 use crate::rule::SideRule;
 use crate::word::encode;
 use arrayvec::ArrayString;

@@ -10,7 +10,7 @@ use Rattle.answers.specs.Answers as answers
 use Rattle.pio_expr.specs.declared.fault.ExprFault.{ExprFault}
 use Rattle.pio_expr.specs.declared.fault.Refusal.{Refusal}
 use Rattle.pio_expr.specs.Faults.{expr_told}
-use Rattle.pio_expr.specs.declared.reading.Reading.{Reading}
+use Rattle.pio_expr.specs.declared.postfix.Reading.{Reading}
 use Rattle.pio_expr.specs.declared.waiting.Waiting.{Waiting}
 use Rattle.pio_expr.specs.declared.waiting.Waiting.TheVariants as waiting
 use Rattle.pio_expr.specs.Grammar.{Place, Read, Reader, then, written, alone, closed, product_goes_on, sum_goes_on, readers, most_open}

@@ -8,7 +8,7 @@ mod frame;
 mod laws;
 mod mark;
 mod parse;
-mod reading;
+mod postfix;
 mod scope;
 mod symbol;
 mod symbols;

@@ -5,7 +5,7 @@ ghost use Rattle.pio_lex.specs.Tokens.{IsTokenOf};
 ghost use Rattle.pio_expr.specs.Grammar.{expression_at};
 ghost use Rattle.pio_expr.specs.Waiting.{Answers};
 
-use crate::reading::Reading;
+use crate::postfix::Reading;
 use crate::{Expr, ExprFault};
 use pio_lex::Token;
 use std::alloc::Global;

@@ -11,7 +11,7 @@ mod laws;
 mod line;
 mod operand;
 mod optional;
-mod reading;
+mod any_statement;
 mod statement;
 mod token;
 mod value;

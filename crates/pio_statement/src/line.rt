@@ -5,7 +5,7 @@ ghost use Rattle.pio_lex.specs.Tokens.{IsTokenOf};
 ghost use Rattle.pio_statement.specs.Answer.{Answers};
 ghost use Rattle.pio_statement.specs.Lines as spec;
 
-use crate::reading::statement;
+use crate::any_statement::statement;
 use crate::token::ends_at;
 use crate::{Statement, StatementFault, StatementKind};
 use pio_lex::{Directive, Token, TokenKind};

@@ -1,3 +1,5 @@
+pub mod OneSetup
+pub mod Feeds
 pub mod Rows
 pub mod Scaling
 pub mod Whole

@@ -2,7 +2,7 @@
 --   row              the levels of so many clocks from one on
 use Rattle.std.proofs.Common.{◌≡◌, ℕ, zero, suc, ◌+◌, ◌<◌, Bool, true, false, cond, leb, ltb, List, [], ◌∷◌, ◌++◌, length, refl, ap, ◌∙◌, arith, replicate, get_or}
 use Rattle.std.specs.Prelude.{◌&&◌}
-use Rattle.pio_uart.specs.Heard.{Frame}
+use Rattle.serial_receiver.specs.declared.frame.Frame.{Frame}
 use Rattle.serial_receiver.specs.Frames.{bits_read, bit_value, falls, frame_at, frames_from, level_in, middle}
 
 -- the levels of so many clocks from one on

@@ -11,7 +11,7 @@ use Rattle.block_core.specs.Block.{first_run}
 use Rattle.block_core.specs.Following.{OthersLeave, leaves_level}
 use Rattle.block_core.specs.Hosted.{samples, sample_at}
 use Rattle.block_core.specs.Shown.{sample_of}
-use Rattle.pio_uart.specs.Heard.{Frame}
+use Rattle.serial_receiver.specs.declared.frame.Frame.{Frame}
 use Rattle.serial_receiver.specs.Frames.{frames_from, levels_of}
 use Rattle.pio_uart.specs.Accepted.{accepted}
 use Rattle.pio_uart.specs.Sending.{IsSteady, IsSent, SendsWhatItIsFed, frames_in}

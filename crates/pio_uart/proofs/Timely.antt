@@ -4,7 +4,7 @@ use Rattle.std.proofs.Math.Nat.{mul-le-mul_right}
 use Rattle.std.proofs.lemmas.Bool.Decides.{nat_tests}
 use Rattle.pin_matrix.specs.declared.machine.MachineSetup.{MachineSetup}
 use Rattle.pin_matrix.specs.declared.setup.Setup.{Setup}
-use Rattle.pio_uart.specs.Heard.{Frame}
+use Rattle.serial_receiver.specs.declared.frame.Frame.{Frame}
 use Rattle.pio_uart.specs.Sending.{IsSteady}
 use Rattle.pio_uart.specs.Feeding.{fed, frames_fed, SendsInTime, SendsAll}
 use Rattle.pio_uart.specs.Transmitter.{IsTransmitter}

@@ -4,7 +4,7 @@ use Rattle.std.proofs.Common.{◌≡◌, ◌==◌, ℕ, zero, suc, ◌+◌, ◌-
 use Rattle.std.specs.Prelude.{◌&&◌}
 use Rattle.std.proofs.lemmas.Bool.Decides.{nat_tests}
 use Rattle.std.proofs.lemmas.Nat.{mod-pow-add}
-use Rattle.pio_uart.specs.Heard.{Frame}
+use Rattle.serial_receiver.specs.declared.frame.Frame.{Frame}
 use Rattle.serial_receiver.specs.Frames.{bits_read, bit_value, falls, frame_at, frames_from, level_in, middle}
 use Rattle.pio_uart.proofs.Rows.{row, get-row, no_fall, frame_of_row, same_frame}
 

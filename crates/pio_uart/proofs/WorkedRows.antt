@@ -14,7 +14,7 @@ use Rattle.block_core.specs.Shown.{requests_of, sample_of}
 use Rattle.block_core.specs.Block.{stepped, next, first_run}
 use Rattle.block_core.specs.Hosted.{hosted_at, hosted_next, samples}
 use Rattle.block_core.specs.Slots.{acted, settled_slot}
-use Rattle.pio_uart.specs.Heard.{Frame}
+use Rattle.serial_receiver.specs.declared.frame.Frame.{Frame}
 use Rattle.serial_receiver.specs.Frames.{frame_at, frames_from}
 use Rattle.pio_uart.specs.Accepted.{accepted}
 use Rattle.pio_uart.specs.Sending.{frames_in, IsSent, SendsWhatItIsFed}

@@ -7,7 +7,7 @@ use Rattle.std.specs.Prelude.{◌≡◌, ℕ, ◌+◌, ◌*◌, ◌%◌, ◌<◌
 use Rattle.pin_matrix.specs.declared.setup.Setup.{Setup}
 use Rattle.dreq_pacing.specs.declared.line.Act.TheVariants.{Feed}
 use Rattle.dreq_pacing.specs.declared.line.Line.{Line}
-use Rattle.pio_uart.specs.Heard.{Frame}
+use Rattle.serial_receiver.specs.declared.frame.Frame.{Frame}
 use Rattle.pio_uart.specs.Sending.{frames_in}
 
 -- From clock 0 on a feed writes these words to the TX of machine 0, one a clock where there is room. There is no feed

@@ -1,6 +1,6 @@
 pub mod Transmitter
+pub mod OneSetup
 pub mod Phases
 pub mod Accepted
-pub mod Heard
 pub mod Sending
 pub mod Feeding

@@ -7,7 +7,7 @@ ghost use Rattle.sm_registers.specs.declared.view.View.{View};
 ghost use Rattle.sm_registers.specs.Queues.{Queues};
 ghost use Rattle.sm_registers.specs.State.{first_registers};
 ghost use Rattle.sm_registers.specs.Tick.{tick_of};
-ghost use Rattle.pio_uart.specs.Phases.{IsOnCourse, MovesOn};
+ghost use Rattle.pio_uart.specs.Phases.{IsOnCourse, MovesOn, phase_of};
 ghost use Rattle.pio_uart.specs.Transmitter.{uart_memory, IsTransmitter, IsUartMachine};
 ghost use Rattle.pio_uart.specs.Sending.{SendsWhatItIsFed};
 ghost use Rattle.pio_uart.specs.Feeding.{SendsAll, SendsInTime};
@@ -43,6 +43,7 @@ pub fn a_transmitter_sends_in_time()
 /// or it stalls at phase 0 where TX is empty.
 pub fn a_tick_moves_the_phase()
     ensures start { (int : ℕ) (s : MachineSetup) → IsUartMachine int s → IsOnCourse (first_registers s) }
+    ensures first { (int : ℕ) (s : MachineSetup) → IsUartMachine int s → phase_of (first_registers s) ≡ 0 }
     ensures tick { (int : ℕ) (s : MachineSetup) (v : View) (q : Queues) (r : Registers) → IsUartMachine int s
         → v.memory ≡ uart_memory → IsOnCourse r → MovesOn q.front r (tick_of s v q r).0 }
 {}

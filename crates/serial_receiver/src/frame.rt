@@ -8,13 +8,13 @@ use pio_edge::{Sink, SinkFailed, put_all};
 
 /// A start bit, eight data bits and a stop bit.
 #[derive(Clone, Copy)]
-pub(crate) struct Frame {
+pub struct Frame {
     /// The clock in which the level falls.
-    pub(crate) start: u64,
+    pub start: u64,
     /// The data bits, bit 0 first.
-    pub(crate) byte: u8,
+    pub byte: u8,
     /// Whether the stop bit is high.
-    pub(crate) good: bool,
+    pub good: bool,
 }
 
 /// Puts the line of a frame.

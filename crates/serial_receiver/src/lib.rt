@@ -8,5 +8,6 @@ mod laws;
 mod line;
 mod receiver;
 
+pub use frame::Frame;
 pub use laws::stopping_early_leaves_a_first_part;
 pub use receiver::Receiver;

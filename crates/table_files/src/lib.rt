@@ -7,12 +7,12 @@ mod flaw_line;
 mod form;
 mod laws;
 mod number;
-mod reading;
+mod table;
 mod said;
 mod writing;
 
 pub use fault::{TableFault, TableKind};
 pub use flaw_line::{put_flaw, put_rechecked};
 pub use laws::{a_least_table_is_told, a_table_has_one_text, a_table_is_read_back};
-pub use reading::read_table;
+pub use table::read_table;
 pub use writing::put_table;

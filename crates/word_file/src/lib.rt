@@ -4,8 +4,8 @@
 mod fault;
 mod line;
 mod listing;
-mod reading;
+mod words;
 
 pub use fault::{WordFault, WordKind};
 pub use listing::{make_rule, put_words};
-pub use reading::read_words;
+pub use words::read_words;

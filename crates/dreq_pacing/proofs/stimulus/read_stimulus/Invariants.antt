@@ -1,0 +1,16 @@
+use Rattle.std.proofs.Common.{◌≡◌, ◌+◌, ◌≤◌, length}
+use Rattle.std.specs.Prelude.{option_copied}
+use Rattle.byte_lines.specs.Lines.{lines_left, left_size}
+use Rattle.dreq_pacing.specs.Reading.{stimulus_of}
+use Rattle.dreq_pacing.proofs.Readings.{going_on}
+use Rattle.dreq_pacing.proofs.stimulus.read_stimulus.Given as goal
+
+-- what the lines that are left make of what was read
+abbrev pub invariant-loop-rest : goal.invariant-loop-rest
+invariant-loop-rest l = record {
+  whole : going_on l.number l.reader (lines_left (option_copied l.rest)) ≡ stimulus_of l.text;
+  counted : l.number + left_size (option_copied l.rest) ≤ length l.text + 2;
+}
+
+abbrev pub decreases-loop-rest : goal.decreases-loop-rest
+decreases-loop-rest l = left_size (option_copied l.rest)

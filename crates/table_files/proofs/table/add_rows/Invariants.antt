@@ -1,0 +1,18 @@
+use Rattle.std.proofs.Common.{◌≡◌, ◌+◌, ◌≤◌, length}
+use Rattle.std.specs.Prelude.{option_copied}
+use Rattle.byte_lines.specs.Lines.{lines_of, lines_left, left_size}
+use Rattle.table_files.specs.Reading.{rows_from}
+use Rattle.table_files.proofs.Goings.{going_from, AllBelow}
+use Rattle.table_files.proofs.table.add_rows.Given as goal
+
+-- the rows so far, and what the lines that are left add to them
+abbrev pub invariant-loop-rest : goal.invariant-loop-rest
+invariant-loop-rest l = record {
+  whole : going_from l.table l.number l.least (lines_left (option_copied l.rest)) ≡ rows_from 2 0 (lines_of l.text);
+  below : AllBelow l.least l.table;
+  near : l.least ≤ 139392;
+  counted : l.number + left_size (option_copied l.rest) ≤ length l.text + 3;
+}
+
+abbrev pub decreases-loop-rest : goal.decreases-loop-rest
+decreases-loop-rest l = left_size (option_copied l.rest)
