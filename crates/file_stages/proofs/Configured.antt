@@ -9,7 +9,7 @@ use Rattle.pin_matrix.specs.declared.setup.Setup.{Setup}
 use Rattle.pin_matrix.specs.declared.span.Span.{Span}
 use Rattle.block_config.specs.Answer.{Refusal}
 use Rattle.block_config.specs.Arrays.{gather}
-use Rattle.block_config.specs.Block.{MachineKeys, SpanKeys, BlockKeys, keys_of_machine, keys_of_span, keys_of_block}
+use Rattle.setup_keys.specs.Block.{MachineKeys, SpanKeys, BlockKeys, keys_of_machine, keys_of_span, keys_of_block}
 use Rattle.block_config.specs.Config.{document_of, parsed, sections_at, Sections, no_machines, block_with, block_over, block_of_sections, block_of_table, config_block, config_setup_of}
 use Rattle.block_config.specs.Default.{default_block, default_setup_of}
 use Rattle.block_config.specs.Exact.{SaysExactly}
