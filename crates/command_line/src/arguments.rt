@@ -58,9 +58,9 @@ pub fn needed_config<'a>(alloc: Global) -> Arg<'a>
 pub fn second<'a>(alloc: Global) -> Arg<'a>
     ensures { IsRule second_rule result }
 {
-    option(alloc, "second")
-        .required(true)
-        .help("The configuration of the second block, in TOML; its key pins.own lists the pins that it drives")
+    option(alloc, "second").required(true).help(
+        "The configuration of the second block, in TOML; its key pins.own lists the pins that it drives",
+    )
 }
 
 /// `--table F`: the name of a file with a table, any text.
