@@ -155,5 +155,8 @@ fn trace_pair<O: Sink, L: Ledger>(
     ensures stirring { steps.new ≤ steps.old + twin_stirring twin.old.twin first.now second.now clocks + 1 }
 {
     a_stopped_pair_leaves_a_first_part();
-    simulate_twin(twin, first, second, clocks, trace, steps)
+    match simulate_twin(twin, first, second, clocks, trace, steps) {
+        Ok(()) => Ok(()),
+        Err(failed) => Err(failed),
+    }
 }
