@@ -11,4 +11,4 @@ mod TwinSteps
 mod TwinDue
 mod TwinCalm
 mod TwinAfterRest
-pub mod TwinStopping
+mod TwinStopping
