@@ -12,7 +12,8 @@ use Rattle.fault_lines.specs.declared.fault.Fault.{Fault}
 use Rattle.fault_lines.specs.declared.fault.Fault.TheVariants as fault
 use Rattle.dreq_pacing.specs.declared.line.Line.{Line}
 use Rattle.dreq_pacing.specs.Reading as stimulus
-use Rattle.dreq_pacing.specs.Reading.{stimulus_of, pair_stimulus_of}
+use Rattle.dreq_pacing.specs.Reading.{stimulus_of}
+use Rattle.dreq_pacing.specs.Blocks.{pair_stimulus_of}
 use Rattle.pin_matrix.specs.declared.setup.Setup.{Setup}
 use Rattle.block_config.specs.Answer as config
 use Rattle.block_config.specs.Config.{config_setup_of, second_setup_of}
