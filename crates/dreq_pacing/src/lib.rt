@@ -2,6 +2,7 @@
 #![tactic(auto)]
 
 mod act;
+mod blocks;
 mod draft;
 mod due;
 mod fault;
@@ -25,4 +26,4 @@ pub use laws::{
 pub use line::{Act, Line, Words};
 pub use ports::HostPorts;
 pub use schedule::Schedule;
-pub use stimulus::read_stimulus;
+pub use stimulus::{read_pair_stimulus, read_stimulus};
