@@ -35,10 +35,8 @@ pub fn read_loads<'a>(
 {
     let mut loads = Vec::new(alloc);
     for place in 0..values.len() {
-        match load_in(alloc, place, programs, &loads, &values[place]) {
-            Ok(load) => loads.push(load)?,
-            Err(fault) => return Err(fault),
-        }
+        let load = load_in(alloc, place, programs, &loads, &values[place])?;
+        loads.push(load)?;
     }
     Ok(loads)
 }

@@ -33,10 +33,8 @@ pub fn place_machines(
     ensures rest { HasRestOf setup.new setup.old }
 {
     for place in 0..values.len() {
-        match machine_in(alloc, place, &setup.machines, loads, &values[place]) {
-            Ok(machine) => setup.place(machine),
-            Err(fault) => return Err(fault),
-        }
+        let machine = machine_in(alloc, place, &setup.machines, loads, &values[place])?;
+        setup.place(machine);
     }
     Ok(())
 }

@@ -144,10 +144,8 @@ fn mask_from(values: &[Value]) -> Result<u32, ConfigKind>
 {
     let mut mask: u32 = 0;
     for place in 0..values.len() {
-        match number_in(0, 31, &values[place]) {
-            Ok(pin) => mask |= 1 << pin,
-            Err(kind) => return Err(kind),
-        }
+        let pin = number_in(0, 31, &values[place])?;
+        mask |= 1 << pin;
     }
     Ok(mask)
 }

@@ -36,10 +36,8 @@ pub fn read_spans(
 {
     let mut spans = Vec::new(alloc);
     for place in 0..values.len() {
-        match span_in(alloc, place, machines, loads, &values[place]) {
-            Ok(span) => spans.push(span)?,
-            Err(fault) => return Err(fault),
-        }
+        let span = span_in(alloc, place, machines, loads, &values[place])?;
+        spans.push(span)?;
     }
     Ok(spans)
 }
