@@ -9,19 +9,20 @@ use Rattle.pin_matrix.specs.declared.setup.Setup.{Setup}
 use Rattle.pin_matrix.specs.declared.span.Span.{Span}
 use Rattle.block_config.specs.Answer.{Refusal}
 use Rattle.block_config.specs.Arrays.{gather}
-use Rattle.block_config.specs.Block.{MachineKeys, SpanKeys, BlockKeys, keys_of_machine, keys_of_span, keys_of_block}
-use Rattle.block_config.specs.Config.{document_of, parsed, sections_at, Sections, no_machines, owning_with, block_over, block_of_sections, block_of_table, said_of, config_block, config_setup_of}
+use Rattle.setup_keys.specs.Block.{MachineKeys, SpanKeys, BlockKeys, keys_of_machine, keys_of_span, keys_of_block}
+use Rattle.block_config.specs.Config.{document_of, parsed, sections_at, Sections, no_machines, owning_with, block_over, block_of_sections, block_of_table, said_of, config_block, config_setup_of, second_setup_of}
 use Rattle.block_config.specs.Default.{default_block, default_setup_of}
-use Rattle.block_config.specs.Exact.{SaysExactly}
+use Rattle.block_config.specs.Exact.{SaysExactly, OwnsExactly}
 use Rattle.block_config.specs.Loads.{all_loads, memory_of}
 use Rattle.block_config.specs.Machines.{machines_from}
 use Rattle.block_config.specs.Memory.{no_words}
-use Rattle.block_config.specs.Owning.{OwningKeys}
+use Rattle.block_config.specs.Owning.{OwningKeys, keys_of_owning}
+use Rattle.block_config.specs.declared.owning.OwningSetup.{OwningSetup}
 use Rattle.block_config.specs.Pins.{pins_in}
 use Rattle.block_config.specs.Programs.{Loaded}
 use Rattle.block_config.specs.Spans.{span_names, configured, machine_at, span_pins, edge_at, required, Ends, ends_at, bounds_at, stalls_at, load_of_machine, SpanValues, values_at, span_keys_of, name_at, span_of_table, span_in, all_spans}
 use Rattle.block_config.specs.declared.pins.BlockNumber.{BlockNumber}
-use Rattle.block_config.specs.declared.pins.BlockNumber.TheVariants.{First}
+use Rattle.block_config.specs.declared.pins.BlockNumber.TheVariants.{First, Second}
 use Rattle.block_config.specs.declared.path.Section.{Section}
 use Rattle.block_config.specs.declared.path.Section.TheVariants as section
 use Rattle.block_config.specs.Tables.{and_then, number_at, each_at, are_known, in_section, section_at, element_of}
@@ -175,6 +176,12 @@ pub config_configured : (bytes : List ℕ) (programs : List Assembled) (u : Setu
 config_configured bytes programs u says e =
     let said : config_block bytes programs ≡ Ok (keys_of_block u) = sym says ∙ ap (made keys_of_block) e in
     all_there u.machines u.spans (config_placed bytes programs (keys_of_block u) said)
+
+-- and of a second block's
+pub second_configured : (bytes : List ℕ) (programs : List Assembled) (u : OwningSetup) → OwnsExactly (second_setup_of bytes programs) (said_of Second bytes programs) → second_setup_of bytes programs ≡ Ok u → AreConfigured u.setup
+second_configured bytes programs u says e =
+    let said : said_of Second bytes programs ≡ Ok (keys_of_owning u) = sym says ∙ ap (made keys_of_owning) e in
+    all_there u.setup.machines u.setup.spans (said_placed Second bytes programs (keys_of_owning u) said)
 
 -- the default has no spans
 pub default_configured : (programs : List Assembled) (u : Setup) → SaysExactly (default_setup_of programs) (default_block programs) → default_setup_of programs ≡ Ok u → AreConfigured u

@@ -1,7 +1,7 @@
 use Rattle.std.proofs.Common.{ℕ, List, length, ap, ◌∙◌, arith}
 use Rattle.byte_lines.specs.Lines.{lines_of}
 use Rattle.word_file.specs.Reading.{word_file}
-use Rattle.word_file.proofs.Words.{going_from, with_front-nil}
+use Rattle.word_file.proofs.LineByLine.{going_from, with_front-nil}
 use Rattle.word_file.proofs.words.read_words.Goals as goal
 
 pub loop-rest-init : goal.loop-rest-init

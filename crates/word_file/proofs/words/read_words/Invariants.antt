@@ -2,7 +2,7 @@ use Rattle.std.proofs.Common.{◌≡◌, ◌+◌, ◌≤◌, length}
 use Rattle.std.specs.Prelude.{option_copied}
 use Rattle.byte_lines.specs.Lines.{lines_left, left_size}
 use Rattle.word_file.specs.Reading.{word_file}
-use Rattle.word_file.proofs.Words.{going_from}
+use Rattle.word_file.proofs.LineByLine.{going_from}
 use Rattle.word_file.proofs.words.read_words.Given as goal
 
 -- the words so far, and what the lines that are left add to them
