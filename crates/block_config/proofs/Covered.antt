@@ -1,6 +1,6 @@
 -- Addresses that loads cover, programs by their names, and memory with loads in it.
-use Rattle.std.proofs.Common.{◌≡◌, ℕ, suc, ◌+◌, ◌-◌, ◌<◌, ◌≤◌, ◌||◌, ◌&&◌, ◌++◌, nat_lt, true, false, Bool, Bor, Option, Some, None, option_map, option_copied, List, [], ◌∷◌, map, drop, length, get_or, refl, ap, ◌∙◌, arith}
-use Rattle.std.specs.List.{find, list_any, range_with_len}
+use Rattle.std.proofs.Common.{◌≡◌, ℕ, suc, ◌+◌, ◌-◌, ◌<◌, ◌≤◌, ◌&&◌, ◌++◌, nat_lt, true, false, Bool, Bor, Option, Some, None, option_map, option_copied, List, [], ◌∷◌, map, drop, length, get_or, refl, ap, ◌∙◌, arith}
+use Rattle.std.specs.List.{find, range_with_len}
 use Rattle.std.proofs.lemmas.List.{drop_all, drop_more}
 use Rattle.std.proofs.lemmas.List.Folds.{list_all-append}
 use Rattle.std.proofs.lemmas.Bool.{lt-ltb}
@@ -9,7 +9,7 @@ use Rattle.std.specs.Str.{bytes_eq}
 use Rattle.pio_assemble.specs.declared.program.Program.{Program}
 use Rattle.pio_assemble.specs.Program.{assembled_of}
 use Rattle.block_config.specs.declared.programs.Load.{Load}
-use Rattle.block_config.specs.Loads.{loaded_of, covers, is_covered, find_program, memory_of}
+use Rattle.block_config.specs.Loads.{loaded_of, find_program, memory_of}
 use Rattle.block_config.specs.Memory.{loaded}
 use Rattle.block_config.proofs.Found.{find_map}
 

@@ -10,10 +10,10 @@ use Rattle.block_config.specs.declared.fault.ConfigKind.TheVariants.{NoProgram}
 use Rattle.block_config.specs.Spans.{load_of_machine}
 use Rattle.setup_keys.specs.Block.{MachineKeys}
 use Rattle.block_config.specs.Loads.{covers}
-use Rattle.block_config.specs.Machines.{named_load, load_at, moved_place, start_of, start_at, run_at, machine_of_table, id_at, clock_at, pins_at, flags_at, counts_at, machine_keys_of, RunKeys}
+use Rattle.block_config.specs.Machines.{named_load, load_at, moved_place, start_of, start_at, machine_of_table}
 use Rattle.block_config.specs.Programs.{Loaded, find_loaded, place_in, place_of, label_of}
-use Rattle.block_config.specs.Tables.{and_then}
 use Rattle.block_config.specs.Values.{or_fault, text_of}
+use Rattle.block_config.proofs.MachineParts.{machine_parts, run_parts}
 use Rattle.block_config.proofs.Ranges.{goes_on, off_key, ok_same}
 
 found_covered : (p : Loaded → Bool) (ls : List Loaded) (l : Loaded) → find p ls ≡ Some l → list_any p ls ≡ true
@@ -101,19 +101,10 @@ named_found (Some n) loads l e = (n, some_of (find_loaded n loads) l e)
 
 starts_at : (machines : List (Option MachineKeys)) (loads : List Loaded) (t : Members) (m : MachineKeys) (l : Loaded) → load_at loads t ≡ Ok l → machine_of_table machines loads t ≡ Ok m → start_at l t ≡ Ok m.start
 starts_at machines loads t m l named e =
-    let run = goes_on (run_at machines loads t) (λ run. and_then (clock_at t) (λ clock. and_then (pins_at t) (λ pins. and_then (flags_at t) (λ flags. and_then (counts_at t) (λ counts. Ok (machine_keys_of run clock pins flags counts)))))) m e in
-    let clock = goes_on (clock_at t) (λ clock. and_then (pins_at t) (λ pins. and_then (flags_at t) (λ flags. and_then (counts_at t) (λ counts. Ok (machine_keys_of run.value clock pins flags counts))))) m run.rest in
-    let pins = goes_on (pins_at t) (λ pins. and_then (flags_at t) (λ flags. and_then (counts_at t) (λ counts. Ok (machine_keys_of run.value clock.value pins flags counts)))) m clock.rest in
-    let flags = goes_on (flags_at t) (λ flags. and_then (counts_at t) (λ counts. Ok (machine_keys_of run.value clock.value pins.value flags counts))) m pins.rest in
-    let counts = goes_on (counts_at t) (λ counts. Ok (machine_keys_of run.value clock.value pins.value flags.value counts)) m flags.rest in
-    let id = goes_on (id_at machines t) (λ id. and_then (load_at loads t) (λ load. and_then (start_at load t) (λ start. Ok (record { id = id; load = load; start = start })))) run.value run.found in
-    let load = goes_on (load_at loads t) (λ load. and_then (start_at load t) (λ start. Ok (record { id = id.value; load = load; start = start }))) run.value id.rest in
-    let start = goes_on (start_at load.value t) (λ start. Ok (record { id = id.value; load = load.value; start = start })) run.value load.rest in
-    let whole : machine_keys_of run.value clock.value pins.value flags.value counts.value ≡ m = ok_same _ _ counts.rest in
-    let parts : record { id = id.value; load = load.value; start = start.value } ≡ run.value = ok_same _ _ start.rest in
-    let same : load.value ≡ l = ok_same load.value l (sym load.found ∙ named) in
-    let there : start.value ≡ m.start = ap (λ (r : RunKeys). r.start) parts ∙ ap (λ (k : MachineKeys). k.start) whole in
-    subst (λ (x : Loaded). start_at x t ≡ Ok m.start) same (start.found ∙ ap Ok there)
+    let parts = machine_parts machines loads t m e in
+    let run = run_parts machines loads t parts.run parts.run_found in
+    let there : start_at parts.run.load t ≡ Ok m.start = run.start_found ∙ ap (λ (k : MachineKeys). Ok k.start) parts.whole in
+    subst (λ (x : Loaded). start_at x t ≡ Ok m.start) (ok_same parts.run.load l (sym run.load_found ∙ named)) there
 
 pub in_its_program : (machines : List (Option MachineKeys)) (loads : List Loaded) (t : Members) (m : MachineKeys) (l : Loaded) → AreApart loads → load_at loads t ≡ Ok l
     → 1 ≤ length l.program.words → l.address + length l.program.words ≤ 32 → machine_of_table machines loads t ≡ Ok m → load_of_machine loads (Some m) ≡ Some l

@@ -10,6 +10,7 @@ pub mod Ranges
 pub mod Says
 pub mod Outside
 pub mod Apart
+pub mod MachineParts
 pub mod Home
 pub mod Gathered
 pub mod LoadsFit

@@ -14,6 +14,7 @@ use Rattle.block_config.specs.Values.{text_of}
 use Rattle.block_config.proofs.Gathered.{found_keeps, read_table}
 use Rattle.block_config.proofs.Home.{named_found, start_covered, covered_below}
 use Rattle.block_config.proofs.LoadsFit.{IsLoad}
+use Rattle.block_config.proofs.MachineParts.{machine_parts, run_parts}
 use Rattle.block_config.proofs.Ranges.{goes_on, off_key, ok_same, number_within, all_within, all_defaulted}
 
 record Runs (r : RunKeys) : Type 0 where
@@ -62,12 +63,9 @@ start_within l t start fit e =
 
 runs : (machines : List (Option MachineKeys)) (loads : List Loaded) (t : Members) (r : RunKeys) → AllByRecursion IsLoad loads → run_at machines loads t ≡ Ok r → Runs r
 runs machines loads t r fit e =
-    let id = goes_on (id_at machines t) (λ id. and_then (load_at loads t) (λ load. and_then (start_at load t) (λ start. Ok (record { id = id; load = load; start = start })))) r e in
-    let load = goes_on (load_at loads t) (λ load. and_then (start_at load t) (λ start. Ok (record { id = id.value; load = load; start = start }))) r id.rest in
-    let start = goes_on (start_at load.value t) (λ start. Ok (record { id = id.value; load = load.value; start = start })) r load.rest in
-    let whole : record { id = id.value; load = load.value; start = start.value } ≡ r = ok_same _ r start.rest in
-    let lies = load_fits loads t load.value fit load.found in
-    subst Runs whole (record { id = id_within machines t id.value id.found; start = start_within load.value t start.value lies start.found; load = lies })
+    let parts = run_parts machines loads t r e in
+    let lies = load_fits loads t r.load fit parts.load_found in
+    record { id = id_within machines t r.id parts.id_found; start = start_within r.load t r.start lies parts.start_found; load = lies }
 
 divided : (a b : Bool) (k found : ClockKeys) (r : Refusal) → cond (a && not b) (Err r) (Ok k) ≡ Ok found → ((not a || b) ≡ true) × (k ≡ found)
 divided true false k found r e = cc
@@ -156,14 +154,10 @@ parts_in_range run clock pins flags counts r c p f s =
 
 machine_in_range : (machines : List (Option MachineKeys)) (loads : List Loaded) (t : Members) (m : MachineKeys) → AllByRecursion IsLoad loads → machine_of_table machines loads t ≡ Ok m → IsMachine m
 machine_in_range machines loads t m fit e =
-    let run = goes_on (run_at machines loads t) (λ run. and_then (clock_at t) (λ clock. and_then (pins_at t) (λ pins. and_then (flags_at t) (λ flags. and_then (counts_at t) (λ counts. Ok (machine_keys_of run clock pins flags counts)))))) m e in
-    let clock = goes_on (clock_at t) (λ clock. and_then (pins_at t) (λ pins. and_then (flags_at t) (λ flags. and_then (counts_at t) (λ counts. Ok (machine_keys_of run.value clock pins flags counts))))) m run.rest in
-    let pins = goes_on (pins_at t) (λ pins. and_then (flags_at t) (λ flags. and_then (counts_at t) (λ counts. Ok (machine_keys_of run.value clock.value pins flags counts)))) m clock.rest in
-    let flags = goes_on (flags_at t) (λ flags. and_then (counts_at t) (λ counts. Ok (machine_keys_of run.value clock.value pins.value flags counts))) m pins.rest in
-    let counts = goes_on (counts_at t) (λ counts. Ok (machine_keys_of run.value clock.value pins.value flags.value counts)) m flags.rest in
-    subst IsMachine (ok_same (machine_keys_of run.value clock.value pins.value flags.value counts.value) m counts.rest)
-    (parts_in_range run.value clock.value pins.value flags.value counts.value (runs machines loads t run.value fit run.found) (clock_divides t clock.value clock.found) (are_pins t pins.value pins.found)
-    (joined_one_way t flags.value flags.found) (shifts t counts.value counts.found))
+    let parts = machine_parts machines loads t m e in
+    subst IsMachine parts.whole
+    (parts_in_range parts.run parts.clock parts.pins parts.flags parts.counts (runs machines loads t parts.run fit parts.run_found) (clock_divides t parts.clock parts.clock_found) (are_pins t parts.pins parts.pins_found)
+    (joined_one_way t parts.flags parts.flags_found) (shifts t parts.counts parts.counts_found))
 
 kept_rest : (place : ℕ) (o : Option MachineKeys) (rest : List (Option MachineKeys)) → ArePlaced place (o ∷ rest) → ArePlaced (place + 1) rest
 kept_rest place None rest h = h

@@ -1,5 +1,5 @@
 -- The spans of a configuration are in the ranges that their type keeps.
-use Rattle.std.proofs.Common.{◌≡◌, ℕ, ◌<◌, ◌≤◌, ◌^◌, ◌==◌, ◌||◌, cond, nat_le, nat_lt, Bool, true, false, Option, Some, None, is_some, Ok, Err, List, [], length, slice_index, slice_index_or, refl, subst, codes, arith}
+use Rattle.std.proofs.Common.{◌≡◌, ℕ, ◌<◌, ◌≤◌, ◌^◌, ◌==◌, ◌||◌, cond, nat_le, nat_lt, Bool, true, false, Option, Some, None, is_some, Result, Ok, Err, List, [], length, slice_index, slice_index_or, refl, subst, codes, arith}
 use Rattle.std.specs.List.{AllByRecursion}
 use Rattle.std.proofs.lemmas.Bool.{ltb-false, eqb-true}
 use Rattle.toml.specs.Data.{Data, Items, no_items, item, Members, as_array, as_str, as_table, get_member}
@@ -52,19 +52,22 @@ machine_within machines t id e =
     let high : read.value ≤ 3 = within.1 in
     omega arith
 
+ends_read : (machines : List (Option MachineKeys)) (t : Members) (ends : Ends) (machine : Result ℕ Refusal) (pins : Result (List ℕ) Refusal) (from to : Result Bool Refusal)
+    → machine_at machines t ≡ machine → each_at (number_at t) span_pins ≡ pins
+    → and_then machine (λ machine. and_then pins (λ pins. and_then from (λ from_rise. and_then to (λ to_rise.
+    Ok (record { machine = machine; from_pin = slice_index pins 0; to_pin = slice_index pins 1; from_rise = from_rise; to_rise = to_rise }))))) ≡ Ok ends
+    → AreEnds ends
+ends_read machines t ends (Ok machine) (Ok pins) (Ok from) (Ok to) m p e =
+    let w = all_within t span_pins pins [] 0 (all_defaulted span_pins refl) refl p in
+    subst AreEnds (ok_same (record { machine = machine; from_pin = slice_index pins 0; to_pin = slice_index pins 1; from_rise = from; to_rise = to }) ends e)
+    (record { machine = machine_within machines t machine m; from_pin = omega (arith, w.1); to_pin = omega (arith, w.2.1) })
+ends_read machines t ends (Err r) pins from to m p e = cc
+ends_read machines t ends (Ok machine) (Err r) from to m p e = cc
+ends_read machines t ends (Ok machine) (Ok pins) (Err r) to m p e = cc
+ends_read machines t ends (Ok machine) (Ok pins) (Ok from) (Err r) m p e = cc
+
 are_ends : (machines : List (Option MachineKeys)) (t : Members) (ends : Ends) → ends_at machines t ≡ Ok ends → AreEnds ends
-are_ends machines t ends e =
-    let machine = goes_on (machine_at machines t) (λ machine. and_then (each_at (number_at t) span_pins) (λ pins. and_then (edge_at t (codes "from_edge")) (λ from_rise. and_then (edge_at t (codes "to_edge")) (λ to_rise.
-    Ok (record { machine = machine; from_pin = slice_index pins 0; to_pin = slice_index pins 1; from_rise = from_rise; to_rise = to_rise }))))) ends e in
-    let pins = goes_on (each_at (number_at t) span_pins) (λ pins. and_then (edge_at t (codes "from_edge")) (λ from_rise. and_then (edge_at t (codes "to_edge")) (λ to_rise.
-    Ok (record { machine = machine.value; from_pin = slice_index pins 0; to_pin = slice_index pins 1; from_rise = from_rise; to_rise = to_rise })))) ends machine.rest in
-    let from = goes_on (edge_at t (codes "from_edge")) (λ from_rise. and_then (edge_at t (codes "to_edge")) (λ to_rise.
-    Ok (record { machine = machine.value; from_pin = slice_index pins.value 0; to_pin = slice_index pins.value 1; from_rise = from_rise; to_rise = to_rise }))) ends pins.rest in
-    let to = goes_on (edge_at t (codes "to_edge")) (λ to_rise.
-    Ok (record { machine = machine.value; from_pin = slice_index pins.value 0; to_pin = slice_index pins.value 1; from_rise = from.value; to_rise = to_rise })) ends from.rest in
-    let w = all_within t span_pins pins.value [] 0 (all_defaulted span_pins refl) refl pins.found in
-    let whole : record { machine = machine.value; from_pin = slice_index pins.value 0; to_pin = slice_index pins.value 1; from_rise = from.value; to_rise = to.value } ≡ ends = ok_same _ ends to.rest in
-    subst AreEnds whole (record { machine = machine_within machines t machine.value machine.found; from_pin = omega (arith, w.1); to_pin = omega (arith, w.2.1) })
+are_ends machines t ends e = ends_read machines t ends (machine_at machines t) (each_at (number_at t) span_pins) (edge_at t (codes "from_edge")) (edge_at t (codes "to_edge")) refl refl e
 
 ordered_tested : (k found : Bounds) (r : Refusal) (b : Bool) → nat_lt k.most k.least ≡ b → cond b (Err r) (Ok k) ≡ Ok found → k.most ≤ 16777215 → AreOrdered found
 ordered_tested k found r true is e high = cc
@@ -122,20 +125,37 @@ parts_in_range name v n e b s = record {
   stalls_in_ticks = s;
 }
 
+-- what a span says after its name is in range
+record AreValues (v : SpanValues) : Type 0 where
+  ends : AreEnds v.ends
+  bounds : AreOrdered v.bounds
+  stalls : AreInTicks v.bounds.unit v.stalls
+
+values_read : (t : Members) (v : SpanValues) (load : Option Loaded) (ends : Ends) (bounds : Bounds) (stalls : Result (List ℕ) Refusal) → AreEnds ends → AreOrdered bounds
+    → stalls_at bounds.unit load t ≡ stalls → and_then stalls (λ stalls. Ok (record { ends = ends; bounds = bounds; stalls = stalls })) ≡ Ok v → AreValues v
+values_read t v load ends bounds (Ok stalls) a o is e =
+    let told : AreInTicks bounds.unit stalls = value_in_ticks bounds.unit load (get_member (codes "stalls") t) stalls (off_key (codes "stalls") _ stalls is) in
+    subst AreValues (ok_same (record { ends = ends; bounds = bounds; stalls = stalls }) v e) (record { ends = a; bounds = o; stalls = told })
+values_read t v load ends bounds (Err r) a o is e = cc
+
+values_bounded : (machines : List (Option MachineKeys)) (loads : List Loaded) (t : Members) (v : SpanValues) (ends : Result Ends Refusal) (bounds : Result Bounds Refusal)
+    → ends_at machines t ≡ ends → bounds_at t ≡ bounds
+    → and_then ends (λ ends. and_then bounds (λ bounds. and_then (stalls_at bounds.unit (load_of_machine loads (slice_index_or machines ends.machine None)) t) (λ stalls.
+    Ok (record { ends = ends; bounds = bounds; stalls = stalls })))) ≡ Ok v
+    → AreValues v
+values_bounded machines loads t v (Ok ends) (Ok bounds) a o e =
+    let load = load_of_machine loads (slice_index_or machines ends.machine None) in
+    values_read t v load ends bounds (stalls_at bounds.unit load t) (are_ends machines t ends a) (are_ordered t bounds o) refl e
+values_bounded machines loads t v (Err r) bounds a o e = cc
+values_bounded machines loads t v (Ok ends) (Err r) a o e = cc
+
 table_in_range : (machines : List (Option MachineKeys)) (loads : List Loaded) (t : Members) (s : SpanKeys) → span_of_table machines loads t ≡ Ok s → IsSpan s
 table_in_range machines loads t s e =
     let name = goes_on (name_at t) (λ name. and_then (values_at machines loads t) (λ values. Ok (span_keys_of name values))) s e in
     let values = goes_on (values_at machines loads t) (λ values. Ok (span_keys_of name.value values)) s name.rest in
-    let v = values.value in
-    let ends = goes_on (ends_at machines t) (λ ends. and_then (bounds_at t) (λ bounds. and_then (stalls_at bounds.unit (load_of_machine loads (slice_index_or machines ends.machine None)) t) (λ stalls. Ok (record { ends = ends; bounds = bounds; stalls = stalls })))) v values.found in
-    let load = load_of_machine loads (slice_index_or machines ends.value.machine None) in
-    let bounds = goes_on (bounds_at t) (λ bounds. and_then (stalls_at bounds.unit load t) (λ stalls. Ok (record { ends = ends.value; bounds = bounds; stalls = stalls }))) v ends.rest in
-    let stalls = goes_on (stalls_at bounds.value.unit load t) (λ stalls. Ok (record { ends = ends.value; bounds = bounds.value; stalls = stalls })) v bounds.rest in
-    let whole : record { ends = ends.value; bounds = bounds.value; stalls = stalls.value } ≡ v = ok_same _ v stalls.rest in
-    let told : AreInTicks bounds.value.unit stalls.value = value_in_ticks bounds.value.unit load (get_member (codes "stalls") t) stalls.value (off_key (codes "stalls") _ stalls.value stalls.found) in
-    let parts : IsSpan (span_keys_of name.value (record { ends = ends.value; bounds = bounds.value; stalls = stalls.value })) =
-    parts_in_range name.value _ (named t name.value name.found) (are_ends machines t ends.value ends.found) (are_ordered t bounds.value bounds.found) told in
-    subst IsSpan (ok_same (span_keys_of name.value v) s values.rest) (subst (λ (x : SpanValues). IsSpan (span_keys_of name.value x)) whole parts)
+    let are = values_bounded machines loads t values.value (ends_at machines t) (bounds_at t) refl refl values.found in
+    subst IsSpan (ok_same (span_keys_of name.value values.value) s values.rest)
+    (parts_in_range name.value values.value (named t name.value name.found) are.ends are.bounds are.stalls)
 
 pub spans_in_range : (machines : List (Option MachineKeys)) (loads : List Loaded) (tables : Items) (spans : List SpanKeys) → all_spans machines loads tables ≡ Ok spans → AllByRecursion IsSpan spans
 spans_in_range machines loads tables spans e =

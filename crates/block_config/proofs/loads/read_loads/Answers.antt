@@ -10,13 +10,11 @@ use Rattle.block_config.proofs.loads.read_loads.Goals as goal
 pub returns-in_err-load : goal.returns-in_err-load
 returns-in_err-load c =
     let p = err_from_is_err_and c.from_residual.result c.from_residual.ensures.1 in
-    rw (p.1, p.2) (
     let read = load_in (map assembled_of c.args.programs.now) in
     let loads = c.loop-place.loads.items in
-    refuses_on c.in_err-load.field-0.0 (read c.loop-place.place (map loaded_of loads) (view c.index-values-place.result)) _
+    rw (p.1, p.2) (refuses_on c.in_err-load.field-0.0 (read c.loop-place.place (map loaded_of loads) (view c.index-values-place.result)) _
     (λ e f. gather_fails loaded_of read c.args.values.now c.loop-place.place c.index-values-place.result loads e _ c.loop-place.invariant c.loop-place-test.true (rw (← c.index-values-place.is) f))
-    (rw c.deref.ensures.value at c.in_err-load.ensures)
-    )
+    (rw c.deref.ensures.value at c.in_err-load.ensures))
 
 pub loop-place-preserved : goal.loop-place-preserved
 loop-place-preserved c =

@@ -9,10 +9,8 @@ use Rattle.block_config.proofs.machines.place_machines.Goals as goal
 pub returns-in_err-machine-clause-value : goal.returns-in_err-machine-clause-value
 returns-in_err-machine-clause-value c =
     let p = err_from_is_err_and c.from_residual.result c.from_residual.ensures.1 in
-    rw (p.1, p.2) (
-    refuses_on c.in_err-machine.field-0.0 (machine_in c.loop-place.place (all_keys c.loop-place.setup.machines) (map loaded_of c.args.loads.now) (view c.index-values-place.result)) _
-    (λ e f. place_fails (map loaded_of c.args.loads.now) c.args.values.now c.loop-place.place c.index-values-place.result c.loop-place.setup.machines e _ c.loop-place.invariant.0 c.loop-place-test.true (rw (← c.index-values-place.is) f)) c.in_err-machine.ensures
-    )
+    rw (p.1, p.2) (refuses_on c.in_err-machine.field-0.0 (machine_in c.loop-place.place (all_keys c.loop-place.setup.machines) (map loaded_of c.args.loads.now) (view c.index-values-place.result)) _
+    (λ e f. place_fails (map loaded_of c.args.loads.now) c.args.values.now c.loop-place.place c.index-values-place.result c.loop-place.setup.machines e _ c.loop-place.invariant.0 c.loop-place-test.true (rw (← c.index-values-place.is) f)) c.in_err-machine.ensures)
 
 pub loop-place-preserved : goal.loop-place-preserved
 loop-place-preserved c =

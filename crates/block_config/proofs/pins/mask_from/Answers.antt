@@ -7,9 +7,7 @@ use Rattle.block_config.proofs.pins.mask_from.Goals as goal
 pub returns-in_err-pin : goal.returns-in_err-pin
 returns-in_err-pin c =
     let p = err_from_is_err_and c.from_residual.result c.from_residual.ensures.1 in
-    rw (p.1, p.2) (
-    sym (mask_fails c.args.values.now c.loop-place.place c.index-values-place.result c.loop-place.mask c.in_err-pin.field-0.0 _ c.loop-place.invariant c.loop-place-test.true (rw (← c.index-values-place.is) (sym c.in_err-pin.ensures.value)))
-    )
+    rw (p.1, p.2) (sym (mask_fails c.args.values.now c.loop-place.place c.index-values-place.result c.loop-place.mask c.in_err-pin.field-0.0 _ c.loop-place.invariant c.loop-place-test.true (rw (← c.index-values-place.is) (sym c.in_err-pin.ensures.value))))
 
 pub loop-place-preserved : goal.loop-place-preserved
 loop-place-preserved c =

@@ -11,13 +11,11 @@ use Rattle.block_config.proofs.spans.read_spans.Goals as goal
 pub returns-in_err-span : goal.returns-in_err-span
 returns-in_err-span c =
     let p = err_from_is_err_and c.from_residual.result c.from_residual.ensures.1 in
-    rw (p.1, p.2) (
     let read = span_in (map (option_map keys_of_machine) c.args.machines.now) (map loaded_of c.args.loads.now) in
     let spans = c.loop-place.spans.items in
-    refuses_on c.in_err-span.field-0.0 (read c.loop-place.place (map keys_of_span spans) (view c.index-values-place.result)) _
+    rw (p.1, p.2) (refuses_on c.in_err-span.field-0.0 (read c.loop-place.place (map keys_of_span spans) (view c.index-values-place.result)) _
     (λ e f. gather_fails keys_of_span read c.args.values.now c.loop-place.place c.index-values-place.result spans e _ c.loop-place.invariant c.loop-place-test.true (rw (← c.index-values-place.is) f))
-    c.in_err-span.ensures
-    )
+    c.in_err-span.ensures)
 
 pub loop-place-preserved : goal.loop-place-preserved
 loop-place-preserved c =

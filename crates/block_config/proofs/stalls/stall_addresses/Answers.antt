@@ -16,9 +16,7 @@ push-requires c =
 pub returns-in_err-address-clause-value : goal.returns-in_err-address-clause-value
 returns-in_err-address-clause-value c =
     let p = err_from_is_err_and c.from_residual.result c.from_residual.ensures.1 in
-    rw (p.1, p.2) (
-    sym (gather_fails (λ (a : ℕ). a) (λ place front d. stall_of (option_map loaded_of c.args.load) (as_str d)) c.args.values.now c.loop-place.place c.index-values-place.result c.loop-place.addresses.items c.in_err-address.field-0.0 _ c.loop-place.invariant.so_far c.loop-place-test.true (rw (← c.index-values-place.is) (sym c.in_err-address.ensures.value)))
-    )
+    rw (p.1, p.2) (sym (gather_fails (λ (a : ℕ). a) (λ place front d. stall_of (option_map loaded_of c.args.load) (as_str d)) c.args.values.now c.loop-place.place c.index-values-place.result c.loop-place.addresses.items c.in_err-address.field-0.0 _ c.loop-place.invariant.so_far c.loop-place-test.true (rw (← c.index-values-place.is) (sym c.in_err-address.ensures.value))))
 
 pub loop-place-preserved : goal.loop-place-preserved
 loop-place-preserved c = record {

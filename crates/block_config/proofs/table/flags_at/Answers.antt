@@ -9,10 +9,8 @@ use Rattle.block_config.proofs.table.flags_at.Goals as goal
 pub returns-in_err-flag-clause-value : goal.returns-in_err-flag-clause-value
 returns-in_err-flag-clause-value c =
     let p = err_from_is_err_and c.from_residual.result c.from_residual.ensures.1 in
-    rw (p.1, p.2) (
     let t = table_view c.args.table.now in
-    sym (each_fails flag_described (flag_at t) c.args.keys.now c.loop-key.key-index _ _ (refusal_of c.in_err-flag.field-0.0) c.loop-key.flags.items _ c.loop-key.invariant.1 c.loop-key-test.true refl (sym c.in_err-flag.ensures))
-    )
+    rw (p.1, p.2) (sym (each_fails flag_described (flag_at t) c.args.keys.now c.loop-key.key-index _ _ (refusal_of c.in_err-flag.field-0.0) c.loop-key.flags.items _ c.loop-key.invariant.1 c.loop-key-test.true refl (sym c.in_err-flag.ensures)))
 
 pub loop-key-preserved : goal.loop-key-preserved
 loop-key-preserved c =

@@ -10,10 +10,8 @@ use Rattle.block_config.proofs.table.numbers_at.Goals as goal
 pub returns-in_err-number-clause-value : goal.returns-in_err-number-clause-value
 returns-in_err-number-clause-value c =
     let p = err_from_is_err_and c.from_residual.result c.from_residual.ensures.1 in
-    rw (p.1, p.2) (
     let t = table_view c.args.table.now in
-    sym (each_fails described (number_at t) c.args.keys.now c.loop-key.key-index c.key-item.result c.key-item.result (refusal_of c.in_err-number.field-0.0) c.loop-key.numbers.items _ c.loop-key.invariant.1 c.loop-key-test.true c.key-item.is (sym c.in_err-number.ensures.value))
-    )
+    rw (p.1, p.2) (sym (each_fails described (number_at t) c.args.keys.now c.loop-key.key-index c.key-item.result c.key-item.result (refusal_of c.in_err-number.field-0.0) c.loop-key.numbers.items _ c.loop-key.invariant.1 c.loop-key-test.true c.key-item.is (sym c.in_err-number.ensures.value)))
 
 pub loop-key-preserved : goal.loop-key-preserved
 loop-key-preserved c =
