@@ -10,4 +10,6 @@ mod outside_tests;
 #[cfg(test)]
 mod trace_tests;
 #[cfg(test)]
+mod twin_trace_tests;
+#[cfg(test)]
 mod word_tests;

@@ -32,7 +32,7 @@ fn put_text<S: Sink>(sink: &mut S, samples: &[Sample]) -> Result<(), TraceFailed
     tell_all(&mut trace, samples)
 }
 
-const QUIET: Sample = Sample {
+pub(crate) const QUIET: Sample = Sample {
     level: 0,
     direction: 0,
     flags: 0,
@@ -42,12 +42,12 @@ const QUIET: Sample = Sample {
     sticky: [0; 4],
 };
 
-const LOW: Sample = Sample {
+pub(crate) const LOW: Sample = Sample {
     direction: 1,
     ..QUIET
 };
 
-const HIGH: Sample = Sample {
+pub(crate) const HIGH: Sample = Sample {
     level: 1,
     direction: 1,
     ..QUIET
@@ -142,7 +142,7 @@ static ROWS: [Row; 6] = [
 ];
 
 /// The declarations of the 88 variables, up to the first clock.
-const HEAD: &str = "\
+pub(crate) const HEAD: &str = "\
 $timescale 1 ns $end
 $scope module pio $end
 $var wire 1 ! p0 $end
@@ -239,7 +239,7 @@ $enddefinitions $end
 ";
 
 /// The values of a dump in which all is 0.
-const ZEROS: &str = "\
+pub(crate) const ZEROS: &str = "\
 0!
 0\"
 0#
@@ -432,7 +432,7 @@ fn fails<S: Sink>(sink: &mut S, row: &Row) -> bool {
     is_broken && trace.failed()
 }
 
-fn begins(text: &[u8], bytes: &[u8], count: usize) -> bool {
+pub(crate) fn begins(text: &[u8], bytes: &[u8], count: usize) -> bool {
     text.starts_with(bytes) && bytes.len() == count
 }
 

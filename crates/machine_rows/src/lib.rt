@@ -47,3 +47,5 @@ mod shift_tests;
 mod stir_rows;
 #[cfg(test)]
 mod twin_tests;
+#[cfg(test)]
+mod twin_text_tests;

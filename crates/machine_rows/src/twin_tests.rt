@@ -14,10 +14,10 @@ use std::process::Abort;
 use std::test::Fail;
 
 /// A row of each block, the pins that the second owns, and how long they run.
-struct TwinRow {
-    own: u32,
-    first: Row,
-    second: Row,
+pub(crate) struct TwinRow {
+    pub(crate) own: u32,
+    pub(crate) first: Row,
+    pub(crate) second: Row,
 }
 
 /// set pins, 1 on pin 0, forever.
@@ -38,7 +38,7 @@ const WAITS_AND_SETS: Keys = Keys {
     ..PLAIN
 };
 
-static ROWS: [TwinRow; 4] = [
+pub(crate) static ROWS: [TwinRow; 4] = [
     TwinRow {
         own: 2,
         first: Row {

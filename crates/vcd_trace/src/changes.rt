@@ -10,6 +10,8 @@ use block_core::Sample;
 use pio_edge::{Sink, SinkFailed};
 
 /// Puts the lines of the values that are not what they were, of variables whose numbers are so much greater.
+// A copy for each scope, in which the numbers are constants: that of a first scope has no test of them.
+#[inline(always)]
 pub(crate) fn put_changes<S: Sink>(
     sink: &mut S,
     more: u8,
@@ -35,6 +37,7 @@ pub(crate) fn put_changes<S: Sink>(
 }
 
 // The low `count` bits, from bit 0 on; the others are 0.
+#[inline(always)]
 fn put_changed_bits<S: Sink>(
     sink: &mut S,
     first: u8,

@@ -66,7 +66,7 @@ pub(crate) fn put_header<S: Sink>(sink: &mut S) -> Result<(), SinkFailed>
     sink.put(b"$enddefinitions $end\n")
 }
 
-/// Puts those of two blocks.
+/// Puts the declarations of two blocks, a scope for each.
 pub(crate) fn put_twin_header<S: Sink>(sink: &mut S) -> Result<(), SinkFailed>
     ensures bytes { Takes (S.taken sink.old) twin_header_text (S.taken sink.new) result }
     ensures cause { PutCounts (S.faults sink.old) (S.faults sink.new) result }
@@ -147,7 +147,7 @@ fn put_declaration<S: Sink>(
     sink.put(line.as_str().as_bytes())
 }
 
-/// The identifier of a variable.
+// The identifier of a variable.
 fn identifier_of(id: u8) -> ArrayString<2>
     ensures { result.bytes ≡ identifier id }
 {

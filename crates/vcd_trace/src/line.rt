@@ -24,6 +24,8 @@ pub(crate) fn put_clock<S: Sink>(sink: &mut S, clock: u64) -> Result<(), SinkFai
 }
 
 /// The line of a value of one bit.
+// Its caller's numbers tell which of the two it is.
+#[inline(always)]
 pub(crate) fn put_bit<S: Sink>(sink: &mut S, id: u8, value: u8) -> Result<(), SinkFailed>
     requires { value < 2 }
     ensures bytes { Takes (S.taken sink.old) (bit_line id value) (S.taken sink.new) result }

@@ -64,6 +64,7 @@ impl<'a, S: Sink> TwinTrace for TwinVcd<'a, S> {
         }
     }
 
+    // Called in each clock, as that of one block.
     #[inline(never)]
     fn sample(&mut self, clock: u64, first: &Sample, second: &Sample) -> Result<(), TraceFailed> {
         match put_samples(self.sink, clock, &self.last, first, second) {
