@@ -320,44 +320,69 @@ class System:
         return writes, reads
 
 
-def samples(memory, setups, pins, lines, clocks, system=None):
-    """The 88 values after each clock. Setups are by machine number; pins has high, level, out and bypass as words."""
-    machines = {number: Machine(setup) for number, setup in sorted(setups.items())}
-    system = system or System(lines)
-    levels, directions, outside, flags = pins["level"], pins["out"], pins["high"], 0
+class Block:
+    """A block that is stepped from given pads. Setups are by machine number; pins has high, level, out and bypass as words."""
 
-    def pads():
-        return levels & directions | outside & ~directions
+    def __init__(self, memory, setups, pins, system):
+        self.memory, self.system, self.bypass = memory, system, pins["bypass"]
+        self.machines = {number: Machine(setup) for number, setup in sorted(setups.items())}
+        self.levels, self.directions, self.outside, self.flags = pins["level"], pins["out"], pins["high"], 0
 
-    history = {-2: pads(), -1: pads()}
-    for clock in range(clocks):
-        for word, numbers in system.lines.get(clock, []):
-            machine = machines.get(numbers[0])
+    def begin(self, clock):
+        """What the clock's lines do before the machines act."""
+        for word, numbers in self.system.lines.get(clock, []):
+            machine = self.machines.get(numbers[0])
             if word == "pin":
-                outside = with_pins(outside, {numbers[0]: numbers[1]})
+                self.outside = with_pins(self.outside, {numbers[0]: numbers[1]})
             elif word in ("enable", "disable") and machine:
                 machine.enabled = word == "enable"
             elif word == "restart" and machine:
                 machine.restarted = clock
-        history[clock] = pads()
-        seen = history[clock - 2] & ~pins["bypass"] | history[clock] & pins["bypass"]
-        writes, reads = system.accesses(clock, machines)
+
+    def step(self, clock, before, now):
+        """The clock's machines, by its pads and those of two clocks before; the values after it."""
+        seen = before & ~self.bypass | now & self.bypass
+        writes, reads = self.system.accesses(clock, self.machines)
         intents = {}
-        for number, machine in machines.items():
+        for number, machine in self.machines.items():
             ticks = machine.has_tick(clock)
-            intents[number] = machine.tick(number, seen, flags, memory) if ticks else Intent()
+            intents[number] = machine.tick(number, seen, self.flags, self.memory) if ticks else Intent()
         for intent in intents.values():
             for write in intent.levels:
-                levels = with_pins(levels, write)
+                self.levels = with_pins(self.levels, write)
             for write in intent.directions:
-                directions = with_pins(directions, write)
+                self.directions = with_pins(self.directions, write)
         for intent in intents.values():
-            flags &= ~intent.lowers
+            self.flags &= ~intent.lowers
         for intent in intents.values():
-            flags |= intent.raises
-        for number, machine in machines.items():
+            self.flags |= intent.raises
+        for number, machine in self.machines.items():
             settle(machine, intents[number], writes.get(number), number in reads)
-        yield sample(levels, directions, flags, machines)
+        return sample(self.levels, self.directions, self.flags, self.machines)
+
+
+def samples(memory, setups, pins, lines, clocks, system=None):
+    """The 88 values after each clock."""
+    block = Block(memory, setups, pins, system or System(lines))
+    for shown in together([block], 0, clocks):
+        yield shown[0]
+
+
+def together(blocks, own, clocks):
+    """The values of each block after each clock. The second, where there is one, owns these pins; the outside is the first one's."""
+    first, owner = blocks[0], blocks[-1]
+
+    def pads():
+        levels = first.levels & ~own | owner.levels & own
+        directions = first.directions & ~own | owner.directions & own
+        return levels & directions | first.outside & ~directions
+
+    history = {-2: pads(), -1: pads()}
+    for clock in range(clocks):
+        for block in blocks:
+            block.begin(clock)
+        history[clock] = pads()
+        yield [block.step(clock, history[clock - 2], history[clock]) for block in blocks]
 
 
 def settle(machine, intent, written, is_read):
@@ -392,20 +417,36 @@ WIDTHS = [1] * 72 + [4] * 8 + [32] * 4 + [4] * 4
 
 def trace(all_samples, clocks):
     """The value-change text of samples."""
+    return text_of([[now] for now in all_samples], clocks, [("pio", "")])
 
-    def line(place, value):
-        identifier = chr(33 + place)
+
+def pair_trace(all_samples, clocks):
+    """The value-change text of the samples of two blocks."""
+    return text_of(all_samples, clocks, [("pio0", ""), ("pio1", "~")])
+
+
+def text_of(all_samples, clocks, scopes):
+    def line(front, place, value):
+        identifier = front + chr(33 + place)
         return f"{value}{identifier}" if WIDTHS[place] == 1 else f"b{value:b} {identifier}"
 
-    text = ["$timescale 1 ns $end", "$scope module pio $end"]
-    text += [f"$var wire {WIDTHS[i]} {chr(33 + i)} {name} $end" for i, name in enumerate(NAMES)]
-    text += ["$upscope $end", "$enddefinitions $end", "#0"]
+    text = ["$timescale 1 ns $end"]
+    for scope, front in scopes:
+        text.append(f"$scope module {scope} $end")
+        text += [f"$var wire {WIDTHS[i]} {front}{chr(33 + i)} {name} $end" for i, name in enumerate(NAMES)]
+        text.append("$upscope $end")
+    text += ["$enddefinitions $end", "#0"]
     before = None
     for clock, now in enumerate(all_samples):
+        changed = [
+            line(front, place, value)
+            for block, (_, front) in enumerate(scopes)
+            for place, value in enumerate(now[block])
+            if before is None or value != before[block][place]
+        ]
         if clock == 0:
-            text += ["$dumpvars"] + [line(place, value) for place, value in enumerate(now)] + ["$end"]
-        elif now != before:
-            text.append(f"#{clock}")
-            text += [line(place, value) for place, value in enumerate(now) if value != before[place]]
+            text += ["$dumpvars"] + changed + ["$end"]
+        elif changed:
+            text += [f"#{clock}"] + changed
         before = now
     return "\n".join(text + ([f"#{clocks}"] if clocks else [])) + "\n"

@@ -12,6 +12,8 @@ NAMES = ["a", "b", "c", "loop", "next", "prev", "A", "_z", "k1", "word", "end"]
 class Run:
     """A run's files, and what they come to: memory, setups by number, pins as words, lines, clocks."""
 
+    program, pin_keys = "q", PIN_KEYS
+
     def __init__(self, random):
         self.random = random
         self.source, self.config, self.stimulus = "", "", "version 2\n"
@@ -21,7 +23,7 @@ class Run:
         for number in random.sample(range(4), random.randrange(1, 5)):
             self.add_machine(number)
         self.pins = {
-            key: sum(1 << pin for pin in random.sample(range(32), random.randrange(8))) for key in PIN_KEYS
+            key: sum(1 << pin for pin in random.sample(range(32), random.randrange(8))) for key in self.pin_keys
         }
         self.config += "[pins]\n"
         for key, word in self.pins.items():
@@ -51,7 +53,7 @@ class Run:
             says_rule = bits > 0 or opt or random.random() < 0.3
             if not says_rule:
                 pindirs = False
-            self.source += f".program q{number}\n"
+            self.source += f".program {self.program}{number}\n"
             if says_rule:
                 self.source += f".side_set {bits}{' opt' * opt}{' pindirs' * pindirs}\n"
             first, last, start = (random.randrange(length) for _ in range(3))
@@ -64,7 +66,7 @@ class Run:
                     self.memory[at + place] = word + at
                 self.source += ".wrap_target\n" * (place == first) + "go:\n" * (place == start)
                 self.source += f".word {word}\n" + ".wrap\n" * (place == last)
-            self.config += f'[[load]]\nprogram = "q{number}"\nat = {at}\n'
+            self.config += f'[[load]]\nprogram = "{self.program}{number}"\nat = {at}\n'
             rule = {"side_bits": bits, "side_opt": int(opt), "side_pindirs": pindirs}
             self.programs.append(
                 rule | {"wrap_bottom": at + first, "wrap_top": at + last, "start": at + start}
@@ -85,7 +87,7 @@ class Run:
         keys["divider"] = random.choice([1, 1, 1, 1, 2, 3, random.randrange(1, 9)])
         keys["fraction"] = random.choice([0, 0, random.randrange(256)])
         keys["join_rx"] = keys["join_rx"] and not keys["join_tx"]
-        self.config += f'[[machine]]\nid = {number}\nprogram = "q{program}"\nstart = "go"\n'
+        self.config += f'[[machine]]\nid = {number}\nprogram = "{self.program}{program}"\nstart = "go"\n'
         self.config += "".join(f"{key} = {str(value).lower()}\n" for key, value in keys.items())
         self.setups[number] = keys | self.programs[program]
 
@@ -118,6 +120,31 @@ class Run:
     def say(self, clock, word, numbers):
         self.lines.append((clock, word, numbers))
         self.stimulus += f"{clock} {word} {' '.join(map(str, numbers))}\n"
+
+
+class Second(Run):
+    """A second block on the same pins."""
+
+    program, pin_keys = "r", ["level", "out", "bypass", "own"]
+
+
+class Pair:
+    """Two blocks on one set of pins: one source, two configurations, one stimulus."""
+
+    def __init__(self, random):
+        self.blocks = first, second = Run(random), Second(random)
+        self.source, self.clocks, self.own = first.source + second.source, first.clocks, second.pins["own"]
+        second.pins["high"] = 0
+        both = [(clock, 0, word, numbers) for clock, word, numbers in first.lines]
+        both += [(clock, 1, word, numbers) for clock, word, numbers in second.lines]
+        both.sort(key=lambda line: line[0])
+        self.lines = [[], []]
+        self.stimulus = "version 2\n"
+        for clock, block, word, numbers in both:
+            for place in (0, 1) if word == "pin" else (block,):
+                self.lines[place].append((clock, word, numbers))
+            number = numbers[0] + (4 if block == 1 and word != "pin" else 0)
+            self.stimulus += f"{clock} {word} {' '.join(map(str, [number] + numbers[1:]))}\n"
 
 
 # What is observed of a run: spans of any edges, and a serial line.

@@ -1,5 +1,5 @@
 -- A configuration has at most 64 spans.
-use Rattle.std.proofs.Common.{◌≡◌, ℕ, ◌+◌, ◌≤◌, ◌++◌, cond, nat_le, Bool, true, false, Option, Result, Ok, Err, List, [], ◌∷◌, map, length, length-append, refl, subst, codes, arith}
+use Rattle.std.proofs.Common.{◌≡◌, ℕ, ◌+◌, ◌≤◌, ◌++◌, cond, nat_le, Bool, true, false, Option, Result, Ok, Err, List, [], ◌∷◌, map, length, length-append, refl, ap, subst, codes, arith}
 use Rattle.std.proofs.lemmas.Bool.{leb-true}
 use Rattle.std.proofs.lemmas.List.{length-map}
 use Rattle.toml.specs.Data.{Data, Items, no_items, item, Members}
@@ -20,19 +20,19 @@ few_tested items found false r is e = cc
 few_kept : (items found : Items) → few_spans items ≡ Ok found → count_items found ≤ 64
 few_kept items found e = few_tested items found (nat_le (count_items items) 64) _ refl e
 
+spans_read : (loads machines : Result Items Refusal) (pins : Result (Option Members) Refusal) (spans : Result Items Refusal) (s : Sections)
+    → and_then loads (λ loads. and_then machines (λ machines. and_then pins (λ pins. and_then spans (λ spans. Ok (record { loads = loads; machines = machines; pins = pins; spans = spans }))))) ≡ Ok s
+    → spans ≡ Ok s.spans
+spans_read (Ok loads) (Ok machines) (Ok pins) (Ok spans) s e = ap (λ (x : Sections). Ok x.spans) (ok_same (record { loads = loads; machines = machines; pins = pins; spans = spans }) s e)
+spans_read (Err r) machines pins spans s e = cc
+spans_read (Ok loads) (Err r) pins spans s e = cc
+spans_read (Ok loads) (Ok machines) (Err r) spans s e = cc
+spans_read (Ok loads) (Ok machines) (Ok pins) (Err r) s e = cc
+
 few_in_table : (t : Members) (s : Sections) → sections_of t ≡ Ok s → count_items s.spans ≤ 64
 few_in_table t s e =
-    let loads = goes_on (tables_at t (codes "load")) (λ loads. and_then (tables_at t (codes "machine")) (λ machines. and_then (pins_at t) (λ pins. and_then (spans_at t) (λ spans.
-    Ok (record { loads = loads; machines = machines; pins = pins; spans = spans }))))) s e in
-    let machines = goes_on (tables_at t (codes "machine")) (λ machines. and_then (pins_at t) (λ pins. and_then (spans_at t) (λ spans.
-    Ok (record { loads = loads.value; machines = machines; pins = pins; spans = spans })))) s loads.rest in
-    let pins = goes_on (pins_at t) (λ pins. and_then (spans_at t) (λ spans.
-    Ok (record { loads = loads.value; machines = machines.value; pins = pins; spans = spans }))) s machines.rest in
-    let spans = goes_on (spans_at t) (λ spans. Ok (record { loads = loads.value; machines = machines.value; pins = pins.value; spans = spans })) s pins.rest in
-    let tables = goes_on (tables_at t (codes "span")) few_spans spans.value spans.found in
-    let few : count_items spans.value ≤ 64 = few_kept tables.value spans.value tables.rest in
-    let whole : record { loads = loads.value; machines = machines.value; pins = pins.value; spans = spans.value } ≡ s = ok_same _ s spans.rest in
-    subst (λ (x : Sections). count_items x.spans ≤ 64) whole few
+    let tables = goes_on (tables_at t (codes "span")) few_spans s.spans (spans_read (tables_at t (codes "load")) (tables_at t (codes "machine")) (pins_at t) (spans_at t) s e) in
+    few_kept tables.value s.spans tables.rest
 
 known_few : (t : Members) (s : Sections) (known : Bool) (r : Refusal) → cond known (sections_of t) (Err r) ≡ Ok s → count_items s.spans ≤ 64
 known_few t s true r e = few_in_table t s e

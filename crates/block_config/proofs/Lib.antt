@@ -15,5 +15,7 @@ pub mod Gathered
 pub mod LoadsFit
 pub mod MachinesInRange
 pub mod SpansInRange
+pub mod Said
 pub mod Unclipped
 pub mod FewSpans
+pub mod Absent

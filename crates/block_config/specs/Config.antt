@@ -1,9 +1,11 @@
 -- What a block starts from by a configuration (TOML 1.1) and the programs of a source (choice of this profile).
---   document_of     the table that the bytes are
---   Sections        its arrays of tables and its table of pins
---   sections_at     that it has these and no other key
---   config_block    what the setup says: the first fault is the answer
---   config_setup_of the setup, or its fault
+--   document_of      the table that the bytes are
+--   Sections         its arrays of tables and its table of pins
+--   sections_at      that it has these and no other key
+--   said_of          what a configuration says of the first or the second block: the first fault is the answer
+--   config_block     what the setup of one block says
+--   config_setup_of  the setup, or its fault
+--   second_setup_of  the setup of a second block on the same pins and the pins that it owns, or its fault
 use Rattle.std.specs.Prelude.{ℕ, nat_le, is_some, if◌then◌else◌, Option, Some, None, List, [], ◌∷◌, Result, Ok, Err, codes}
 use Rattle.std.specs.Str.{is_utf8}
 use Rattle.toml.specs.Data.{Data, Items, no_items, Members, get_member, as_array, as_table}
@@ -12,6 +14,9 @@ use Rattle.pio_assemble.specs.Program.{Assembled}
 use Rattle.pin_matrix.specs.declared.setup.Setup.{Setup}
 use Rattle.block_config.specs.declared.fault.ConfigKind.{ConfigKind}
 use Rattle.block_config.specs.declared.fault.ConfigKind.TheVariants.{NotToml, UnknownKey, WrongType, Many}
+use Rattle.block_config.specs.declared.owning.OwningSetup.{OwningSetup}
+use Rattle.block_config.specs.declared.pins.BlockNumber.{BlockNumber}
+use Rattle.block_config.specs.declared.pins.BlockNumber.TheVariants.{First, Second}
 use Rattle.answers.specs.Answers.{made}
 use Rattle.block_config.specs.Answer.{Refusal, refused}
 use Rattle.block_config.specs.Arrays.{count_items, all_items}
@@ -20,6 +25,7 @@ use Rattle.block_config.specs.SetupOf.{setup_of}
 use Rattle.block_config.specs.Loads.{all_loads, memory_of}
 use Rattle.block_config.specs.Machines.{machines_from}
 use Rattle.block_config.specs.Memory.{no_words}
+use Rattle.block_config.specs.Owning.{OwningKeys, owning_setup_of}
 use Rattle.block_config.specs.Pins.{PinTable, pins_in}
 use Rattle.block_config.specs.Programs.{Loaded}
 use Rattle.block_config.specs.Spans.{all_spans}
@@ -103,15 +109,19 @@ block_with memory machines pins spans = record {
   spans = spans;
 }
 
+-- the same, and the pins that it owns
+abbrev pub owning_with : List ℕ → List (Option MachineKeys) → PinTable → List SpanKeys → OwningKeys
+owning_with memory machines pins spans = record { block = block_with memory machines pins spans; own = pins.own }
+
 -- a block over its loads: machines come first, then pins, then spans
-abbrev pub block_over : Sections → List Loaded → Result BlockKeys Refusal
-block_over s loads =
-    and_then (machines_from 0 no_machines loads s.machines) (λ machines. and_then (pins_in s.pins) (λ pins.
-    and_then (all_spans machines loads s.spans) (λ spans. Ok (block_with (memory_of no_words loads) machines pins spans))))
+abbrev pub block_over : BlockNumber → Sections → List Loaded → Result OwningKeys Refusal
+block_over block s loads =
+    and_then (machines_from 0 no_machines loads s.machines) (λ machines. and_then (pins_in block s.pins) (λ pins.
+    and_then (all_spans machines loads s.spans) (λ spans. Ok (owning_with (memory_of no_words loads) machines pins spans))))
 
 -- a block of its sections: loads come first
-abbrev pub block_of_sections : List Assembled → Sections → Result BlockKeys Refusal
-block_of_sections programs s = and_then (all_loads programs s.loads) (block_over s)
+abbrev pub block_of_sections : BlockNumber → List Assembled → Sections → Result OwningKeys Refusal
+block_of_sections block programs s = and_then (all_loads programs s.loads) (block_over block s)
 
 -- the table, unless the bytes are no TOML
 abbrev pub parsed : Option Members → Result Members Refusal
@@ -119,13 +129,21 @@ parsed None = refused (codes "file") NotToml
 parsed (Some t) = Ok t
 
 -- the block of a configuration's table
-abbrev pub block_of_table : List Assembled → Members → Result BlockKeys Refusal
-block_of_table programs t = and_then (sections_at t) (block_of_sections programs)
+abbrev pub block_of_table : BlockNumber → List Assembled → Members → Result OwningKeys Refusal
+block_of_table block programs t = and_then (sections_at t) (block_of_sections block programs)
 
--- what a configuration of these bytes says, over the programs of a source
+-- what a configuration of these bytes says of a block, over the programs of a source
+abbrev pub said_of : BlockNumber → List ℕ → List Assembled → Result OwningKeys Refusal
+said_of block bytes programs = and_then (parsed (document_of bytes)) (block_of_table block programs)
+
+-- what it says of the only block, or of the first of two
 abbrev pub config_block : List ℕ → List Assembled → Result BlockKeys Refusal
-config_block bytes programs = and_then (parsed (document_of bytes)) (block_of_table programs)
+config_block bytes programs = made (λ k. k.block) (said_of First bytes programs)
 
 -- the setup that says it
 abbrev pub config_setup_of : List ℕ → List Assembled → Result Setup Refusal
 config_setup_of bytes programs = made setup_of (config_block bytes programs)
+
+-- the setup that says what it says of the second of two blocks, and the pins that this one owns
+abbrev pub second_setup_of : List ℕ → List Assembled → Result OwningSetup Refusal
+second_setup_of bytes programs = made owning_setup_of (said_of Second bytes programs)

@@ -14,8 +14,9 @@ pub mod MachineView
 pub mod Pins
 pub mod Spans
 pub mod SpanView
+pub mod SetupOf
+pub mod Owning
 pub mod Config
 pub mod SectionView
 pub mod Default
-pub mod SetupOf
 pub mod Exact

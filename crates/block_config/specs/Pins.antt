@@ -2,7 +2,8 @@
 --   all_numbers   each element is a number
 --   mask_from     the pins of a list, beside those of a number
 --   mask_at       the pins of a key; an element of another type comes before one out of range
---   PinTable      the four lists
+--   PinTable      the five lists
+--   pin_names     every key of a block's table
 --   pins_in       the pins of a configuration
 --   pin_view      what the code's lists of pins say
 use Rattle.std.specs.Prelude.{ℕ, ◌^◌, bit_or, Bool, if◌then◌else◌, is_some, Option, Some, None, List, [], ◌∷◌, Result, Ok, Err, codes}
@@ -10,6 +11,8 @@ use Rattle.toml.specs.Data.{Data, Items, no_items, item, Members, get_member, as
 use Rattle.block_config.specs.declared.fault.ConfigKind.{ConfigKind}
 use Rattle.block_config.specs.declared.fault.ConfigKind.TheVariants.{WrongType}
 use Rattle.block_config.specs.declared.path.Section.TheVariants.{Pins}
+use Rattle.block_config.specs.declared.pins.BlockNumber.{BlockNumber}
+use Rattle.block_config.specs.declared.pins.BlockNumber.TheVariants.{First, Second}
 use Rattle.block_config.specs.declared.pins.PinLists.{PinLists}
 use Rattle.block_config.specs.Answer.{Refusal}
 use Rattle.block_config.specs.Arrays.{all_items}
@@ -39,29 +42,33 @@ mask_of (Some d) = mask_in (as_array d)
 abbrev pub mask_at : Members → List ℕ → Result ℕ Refusal
 mask_at t key = on_key key (mask_of (get_member key t))
 
--- the four lists
+-- the five lists
 pub record PinTable : Type 0 where
   pub high : ℕ
   pub level : ℕ
   pub out : ℕ
   pub bypass : ℕ
+  pub own : ℕ
 
--- the lists of a table, in this order
+-- The lists of a table, in this order. A block's table doesn't have all five keys, and a list that isn't there is empty.
 abbrev pub pin_table_at : Members → Result PinTable Refusal
 pin_table_at t =
     and_then (mask_at t (codes "high")) (λ high. and_then (mask_at t (codes "level")) (λ level.
     and_then (mask_at t (codes "out")) (λ out. and_then (mask_at t (codes "bypass")) (λ bypass.
-    Ok (record { high = high; level = level; out = out; bypass = bypass })))))
+    and_then (mask_at t (codes "own")) (λ own.
+    Ok (record { high = high; level = level; out = out; bypass = bypass; own = own }))))))
 
--- every key of the table of pins
-abbrev pub pin_names : List (List ℕ)
-pin_names = codes "high" ∷ codes "level" ∷ codes "out" ∷ codes "bypass" ∷ []
+-- Every key of a block's table of pins. Of two blocks on the same pins the first has what the outside drives, and the second the
+-- pins that it owns: all others are the first one's.
+abbrev pub pin_names : BlockNumber → List (List ℕ)
+pin_names First = codes "high" ∷ codes "level" ∷ codes "out" ∷ codes "bypass" ∷ []
+pin_names Second = codes "level" ∷ codes "out" ∷ codes "bypass" ∷ codes "own" ∷ []
 
--- the pins of the table, none where it is absent
-abbrev pub pins_in : Option Members → Result PinTable Refusal
-pins_in None = Ok (record { high = 0; level = 0; out = 0; bypass = 0 })
-pins_in (Some t) = section_at Pins pin_names t (pin_table_at t)
+-- the pins of a block's table, none where it is absent
+abbrev pub pins_in : BlockNumber → Option Members → Result PinTable Refusal
+pins_in block None = Ok (record { high = 0; level = 0; out = 0; bypass = 0; own = 0 })
+pins_in block (Some t) = section_at Pins (pin_names block) t (pin_table_at t)
 
 -- what the code's lists of pins say
 abbrev pub pin_view : PinLists → PinTable
-pin_view p = record { high = p.high; level = p.level; out = p.out; bypass = p.bypass }
+pin_view p = record { high = p.high; level = p.level; out = p.out; bypass = p.bypass; own = p.own }

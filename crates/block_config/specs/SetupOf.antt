@@ -1,6 +1,6 @@
 -- The setup that says some plain numbers. Numbers past a field's range lose what is too much (`clipped_block`), so that every
 -- plain block has a setup: of a block in range it is the one that says it (`a_setup_is_what_it_says`), and what a configuration
--- says is in range (`a_configuration_is_not_clipped`, `the_default_is_not_clipped`).
+-- says is in range (`a_configuration_is_not_clipped`, `a_second_configuration_is_not_clipped`, `the_default_is_not_clipped`).
 use Rattle.pin_matrix.specs.declared.setup.Setup.{Setup}
 use Rattle.setup_keys.specs.Block.{BlockKeys}
 use Rattle.setup_keys.proofs.Making.{a_setup_says}

@@ -1,4 +1,4 @@
-//! Where a run starts by a configuration.
+//! Where a run starts by a configuration: one block, or the second of two on the same pins.
 ghost use Rattle.std.specs.Prelude.{◌≡◌, ◌≤◌, map};
 ghost use Rattle.pio_assemble.specs.Program.{assembled_of};
 ghost use Rattle.toml.specs.View.{items_view, table_view};
@@ -7,19 +7,21 @@ ghost use Rattle.block_config.specs.Answer.{told};
 ghost use Rattle.block_config.specs.Arrays.{count_items};
 ghost use Rattle.setup_keys.specs.Block.{keys_of_block, keys_of_span};
 ghost use Rattle.block_config.specs.Config as spec;
-ghost use Rattle.block_config.specs.Config.{config_setup_of};
+ghost use Rattle.block_config.specs.Config.{config_setup_of, said_of, second_setup_of};
 ghost use Rattle.block_config.specs.Default.{quiet_block};
 ghost use Rattle.block_config.specs.Loads.{loaded_of, memory_of};
 ghost use Rattle.block_config.specs.Machines.{machines_from};
 ghost use Rattle.block_config.specs.Memory.{no_words};
+ghost use Rattle.block_config.specs.Owning.{keys_of_owning};
 ghost use Rattle.block_config.specs.Pins.{pin_view};
 ghost use Rattle.block_config.specs.SectionView.{sections_view};
 
 use crate::fault::{ConfigFault, ConfigKind};
 use crate::loads::{memory_of, read_loads};
 use crate::machines::place_machines;
+use crate::owning::OwningSetup;
 use crate::path::fault_at;
-use crate::pins::{PinLists, read_pins};
+use crate::pins::{BlockNumber, PinLists, read_pins};
 use crate::programs::Load;
 use crate::sections::{Sections, sections_at};
 use crate::spans::{few_spans, read_spans};
@@ -31,21 +33,41 @@ use toml::{Table, Value};
 /// The setup of a configuration (TOML) over the programs of a source, or the configuration's first fault: that it is no
 /// TOML is on `file`, an unknown section on `top`, and else a fault is on its key, as `machine[0].fraction`.
 /// Sections are read in the order load, machine, pins, span, and keys in the order of the tables' description.
-#[tactic(auto, using(crate::proofs::Says::answered, crate::proofs::Says::refuses_setup))]
+#[tactic(auto, using(crate::proofs::Says::first_answered, crate::proofs::Says::refuses_first))]
 pub fn read_config(alloc: Global, bytes: &[u8], programs: &[Program]) -> Result<Setup, ConfigFault>
     ensures value { Answers told result (config_setup_of bytes.now (map assembled_of programs.now)) }
 {
-    let setup = read_block(alloc, bytes, programs)?;
-    Ok(setup)
+    let block = read_block(alloc, BlockNumber::First, bytes, programs)?;
+    Ok(block.setup)
 }
 
-/// The setup, by what it says.
-fn read_block(alloc: Global, bytes: &[u8], programs: &[Program]) -> Result<Setup, ConfigFault>
-    ensures { Gives told keys_of_block result
-        (spec.config_block bytes.now (map assembled_of programs.now)) }
+/// The setup of the configuration of a second block on the same pins, and the pins that it owns, or the configuration's
+/// first fault. It is read as `read_config` reads one, but for the keys of `pins`: after `level`, `out` and `bypass` comes
+/// `own`, the pins that this block owns, and there is no `high`, since the outside is the first block's.
+#[tactic(auto, using(crate::proofs::Says::second_answered, crate::proofs::Says::refuses_second))]
+pub fn read_second(
+    alloc: Global,
+    bytes: &[u8],
+    programs: &[Program],
+) -> Result<OwningSetup, ConfigFault>
+    ensures value { Answers told result (second_setup_of bytes.now (map assembled_of programs.now)) }
+{
+    let block = read_block(alloc, BlockNumber::Second, bytes, programs)?;
+    Ok(block)
+}
+
+/// The setup of a block, by what it says.
+fn read_block(
+    alloc: Global,
+    block: BlockNumber,
+    bytes: &[u8],
+    programs: &[Program],
+) -> Result<OwningSetup, ConfigFault>
+    ensures { Gives told keys_of_owning result
+        (said_of block bytes.now (map assembled_of programs.now)) }
 {
     let table = document_of(alloc, bytes)?;
-    block_of_table(alloc, &table, programs)
+    block_of_table(alloc, block, &table, programs)
 }
 
 /// The table that the bytes are.
@@ -61,37 +83,48 @@ fn document_of(alloc: Global, bytes: &[u8]) -> Result<Table, ConfigFault>
 
 /// The setup of a configuration's table.
 #[tactic(auto, using(crate::proofs::FewSpans::few_in_sections))]
-fn block_of_table(alloc: Global, table: &Table, programs: &[Program]) -> Result<Setup, ConfigFault>
-    ensures { Gives told keys_of_block result
-        (spec.block_of_table (map assembled_of programs.now) (table_view table.now)) }
+fn block_of_table(
+    alloc: Global,
+    block: BlockNumber,
+    table: &Table,
+    programs: &[Program],
+) -> Result<OwningSetup, ConfigFault>
+    ensures { Gives told keys_of_owning result
+        (spec.block_of_table block (map assembled_of programs.now) (table_view table.now)) }
 {
     let sections = sections_at(alloc, table)?;
-    block_of_sections(alloc, &sections, programs)
+    block_of_sections(alloc, block, &sections, programs)
 }
 
 /// The setup of the sections.
 fn block_of_sections(
     alloc: Global,
+    block: BlockNumber,
     sections: &Sections,
     programs: &[Program],
-) -> Result<Setup, ConfigFault>
+) -> Result<OwningSetup, ConfigFault>
     requires { count_items (items_view sections.now.spans.now) ≤ 64 }
-    ensures { Gives told keys_of_block result
-        (spec.block_of_sections (map assembled_of programs.now) (sections_view sections.now)) }
+    ensures { Gives told keys_of_owning result
+        (spec.block_of_sections block (map assembled_of programs.now) (sections_view sections.now)) }
 {
     let loads = read_loads(alloc, programs, sections.loads)?;
-    block_over(alloc, sections, &loads)
+    block_over(alloc, block, sections, &loads)
 }
 
 /// The setup over the loads.
 #[tactic(auto, using(crate::proofs::FewSpans::few_read))]
-fn block_over(alloc: Global, sections: &Sections, loads: &[Load]) -> Result<Setup, ConfigFault>
+fn block_over(
+    alloc: Global,
+    block: BlockNumber,
+    sections: &Sections,
+    loads: &[Load],
+) -> Result<OwningSetup, ConfigFault>
     requires { count_items (items_view sections.now.spans.now) ≤ 64 }
-    ensures { Gives told keys_of_block result
-        (spec.block_over (sections_view sections.now) (map loaded_of loads.now)) }
+    ensures { Gives told keys_of_owning result
+        (spec.block_over block (sections_view sections.now) (map loaded_of loads.now)) }
 {
     let setup = bare_block(alloc, loads, sections.machines)?;
-    let pins = read_pins(alloc, sections.pins)?;
+    let pins = read_pins(alloc, block, sections.pins)?;
     let spans = read_spans(alloc, &setup.machines, loads, sections.spans)?;
     Ok(block_with(&setup, &pins, few_spans(alloc, spans)))
 }
@@ -108,12 +141,12 @@ fn bare_block(alloc: Global, loads: &[Load], values: &[Value]) -> Result<Setup, 
 }
 
 /// A block with these pins and spans.
-fn block_with(setup: &Setup, pins: &PinLists, spans: Spans) -> Setup
-    ensures { keys_of_block result
-        ≡ spec.block_with setup.now.memory (keys_of_block setup.now).machines (pin_view pins.now)
+fn block_with(setup: &Setup, pins: &PinLists, spans: Spans) -> OwningSetup
+    ensures { keys_of_owning result
+        ≡ spec.owning_with setup.now.memory (keys_of_block setup.now).machines (pin_view pins.now)
         (map keys_of_span spans) }
 {
-    Setup {
+    let setup = Setup {
         memory: setup.memory,
         machines: setup.machines,
         high: pins.high,
@@ -121,5 +154,9 @@ fn block_with(setup: &Setup, pins: &PinLists, spans: Spans) -> Setup
         out: pins.out,
         bypass: pins.bypass,
         spans,
+    };
+    OwningSetup {
+        setup,
+        own: pins.own,
     }
 }

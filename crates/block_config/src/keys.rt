@@ -265,8 +265,13 @@ pub const OUT: &str = "out";
 
 pub const BYPASS: &str = "bypass";
 
-/// All keys of the pins.
-pub const PIN_LISTS: [&str; 4] = [HIGH, LEVEL, OUT, BYPASS];
+pub const OWN: &str = "own";
+
+/// All keys of the pins of the only block, or of the first of two.
+pub const FIRST_PINS: [&str; 4] = [HIGH, LEVEL, OUT, BYPASS];
+
+/// All keys of the pins of a second block.
+pub const SECOND_PINS: [&str; 4] = [LEVEL, OUT, BYPASS, OWN];
 
 // A span, whose machine has the key that the section of machines has.
 pub const NAME: &str = "name";

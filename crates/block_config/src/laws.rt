@@ -6,14 +6,16 @@ ghost use Rattle.pio_assemble.specs.declared.program.Program as program;
 ghost use Rattle.pin_matrix.specs.declared.setup.Setup as setup;
 ghost use Rattle.block_config.specs.Apart.{AreApart};
 ghost use Rattle.setup_keys.specs.Block.{MachineKeys, keys_of_block};
-ghost use Rattle.block_config.specs.Config.{config_block, config_setup_of};
+ghost use Rattle.block_config.specs.Config.{config_block, config_setup_of, said_of, second_setup_of};
 ghost use Rattle.block_config.specs.Default.{default_block, default_setup_of};
-ghost use Rattle.block_config.specs.Exact.{SaysExactly};
+ghost use Rattle.block_config.specs.Exact.{OwnsExactly, SaysExactly};
 ghost use Rattle.block_config.specs.Loads.{all_loads, is_covered, memory_of};
 ghost use Rattle.block_config.specs.Machines.{load_at, machine_of_table};
 ghost use Rattle.block_config.specs.Memory.{no_words};
+ghost use Rattle.block_config.specs.Owning.{OwningKeys};
 ghost use Rattle.block_config.specs.Programs.{Loaded};
 ghost use Rattle.block_config.specs.SetupOf.{setup_of};
+ghost use Rattle.block_config.specs.declared.pins.BlockNumber.TheVariants.{First, Second};
 ghost use Rattle.block_config.specs.Spans.{load_of_machine};
 
 /// A setup is what it says: of the plain numbers of a setup, the definitions make that setup again.
@@ -27,6 +29,21 @@ pub fn a_configuration_is_not_clipped()
     ensures { (bytes : List ℕ) (programs : List program.Program)
         → SaysExactly (config_setup_of bytes (map assembled_of programs))
         (config_block bytes (map assembled_of programs)) }
+{}
+
+/// Nothing that the configuration of a second block says is clipped, and the block owns exactly the pins that it says.
+pub fn a_second_configuration_is_not_clipped()
+    ensures { (bytes : List ℕ) (programs : List program.Program)
+        → OwnsExactly (second_setup_of bytes (map assembled_of programs))
+        (said_of Second bytes (map assembled_of programs)) }
+{}
+
+/// A second block's configuration says nothing of the outside, and a first one's nothing of owned pins.
+pub fn each_block_keeps_to_its_keys()
+    ensures outside { (bytes : List ℕ) (programs : List Assembled) (k : OwningKeys)
+        → said_of Second bytes programs ≡ Ok k → k.block.high ≡ 0 }
+    ensures own { (bytes : List ℕ) (programs : List Assembled) (k : OwningKeys)
+        → said_of First bytes programs ≡ Ok k → k.own ≡ 0 }
 {}
 
 /// Nothing that the default says is clipped.

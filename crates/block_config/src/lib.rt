@@ -1,4 +1,4 @@
-//! What a block starts from: a setup of a configuration (TOML) and the programs of a source.
+//! What a block starts from, or the second of two: a setup of a configuration (TOML) and the programs of a source.
 #![tactic(auto)]
 
 mod arrays;
@@ -10,6 +10,7 @@ mod laws;
 mod loads;
 mod machines;
 mod memory;
+mod owning;
 mod path;
 mod pins;
 mod programs;
@@ -19,10 +20,12 @@ mod stalls;
 mod table;
 mod value;
 
-pub use config::read_config;
+pub use config::{read_config, read_second};
 pub use defaults::default_setup;
 pub use fault::{ConfigFault, ConfigKind};
 pub use laws::{
-    a_configuration_is_not_clipped, a_machine_starts_in_its_program, a_setup_is_what_it_says,
+    a_configuration_is_not_clipped, a_machine_starts_in_its_program,
+    a_second_configuration_is_not_clipped, a_setup_is_what_it_says, each_block_keeps_to_its_keys,
     loads_share_no_address, memory_outside_all_loads_is_0, the_default_is_not_clipped,
 };
+pub use owning::OwningSetup;

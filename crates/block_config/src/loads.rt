@@ -9,8 +9,8 @@ ghost use Rattle.block_config.specs.Answer.{told};
 ghost use Rattle.block_config.specs.Loads as spec;
 ghost use Rattle.block_config.specs.Loads.{loaded_of};
 ghost use Rattle.block_config.specs.Memory.{no_words};
-ghost use Rattle.block_config.specs.Tables.{section_at, seen};
-ghost use Rattle.block_config.specs.Values.{map_ok};
+ghost use Rattle.block_config.specs.Tables.{and_then, section_at, seen};
+ghost use Rattle.block_config.specs.Values.{map_ok, text_of};
 
 use crate::fault::{ConfigFault, ConfigKind};
 use crate::keys;
@@ -35,10 +35,8 @@ pub fn read_loads<'a>(
 {
     let mut loads = Vec::new(alloc);
     for place in 0..values.len() {
-        match load_in(alloc, place, programs, &loads, &values[place]) {
-            Ok(load) => loads.push(load)?,
-            Err(fault) => return Err(fault),
-        }
+        let load = load_in(alloc, place, programs, &loads, &values[place])?;
+        loads.push(load)?;
     }
     Ok(loads)
 }
@@ -102,27 +100,24 @@ fn program_at<'a>(
         ≡ spec.program_at (map assembled_of programs.entry.now) (map loaded_of loads.now)
         (table_view table.now) }
 {
-    let program = match text_of(value_at(table, keys::PROGRAM)) {
-        Ok(name) => named_program(programs, loads, name),
-        Err(kind) => Err(kind),
-    };
+    let program = named_program(programs, loads, value_at(table, keys::PROGRAM));
     program.map_err(|kind| Lack {
         key: keys::PROGRAM,
         kind,
     })
 }
 
-/// The program of this name, which no load has.
+/// The program that a value names, which no load has.
 fn named_program<'a>(
     programs: &'a [Program],
     loads: &[Load<'a>],
-    name: Option<&str>,
+    value: Option<&Value>,
 ) -> Result<&'a Program, ConfigKind>
     ensures { map_ok (λ p. assembled_of p.now) result
-        ≡ spec.named_program (map assembled_of programs.entry.now) (map loaded_of loads.now)
-        (option_map (λ n. n.now) name.entry) }
+        ≡ and_then (text_of (option_map (λ v. view v.now) value.entry))
+        (spec.named_program (map assembled_of programs.entry.now) (map loaded_of loads.now)) }
 {
-    let Some(name) = name else {
+    let Some(name) = text_of(value)? else {
         return Err(ConfigKind::Missing);
     };
     if Load::find(loads, name.as_bytes()).is_some() {

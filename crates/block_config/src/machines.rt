@@ -7,8 +7,8 @@ ghost use Rattle.setup_keys.specs.Block.{keys_of_machine};
 ghost use Rattle.block_config.specs.Answer.{told};
 ghost use Rattle.block_config.specs.Loads.{loaded_of};
 ghost use Rattle.block_config.specs.Machines as spec;
-ghost use Rattle.block_config.specs.Tables.{section_at, seen};
-ghost use Rattle.block_config.specs.Values.{map_ok};
+ghost use Rattle.block_config.specs.Tables.{and_then, section_at, seen};
+ghost use Rattle.block_config.specs.Values.{map_ok, text_of};
 
 use crate::fault::{ConfigFault, ConfigKind};
 use crate::keys;
@@ -33,10 +33,8 @@ pub fn place_machines(
     ensures rest { HasRestOf setup.new setup.old }
 {
     for place in 0..values.len() {
-        match machine_in(alloc, place, &setup.machines, loads, &values[place]) {
-            Ok(machine) => setup.place(machine),
-            Err(fault) => return Err(fault),
-        }
+        let machine = machine_in(alloc, place, &setup.machines, loads, &values[place])?;
+        setup.place(machine);
     }
     Ok(())
 }
@@ -144,22 +142,20 @@ impl<'a> Running<'a> {
         ensures { seen loaded_of result
             ≡ spec.load_at (map loaded_of loads.now) (table_view table.now) }
     {
-        let loaded = match text_of(value_at(table, keys::PROGRAM)) {
-            Ok(name) => Self::named(loads, name),
-            Err(kind) => Err(kind),
-        };
+        let loaded = Self::named(loads, value_at(table, keys::PROGRAM));
         loaded.map_err(|kind| Lack {
             key: keys::PROGRAM,
             kind,
         })
     }
 
-    /// The load of this name.
-    fn named(loads: &[Load<'a>], name: Option<&str>) -> Result<Load<'a>, ConfigKind>
+    /// The load that a value names.
+    fn named(loads: &[Load<'a>], value: Option<&Value>) -> Result<Load<'a>, ConfigKind>
         ensures { map_ok loaded_of result
-            ≡ spec.named_load (map loaded_of loads.now) (option_map (λ n. n.now) name.entry) }
+            ≡ and_then (text_of (option_map (λ v. view v.now) value.entry))
+            (spec.named_load (map loaded_of loads.now)) }
     {
-        let Some(name) = name else {
+        let Some(name) = text_of(value)? else {
             return Err(ConfigKind::Missing);
         };
         match Load::find(loads, name.as_bytes()) {

@@ -1,10 +1,10 @@
 //! The table of pins, which may be absent: lists of pins as numbers in which bit i is for pin i.
-ghost use Rattle.std.specs.Prelude.{◌≡◌, Some, option_map};
+ghost use Rattle.std.specs.Prelude.{◌≡◌, Some, map, option_map};
 ghost use Rattle.toml.specs.View.{items_view, table_view, view};
 ghost use Rattle.answers.specs.Answers.{Gives};
 ghost use Rattle.block_config.specs.Answer.{told};
 ghost use Rattle.block_config.specs.Pins as spec;
-ghost use Rattle.block_config.specs.Pins.{pin_view};
+ghost use Rattle.block_config.specs.Pins.{pin_names, pin_view};
 ghost use Rattle.block_config.specs.Tables.{section_at, seen};
 
 use crate::arrays::{Element, are_all};
@@ -16,38 +16,68 @@ use crate::value::number_in;
 use std::alloc::Global;
 use toml::{Table, Value};
 
-/// The pins that a configuration sets at the start.
+/// Which block a configuration is of: its table of pins has other keys.
+#[derive(Clone, Copy)]
+pub enum BlockNumber {
+    /// The only block, or the first of two on the same pins.
+    First,
+    /// The second of two: it names the pins that it owns, and leaves the outside to the first.
+    Second,
+}
+
+/// All keys of the pins of a block.
+fn keys_of_pins(block: BlockNumber) -> [&'static str; 4]
+    ensures { map (λ n. n.now) result ≡ pin_names block }
+{
+    match block {
+        BlockNumber::First => keys::FIRST_PINS,
+        BlockNumber::Second => keys::SECOND_PINS,
+    }
+}
+
+/// The pins that a configuration sets at the start, and those that its block owns.
 #[derive(Clone, Copy)]
 pub struct PinLists {
     pub high: u32,
     pub level: u32,
     pub out: u32,
     pub bypass: u32,
+    pub own: u32,
 }
 
 /// The pins of a configuration.
-pub fn read_pins(alloc: Global, table: Option<&Table>) -> Result<PinLists, ConfigFault>
+pub fn read_pins(
+    alloc: Global,
+    block: BlockNumber,
+    table: Option<&Table>,
+) -> Result<PinLists, ConfigFault>
     ensures { Gives told pin_view result
-        (spec.pins_in (option_map (λ t. table_view t.now) table.entry)) }
+        (spec.pins_in block (option_map (λ t. table_view t.now) table.entry)) }
 {
     match table {
-        Some(table) => pins_of(alloc, Section::Pins, table),
+        Some(table) => pins_of(alloc, Section::Pins, block, table),
         None => Ok(PinLists {
             high: 0,
             level: 0,
             out: 0,
             bypass: 0,
+            own: 0,
         }),
     }
 }
 
 /// The pins of a table.
-fn pins_of(alloc: Global, section: Section, table: &Table) -> Result<PinLists, ConfigFault>
+fn pins_of(
+    alloc: Global,
+    section: Section,
+    block: BlockNumber,
+    table: &Table,
+) -> Result<PinLists, ConfigFault>
     ensures { Gives told pin_view result
-        (section_at section spec.pin_names (table_view table.now)
+        (section_at section (pin_names block) (table_view table.now)
         (spec.pin_table_at (table_view table.now))) }
 {
-    if !are_known(table, &keys::PIN_LISTS) {
+    if !are_known(table, &keys_of_pins(block)) {
         return Err(fault_of_section(alloc, section, ConfigKind::UnknownKey));
     }
     match pin_lists_at(table) {
@@ -64,11 +94,13 @@ fn pin_lists_at(table: &Table) -> Result<PinLists, Lack>
     let level = mask_at(table, keys::LEVEL)?;
     let out = mask_at(table, keys::OUT)?;
     let bypass = mask_at(table, keys::BYPASS)?;
+    let own = mask_at(table, keys::OWN)?;
     Ok(PinLists {
         high,
         level,
         out,
         bypass,
+        own,
     })
 }
 
@@ -112,10 +144,8 @@ fn mask_from(values: &[Value]) -> Result<u32, ConfigKind>
 {
     let mut mask: u32 = 0;
     for place in 0..values.len() {
-        match number_in(0, 31, &values[place]) {
-            Ok(pin) => mask |= 1 << pin,
-            Err(kind) => return Err(kind),
-        }
+        let pin = number_in(0, 31, &values[place])?;
+        mask |= 1 << pin;
     }
     Ok(mask)
 }

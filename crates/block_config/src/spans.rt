@@ -7,8 +7,8 @@ ghost use Rattle.setup_keys.specs.Block.{keys_of_machine, keys_of_span};
 ghost use Rattle.block_config.specs.Answer.{told};
 ghost use Rattle.block_config.specs.Loads.{loaded_of};
 ghost use Rattle.block_config.specs.Spans as spec;
-ghost use Rattle.block_config.specs.Tables.{section_at, seen};
-ghost use Rattle.block_config.specs.Values.{map_ok};
+ghost use Rattle.block_config.specs.Tables.{and_then, section_at, seen};
+ghost use Rattle.block_config.specs.Values.{map_ok, text_of};
 
 use crate::fault::{ConfigFault, ConfigKind};
 use crate::keys;
@@ -36,10 +36,8 @@ pub fn read_spans(
 {
     let mut spans = Vec::new(alloc);
     for place in 0..values.len() {
-        match span_in(alloc, place, machines, loads, &values[place]) {
-            Ok(span) => spans.push(span)?,
-            Err(fault) => return Err(fault),
-        }
+        let span = span_in(alloc, place, machines, loads, &values[place])?;
+        spans.push(span)?;
     }
     Ok(spans)
 }
@@ -103,11 +101,7 @@ fn span_at(
 fn name_at<'t>(table: &'t Table) -> Result<&'t str, Lack>
     ensures { seen (λ n. n.now) result ≡ spec.name_at (table_view table.entry.now) }
 {
-    let name = match text_of(value_at(table, keys::NAME)) {
-        Ok(name) => name_of(name),
-        Err(kind) => Err(kind),
-    };
-    match name {
+    match name_of(value_at(table, keys::NAME)) {
         Ok(name) => Ok(name),
         Err(kind) => Err(Lack {
             key: keys::NAME,
@@ -116,11 +110,12 @@ fn name_at<'t>(table: &'t Table) -> Result<&'t str, Lack>
     }
 }
 
-/// A text that is a name.
-fn name_of<'t>(name: Option<&'t str>) -> Result<&'t str, ConfigKind>
-    ensures { map_ok (λ n. n.now) result ≡ spec.name_of (option_map (λ n. n.now) name.entry) }
+/// The name that a value is.
+fn name_of<'t>(value: Option<&'t Value>) -> Result<&'t str, ConfigKind>
+    ensures { map_ok (λ n. n.now) result
+        ≡ and_then (text_of (option_map (λ v. view v.now) value.entry)) spec.name_of }
 {
-    match name {
+    match text_of(value)? {
         Some(name) if is_span_name(name.as_bytes()) => Ok(name),
         Some(_) => Err(ConfigKind::Range),
         None => Err(ConfigKind::Missing),
@@ -243,20 +238,18 @@ impl EndValues {
     fn edge(table: &Table, key: &'static str) -> Result<bool, Lack>
         ensures { seen (λ b. b) result ≡ spec.edge_at (table_view table.now) key.now }
     {
-        let edge = match text_of(value_at(table, key)) {
-            Ok(word) => Self::edge_of(word),
-            Err(kind) => Err(kind),
-        };
-        match edge {
+        match Self::edge_of(value_at(table, key)) {
             Ok(rise) => Ok(rise),
             Err(kind) => Err(Lack { key, kind }),
         }
     }
 
-    fn edge_of(word: Option<&str>) -> Result<bool, ConfigKind>
-        ensures { result ≡ spec.edge_of (option_map (λ n. n.now) word.entry) }
+    /// Whether the edge that a value names is a rise.
+    fn edge_of(value: Option<&Value>) -> Result<bool, ConfigKind>
+        ensures { result
+            ≡ and_then (text_of (option_map (λ v. view v.now) value.entry)) spec.edge_of }
     {
-        let Some(word) = word else {
+        let Some(word) = text_of(value)? else {
             return Err(ConfigKind::Missing);
         };
         if word == "rise" {
@@ -305,11 +298,7 @@ impl BoundValues {
     fn unit(table: &Table) -> Result<SpanUnit, Lack>
         ensures { seen (λ u. u) result ≡ spec.unit_at (table_view table.now) }
     {
-        let unit = match text_of(value_at(table, keys::UNIT)) {
-            Ok(word) => Self::unit_of(word),
-            Err(kind) => Err(kind),
-        };
-        match unit {
+        match Self::unit_of(value_at(table, keys::UNIT)) {
             Ok(unit) => Ok(unit),
             Err(kind) => Err(Lack {
                 key: keys::UNIT,
@@ -318,10 +307,12 @@ impl BoundValues {
         }
     }
 
-    fn unit_of(word: Option<&str>) -> Result<SpanUnit, ConfigKind>
-        ensures { result ≡ spec.unit_of (option_map (λ n. n.now) word.entry) }
+    /// The unit that a value names.
+    fn unit_of(value: Option<&Value>) -> Result<SpanUnit, ConfigKind>
+        ensures { result
+            ≡ and_then (text_of (option_map (λ v. view v.now) value.entry)) spec.unit_of }
     {
-        let Some(word) = word else {
+        let Some(word) = text_of(value)? else {
             return Ok(SpanUnit::Ticks);
         };
         if word == "ticks" {

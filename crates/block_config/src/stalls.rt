@@ -103,10 +103,8 @@ fn stall_addresses(values: &[Value], load: Option<Load>) -> Result<ArrayVec<u8, 
 {
     let mut addresses = ArrayVec::new();
     for place in 0..values.len() {
-        match stall_of(load, &values[place]) {
-            Ok(address) => addresses.push(address),
-            Err(kind) => return Err(kind),
-        }
+        let address = stall_of(load, &values[place])?;
+        addresses.push(address);
     }
     Ok(addresses)
 }

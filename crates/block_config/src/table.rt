@@ -69,10 +69,8 @@ pub fn numbers_at(table: &Table, keys: &[NumberKey]) -> Result<ArrayVec<u32, 8>,
 {
     let mut numbers = ArrayVec::new();
     for key in keys {
-        match number_at(table, key) {
-            Ok(number) => numbers.push(number),
-            Err(lack) => return Err(lack),
-        }
+        let number = number_at(table, key)?;
+        numbers.push(number);
     }
     Ok(numbers)
 }
@@ -86,10 +84,8 @@ pub fn flags_at(table: &Table, keys: &[FlagKey]) -> Result<ArrayVec<bool, 8>, La
 {
     let mut flags = ArrayVec::new();
     for key in keys {
-        match flag_at(table, key) {
-            Ok(flag) => flags.push(flag),
-            Err(lack) => return Err(lack),
-        }
+        let flag = flag_at(table, key)?;
+        flags.push(flag);
     }
     Ok(flags)
 }

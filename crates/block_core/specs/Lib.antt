@@ -1,6 +1,7 @@
 pub mod Slots
 pub mod Block
 pub mod Sample
+pub mod Edges
 pub mod Shown
 pub mod Hosted
 pub mod History

@@ -1,8 +1,9 @@
 -- What a task needs of the spans of a setup, beside its text.
---   Need        nothing; that each span is provable; that one span is; or that a table proves one
+--   Need        nothing; that each span is provable, of one setup or of two; that one span is; or that a table proves one
 --   IsMet       it is so
 --   AllRunsHold what it says of every run
 --   IsRefusedBy the first span that isn't provable, and why
+--   IsSecondRefusedBy   the same of a second block
 --   IsFlawed    what is wrong with the table first
 use Rattle.std.specs.Prelude.{◌≡◌, ℕ, Some, List}
 use Rattle.pin_matrix.specs.declared.setup.Setup.{Setup}
@@ -15,12 +16,15 @@ use Rattle.span_verdict.specs.declared.table_flaw.Flaw.{Flaw}
 use Rattle.span_check.specs.Proved.{HoldsInEveryRun}
 use Rattle.verdict_lines.specs.declared.refusal.Refusal.{Refusal}
 use Rattle.verdict_lines.specs.declared.refusal.Refusal.TheVariants.{Unproved, Shared}
+use Rattle.span_stage.specs.Pairs.{AllHoldInPairs}
 use Rattle.span_stage.specs.Spans.{IsProvableAlone, AreProvable, AllHold, IsRefused, IsFirstRefused}
 
--- what a task needs: nothing; that each span of a setup is provable; that one of them is; or that these rows prove one
+-- what a task needs: nothing; that each span of a setup is provable; that each span of two setups is; that one span of a setup is; or
+-- that these rows prove one
 pub data Need : Type 0 where
   nothing : Need
   all_spans : Setup → Need
+  both_spans : (first second : Setup) → Need
   one_span : Setup → Span → Need
   by_table : Setup → Span → List Row → Need
 
@@ -40,13 +44,15 @@ pub record HasFlaw (u : Setup) (sp : Span) (rows : List Row) (flaw : Flaw) : Typ
 abbrev pub IsMet : Need → Type 0
 IsMet nothing = Unit {0}
 IsMet (all_spans u) = AreProvable u
+IsMet (both_spans s t) = AreProvable s × AreProvable t
 IsMet (one_span u sp) = IsProvableAlone u sp
 IsMet (by_table u sp rows) = IsProvedBy u sp rows
 
--- the spans hold in every run of the setup, whatever the stimulus and the length
+-- the spans hold in every run of the setup, or of two blocks on one set of pins, whatever the stimulus and the length
 abbrev pub AllRunsHold : Need → Type 0
 AllRunsHold nothing = Unit {0}
 AllRunsHold (all_spans u) = AllHold u
+AllRunsHold (both_spans s t) = AllHoldInPairs s t
 AllRunsHold (one_span u sp) = HoldsInEveryRun u sp
 AllRunsHold (by_table u sp rows) = HoldsInEveryRun u sp
 
@@ -59,12 +65,19 @@ IsSharedBy u sp (Shared m) = IsLeastSharer u sp m
 abbrev pub IsRefusedBy : Need → List ℕ → Refusal → Type 0
 IsRefusedBy nothing name refusal = ⊥
 IsRefusedBy (all_spans u) name refusal = IsFirstRefused u u.spans name refusal
+IsRefusedBy (both_spans s t) name refusal = IsFirstRefused s s.spans name refusal
 IsRefusedBy (one_span u sp) name refusal = (sp.name ≡ name) × IsRefused u sp refusal
 IsRefusedBy (by_table u sp rows) name refusal = (sp.name ≡ name) × IsSharedBy u sp refusal
+
+-- the spans of the first block are provable, the first span of the second that isn't has this name, and this is why
+abbrev pub IsSecondRefusedBy : Need → List ℕ → Refusal → Type 0
+IsSecondRefusedBy (both_spans s t) name refusal = AreProvable s × IsFirstRefused t t.spans name refusal
+IsSecondRefusedBy need name refusal = ⊥
 
 -- this is wrong first with the table of the span with this name, of which no other machine may write a pin
 abbrev pub IsFlawed : Need → List ℕ → Flaw → Type 0
 IsFlawed nothing name flaw = ⊥
 IsFlawed (all_spans u) name flaw = ⊥
+IsFlawed (both_spans s t) name flaw = ⊥
 IsFlawed (one_span u sp) name flaw = ⊥
 IsFlawed (by_table u sp rows) name flaw = (sp.name ≡ name) × HasFlaw u sp rows flaw

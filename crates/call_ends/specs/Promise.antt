@@ -7,11 +7,11 @@ use Rattle.fault_lines.specs.declared.fault.Fault.{Fault}
 use Rattle.fault_lines.specs.declared.fault.Fault.TheVariants as fault
 use Rattle.span_verdict.specs.declared.table_flaw.Flaw.{Flaw}
 use Rattle.verdict_lines.specs.declared.refusal.Refusal.{Refusal}
-use Rattle.command_line.specs.Words.{Asked, asm, run, check, table, recheck, shares, gen, dis, measure, receive, uart}
+use Rattle.command_line.specs.Words.{Asked, asm, run, check, table, recheck, shares, gen, dis, measure, receive, uart, pair}
 use Rattle.file_stages.specs.Judged.{wrong}
 use Rattle.file_stages.specs.Stages.{HasSuch}
 use Rattle.call_ends.specs.Outside.{Call, Untouched, SameShelf, SameOut}
-use Rattle.call_ends.specs.Needs.{IsMet, AllRunsHold, IsRefusedBy, IsFlawed}
+use Rattle.call_ends.specs.Needs.{IsMet, AllRunsHold, IsRefusedBy, IsSecondRefusedBy, IsFlawed}
 use Rattle.call_ends.specs.Tasks.{judge, ComesTo, HasText, need_of, AskedBefore, file_in, reaches}
 
 -- the output took exactly the text, and handed all of it on
@@ -41,12 +41,18 @@ WritesRefused (dis name side opt) c = ⊥
 WritesRefused (measure source config stimulus clocks) c = ⊥
 WritesRefused (receive source config stimulus clocks pin bit) c = ⊥
 WritesRefused (uart send divider clocks) c = ⊥
+WritesRefused (pair source config second stimulus clocks) c = SameOut c
 
 -- this is the first span that isn't provable, and why; nothing failed
 pub record Refuses (c : Call) (a : Asked) (name : List ℕ) (refusal : Refusal) : Type 0 where
   pub first : ComesTo c a (λ task. IsRefusedBy (need_of task) name refusal)
   pub out : WritesRefused a c
   pub shelf : SameShelf c
+
+-- this is the first span of the second block that isn't provable, and why; nothing was written, and nothing failed
+pub record RefusesSecond (c : Call) (a : Asked) (name : List ℕ) (refusal : Refusal) : Type 0 where
+  pub first : ComesTo c a (λ task. IsSecondRefusedBy (need_of task) name refusal)
+  pub untouched : Untouched c
 
 -- this is wrong first with the table, and nothing was written
 pub record Flawed (c : Call) (a : Asked) (name : List ℕ) (flaw : Flaw) : Type 0 where
@@ -78,6 +84,7 @@ Ends None c (Some fault.Usage) = Untouched c
 Ends asked c (Some fault.Memory) = Untouched c
 Ends (Some a) c (Some (fault.Shelf role)) = ShelfFails c a role
 Ends (Some a) c (Some (fault.Unproved name refusal)) = Refuses c a name refusal
+Ends (Some a) c (Some (fault.SecondUnproved name refusal)) = RefusesSecond c a name refusal
 Ends (Some a) c (Some (fault.Flaw name flaw)) = Flawed c a name flaw
 Ends (Some a) c (Some fault.Out) = OutFails c a
 Ends None c found = ⊥

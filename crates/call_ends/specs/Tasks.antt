@@ -10,6 +10,7 @@ use Rattle.std.specs.List.{flat_map}
 use Rattle.pio_edge.specs.Edge.{Files}
 use Rattle.fault_lines.specs.declared.fault.File.{File}
 use Rattle.fault_lines.specs.declared.fault.File.TheVariants.{Send}
+use Rattle.vcd_trace.specs.TwinText.{twin_text}
 use Rattle.vcd_trace.specs.VcdText.{vcd_text}
 use Rattle.span_meter.specs.Measured.{ends_in, measured, seen_of}
 use Rattle.span_meter.specs.SeenText.{seen_line}
@@ -21,28 +22,32 @@ use Rattle.pin_matrix.specs.Pins.{is_high}
 use Rattle.dreq_pacing.specs.declared.line.Line.{Line}
 use Rattle.block_core.specs.Block.{Run, first_run}
 use Rattle.block_core.specs.Hosted.{samples}
+use Rattle.block_core.specs.HostedTwin.{twin_samples}
+use Rattle.block_core.specs.Twin.{TwinRun, first_twin}
 use Rattle.pin_matrix.specs.declared.setup.Setup.{Setup}
 use Rattle.pin_matrix.specs.declared.span.Span.{Span}
 use Rattle.span_bounds.specs.declared.row.Row.{Row}
 use Rattle.span_bounds.specs.Answers.{IsGoodLeast}
 use Rattle.table_files.specs.Rows.{table_text}
 use Rattle.table_files.specs.FlawLines.{rechecked_line}
-use Rattle.command_line.specs.Words.{Asked, asm, run, check, table, recheck, shares, gen, dis, measure, receive, uart}
+use Rattle.command_line.specs.Words.{Asked, asm, run, check, table, recheck, shares, gen, dis, measure, receive, uart, pair}
 use Rattle.program_listing.specs.Listing.{listing_text}
 use Rattle.word_file.specs.Listing.{word_lines, rule_for}
 use Rattle.block_shares.specs.Report.{shares_text}
 use Rattle.load_summary.specs.Summaries.{summary_of, summary_text}
 use Rattle.span_stage.specs.Spans.{HasVerdicts}
-use Rattle.file_stages.specs.Judged.{Judged, right, and_then, IfRight, source_at, words_at, prepared_at, span_at, recheck_at, read_at}
-use Rattle.file_stages.specs.Roles.{source_alone, words_alone, send_alone, run_files, no_file, run_reaches, recheck_files, recheck_reaches}
+use Rattle.file_stages.specs.Judged.{Judged, right, and_then, IfRight, source_at, words_at, prepared_at, span_at, recheck_at, read_at, pair_at}
+use Rattle.file_stages.specs.Roles.{source_alone, words_alone, send_alone, run_files, no_file, run_reaches, recheck_files, recheck_reaches, pair_files, pair_reaches}
 use Rattle.call_ends.specs.Outside.{Call}
-use Rattle.call_ends.specs.Needs.{Need, nothing, all_spans, one_span, by_table, IsMet}
+use Rattle.file_stages.specs.declared.pair.TwoBlocks.{TwoBlocks}
+use Rattle.call_ends.specs.Needs.{Need, nothing, all_spans, both_spans, one_span, by_table, IsMet}
 
--- What the files have a command do: write a text; write a text where each span of a setup is provable; write the lines of the
+-- What the files have a command do: write a text; write a text where each span of a setup, or of two, is provable; write the lines of the
 -- verdicts on the spans of a setup; write the table of a span where it is provable; or tell that a table proves a span.
 pub data Task : Type 0 where
   listing : List ℕ → Task
   trace : Setup → List ℕ → Task
+  twin_trace : (first second : Setup) → List ℕ → Task
   verdicts : Setup → Task
   tabled : Setup → Span → Task
   rechecked : Setup → Span → List Row → Task
@@ -50,6 +55,14 @@ pub data Task : Type 0 where
 -- the text of so many clocks from a start, beside the lines of a stimulus
 unfoldable pub trace_text : Run → List Line → ℕ → List ℕ
 trace_text start lines clocks = vcd_text (samples start lines clocks)
+
+-- two blocks in clock 0
+abbrev pub twin_start : TwoBlocks → TwinRun
+twin_start p = first_twin p.own p.first p.second
+
+-- the text of so many clocks of two blocks from a start, beside the lines of each
+unfoldable pub twin_trace_text : TwinRun → (first second : List Line) → ℕ → List ℕ
+twin_trace_text start first second clocks = twin_text (twin_samples start first second clocks)
 
 -- what a span measures in so many clocks from a start, beside the lines of a stimulus: before clock 0 the levels are the start's
 abbrev pub seen_in : Run → Span → List Line → ℕ → Seen
@@ -90,6 +103,9 @@ judge files (receive source config stimulus clocks pin bit) =
     (λ prepared. right (listing (received_text (first_run prepared.0) pin bit prepared.1 clocks)))
 judge files (uart send divider clocks) =
     and_then (read_at Send (get files send)) (λ bytes. right (listing (sent_text divider bytes clocks)))
+judge files (pair source config second stimulus clocks) =
+    and_then (pair_at files source config second stimulus)
+    (λ p. right (twin_trace p.first p.second (twin_trace_text (twin_start p) p.first_lines p.second_lines clocks)))
 
 -- the told files come to a task that is such
 abbrev pub ComesTo : Call → Asked → (Task → Type 0) → Type 0
@@ -103,6 +119,7 @@ HasTable u sp P = (rows : List Row) × IsGoodLeast u sp rows × P (table_text ro
 abbrev pub HasText : Task → (List ℕ → Type 0) → Type 0
 HasText (listing text) P = P text
 HasText (trace u text) P = P text
+HasText (twin_trace s t text) P = P text
 HasText (verdicts u) P = HasVerdicts u P
 HasText (tabled u sp) P = HasTable u sp P
 HasText (rechecked u sp rows) P = P (rechecked_line sp.name)
@@ -111,6 +128,7 @@ HasText (rechecked u sp rows) P = P (rechecked_line sp.name)
 abbrev pub need_of : Task → Need
 need_of (listing text) = nothing
 need_of (trace u text) = all_spans u
+need_of (twin_trace s t text) = both_spans s t
 need_of (verdicts u) = all_spans u
 need_of (tabled u sp) = one_span u sp
 need_of (rechecked u sp rows) = by_table u sp rows
@@ -133,6 +151,7 @@ file_in (dis name side opt) role = words_alone name role
 file_in (measure source config stimulus clocks) role = run_files source config stimulus role
 file_in (receive source config stimulus clocks pin bit) role = run_files source config stimulus role
 file_in (uart send divider clocks) role = send_alone send role
+file_in (pair source config second stimulus clocks) role = pair_files source config second stimulus role
 
 -- a command comes to the file of this role: what it reads before is right
 abbrev pub reaches : Files → Asked → File → Bool
@@ -147,3 +166,4 @@ reaches files (dis name side opt) role = true
 reaches files (measure source config stimulus clocks) role = run_reaches files source config role
 reaches files (receive source config stimulus clocks pin bit) role = run_reaches files source config role
 reaches files (uart send divider clocks) role = true
+reaches files (pair source config second stimulus clocks) role = pair_reaches files source config second role

@@ -14,11 +14,13 @@ pub tells_fails : (u : Setup) (found : List (Result Bool Refusal)) (before after
 tells_fails u found before after fault.Out v h = (found, v, h)
 tells_fails u found before after fault.Memory v h = h
 tells_fails u found before after fault.Usage v h = absurd h
+tells_fails u found before after (fault.SecondUnproved name refusal) v h = absurd h
 tells_fails u found before after (fault.Shelf role) v h = absurd h
 tells_fails u found before after (fault.TooLong role) v h = absurd h
 tells_fails u found before after (fault.Words line kind) v h = absurd h
 tells_fails u found before after (fault.Source line kind) v h = absurd h
 tells_fails u found before after (fault.Config key kind) v h = absurd h
+tells_fails u found before after (fault.Second key kind) v h = absurd h
 tells_fails u found before after (fault.Stim line kind) v h = absurd h
 tells_fails u found before after fault.NoSpan v h = absurd h
 tells_fails u found before after (fault.Table line kind) v h = absurd h

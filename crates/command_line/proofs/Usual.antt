@@ -13,8 +13,8 @@ use Rattle.clap.specs.declared.error.kind.ErrorKind.TheVariants as kind
 use Rattle.clap.proofs.OnLiterals.{clap_on_literals}
 use Rattle.clap.proofs.WalkLemmas.{both}
 use Rattle.command_line.specs.Tool.{bit_limit, clock_limit, divider_limit, least_bit, least_divider, pin_limit, seed_limit, side_limit, tool}
-use Rattle.command_line.specs.Words.{Asked, IsTaken, asm, run, check, table, recheck, shares, gen, dis, measure, receive, uart, asked_of, number_in, has_no_room}
-use Rattle.command_line.specs.Laws.{number_of, asm_words, run_words, check_words, table_words, recheck_words, shares_words, gen_words, dis_words, measure_words, receive_words, uart_words, are_in_range, AskWhere, AsmWords, RunWords, CheckWords, TableWords, RecheckWords, SharesWords, GenWords, DisWords, MeasureWords, ReceiveWords, UartWords}
+use Rattle.command_line.specs.Words.{Asked, IsTaken, asm, run, check, table, recheck, shares, gen, dis, measure, receive, uart, pair, asked_of, number_in, has_no_room}
+use Rattle.command_line.specs.Laws.{number_of, asm_words, run_words, check_words, table_words, recheck_words, shares_words, gen_words, dis_words, measure_words, receive_words, uart_words, pair_words, are_in_range, AskWhere, AsmWords, RunWords, CheckWords, TableWords, RecheckWords, SharesWords, GenWords, DisWords, MeasureWords, ReceiveWords, UartWords, PairWords}
 
 -- ---- a number in range
 
@@ -424,3 +424,42 @@ uart_words_law name send divider clocks =
         (taken_by _ _ (uart_takes name send divider clocks e f) asked refl, record { taken = uart_fault name send divider clocks true true e f; asked = asked })
     go true false e f = inl (not_empty _ (uart_fault name send divider clocks true false e f))
     go false t e f = inl (not_empty _ (uart_fault name send divider clocks false t e f))
+
+-- ---- pair
+
+pair_asks : (name source config second : Text) (stimulus : Option Text) (clocks : Text)
+    → asked_of (pair_words name source config second stimulus clocks)
+    ≡ Some (pair source config second stimulus (min (number_in clocks) clock_limit))
+unfolding clap_on_literals tool asked_of
+pair_asks name source config second None clocks = refl
+pair_asks name source config second (Some stimulus) clocks = refl
+
+pair_takes : (name source config second : Text) (stimulus : Option Text) (clocks : Text) → is_unsigned_in 0 clock_limit clocks ≡ true
+    → takes tool (pair_words name source config second stimulus clocks) ≡ true
+unfolding clap_on_literals tool
+pair_takes name source config second None clocks e = with_the_others _ e
+pair_takes name source config second (Some stimulus) clocks e = with_the_others _ e
+
+-- the words have no fault but the number's
+pair_computes : (name source config second : Text) (stimulus : Option Text) (clocks : Text)
+    → fault_of tool (pair_words name source config second stimulus clocks) ≡ within 5 (fault_where (is_unsigned_in 0 clock_limit clocks))
+unfolding clap_on_literals tool within
+pair_computes name source config second None clocks = refl
+pair_computes name source config second (Some stimulus) clocks = refl
+
+pair_fault : (name source config second : Text) (stimulus : Option Text) (clocks : Text) (b : Bool)
+    → is_unsigned_in 0 clock_limit clocks ≡ b → fault_of tool (pair_words name source config second stimulus clocks) ≡ fault_where b
+pair_fault name source config second stimulus clocks b e =
+    pair_computes name source config second stimulus clocks ∙ within_is 5 _ ∙ ap fault_where e
+
+pub pair_words_law : PairWords
+pair_words_law name source config second stimulus clocks = go (is_unsigned_in 0 clock_limit clocks) refl
+  where
+    go : (b : Bool) → is_unsigned_in 0 clock_limit clocks ≡ b
+        → AskWhere b (pair_words name source config second stimulus clocks) (pair source config second stimulus (number_of clocks))
+    go true e =
+        let asked = pair_asks name source config second stimulus clocks
+        ∙ ap (λ n. Some (pair source config second stimulus n)) (range_read clock_limit clocks e) in
+        let takes = pair_takes name source config second stimulus clocks e in
+        (taken_by _ _ takes asked refl, record { taken = pair_fault name source config second stimulus clocks true e; asked = asked })
+    go false e = inl (not_empty _ (pair_fault name source config second stimulus clocks false e))

@@ -4,7 +4,7 @@ use Rattle.std.specs.Str.Parse.{digits_value, without_leading_plus}
 use Rattle.clap.specs.ValueTests.{is_unsigned_in}
 use Rattle.clap.specs.Walk.{Text}
 use Rattle.command_line.specs.Tool.{bit_limit, clock_limit, divider_limit, least_bit, least_divider, pin_limit, seed_limit, side_limit}
-use Rattle.command_line.specs.Words.{Asked, Asks, IsRefused, IsTaken, asm, check, dis, gen, measure, receive, recheck, run, shares, table, uart}
+use Rattle.command_line.specs.Words.{Asked, Asks, IsRefused, IsTaken, asm, check, dis, gen, measure, pair, receive, recheck, run, shares, table, uart}
 
 -- the number of decimal digits, where a plus may come first
 abbrev pub number_of : Text → ℕ
@@ -129,6 +129,19 @@ abbrev pub UartWords : Type 0
 UartWords = (name send divider clocks : Text)
     → AskWhere (is_unsigned_in least_divider divider_limit divider && is_unsigned_in 0 clock_limit clocks)
     (uart_words name send divider clocks) (uart send (number_of divider) (number_of clocks))
+
+-- `pair --source=S --config=A --second=B [--stimulus=T] --clocks=N`, of a program of any name
+abbrev pub pair_words : Text → Text → Text → Text → Option Text → Text → List Text
+pair_words name source config second stimulus clocks =
+    name ∷ codes "pair" ∷ (codes "--source=" ++ source) ∷ (codes "--config=" ++ config) ∷ (codes "--second=" ++ second)
+    ∷ (given (codes "--stimulus=") stimulus ++ (codes "--clocks=" ++ clocks) ∷ [])
+
+-- they ask for N clocks of two blocks, of S under A and under B, beside T or beside none, exactly where N is a whole number in range,
+-- whatever S, A, B and T are
+abbrev pub PairWords : Type 0
+PairWords = (name source config second : Text) (stimulus : Option Text) (clocks : Text)
+    → AskWhere (is_unsigned_in 0 clock_limit clocks) (pair_words name source config second stimulus clocks)
+    (pair source config second stimulus (number_of clocks))
 
 -- the digit `0`; the others follow it
 abbrev pub digit_0 : ℕ

@@ -35,6 +35,7 @@ bit_limit = 65535
 abbrev pub least_divider : ℕ
 least_divider = 1
 
+-- the most whole part of that divider
 abbrev pub divider_limit : ℕ
 divider_limit = 8191
 
@@ -57,6 +58,14 @@ source_rule = required (option_rule (codes "source"))
 -- `--config C`: the name of a configuration, which need not be given
 unfoldable pub config_rule : Rule
 config_rule = option_rule (codes "config")
+
+-- `--config A`: the name of a configuration, which is in each call
+unfoldable pub needed_config_rule : Rule
+needed_config_rule = required config_rule
+
+-- `--second B`: the name of the second block's configuration
+unfoldable pub second_rule : Rule
+second_rule = required (option_rule (codes "second"))
 
 -- `--span NAME`: the name of a span
 unfoldable pub span_rule : Rule
@@ -162,6 +171,10 @@ receive_app = subcommand (codes "receive") (source_rule ∷ config_rule ∷ stim
 unfoldable pub uart_app : App
 uart_app = subcommand (codes "uart") (send_rule ∷ divider_rule ∷ clocks_rule ∷ [])
 
+-- `pair --source S --config A --second B [--stimulus T] --clocks N`
+unfoldable pub pair_app : App
+pair_app = subcommand (codes "pair") (source_rule ∷ needed_config_rule ∷ second_rule ∷ stimulus_rule ∷ clocks_rule ∷ [])
+
 -- `piotool` with no arguments of its own, which wants a subcommand
 unfoldable pub bare_app : App
 bare_app = record (new_app (codes "piotool")) {
@@ -170,6 +183,6 @@ bare_app = record (new_app (codes "piotool")) {
 
 -- `piotool` with its subcommands; who unfolds it unfolds all that it is made of
 unfoldable pub tool : App
-unfolding taking offering bare_app asm_app run_app dis_app check_app gen_app table_app recheck_app shares_app measure_app receive_app uart_app file_rule source_rule config_rule stimulus_rule clocks_rule seed_rule span_rule table_rule pin_rule bit_rule send_rule divider_rule side_rule opt_rule
+unfolding taking offering bare_app asm_app run_app dis_app check_app gen_app table_app recheck_app shares_app measure_app receive_app uart_app pair_app file_rule source_rule needed_config_rule config_rule second_rule stimulus_rule clocks_rule seed_rule span_rule table_rule pin_rule bit_rule send_rule divider_rule side_rule opt_rule
 tool = fold offering bare_app (asm_app ∷ run_app ∷ dis_app ∷ check_app ∷ gen_app ∷ table_app ∷ recheck_app ∷ shares_app
-    ∷ measure_app ∷ receive_app ∷ uart_app ∷ [])
+    ∷ measure_app ∷ receive_app ∷ uart_app ∷ pair_app ∷ [])

@@ -11,14 +11,14 @@ use Rattle.clap.specs.Takes.{takes}
 use Rattle.clap.specs.Faults.{fault_of}
 use Rattle.command_line.specs.Tool.{bit_limit, clock_limit, divider_limit, least_bit, least_divider, pin_limit, seed_limit, side_limit, tool}
 use Rattle.command_line.specs.declared.order.Order.{Order}
-use Rattle.command_line.specs.declared.order.Order.TheVariants.{Asm, Run, Check, Table, Recheck, Shares, Gen, Dis, Measure, Receive, Uart}
+use Rattle.command_line.specs.declared.order.Order.TheVariants.{Asm, Run, Check, Table, Recheck, Shares, Gen, Dis, Measure, Receive, Uart, Pair}
 use Rattle.command_line.specs.declared.order.WordsFault.{WordsFault}
 use Rattle.command_line.specs.declared.order.WordsFault.TheVariants.{Usage, Memory}
 
 -- a subcommand with its arguments: file; source, configuration and stimulus if there are some, and clocks; source, and
 -- configuration if there is one; the same with a span's name, and then with a table; seed and clocks; file, side-set bits and whether
--- their value is optional; the arguments of `run`, alone or with a pin and the clocks of a bit; and a file of bytes, a
--- divider and clocks
+-- their value is optional; the arguments of `run`, alone or with a pin and the clocks of a bit; a file of bytes, a
+-- divider and clocks; and source, two configurations, stimulus if there is one, and clocks
 pub data Asked : Type 0 where
   asm : Text → Asked
   run : Text → Option Text → Option Text → ℕ → Asked
@@ -31,6 +31,7 @@ pub data Asked : Type 0 where
   measure : Text → Option Text → Option Text → ℕ → Asked
   receive : Text → Option Text → Option Text → ℕ → ℕ → ℕ → Asked
   uart : Text → ℕ → ℕ → Asked
+  pair : Text → Text → Text → Option Text → ℕ → Asked
 
 -- what an order asks for
 abbrev pub asked_by : Order → Asked
@@ -47,6 +48,8 @@ asked_by (Measure source config stimulus clocks) =
 asked_by (Receive source config stimulus clocks pin bit) =
     receive source.now (option_map (λ t. t.now) config) (option_map (λ t. t.now) stimulus) clocks pin bit
 asked_by (Uart send divider clocks) = uart send.now divider clocks
+asked_by (Pair source config second stimulus clocks) =
+    pair source.now config.now second.now (option_map (λ t. t.now) stimulus) clocks
 
 -- ---- what clap's matches of a subcommand ask for
 
@@ -124,6 +127,12 @@ uart_asked rows =
     uart (text_at (codes "send") rows) (max (number_at divider_limit (codes "divider") rows) least_divider)
     (number_at clock_limit (codes "clocks") rows)
 
+-- the arguments of `pair`
+abbrev pub pair_asked : List Row → Asked
+pair_asked rows =
+    pair (text_at (codes "source") rows) (text_at (codes "config") rows) (text_at (codes "second") rows)
+    (first_of (codes "stimulus") rows) (number_at clock_limit (codes "clocks") rows)
+
 -- the arguments of the subcommand of this name
 abbrev pub subcommand_asked : Text → List Row → Asked
 subcommand_asked name rows =
@@ -133,7 +142,8 @@ subcommand_asked name rows =
     else if bytes_eq name (codes "shares") then shares_asked rows else if bytes_eq name (codes "gen") then gen_asked rows
     else if bytes_eq name (codes "measure") then measure_asked rows
     else if bytes_eq name (codes "receive") then receive_asked rows
-    else if bytes_eq name (codes "uart") then uart_asked rows else dis_asked rows
+    else if bytes_eq name (codes "uart") then uart_asked rows
+    else if bytes_eq name (codes "pair") then pair_asked rows else dis_asked rows
 
 -- what the matches that clap's definition gives for `tool` and the words ask for
 unfoldable pub asked_of : List Text → Option Asked
@@ -148,6 +158,7 @@ IsWithinRange (measure source config stimulus clocks) = clocks ≤ clock_limit
 IsWithinRange (receive source config stimulus clocks pin bit) =
     (clocks ≤ clock_limit) × (pin ≤ pin_limit) × (least_bit ≤ bit) × (bit ≤ bit_limit)
 IsWithinRange (uart send divider clocks) = (least_divider ≤ divider) × (divider ≤ divider_limit) × (clocks ≤ clock_limit)
+IsWithinRange (pair source config second stimulus clocks) = clocks ≤ clock_limit
 IsWithinRange (dis file side opt) = side + (if opt then 1 else 0) ≤ side_limit
 IsWithinRange _ = ⊤
 
@@ -184,6 +195,7 @@ clocks_asked (gen seed clocks) = clocks
 clocks_asked (measure source config stimulus clocks) = clocks
 clocks_asked (receive source config stimulus clocks pin bit) = clocks
 clocks_asked (uart send divider clocks) = clocks
+clocks_asked (pair source config second stimulus clocks) = clocks
 clocks_asked _ = 0
 
 -- how many clocks words ask for at most

@@ -1,6 +1,6 @@
 //! The arguments of the subcommands, one function each.
 ghost use Rattle.command_line.specs.Making.{IsRule};
-ghost use Rattle.command_line.specs.Tool.{bit_rule, clocks_rule, config_rule, divider_rule, file_rule, opt_rule, option_rule, pin_rule, seed_rule, send_rule, side_rule, source_rule, span_rule, stimulus_rule, table_rule};
+ghost use Rattle.command_line.specs.Tool.{bit_rule, clocks_rule, config_rule, divider_rule, file_rule, needed_config_rule, opt_rule, option_rule, pin_rule, second_rule, seed_rule, send_rule, side_rule, source_rule, span_rule, stimulus_rule, table_rule};
 
 use crate::order::{
     LAST_PIN, LEAST_BIT, LEAST_DIVIDER, MOST_BIT, MOST_CLOCKS, MOST_DIVIDER, MOST_SEED,
@@ -43,6 +43,24 @@ pub fn span<'a>(alloc: Global) -> Arg<'a>
     option(alloc, "span")
         .required(true)
         .help("The name of a span of the configuration")
+}
+
+/// `--config A`: the configuration's name, any text, in each call.
+#[tactic(auto, unfolding(crate::specs::Tool::needed_config_rule))]
+pub fn needed_config<'a>(alloc: Global) -> Arg<'a>
+    ensures { IsRule needed_config_rule result }
+{
+    config(alloc).required(true)
+}
+
+/// `--second B`: the name of the second block's configuration, any text.
+#[tactic(auto, unfolding(crate::specs::Tool::second_rule))]
+pub fn second<'a>(alloc: Global) -> Arg<'a>
+    ensures { IsRule second_rule result }
+{
+    option(alloc, "second").required(true).help(
+        "The configuration of the second block, in TOML; its key pins.own lists the pins that it drives",
+    )
 }
 
 /// `--table F`: the name of a file with a table, any text.

@@ -2,7 +2,7 @@
 ghost use Rattle.std.specs.Prelude.{IfOk};
 ghost use Rattle.clap.specs.Simple.{new_app};
 ghost use Rattle.command_line.specs.Making.{IsApp, Offers, Takes};
-ghost use Rattle.command_line.specs.Tool.{asm_app, check_app, dis_app, gen_app, measure_app, receive_app, recheck_app, run_app, shares_app, table_app, uart_app, bare_app, tool as tool_app};
+ghost use Rattle.command_line.specs.Tool.{asm_app, check_app, dis_app, gen_app, measure_app, pair_app, receive_app, recheck_app, run_app, shares_app, table_app, uart_app, bare_app, tool as tool_app};
 
 use crate::arguments;
 use clap::{Arg, Command};
@@ -26,7 +26,8 @@ pub fn tool<'a>(alloc: Global) -> Result<Command<'a>, AllocError>
     let command = add(command, shares(alloc));
     let command = add(command, measure(alloc));
     let command = add(command, receive(alloc));
-    add(command, uart(alloc))
+    let command = add(command, uart(alloc));
+    add(command, pair(alloc))
 }
 
 #[tactic(auto, unfolding(crate::specs::Tool::bare_app))]
@@ -207,6 +208,23 @@ fn uart<'a>(alloc: Global) -> Result<Command<'a>, AllocError>
     );
     let command = with_argument(command, arguments::send(alloc));
     let command = with_argument(command, arguments::divider(alloc));
+    with_argument(command, arguments::clocks(alloc))
+}
+
+#[tactic(auto, unfolding(crate::specs::Tool::pair_app))]
+fn pair<'a>(alloc: Global) -> Result<Command<'a>, AllocError>
+    ensures { IfOk result (IsApp pair_app) }
+{
+    let command = named(
+        alloc,
+        "pair",
+        "Writes the trace of two blocks on the same pins, as a value change dump",
+        "Example: piotool pair --source link.pio --config sender.toml --second receiver.toml --clocks 1000",
+    );
+    let command = with_argument(command, arguments::source(alloc));
+    let command = with_argument(command, arguments::needed_config(alloc));
+    let command = with_argument(command, arguments::second(alloc));
+    let command = with_argument(command, arguments::stimulus(alloc));
     with_argument(command, arguments::clocks(alloc))
 }
 

@@ -1,5 +1,5 @@
 //! Laws above clap's definition of a parse: what words as the usage has them ask for. The functions do nothing.
-ghost use Rattle.command_line.specs.Laws.{AsmWords, CheckWords, DisWords, GenWords, MeasureWords, ReceiveWords, RecheckWords, RunWords, SharesWords, TableWords, UartWords};
+ghost use Rattle.command_line.specs.Laws.{AsmWords, CheckWords, DisWords, GenWords, MeasureWords, PairWords, ReceiveWords, RecheckWords, RunWords, SharesWords, TableWords, UartWords};
 
 /// `asm -- FILE` asks for the listing of FILE.
 pub fn asm_words()
@@ -58,4 +58,10 @@ pub fn receive_words()
 /// I and N are whole numbers in range.
 pub fn uart_words()
     ensures { UartWords }
+{}
+
+/// `pair --source=S --config=A --second=B [--stimulus=T] --clocks=N` asks for N clocks of two blocks exactly where N is a whole number in
+/// range.
+pub fn pair_words()
+    ensures { PairWords }
 {}

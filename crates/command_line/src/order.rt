@@ -99,6 +99,15 @@ pub enum Order<'a> {
         divider: u16,
         clocks: u64,
     },
+    /// The trace of so many clocks (0 to 10^12) of two blocks on the same pins, each of the programs in a source under its
+    /// own configuration, beside a stimulus where one is named.
+    Pair {
+        source: &'a str,
+        config: &'a str,
+        second: &'a str,
+        stimulus: Option<&'a str>,
+        clocks: u64,
+    },
 }
 
 /// Why words give no order.

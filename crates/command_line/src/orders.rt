@@ -4,7 +4,7 @@ ghost use Rattle.clap.specs.Matches.{found_of, has_subcommand};
 ghost use Rattle.clap.specs.Simple.{subcommand_rows_of};
 ghost use Rattle.clap.specs.Walk.{rows_of};
 ghost use Rattle.std.specs.Option.{option_map};
-ghost use Rattle.command_line.specs.Words.{Asks, HasCause, IsTaken, IsWithinRange, asked_by, asm_asked, check_asked, dis_asked, gen_asked, measure_asked};
+ghost use Rattle.command_line.specs.Words.{Asks, HasCause, IsTaken, IsWithinRange, asked_by, asm_asked, check_asked, dis_asked, gen_asked, measure_asked, pair_asked};
 ghost use Rattle.command_line.specs.Words.{has_no_room as has_no_room_of, receive_asked, recheck_asked, run_asked, shares_asked, subcommand_asked, table_asked, uart_asked};
 
 use crate::getters::{flag, number, option_text, text};
@@ -45,7 +45,8 @@ fn has_no_room(order: Order<'_>) -> bool
         | Order::Gen { .. }
         | Order::Measure { .. }
         | Order::Receive { .. }
-        | Order::Uart { .. } => false,
+        | Order::Uart { .. }
+        | Order::Pair { .. } => false,
         Order::Dis { side, opt, .. } => u64::from(side) == MOST_SIDE_BITS && opt,
     }
 }
@@ -79,6 +80,8 @@ fn order_of<'a>(matches: &ArgMatches<'a>) -> Order<'a>
         receive_order(found)
     } else if name == "uart" {
         uart_order(found)
+    } else if name == "pair" {
+        pair_order(found)
     } else {
         dis_order(found)
     }
@@ -195,6 +198,18 @@ fn uart_order<'a>(matches: &ArgMatches<'a>) -> Order<'a>
     Order::Uart {
         send: text(matches, "send"),
         divider: divider as u16,
+        clocks: number(matches, "clocks", MOST_CLOCKS),
+    }
+}
+
+fn pair_order<'a>(matches: &ArgMatches<'a>) -> Order<'a>
+    ensures { asked_by result ≡ pair_asked (rows_of (found_of matches.now)) }
+{
+    Order::Pair {
+        source: text(matches, "source"),
+        config: text(matches, "config"),
+        second: text(matches, "second"),
+        stimulus: option_text(matches, "stimulus"),
         clocks: number(matches, "clocks", MOST_CLOCKS),
     }
 }

@@ -133,12 +133,14 @@ tabled_ends files faults before after source config name u sp (Err (fault.Unprov
   shelf = refl;
 }
 tabled_ends files faults before after source config name u sp (Err fault.Usage) t h = absurd h
+tabled_ends files faults before after source config name u sp (Err (fault.SecondUnproved n refusal)) t h = absurd h
 tabled_ends files faults before after source config name u sp (Err fault.NoSpan) t h = absurd h
 tabled_ends files faults before after source config name u sp (Err (fault.Shelf role)) t h = absurd h
 tabled_ends files faults before after source config name u sp (Err (fault.TooLong role)) t h = absurd h
 tabled_ends files faults before after source config name u sp (Err (fault.Words line kind)) t h = absurd h
 tabled_ends files faults before after source config name u sp (Err (fault.Source line kind)) t h = absurd h
 tabled_ends files faults before after source config name u sp (Err (fault.Config key kind)) t h = absurd h
+tabled_ends files faults before after source config name u sp (Err (fault.Second key kind)) t h = absurd h
 tabled_ends files faults before after source config name u sp (Err (fault.Stim line kind)) t h = absurd h
 tabled_ends files faults before after source config name u sp (Err (fault.Table line kind)) t h = absurd h
 tabled_ends files faults before after source config name u sp (Err (fault.Flaw n flaw)) t h = absurd h
@@ -189,12 +191,14 @@ rechecked_ends files faults before after source config name file u sp rows (Err 
   untouched = record { shelf = refl; out = h.1 };
 }
 rechecked_ends files faults before after source config name file u sp rows (Err fault.Usage) s t h = absurd h
+rechecked_ends files faults before after source config name file u sp rows (Err (fault.SecondUnproved n refusal)) s t h = absurd h
 rechecked_ends files faults before after source config name file u sp rows (Err fault.NoSpan) s t h = absurd h
 rechecked_ends files faults before after source config name file u sp rows (Err (fault.Shelf role)) s t h = absurd h
 rechecked_ends files faults before after source config name file u sp rows (Err (fault.TooLong role)) s t h = absurd h
 rechecked_ends files faults before after source config name file u sp rows (Err (fault.Words line kind)) s t h = absurd h
 rechecked_ends files faults before after source config name file u sp rows (Err (fault.Source line kind)) s t h = absurd h
 rechecked_ends files faults before after source config name file u sp rows (Err (fault.Config key kind)) s t h = absurd h
+rechecked_ends files faults before after source config name file u sp rows (Err (fault.Second key kind)) s t h = absurd h
 rechecked_ends files faults before after source config name file u sp rows (Err (fault.Stim line kind)) s t h = absurd h
 rechecked_ends files faults before after source config name file u sp rows (Err (fault.Table line kind)) s t h = absurd h
 
@@ -223,6 +227,7 @@ read_fails a files before after out plan (fault.Shelf role) named reached wrongs
     shelf_fails a files before after out role (plan.file_in role) (λ f. plan.reaches f role ≡ true) (named role) (reached role) h.0 h.1
 read_fails a files before after out plan fault.Memory named reached wrongs h = record { shelf = h; out = refl }
 read_fails a files before after out plan fault.Usage named reached wrongs h = absurd h
+read_fails a files before after out plan (fault.SecondUnproved n refusal) named reached wrongs h = absurd h
 read_fails a files before after out plan fault.Out named reached wrongs h = absurd h
 read_fails a files before after out plan (fault.Unproved n refusal) named reached wrongs h = absurd h
 read_fails a files before after out plan (fault.Flaw n flaw) named reached wrongs h = absurd h
@@ -230,6 +235,7 @@ read_fails a files before after out plan (fault.TooLong role) named reached wron
 read_fails a files before after out plan (fault.Words line kind) named reached wrongs h = record { judged = wrongs h.1; untouched = record { shelf = h.0; out = refl } }
 read_fails a files before after out plan (fault.Source line kind) named reached wrongs h = record { judged = wrongs h.1; untouched = record { shelf = h.0; out = refl } }
 read_fails a files before after out plan (fault.Config key kind) named reached wrongs h = record { judged = wrongs h.1; untouched = record { shelf = h.0; out = refl } }
+read_fails a files before after out plan (fault.Second key kind) named reached wrongs h = record { judged = wrongs h.1; untouched = record { shelf = h.0; out = refl } }
 read_fails a files before after out plan (fault.Stim line kind) named reached wrongs h = record { judged = wrongs h.1; untouched = record { shelf = h.0; out = refl } }
 read_fails a files before after out plan (fault.Table line kind) named reached wrongs h = record { judged = wrongs h.1; untouched = record { shelf = h.0; out = refl } }
 read_fails a files before after out plan fault.NoSpan named reached wrongs h = record { judged = wrongs h.1; untouched = record { shelf = h.0; out = refl } }
@@ -257,6 +263,7 @@ recheck_unread files before after out source config name table_name e h =
     named : (role : File) (n : List ℕ) → run_files source config None role ≡ Some n → file_in (recheck source config name table_name) role ≡ Some n
     named file.Source n at = at
     named file.Words n at = at
+    named file.Second n at = at
     named file.Config n at = at
     named file.Stimulus n at = at
     named file.Table n at = no_name n at
@@ -266,6 +273,7 @@ recheck_unread files before after out source config name table_name e h =
         → IfSome files (λ f. reaches f (recheck source config name table_name) role ≡ true)
     reached file.Source n at r = r
     reached file.Words n at r = r
+    reached file.Second n at r = r
     reached file.Config n at r = r
     reached file.Stimulus n at r = r
     reached file.Table n at r = no_name n at
@@ -282,6 +290,7 @@ recheck_unread_table files before after out source config name table_name u sp e
     named : (role : File) (n : List ℕ) → table_alone table_name role ≡ Some n → file_in (recheck source config name table_name) role ≡ Some n
     named file.Source n at = no_name n at
     named file.Words n at = no_name n at
+    named file.Second n at = no_name n at
     named file.Config n at = no_name n at
     named file.Stimulus n at = no_name n at
     named file.Table n at = at
@@ -291,6 +300,7 @@ recheck_unread_table files before after out source config name table_name u sp e
         → IfSome files (λ f. reaches f (recheck source config name table_name) role ≡ true)
     reached file.Source n at r = no_name n at
     reached file.Words n at r = no_name n at
+    reached file.Second n at r = no_name n at
     reached file.Config n at r = no_name n at
     reached file.Stimulus n at r = no_name n at
     reached file.Table n at r = told files _ _ (λ f k. ap is_right k) s

@@ -15,7 +15,7 @@ use Rattle.command_line.specs.Words.{Asked, IsTaken}
 use Rattle.file_stages.specs.Judged.{Judged, right, wrong, IfRight}
 use Rattle.file_stages.specs.Stages.{HasSuch}
 use Rattle.call_ends.specs.Tasks.{Task, need_of, judge, file_in, HasText}
-use Rattle.call_ends.specs.Needs.{Need, nothing, all_spans, one_span, by_table, IsMet, IsRefusedBy, IsFlawed}
+use Rattle.call_ends.specs.Needs.{Need, nothing, all_spans, both_spans, one_span, by_table, IsMet, IsRefusedBy, IsSecondRefusedBy, IsFlawed}
 use Rattle.call_ends.specs.Outside.{Call}
 use Rattle.call_ends.specs.Promise.{Ends}
 use Rattle.commands.specs.Ends.{EndsAs}
@@ -51,6 +51,11 @@ least_same u sp m n p q =
 of_done : (c : Call) (task : Task) (need : Need) → TookText c task → IsMet need → EndsByTask c task None need
 of_done c task nothing h p = (refl, h)
 of_done c task (all_spans u) h p = record { provable = λ all. (refl, h); unprovable = λ not. absurd (not p) }
+of_done c task (both_spans s t) h p = record {
+  provable = λ all too. (refl, h);
+  first_unprovable = λ not. absurd (not p.0);
+  second_unprovable = λ all not. absurd (not p.1);
+}
 of_done c task (one_span u sp) h p = record { provable = λ here. (refl, h); unprovable = λ not. absurd (not p) }
 of_done c task (by_table u sp rows) h p = record {
   shared = λ m least. absurd (not_shared u sp m p.alone least);
@@ -69,6 +74,11 @@ of_first c task (all_spans u) name r h = record {
   provable = λ all. absurd (never_both u u.spans name r all h);
   unprovable = λ not. record { name = name; refusal = r; fault = refl; first = h };
 }
+of_first c task (both_spans s t) name r h = record {
+  provable = λ all too. absurd (never_both s s.spans name r all h);
+  first_unprovable = λ not. record { name = name; refusal = r; fault = refl; first = h };
+  second_unprovable = λ all not. absurd (never_both s s.spans name r all h);
+}
 of_first c task (one_span u sp) name r h = record {
   provable = λ here. absurd (not_both u sp r here h.1);
   unprovable = λ not. (r, h.1, ap (λ (n : List ℕ). Some (fault.Unproved n r)) (sym h.0));
@@ -84,10 +94,27 @@ of_refused : (c : Call) (j : Judged Task) (name : List ℕ) (r : Refusal) → If
 of_refused c (right task) name r h = of_first c task (need_of task) name r h
 of_refused c (wrong e) name r h = absurd h
 
+-- the first span of the second block that isn't provable
+of_second : (c : Call) (task : Task) (need : Need) (name : List ℕ) (r : Refusal) → IsSecondRefusedBy need name r → EndsByTask c task (Some (fault.SecondUnproved name r)) need
+of_second c task nothing name r h = absurd h
+of_second c task (all_spans u) name r h = absurd h
+of_second c task (both_spans s t) name r h = record {
+  provable = λ all too. absurd (never_both t t.spans name r too h.1);
+  first_unprovable = λ not. absurd (not h.0);
+  second_unprovable = λ all not. record { name = name; refusal = r; fault = refl; first = h.1 };
+}
+of_second c task (one_span u sp) name r h = absurd h
+of_second c task (by_table u sp rows) name r h = absurd h
+
+of_second_refused : (c : Call) (j : Judged Task) (name : List ℕ) (r : Refusal) → IfRight j (λ task. IsSecondRefusedBy (need_of task) name r) → EndsByFiles c j (Some (fault.SecondUnproved name r))
+of_second_refused c (right task) name r h = of_second c task (need_of task) name r h
+of_second_refused c (wrong e) name r h = absurd h
+
 -- the first flaw of a table
 of_flaw : (c : Call) (task : Task) (need : Need) (name : List ℕ) (flaw : Flaw) → IsFlawed need name flaw → EndsByTask c task (Some (fault.Flaw name flaw)) need
 of_flaw c task nothing name flaw h = absurd h
 of_flaw c task (all_spans u) name flaw h = absurd h
+of_flaw c task (both_spans s t) name flaw h = absurd h
 of_flaw c task (one_span u sp) name flaw h = absurd h
 of_flaw c task (by_table u sp rows) name flaw h = record {
   shared = λ m least. absurd (not_shared u sp m h.1.alone least);
@@ -124,6 +151,8 @@ ends_by_files (Some a) c f (Some (fault.Shelf role)) h told usage memory shelf o
     absurd (shelf (failed_rose (file_in a role) c.shelf_before c.shelf_after h.named))
 ends_by_files (Some a) c f (Some (fault.Unproved name r)) h told usage memory shelf out =
     of_refused c (judge f a) name r (of_told (λ g. IfRight (judge g a) (λ task. IsRefusedBy (need_of task) name r)) c.files f told h.first)
+ends_by_files (Some a) c f (Some (fault.SecondUnproved name r)) h told usage memory shelf out =
+    of_second_refused c (judge f a) name r (of_told (λ g. IfRight (judge g a) (λ task. IsSecondRefusedBy (need_of task) name r)) c.files f told h.first)
 ends_by_files (Some a) c f (Some (fault.Flaw name flaw)) h told usage memory shelf out =
     of_flawed c (judge f a) name flaw (of_told (λ g. IfRight (judge g a) (λ task. IsFlawed (need_of task) name flaw)) c.files f told h.first)
 ends_by_files (Some a) c f (Some fault.Out) h told usage memory shelf out = absurd (out h.rose)
@@ -131,17 +160,20 @@ ends_by_files (Some a) c f (Some (fault.TooLong role)) h told usage memory shelf
 ends_by_files (Some a) c f (Some (fault.Words line kind)) h told usage memory shelf out = of_faulty c f a _ told h.judged
 ends_by_files (Some a) c f (Some (fault.Source line kind)) h told usage memory shelf out = of_faulty c f a _ told h.judged
 ends_by_files (Some a) c f (Some (fault.Config key kind)) h told usage memory shelf out = of_faulty c f a _ told h.judged
+ends_by_files (Some a) c f (Some (fault.Second key kind)) h told usage memory shelf out = of_faulty c f a _ told h.judged
 ends_by_files (Some a) c f (Some (fault.Stim line kind)) h told usage memory shelf out = of_faulty c f a _ told h.judged
 ends_by_files (Some a) c f (Some (fault.Table line kind)) h told usage memory shelf out = of_faulty c f a _ told h.judged
 ends_by_files (Some a) c f (Some fault.NoSpan) h told usage memory shelf out = of_faulty c f a _ told h.judged
 ends_by_files None c f (Some (fault.Shelf role)) h told usage memory shelf out = absurd h
 ends_by_files None c f (Some (fault.Unproved name r)) h told usage memory shelf out = absurd h
+ends_by_files None c f (Some (fault.SecondUnproved name r)) h told usage memory shelf out = absurd h
 ends_by_files None c f (Some (fault.Flaw name flaw)) h told usage memory shelf out = absurd h
 ends_by_files None c f (Some fault.Out) h told usage memory shelf out = absurd h
 ends_by_files None c f (Some (fault.TooLong role)) h told usage memory shelf out = absurd h
 ends_by_files None c f (Some (fault.Words line kind)) h told usage memory shelf out = absurd h
 ends_by_files None c f (Some (fault.Source line kind)) h told usage memory shelf out = absurd h
 ends_by_files None c f (Some (fault.Config key kind)) h told usage memory shelf out = absurd h
+ends_by_files None c f (Some (fault.Second key kind)) h told usage memory shelf out = absurd h
 ends_by_files None c f (Some (fault.Stim line kind)) h told usage memory shelf out = absurd h
 ends_by_files None c f (Some (fault.Table line kind)) h told usage memory shelf out = absurd h
 ends_by_files None c f (Some fault.NoSpan) h told usage memory shelf out = absurd h

@@ -17,7 +17,7 @@ use Rattle.span_verdict.specs.declared.table_flaw.Flaw.{Flaw}
 use Rattle.file_stages.specs.Judged.{Judged, right, wrong}
 use Rattle.file_stages.specs.Stages.{HasSuch}
 use Rattle.span_stage.specs.Spans.{IsProvableAlone, AreProvable, IsRefused, IsFirstRefused}
-use Rattle.call_ends.specs.Needs.{Need, IsProvedBy, nothing, all_spans, one_span, by_table}
+use Rattle.call_ends.specs.Needs.{Need, IsProvedBy, nothing, all_spans, both_spans, one_span, by_table}
 use Rattle.call_ends.specs.Tasks.{Task, need_of, judge, HasText}
 use Rattle.call_ends.specs.Outside.{Call}
 use Rattle.commands.specs.Wanted.{wanted}
@@ -46,6 +46,20 @@ pub record EndsBySpans (c : Call) (task : Task) (found : Option Fault) (u : Setu
   pub provable : AreProvable u → IsDone c task found
   pub unprovable : (AreProvable u → ⊥) → IsUndone u found
 
+-- the fault of the first span of the second block that isn't provable
+pub record IsSecondUndone (t : Setup) (found : Option Fault) : Type 0 where
+  pub name : List ℕ
+  pub refusal : Refusal
+  pub fault : found ≡ Some (fault.SecondUnproved name refusal)
+  pub first : IsFirstRefused t t.spans name refusal
+
+-- where each span of both blocks is provable, all is done; where one isn't, the first such one is told, the first block's before the
+-- second's
+pub record EndsByBoth (c : Call) (task : Task) (found : Option Fault) (s t : Setup) : Type 0 where
+  pub provable : AreProvable s → AreProvable t → IsDone c task found
+  pub first_unprovable : (AreProvable s → ⊥) → IsUndone s found
+  pub second_unprovable : AreProvable s → (AreProvable t → ⊥) → IsSecondUndone t found
+
 -- where the span is provable, all is done; where it isn't, the fault tells why
 pub record EndsBySpan (c : Call) (task : Task) (found : Option Fault) (u : Setup) (sp : Span) : Type 0 where
   pub provable : IsProvableAlone u sp → IsDone c task found
@@ -68,6 +82,7 @@ pub record EndsByTable (c : Call) (task : Task) (found : Option Fault) (u : Setu
 abbrev pub EndsByTask : Call → Task → Option Fault → Need → Type 0
 EndsByTask c task found nothing = IsDone c task found
 EndsByTask c task found (all_spans u) = EndsBySpans c task found u
+EndsByTask c task found (both_spans s t) = EndsByBoth c task found s t
 EndsByTask c task found (one_span u sp) = EndsBySpan c task found u sp
 EndsByTask c task found (by_table u sp rows) = EndsByTable c task found u sp rows
 

@@ -16,13 +16,14 @@ use command_gen::generate;
 use command_line::{Order, WordsFault, read};
 use command_listing::{asm, dis};
 use command_measure::measure;
+use command_pair::pair;
 use command_receive::{SerialLine, receive};
 use command_run::run;
 use command_shares::shares;
 use command_table::{recheck, table};
 use command_uart::uart;
 use fault_lines::{Ended, Fault, end_with};
-use file_stages::RunFiles;
+use file_stages::{PairFiles, RunFiles};
 use pio_edge::{Shelf, Sink};
 use std::alloc::Global;
 use std::sync::ledger::Ledger;
@@ -168,5 +169,20 @@ fn obey<F: Shelf, O: Sink, L: Ledger>(
             divider,
             clocks,
         } => uart(alloc, send, divider, clocks, shelf, out, steps),
+        Order::Pair {
+            source,
+            config,
+            second,
+            stimulus,
+            clocks,
+        } => {
+            let files = PairFiles {
+                source,
+                config,
+                second,
+                stimulus,
+            };
+            pair(alloc, files, clocks, shelf, out, steps)
+        }
     }
 }

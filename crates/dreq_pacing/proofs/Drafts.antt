@@ -1,5 +1,5 @@
 -- What a reader keeps of the lines, one line on.
-use Rattle.std.proofs.Common.{◌≡◌, ℕ, ◌<◌, ◌≤◌, ◌==◌, Bool, true, false, ◌||◌, ◌&&◌, Option, Some, None, List, [], ◌∷◌, ◌++◌, length, refl, sym, ap, subst, ◌∙◌, inl, inr, arith}
+use Rattle.std.proofs.Common.{◌≡◌, ℕ, ◌<◌, ◌≤◌, ◌==◌, Bool, true, false, ◌||◌, ◌&&◌, Option, Some, None, List, [], ◌∷◌, ◌++◌, length, refl, sym, ap, subst, ◌∙◌, inl, inr, replicate, arith}
 use Rattle.std.specs.Prelude.{slice_index_or, slice_set, IfSome}
 use Rattle.std.specs.List.{AllByRecursion, list_any}
 use Rattle.std.proofs.lemmas.Bool.{cases_lt, cases_eq}
@@ -9,7 +9,7 @@ use Rattle.std.proofs.lemmas.List.Folds.{list_any-append}
 use Rattle.dreq_pacing.specs.declared.line.Line.{Line}
 use Rattle.dreq_pacing.specs.declared.line.Act.{Act}
 use Rattle.dreq_pacing.specs.declared.line.Act.TheVariants.{Pin, Tx, Rx, Feed, Drain, Enable, Disable, Restart}
-use Rattle.dreq_pacing.specs.Lines.{IsLine, IsAct, IsSchedule, MayPrecede, is_place, is_transfer, is_access, transfer_of, access_of, has_transfer, has_access, is_crowded}
+use Rattle.dreq_pacing.specs.Lines.{IsLineOf, IsActOf, IsScheduleOf, MayPrecede, is_place, is_transfer, is_access, transfer_of, access_of, has_transfer, has_access, is_crowded}
 use Rattle.dreq_pacing.specs.Drafts.{IsDraft, taken_at, marked, still_taken}
 
 all-append : (P : Line → Type 0) (ls : List Line) (l : Line) → AllByRecursion P ls → P l → AllByRecursion P (ls ++ l ∷ [])
@@ -29,38 +29,49 @@ or_false true b e = absurd (cc)
 or_false false b e = (refl, e)
 
 -- a place of a transfer is taken where the file has it
-pub transfer_taken : (o : Option ℕ) (lines : List Line) (clock : ℕ) (transfers accesses : List Bool) → IsDraft lines clock transfers accesses → IfSome o (λ p. p < 8) → taken_at o transfers ≡ has_transfer o lines
-transfer_taken None lines clock transfers accesses d h = refl
-transfer_taken (Some p) lines clock transfers accesses d h = d.transfer p h
+pub transfer_taken : (o : Option ℕ) (machines : ℕ) (lines : List Line) (clock : ℕ) (transfers accesses : List Bool) → IsDraft machines lines clock transfers accesses → IfSome o (λ p. p < 16) → taken_at o transfers ≡ has_transfer o lines
+transfer_taken None machines lines clock transfers accesses d h = refl
+transfer_taken (Some p) machines lines clock transfers accesses d h = d.transfer p h
 
 -- a place of an access is taken where the clock has it
-pub access_taken : (o : Option ℕ) (lines : List Line) (clock : ℕ) (transfers accesses : List Bool) → IsDraft lines clock transfers accesses → IfSome o (λ p. p < 16) → taken_at o accesses ≡ has_access o clock lines
-access_taken None lines clock transfers accesses d h = refl
-access_taken (Some p) lines clock transfers accesses d h = d.access p h
+pub access_taken : (o : Option ℕ) (machines : ℕ) (lines : List Line) (clock : ℕ) (transfers accesses : List Bool) → IsDraft machines lines clock transfers accesses → IfSome o (λ p. p < 32) → taken_at o accesses ≡ has_access o clock lines
+access_taken None machines lines clock transfers accesses d h = refl
+access_taken (Some p) machines lines clock transfers accesses d h = d.access p h
 
 pub access_none : (o : Option ℕ) (lines : List Line) (last clock : ℕ) → last < clock → AllByRecursion (λ l. l.clock ≤ last) lines → false ≡ has_access o clock lines
 access_none None lines last clock lt h = refl
 access_none (Some p) lines last clock lt h = sym (none_later p clock last lines lt h)
 
-pub transfer_below : (a : Act) → IsAct a → IfSome (transfer_of a) (λ p. p < 8)
+-- what may be done beside fewer machines may be done beside more
+pub wider : (a : Act) (machines more : ℕ) → IsActOf machines a → machines ≤ more → IsActOf more a
+wider (Pin p v) machines more h le = h
+wider (Tx m w) machines more h le = omega arith
+wider (Rx m) machines more h le = omega arith
+wider (Feed m e ws) machines more h le = ((let k : m < machines = h.0 in omega arith), h.1, h.2, h.3)
+wider (Drain m e) machines more h le = ((let k : m < machines = h.0 in omega arith), h.1, h.2)
+wider (Enable m) machines more h le = omega arith
+wider (Disable m) machines more h le = omega arith
+wider (Restart m) machines more h le = omega arith
+
+pub transfer_below : (a : Act) → IsActOf 8 a → IfSome (transfer_of a) (λ p. p < 16)
 transfer_below (Pin p v) h = tt
 transfer_below (Tx m w) h = tt
 transfer_below (Rx m) h = tt
-transfer_below (Feed m e ws) h = (let k : m < 4 = h.0 in omega arith)
-transfer_below (Drain m e) h = (let k : m < 4 = h.0 in omega arith)
+transfer_below (Feed m e ws) h = (let k : m < 8 = h.0 in omega arith)
+transfer_below (Drain m e) h = (let k : m < 8 = h.0 in omega arith)
 transfer_below (Enable m) h = tt
 transfer_below (Disable m) h = tt
 transfer_below (Restart m) h = tt
 
-pub access_below : (a : Act) → IsAct a → IfSome (access_of a) (λ p. p < 16)
+pub access_below : (a : Act) → IsActOf 8 a → IfSome (access_of a) (λ p. p < 32)
 access_below (Pin p v) h = tt
-access_below (Tx m w) h = (let k : m < 4 = h in omega arith)
-access_below (Rx m) h = (let k : m < 4 = h in omega arith)
+access_below (Tx m w) h = (let k : m < 8 = h in omega arith)
+access_below (Rx m) h = (let k : m < 8 = h in omega arith)
 access_below (Feed m e ws) h = tt
 access_below (Drain m e) h = tt
-access_below (Enable m) h = (let k : m < 4 = h in omega arith)
-access_below (Disable m) h = (let k : m < 4 = h in omega arith)
-access_below (Restart m) h = (let k : m < 4 = h in omega arith)
+access_below (Enable m) h = (let k : m < 8 = h in omega arith)
+access_below (Disable m) h = (let k : m < 8 = h in omega arith)
+access_below (Restart m) h = (let k : m < 8 = h in omega arith)
 
 or_end : (a : Bool) → (a || false) ≡ a
 or_end true = refl
@@ -86,9 +97,9 @@ marked-at (Some p) taken place h =
     ]
 
 -- the schedule with one line more
-schedule-append : (ls : List Line) (l : Line) → IsSchedule ls → IsLine l → AllByRecursion (λ k. MayPrecede k l) ls → IsSchedule (ls ++ l ∷ [])
-schedule-append [] l s fine h = (fine, tt, tt)
-schedule-append (k ∷ ks) l s fine h = (s.0, all-append (MayPrecede k) ks l s.1 h.0, schedule-append ks l s.2 fine h.1)
+schedule-append : (machines : ℕ) (ls : List Line) (l : Line) → IsScheduleOf machines ls → IsLineOf machines l → AllByRecursion (λ k. MayPrecede k l) ls → IsScheduleOf machines (ls ++ l ∷ [])
+schedule-append machines [] l s fine h = (fine, tt, tt)
+schedule-append machines (k ∷ ks) l s fine h = (s.0, all-append (MayPrecede k) ks l s.1 h.0, schedule-append machines ks l s.2 fine h.1)
 
 parts : (a b : Bool) (x : Bool) → ((a || false) || x) ≡ (a || x)
 parts true b x = refl
@@ -124,19 +135,19 @@ latest-moved [] last clock le h = tt
 latest-moved (k ∷ ks) last clock le h = ((let low : k.clock ≤ last = h.0 in omega arith), latest-moved ks last clock le h.1)
 
 -- the accesses that still count are those of the clock
-still : (lines : List Line) (clock : ℕ) (transfers accesses : List Bool) (c : ℕ) → IsDraft lines clock transfers accesses → clock ≤ c → (place : ℕ) → place < 16 → slice_index_or (still_taken (c == clock) accesses) place false ≡ list_any (is_access place c) lines
-still lines clock transfers accesses c d le place lt =
+still : (machines : ℕ) (lines : List Line) (clock : ℕ) (transfers accesses : List Bool) (c : ℕ) → IsDraft machines lines clock transfers accesses → clock ≤ c → (place : ℕ) → place < 32 → slice_index_or (still_taken (c == clock) accesses) place false ≡ list_any (is_access place c) lines
+still machines lines clock transfers accesses c d le place lt =
     elim (cases_lt clock c) [
       | inl later ↦ (let no : (c == clock) ≡ false = grind (arith, nat_tests) in
           ap (λ (b : Bool). slice_index_or (still_taken b accesses) place false) no
-          ∙ (get_or-replicate 16 place false false lt ∙ sym (none_later place c clock lines later d.latest)))
+          ∙ (get_or-replicate 32 place false false lt ∙ sym (none_later place c clock lines later d.latest)))
       | inr ge ↦ (let same : clock ≡ c = omega arith in
           let yes : (c == clock) ≡ true = grind (arith, nat_tests) in
           ap (λ (b : Bool). slice_index_or (still_taken b accesses) place false) yes
           ∙ (d.access place lt ∙ ap (λ (n : ℕ). list_any (is_access place n) lines) same))
     ]
 
-still-length : (b : Bool) (accesses : List Bool) → length accesses ≡ 16 → length (still_taken b accesses) ≡ 16
+still-length : (b : Bool) (accesses : List Bool) → length accesses ≡ 32 → length (still_taken b accesses) ≡ 32
 still-length true accesses e = e
 still-length false accesses e = refl
 
@@ -145,22 +156,38 @@ some-along None m n e h = tt
 some-along (Some p) m n e h = omega arith
 
 -- one line more
-pub draft_on : (lines : List Line) (clock : ℕ) (transfers accesses : List Bool) (l : Line) → IsDraft lines clock transfers accesses → IsLine l → clock ≤ l.clock → is_crowded lines l ≡ false → length transfers ≡ 8 → length accesses ≡ 16 → IsDraft (lines ++ l ∷ []) l.clock (marked (transfer_of l.act) transfers) (marked (access_of l.act) (still_taken (l.clock == clock) accesses))
-draft_on lines clock transfers accesses l d fine le apart lt la =
+pub draft_on : (machines : ℕ) (lines : List Line) (clock : ℕ) (transfers accesses : List Bool) (l : Line) → IsDraft machines lines clock transfers accesses → IsLineOf machines l → clock ≤ l.clock → is_crowded lines l ≡ false → length transfers ≡ 16 → length accesses ≡ 32 → IsDraft machines (lines ++ l ∷ []) l.clock (marked (transfer_of l.act) transfers) (marked (access_of l.act) (still_taken (l.clock == clock) accesses))
+draft_on machines lines clock transfers accesses l d fine le apart lt la =
     let t = transfer_of l.act in
     let a = access_of l.act in
     let kept = still_taken (l.clock == clock) accesses in
+    let wide = wider l.act machines 8 fine.act d.most in
     record {
-      schedule = schedule-append lines l d.schedule fine (precedes lines clock l d.latest le apart);
+      some = d.some;
+      most = d.most;
+      schedule = schedule-append machines lines l d.schedule fine (precedes lines clock l d.latest le apart);
       latest = all-append (λ k. k.clock ≤ l.clock) lines l (latest-moved lines clock l.clock le d.latest) (omega arith);
       transfer = λ place below.
-          marked-at t transfers place (some-along t 8 (length transfers) (sym lt) (transfer_below l.act fine.act))
+          marked-at t transfers place (some-along t 16 (length transfers) (sym lt) (transfer_below l.act wide))
           ∙ (ap (λ (b : Bool). b || is_place place t) (d.transfer place below)
           ∙ sym (list_any-append (is_transfer place) lines (l ∷ []) ∙ ap (λ (b : Bool). list_any (is_transfer place) lines || b) (or_end (is_place place t))));
       access = λ place below.
           let here : (l.clock == l.clock) ≡ true = grind (arith, nat_tests) in
-          marked-at a kept place (some-along a 16 (length kept) (sym (still-length (l.clock == clock) accesses la)) (access_below l.act fine.act))
-          ∙ (ap (λ (b : Bool). b || is_place place a) (still lines clock transfers accesses l.clock d le place below)
+          marked-at a kept place (some-along a 32 (length kept) (sym (still-length (l.clock == clock) accesses la)) (access_below l.act wide))
+          ∙ (ap (λ (b : Bool). b || is_place place a) (still machines lines clock transfers accesses l.clock d le place below)
           ∙ sym (list_any-append (is_access place l.clock) lines (l ∷ [])
           ∙ ap (λ (b : Bool). list_any (is_access place l.clock) lines || b) (or_end (is_access place l.clock l) ∙ ap (λ (b : Bool). b && is_place place a) here)));
     }
+
+-- no line so far
+pub first_is : (machines : ℕ) (lines : List Line) → lines ≡ [] → 1 ≤ machines → machines ≤ 8 → IsDraft machines lines 0 (replicate 16 false) (replicate 32 false)
+first_is machines lines empty some most =
+    let P : List Line → Type 0 = λ ls. IsDraft machines ls 0 (replicate 16 false) (replicate 32 false) in
+    subst P (sym empty) (record {
+      some = some;
+      most = most;
+      schedule = tt;
+      latest = tt;
+      transfer = λ place below. get_or-replicate 16 place false false below;
+      access = λ place below. get_or-replicate 32 place false false below;
+    })

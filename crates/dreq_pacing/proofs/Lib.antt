@@ -4,6 +4,7 @@ pub mod Numbers
 pub mod Parts
 pub mod Forms
 pub mod Drafts
+pub mod BlockLines
 pub mod Readings
 pub mod QuietClocks
 pub mod FeedOrder

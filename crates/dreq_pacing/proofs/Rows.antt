@@ -4,6 +4,8 @@ use Rattle.dreq_pacing.specs.declared.line.Line.{Line}
 use Rattle.dreq_pacing.specs.declared.line.Act.TheVariants.{Pin, Tx, Feed}
 use Rattle.dreq_pacing.specs.declared.due.Due.{Due}
 use Rattle.dreq_pacing.specs.declared.due.Requests.{Requests}
+use Rattle.dreq_pacing.specs.Lines.{is_crowded}
+use Rattle.dreq_pacing.specs.Blocks.{pair_of}
 use Rattle.dreq_pacing.specs.Due.{quiet}
 use Rattle.dreq_pacing.specs.Ports.{due_in, transfers_after, transfers_at, due_at}
 
@@ -64,3 +66,19 @@ row_down = refl
 pin_row : due_at (record { clock = 0; act = Pin 3 true } ∷ record { clock = 0; act = Pin 3 false } ∷ record { clock = 0; act = Pin 4 true } ∷ []) (λ c. none_up) 0 ≡ record quiet { pins = 24; values = 16 }
 unfolding due_at due_in transfers_at transfers_after
 pin_row = refl
+
+-- of two blocks each has its own machines' lines and both have the pins'
+pair_row : pair_of (record { clock = 0; act = Pin 3 true } ∷ record { clock = 1; act = Tx 3 9 } ∷ record { clock = 1; act = Tx 4 8 } ∷ record { clock = 2; act = Feed 7 3 (5 ∷ []) } ∷ [])
+    ≡ (
+      record { clock = 0; act = Pin 3 true } ∷ record { clock = 1; act = Tx 3 9 } ∷ [],
+      record { clock = 0; act = Pin 3 true } ∷ record { clock = 1; act = Tx 0 8 } ∷ record { clock = 2; act = Feed 3 3 (5 ∷ []) } ∷ [],
+    )
+pair_row = refl
+
+-- machines 0 and 4 don't crowd each other
+places_row : is_crowded (record { clock = 0; act = Tx 0 1 } ∷ []) (record { clock = 0; act = Tx 4 1 }) ≡ false
+places_row = refl
+
+-- a machine crowds itself
+place_row : is_crowded (record { clock = 0; act = Tx 4 1 } ∷ []) (record { clock = 0; act = Tx 4 2 }) ≡ true
+place_row = refl

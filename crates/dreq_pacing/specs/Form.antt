@@ -1,9 +1,9 @@
 -- What the fields of a line say: first its form, then the ranges of its numbers (choice of this profile).
 --   verb_of   the word after the clock
 --   has_form  that all other fields are numbers, and as many as the word wants
---   act_of    what the numbers say, where they are in their ranges
+--   act_of    what the numbers say, where they are in their ranges: machines are below so many
 --   line_of   the line, or what is wrong with it
-use Rattle.std.specs.Prelude.{ℕ, ◌==◌, ◌&&◌, min, Bool, Option, Some, None, option_and_then, List, [], ◌∷◌, drop, slice_get, length, Result, Ok, Err, if◌then◌else◌, codes}
+use Rattle.std.specs.Prelude.{ℕ, ◌-◌, ◌==◌, ◌&&◌, min, Bool, Option, Some, None, option_and_then, List, [], ◌∷◌, drop, slice_get, length, Result, Ok, Err, if◌then◌else◌, codes}
 use Rattle.std.specs.List.{list_all}
 use Rattle.std.specs.Str.{bytes_eq}
 use Rattle.answers.specs.Steps.{◌>>=◌}
@@ -62,6 +62,10 @@ abbrev pub number : ℕ → ℕ → Option (List ℕ) → Option ℕ
 number low high None = None
 number low high (Some field) = in_range low high field
 
+-- the machine of a field, where there is one of so many
+abbrev pub machine : ℕ → Option (List ℕ) → Option ℕ
+machine machines field = number 0 (machines - 1) field
+
 -- the words that some fields are
 abbrev pub all_words : List (List ℕ) → Option (List ℕ)
 all_words [] = Some []
@@ -87,61 +91,61 @@ pin_act pin level = do
   Some (act.Pin p (l == 1))
 
 -- a word written to a TX FIFO
-abbrev pub tx_act : Option (List ℕ) → Option (List ℕ) → Option Act
-tx_act machine word = do
-  m ← number 0 3 machine
+abbrev pub tx_act : ℕ → Option (List ℕ) → Option (List ℕ) → Option Act
+tx_act machines field word = do
+  m ← machine machines field
   w ← number 0 greatest_word word
   Some (act.Tx m w)
 
 -- a read of an RX FIFO
-abbrev pub rx_act : Option (List ℕ) → Option Act
-rx_act machine = do
-  m ← number 0 3 machine
+abbrev pub rx_act : ℕ → Option (List ℕ) → Option Act
+rx_act machines field = do
+  m ← machine machines field
   Some (act.Rx m)
 
 -- a transfer of words to a TX FIFO, at most one in so many clocks
-abbrev pub feed_act : Option (List ℕ) → Option (List ℕ) → List (List ℕ) → Option Act
-feed_act machine every words = do
-  m ← number 0 3 machine
+abbrev pub feed_act : ℕ → Option (List ℕ) → Option (List ℕ) → List (List ℕ) → Option Act
+feed_act machines field every words = do
+  m ← machine machines field
   e ← number 1 longest_period every
   ws ← words_of words
   Some (act.Feed m e ws)
 
 -- a transfer out of an RX FIFO, at most one in so many clocks
-abbrev pub drain_act : Option (List ℕ) → Option (List ℕ) → Option Act
-drain_act machine every = do
-  m ← number 0 3 machine
+abbrev pub drain_act : ℕ → Option (List ℕ) → Option (List ℕ) → Option Act
+drain_act machines field every = do
+  m ← machine machines field
   e ← number 1 longest_period every
   Some (act.Drain m e)
 
 -- a machine is enabled
-abbrev pub enable_act : Option (List ℕ) → Option Act
-enable_act machine = do
-  m ← number 0 3 machine
+abbrev pub enable_act : ℕ → Option (List ℕ) → Option Act
+enable_act machines field = do
+  m ← machine machines field
   Some (act.Enable m)
 
 -- a machine is disabled
-abbrev pub disable_act : Option (List ℕ) → Option Act
-disable_act machine = do
-  m ← number 0 3 machine
+abbrev pub disable_act : ℕ → Option (List ℕ) → Option Act
+disable_act machines field = do
+  m ← machine machines field
   Some (act.Disable m)
 
 -- a machine's divider is restarted
-abbrev pub restart_act : Option (List ℕ) → Option Act
-restart_act machine = do
-  m ← number 0 3 machine
+abbrev pub restart_act : ℕ → Option (List ℕ) → Option Act
+restart_act machines field = do
+  m ← machine machines field
   Some (act.Restart m)
 
 -- what the fields after the word say, where they are in their ranges
-abbrev pub act_of : Verb → List (List ℕ) → Option Act
-act_of verb.Pin args = pin_act (slice_get args 0) (slice_get args 1)
-act_of verb.Tx args = tx_act (slice_get args 0) (slice_get args 1)
-act_of verb.Rx args = rx_act (slice_get args 0)
-act_of verb.Feed args = feed_act (slice_get args 0) (slice_get args 1) (drop 2 args)
-act_of verb.Drain args = drain_act (slice_get args 0) (slice_get args 1)
-act_of verb.Enable args = enable_act (slice_get args 0)
-act_of verb.Disable args = disable_act (slice_get args 0)
-act_of verb.Restart args = restart_act (slice_get args 0)
+abbrev pub act_of : ℕ → Verb → List (List ℕ) → Option Act
+act_of machines verb.Pin args = pin_act (slice_get args 0) (slice_get args 1)
+act_of machines verb.Tx args = tx_act machines (slice_get args 0) (slice_get args 1)
+act_of machines verb.Rx args = rx_act machines (slice_get args 0)
+act_of machines verb.Feed args = feed_act machines (slice_get args 0) (slice_get args 1) (drop 2 args)
+act_of machines verb.Drain args = drain_act machines (slice_get args 0) (slice_get args 1)
+act_of machines verb.Enable args = enable_act machines (slice_get args 0)
+act_of machines verb.Disable args = disable_act machines (slice_get args 0)
+act_of machines verb.Restart args = restart_act machines (slice_get args 0)
 
 -- the line of a clock, where all is in its range
 abbrev pub ranged : Option ℕ → Option Act → Result Line StimKind
@@ -150,17 +154,17 @@ ranged (Some clock) None = Err Range
 ranged (Some clock) (Some act) = Ok (record { clock = clock; act = act })
 
 -- the line with a word, or what is wrong with it
-abbrev pub line_by : Verb → List ℕ → List (List ℕ) → Result Line StimKind
-line_by verb clock args =
-    if has_form verb clock args then ranged (in_range 0 last_clock clock) (act_of verb args) else Err BadLine
+abbrev pub line_by : ℕ → Verb → List ℕ → List (List ℕ) → Result Line StimKind
+line_by machines verb clock args =
+    if has_form verb clock args then ranged (in_range 0 last_clock clock) (act_of machines verb args) else Err BadLine
 
 -- the same where there is a word
-abbrev pub line_with : Option Verb → List ℕ → List (List ℕ) → Result Line StimKind
-line_with None clock args = Err BadLine
-line_with (Some verb) clock args = line_by verb clock args
+abbrev pub line_with : ℕ → Option Verb → List ℕ → List (List ℕ) → Result Line StimKind
+line_with machines None clock args = Err BadLine
+line_with machines (Some verb) clock args = line_by machines verb clock args
 
--- the line that fields are, in a file of version 2 or not
-abbrev pub line_of : Bool → List (List ℕ) → Result Line StimKind
-line_of two [] = Err BadLine
-line_of two (clock ∷ []) = Err BadLine
-line_of two (clock ∷ name ∷ args) = line_with (verb_of two name) clock args
+-- the line that fields are, beside so many machines, in a file of version 2 or not
+abbrev pub line_of : ℕ → Bool → List (List ℕ) → Result Line StimKind
+line_of machines two [] = Err BadLine
+line_of machines two (clock ∷ []) = Err BadLine
+line_of machines two (clock ∷ name ∷ args) = line_with machines (verb_of two name) clock args

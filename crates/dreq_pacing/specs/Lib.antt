@@ -8,4 +8,5 @@ pub mod Number
 pub mod Form
 pub mod Drafts
 pub mod Reading
+pub mod Blocks
 pub mod Fault

@@ -3,6 +3,8 @@
 --   IsLine      a line in its ranges
 --   lines_in    the lines of a clock
 --   IsSchedule  a list of lines that may be a stimulus
+-- A block has four machines. Two blocks on the same pins share a stimulus that is read as one of eight machines, so the words
+-- `IsActOf`, `IsLineOf` and `IsScheduleOf` have the number of machines.
 use Rattle.std.specs.Prelude.{◌≡◌, ℕ, ◌+◌, ◌<◌, ◌≤◌, ◌==◌, ◌&&◌, ◌||◌, Bool, true, false, Option, Some, None, List, [], ◌∷◌, length, if◌then◌else◌}
 use Rattle.std.specs.List.{AllByRecursion, list_any}
 use Rattle.dreq_pacing.specs.declared.line.Act.{Act}
@@ -17,26 +19,35 @@ last_clock = 1000000000000
 abbrev pub longest_period : ℕ
 longest_period = 1000000
 
--- what a line may do: pins are 0 to 31, machines 0 to 3, periods 1 to 1,000,000, and a feed has a word
+-- what a line may do beside so many machines: pins are 0 to 31, machines below their number, periods 1 to 1,000,000, and a feed
+-- has a word
+abbrev pub IsActOf : ℕ → Act → Type 0
+IsActOf machines (Pin pin level) = pin < 32
+IsActOf machines (Tx machine word) = machine < machines
+IsActOf machines (Rx machine) = machine < machines
+IsActOf machines (Feed machine every words) = (machine < machines) × (1 ≤ every) × (every ≤ longest_period) × (1 ≤ length words)
+IsActOf machines (Drain machine every) = (machine < machines) × (1 ≤ every) × (every ≤ longest_period)
+IsActOf machines (Enable machine) = machine < machines
+IsActOf machines (Disable machine) = machine < machines
+IsActOf machines (Restart machine) = machine < machines
+
+-- what a line may do beside one block, whose machines are 0 to 3
 abbrev pub IsAct : Act → Type 0
-IsAct (Pin pin level) = pin < 32
-IsAct (Tx machine word) = machine < 4
-IsAct (Rx machine) = machine < 4
-IsAct (Feed machine every words) = (machine < 4) × (1 ≤ every) × (every ≤ longest_period) × (1 ≤ length words)
-IsAct (Drain machine every) = (machine < 4) × (1 ≤ every) × (every ≤ longest_period)
-IsAct (Enable machine) = machine < 4
-IsAct (Disable machine) = machine < 4
-IsAct (Restart machine) = machine < 4
+IsAct a = IsActOf 4 a
 
--- A line in its ranges.
-pub record IsLine (l : Line) : Type 0 where
+-- A line in its ranges, beside so many machines.
+pub record IsLineOf (machines : ℕ) (l : Line) : Type 0 where
   pub in_time : l.clock ≤ last_clock
-  pub act : IsAct l.act
+  pub act : IsActOf machines l.act
 
--- the place of a transfer among those of a file: each machine may have one feed and one drain
+-- a line in its ranges, beside one block
+abbrev pub IsLine : Line → Type 0
+IsLine l = IsLineOf 4 l
+
+-- the place of a transfer among those of a file: each machine, of eight at most, may have one feed and one drain
 abbrev pub transfer_of : Act → Option ℕ
 transfer_of (Feed machine every words) = Some machine
-transfer_of (Drain machine every) = Some (4 + machine)
+transfer_of (Drain machine every) = Some (8 + machine)
 transfer_of (Pin pin level) = None
 transfer_of (Tx machine word) = None
 transfer_of (Rx machine) = None
@@ -44,14 +55,14 @@ transfer_of (Enable machine) = None
 transfer_of (Disable machine) = None
 transfer_of (Restart machine) = None
 
--- the place of another access among those of a clock: each machine may have one word, one read, one enabling or disabling, and
--- one restart
+-- the place of another access among those of a clock: each machine, of eight at most, may have one word, one read, one enabling
+-- or disabling, and one restart
 abbrev pub access_of : Act → Option ℕ
 access_of (Tx machine word) = Some machine
-access_of (Rx machine) = Some (4 + machine)
-access_of (Enable machine) = Some (8 + machine)
-access_of (Disable machine) = Some (8 + machine)
-access_of (Restart machine) = Some (12 + machine)
+access_of (Rx machine) = Some (8 + machine)
+access_of (Enable machine) = Some (16 + machine)
+access_of (Disable machine) = Some (16 + machine)
+access_of (Restart machine) = Some (24 + machine)
 access_of (Pin pin level) = None
 access_of (Feed machine every words) = None
 access_of (Drain machine every) = None
@@ -88,10 +99,14 @@ pub record MayPrecede (l k : Line) : Type 0 where
   pub in_order : l.clock ≤ k.clock
   pub apart : is_crowded (l ∷ []) k ≡ false
 
--- A stimulus: lines in their ranges, of which each may be in front of those after it.
+-- A stimulus of so many machines: lines in their ranges, of which each may be in front of those after it.
+abbrev pub IsScheduleOf : ℕ → List Line → Type 0
+IsScheduleOf machines [] = Unit {0}
+IsScheduleOf machines (l ∷ lines) = IsLineOf machines l × AllByRecursion (MayPrecede l) lines × IsScheduleOf machines lines
+
+-- a stimulus of one block
 abbrev pub IsSchedule : List Line → Type 0
-IsSchedule [] = Unit {0}
-IsSchedule (l ∷ lines) = IsLine l × AllByRecursion (MayPrecede l) lines × IsSchedule lines
+IsSchedule lines = IsScheduleOf 4 lines
 
 -- the lines of a clock, in their order
 abbrev pub lines_in : ℕ → List Line → List Line

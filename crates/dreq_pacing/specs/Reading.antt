@@ -2,7 +2,8 @@
 --   Refusal      a fault with its line
 --   version_of   the version that a version line tells
 --   after_line   a reader after one more line
---   stimulus_of  the lines of a text, or its first fault
+--   read_of      the lines of a text whose machines are below so many, or its first fault
+--   stimulus_of  the lines of a text for one block, or its first fault
 use Rattle.std.specs.Prelude.{ℕ, ◌+◌, ◌==◌, ◌&&◌, nat_lt, Bool, false, Option, Some, None, List, [], ◌∷◌, Result, Ok, Err, map, if◌then◌else◌, codes}
 use Rattle.std.specs.Str.{bytes_eq}
 use Rattle.byte_lines.specs.Lines.{lines_of}
@@ -27,8 +28,8 @@ abbrev pub most_lines : ℕ
 most_lines = 1000000
 
 -- nothing is read: without a version line the file is of version 1
-abbrev pub first_reader : Reader
-first_reader = record { count = 0; two = false; draft = first_draft }
+abbrev pub first_reader : ℕ → Reader
+first_reader machines = record { count = 0; two = false; draft = first_draft machines }
 
 -- whether a version is 2
 abbrev pub is_two : Option ℕ → Result Bool StimKind
@@ -63,7 +64,7 @@ after_line r [] = Ok r
 after_line r (field ∷ fields) =
     if nat_lt r.count most_lines then
     (if r.count == 0 && bytes_eq field (codes "version") then with_version r (version_of fields)
-    else with_said r (line_of r.two (field ∷ fields)))
+    else with_said r (line_of r.draft.machines r.two (field ∷ fields)))
     else Err Many
 
 -- the lines of a reader after lines with these fields, or the first fault; the first of them has this number
@@ -74,9 +75,13 @@ lines_from number r (fields ∷ rest) = elim (after_line r fields) [
   | Err kind ↦ Err (record { line = number; kind = kind })
 ]
 
--- The lines of a text, or its first fault.
+-- The lines of a text whose machines are below so many, or its first fault.
+unfoldable pub read_of : ℕ → List ℕ → Result (List Line) Refusal
+read_of machines text = lines_from 1 (first_reader machines) (map fields_of (lines_of text))
+
+-- the lines of a text for one block, whose machines are 0 to 3, or its first fault
 unfoldable pub stimulus_of : List ℕ → Result (List Line) Refusal
-stimulus_of text = lines_from 1 first_reader (map fields_of (lines_of text))
+stimulus_of text = read_of 4 text
 
 -- the fault that is told, nothing where memory ran out
 abbrev pub told : StimFault → Option Refusal

@@ -1,6 +1,6 @@
 //! What a line's fields after its word say, where they are in their ranges (choice of this profile).
-ghost use Rattle.std.specs.Prelude.{◌≡◌, ◌≤◌, IfOk, IfSome, length, option_copied, option_map};
-ghost use Rattle.dreq_pacing.specs.Lines.{IsAct};
+ghost use Rattle.std.specs.Prelude.{◌≡◌, ℕ, ◌≤◌, ◌<◌, IfOk, IfSome, length, option_copied, option_map};
+ghost use Rattle.dreq_pacing.specs.Lines.{IsActOf};
 ghost use Rattle.dreq_pacing.specs.Form as spec;
 
 use crate::fields::Fields;
@@ -9,64 +9,75 @@ use crate::number::in_range;
 use crate::verb::Verb;
 use std::alloc::{AllocError, Global};
 
-/// What the fields say, unless one is missing or outside its range. The error is want of memory.
+/// What the fields say beside so many machines, unless one is missing or outside its range. The error is want of
+/// memory.
 #[tactic(auto, using(crate::proofs::Forms::second_field, crate::proofs::Forms::after_two))]
-pub fn read_act(alloc: Global, verb: Verb, args: &Fields) -> Result<Option<Act>, AllocError>
-    ensures value { IfOk result (λ act. act ≡ spec.act_of verb args.now) }
-    ensures range { IfOk result (λ act. IfSome act IsAct) }
+pub fn read_act(
+    alloc: Global,
+    machines: u8,
+    verb: Verb,
+    args: &Fields,
+) -> Result<Option<Act>, AllocError>
+    requires { 1 ≤ machines }
+    ensures value { IfOk result (λ act. act ≡ spec.act_of machines verb args.now) }
+    ensures range { IfOk result (λ act. IfSome act (IsActOf machines)) }
 {
     let mut rest = args.again();
     let first = rest.next();
     let second = rest.next();
     match verb {
         Verb::Pin => Ok(read_pin(first, second)),
-        Verb::Tx => Ok(read_tx(first, second)),
-        Verb::Rx => Ok(read_rx(first)),
-        Verb::Feed => read_feed(alloc, first, second, &rest),
-        Verb::Drain => Ok(read_drain(first, second)),
-        Verb::Enable => Ok(read_enable(first)),
-        Verb::Disable => Ok(read_disable(first)),
-        Verb::Restart => Ok(read_restart(first)),
+        Verb::Tx => Ok(read_tx(machines, first, second)),
+        Verb::Rx => Ok(read_rx(machines, first)),
+        Verb::Feed => read_feed(alloc, machines, first, second, &rest),
+        Verb::Drain => Ok(read_drain(machines, first, second)),
+        Verb::Enable => Ok(read_enable(machines, first)),
+        Verb::Disable => Ok(read_disable(machines, first)),
+        Verb::Restart => Ok(read_restart(machines, first)),
     }
 }
 
 fn read_pin(pin: Option<&[u8]>, level: Option<&[u8]>) -> Option<Act>
     ensures value { result ≡ spec.pin_act (option_copied pin.entry) (option_copied level.entry) }
-    ensures range { IfSome result IsAct }
+    ensures range { (machines : ℕ) → IfSome result (IsActOf machines) }
 {
     let pin = number(pin, 0, 31)? as u8;
     let level = number(level, 0, 1)? == 1;
     Some(Act::Pin { pin, level })
 }
 
-fn read_tx(machine: Option<&[u8]>, word: Option<&[u8]>) -> Option<Act>
-    ensures value { result ≡ spec.tx_act (option_copied machine.entry) (option_copied word.entry) }
-    ensures range { IfSome result IsAct }
+fn read_tx(machines: u8, machine: Option<&[u8]>, word: Option<&[u8]>) -> Option<Act>
+    requires { 1 ≤ machines }
+    ensures value { result ≡ spec.tx_act machines (option_copied machine.entry) (option_copied word.entry) }
+    ensures range { IfSome result (IsActOf machines) }
 {
-    let machine = number(machine, 0, 3)? as u8;
+    let machine = machine_in(machines, machine)?;
     let word = number(word, 0, 0xffff_ffff)? as u32;
     Some(Act::Tx { machine, word })
 }
 
-fn read_rx(machine: Option<&[u8]>) -> Option<Act>
-    ensures value { result ≡ spec.rx_act (option_copied machine.entry) }
-    ensures range { IfSome result IsAct }
+fn read_rx(machines: u8, machine: Option<&[u8]>) -> Option<Act>
+    requires { 1 ≤ machines }
+    ensures value { result ≡ spec.rx_act machines (option_copied machine.entry) }
+    ensures range { IfSome result (IsActOf machines) }
 {
-    let machine = number(machine, 0, 3)? as u8;
+    let machine = machine_in(machines, machine)?;
     Some(Act::Rx { machine })
 }
 
 fn read_feed(
     alloc: Global,
+    machines: u8,
     machine: Option<&[u8]>,
     every: Option<&[u8]>,
     words: &Fields,
 ) -> Result<Option<Act>, AllocError>
+    requires { 1 ≤ machines }
     ensures value { IfOk result (λ act.
-        act ≡ spec.feed_act (option_copied machine.entry) (option_copied every.entry) words.now) }
-    ensures range { IfOk result (λ act. IfSome act IsAct) }
+        act ≡ spec.feed_act machines (option_copied machine.entry) (option_copied every.entry) words.now) }
+    ensures range { IfOk result (λ act. IfSome act (IsActOf machines)) }
 {
-    let Some(machine) = number(machine, 0, 3) else {
+    let Some(machine) = machine_in(machines, machine) else {
         return Ok(None);
     };
     let Some(every) = number(every, 1, 1_000_000) else {
@@ -74,7 +85,7 @@ fn read_feed(
     };
     match read_words(alloc, words)? {
         Some(words) => Ok(Some(Act::Feed {
-            machine: machine as u8,
+            machine,
             every: every as u32,
             words,
         })),
@@ -82,36 +93,40 @@ fn read_feed(
     }
 }
 
-fn read_drain(machine: Option<&[u8]>, every: Option<&[u8]>) -> Option<Act>
-    ensures value { result ≡ spec.drain_act (option_copied machine.entry) (option_copied every.entry) }
-    ensures range { IfSome result IsAct }
+fn read_drain(machines: u8, machine: Option<&[u8]>, every: Option<&[u8]>) -> Option<Act>
+    requires { 1 ≤ machines }
+    ensures value { result ≡ spec.drain_act machines (option_copied machine.entry) (option_copied every.entry) }
+    ensures range { IfSome result (IsActOf machines) }
 {
-    let machine = number(machine, 0, 3)? as u8;
+    let machine = machine_in(machines, machine)?;
     let every = number(every, 1, 1_000_000)? as u32;
     Some(Act::Drain { machine, every })
 }
 
-fn read_enable(machine: Option<&[u8]>) -> Option<Act>
-    ensures value { result ≡ spec.enable_act (option_copied machine.entry) }
-    ensures range { IfSome result IsAct }
+fn read_enable(machines: u8, machine: Option<&[u8]>) -> Option<Act>
+    requires { 1 ≤ machines }
+    ensures value { result ≡ spec.enable_act machines (option_copied machine.entry) }
+    ensures range { IfSome result (IsActOf machines) }
 {
-    let machine = number(machine, 0, 3)? as u8;
+    let machine = machine_in(machines, machine)?;
     Some(Act::Enable { machine })
 }
 
-fn read_disable(machine: Option<&[u8]>) -> Option<Act>
-    ensures value { result ≡ spec.disable_act (option_copied machine.entry) }
-    ensures range { IfSome result IsAct }
+fn read_disable(machines: u8, machine: Option<&[u8]>) -> Option<Act>
+    requires { 1 ≤ machines }
+    ensures value { result ≡ spec.disable_act machines (option_copied machine.entry) }
+    ensures range { IfSome result (IsActOf machines) }
 {
-    let machine = number(machine, 0, 3)? as u8;
+    let machine = machine_in(machines, machine)?;
     Some(Act::Disable { machine })
 }
 
-fn read_restart(machine: Option<&[u8]>) -> Option<Act>
-    ensures value { result ≡ spec.restart_act (option_copied machine.entry) }
-    ensures range { IfSome result IsAct }
+fn read_restart(machines: u8, machine: Option<&[u8]>) -> Option<Act>
+    requires { 1 ≤ machines }
+    ensures value { result ≡ spec.restart_act machines (option_copied machine.entry) }
+    ensures range { IfSome result (IsActOf machines) }
 {
-    let machine = number(machine, 0, 3)? as u8;
+    let machine = machine_in(machines, machine)?;
     Some(Act::Restart { machine })
 }
 
@@ -145,6 +160,16 @@ fn read_all(alloc: Global, fields: &Fields) -> Result<Option<Vec<u32>>, AllocErr
         }
     }
     Ok(Some(words))
+}
+
+/// The machine of a field, where there is one of so many.
+fn machine_in(machines: u8, field: Option<&[u8]>) -> Option<u8>
+    requires { 1 ≤ machines }
+    ensures value { result ≡ spec.machine machines (option_copied field.entry) }
+    ensures range { IfSome result (λ m. m < machines) }
+{
+    let machine = number(field, 0, u64::from(machines) - 1)?;
+    Some(machine as u8)
 }
 
 /// The number of a field, where there is one from `low` to `high`.

@@ -1,24 +1,24 @@
 //! The lines of a stimulus as they are read one after the other: their order, and which accesses they have taken.
 ghost use Rattle.std.specs.Prelude.{◌≡◌, ◌≤◌, ◌<◌, false, IfOk, IfSome, MatchOption, length, []};
 ghost use Rattle.dreq_pacing.specs.Lines as spec;
-ghost use Rattle.dreq_pacing.specs.Lines.{IsLine, IsSchedule, is_crowded};
+ghost use Rattle.dreq_pacing.specs.Lines.{IsLineOf, IsScheduleOf, is_crowded};
 ghost use Rattle.dreq_pacing.specs.Drafts.{first_draft, objection, with_line, taken_at, marked, still_taken};
 
 use crate::fault::StimKind;
 use crate::line::{Act, Line};
-use crate::schedule::Schedule;
 use std::alloc::{AllocFailed, Global};
 use std::marker::Model;
 
-/// The lines read so far, and the clock of the last of them.
+/// The lines read so far, beside so many machines, 1 to 8, and the clock of the last of them.
 #[derive(Drop)]
 pub struct Draft {
+    machines: u8,
     lines: Vec<Line>,
     clock: u64,
     /// The transfers that the file has: the machines' feeds, then their drains.
-    transfers: [bool; 8],
+    transfers: [bool; 16],
     /// The accesses that the clock has: the machines' words, reads, enablings or disablings, restarts.
-    accesses: [bool; 16],
+    accesses: [bool; 32],
 }
 
 impl Model for Draft {
@@ -26,27 +26,37 @@ impl Model for Draft {
 
     ghost Value = { Lines };
 
-    ghost view = { λ d. record { lines = d.lines.items; clock = d.clock } };
+    ghost view = { λ d. record { machines = d.machines; lines = d.lines.items; clock = d.clock } };
 
-    ghost invariant = { λ d. IsDraft d.lines.items d.clock d.transfers d.accesses };
+    ghost invariant = { λ d. IsDraft d.machines d.lines.items d.clock d.transfers d.accesses };
 }
 
 impl Draft {
-    /// No line so far. It takes no memory.
-    pub fn new(alloc: Global) -> Draft
-        ensures { result ≡ first_draft }
+    /// No line so far, beside so many machines, 1 to 8. It takes no memory.
+    pub fn new(alloc: Global, machines: u8) -> Draft
+        requires { (1 ≤ machines) × (machines ≤ 8) }
+        ensures { result ≡ first_draft machines }
     {
         Draft {
+            machines,
             lines: Vec::new(alloc),
             clock: 0,
-            transfers: [false; 8],
-            accesses: [false; 16],
+            transfers: [false; 16],
+            accesses: [false; 32],
         }
+    }
+
+    /// How many machines lines may name, 1 to 8.
+    pub fn machines(&self) -> u8
+        ensures value { result ≡ self.now.machines }
+        ensures some { 1 ≤ result }
+    {
+        self.machines
     }
 
     /// One line more, or what is wrong with it beside those before. The error is want of memory.
     pub fn add(&mut self, line: Line) -> Result<Option<StimKind>, AllocFailed<Line>>
-        requires { IsLine line }
+        requires { IsLineOf self.old.machines line }
         ensures kind { IfOk result (λ kind. kind ≡ objection self.old line) }
         ensures after { IfOk result (λ kind. MatchOption kind (self.new ≡ with_line self.old line)
             (λ _. self.new ≡ self.old)) }
@@ -62,15 +72,16 @@ impl Draft {
     }
 
     /// The lines.
-    pub fn finish(self) -> Schedule
-        ensures { result ≡ self.lines }
+    pub fn finish(self) -> Vec<Line>
+        ensures value { result.items ≡ self.lines }
+        ensures schedule { IsScheduleOf self.machines result.items }
     {
-        Schedule::of(self.lines)
+        self.lines
     }
 
     /// Whether the line is a second transfer in the file, or a second access in its clock.
     fn is_crowded(&self, line: &Line) -> bool
-        requires line { IsLine line.now }
+        requires line { IsLineOf self.now.machines line.now }
         requires in_order { self.now.clock ≤ line.now.clock }
         ensures { result ≡ is_crowded self.now.lines line.now }
     {
@@ -78,14 +89,14 @@ impl Draft {
     }
 
     fn has_transfer(&self, act: &Act) -> bool
-        requires { spec.IsAct act.now }
+        requires { spec.IsActOf self.now.machines act.now }
         ensures { result ≡ spec.has_transfer (spec.transfer_of act.now) self.now.lines }
     {
         has_place(&self.transfers, transfer_of(act))
     }
 
     fn has_access(&self, clock: u64, act: &Act) -> bool
-        requires act { spec.IsAct act.now }
+        requires act { spec.IsActOf self.now.machines act.now }
         requires in_order { self.now.clock ≤ clock }
         ensures { result ≡ spec.has_access (spec.access_of act.now) clock self.now.lines }
     {
@@ -98,17 +109,18 @@ impl Draft {
 
     /// One line more, which is in order and crowds none.
     fn put(&mut self, line: Line) -> Result<(), AllocFailed<Line>>
-        requires line { IsLine line }
+        requires line { IsLineOf self.old.machines line }
         requires in_order { self.old.clock ≤ line.clock }
         requires apart { is_crowded self.old.lines line ≡ false }
         ensures { IfOk result (λ _. self.new ≡ with_line self.old line) }
     {
         let clock = line.clock;
+        let same_clock = clock == self.clock;
         let transfer = transfer_of(&line.act);
         let access = access_of(&line.act);
         self.lines.push(line)?;
         self.transfers = with_transfer(self.transfers, transfer);
-        self.accesses = with_access(accesses_at(self.accesses, clock == self.clock), access);
+        self.accesses = with_access(accesses_at(self.accesses, same_clock), access);
         self.clock = clock;
         Ok(())
     }
@@ -116,28 +128,28 @@ impl Draft {
 
 /// The place of a transfer among those of a file.
 fn transfer_of(act: &Act) -> Option<usize>
-    requires { spec.IsAct act.now }
+    requires { spec.IsActOf 8 act.now }
     ensures place { result ≡ spec.transfer_of act.now }
-    ensures below { IfSome result (λ place. place < 8) }
+    ensures below { IfSome result (λ place. place < 16) }
 {
     match act {
         Act::Feed { machine, .. } => Some(usize::from(*machine)),
-        Act::Drain { machine, .. } => Some(4 + usize::from(*machine)),
+        Act::Drain { machine, .. } => Some(8 + usize::from(*machine)),
         _ => None,
     }
 }
 
 /// The place of another access among those of a clock.
 fn access_of(act: &Act) -> Option<usize>
-    requires { spec.IsAct act.now }
+    requires { spec.IsActOf 8 act.now }
     ensures place { result ≡ spec.access_of act.now }
-    ensures below { IfSome result (λ place. place < 16) }
+    ensures below { IfSome result (λ place. place < 32) }
 {
     match act {
         Act::Tx { machine, .. } => Some(usize::from(*machine)),
-        Act::Rx { machine } => Some(4 + usize::from(*machine)),
-        Act::Enable { machine } | Act::Disable { machine } => Some(8 + usize::from(*machine)),
-        Act::Restart { machine } => Some(12 + usize::from(*machine)),
+        Act::Rx { machine } => Some(8 + usize::from(*machine)),
+        Act::Enable { machine } | Act::Disable { machine } => Some(16 + usize::from(*machine)),
+        Act::Restart { machine } => Some(24 + usize::from(*machine)),
         _ => None,
     }
 }
@@ -153,18 +165,7 @@ fn has_place(taken: &[bool], place: Option<usize>) -> bool
     }
 }
 
-fn with_transfer(taken: [bool; 8], place: Option<usize>) -> [bool; 8]
-    requires { IfSome place (λ p. p < 8) }
-    ensures { result ≡ marked place taken }
-{
-    let mut taken = taken;
-    if let Some(place) = place {
-        taken[place] = true;
-    }
-    taken
-}
-
-fn with_access(taken: [bool; 16], place: Option<usize>) -> [bool; 16]
+fn with_transfer(taken: [bool; 16], place: Option<usize>) -> [bool; 16]
     requires { IfSome place (λ p. p < 16) }
     ensures { result ≡ marked place taken }
 {
@@ -175,9 +176,20 @@ fn with_access(taken: [bool; 16], place: Option<usize>) -> [bool; 16]
     taken
 }
 
+fn with_access(taken: [bool; 32], place: Option<usize>) -> [bool; 32]
+    requires { IfSome place (λ p. p < 32) }
+    ensures { result ≡ marked place taken }
+{
+    let mut taken = taken;
+    if let Some(place) = place {
+        taken[place] = true;
+    }
+    taken
+}
+
 /// The accesses that a clock has before its first line, or before a later one.
-fn accesses_at(taken: [bool; 16], same_clock: bool) -> [bool; 16]
+fn accesses_at(taken: [bool; 32], same_clock: bool) -> [bool; 32]
     ensures { result ≡ still_taken same_clock taken }
 {
-    if same_clock { taken } else { [false; 16] }
+    if same_clock { taken } else { [false; 32] }
 }

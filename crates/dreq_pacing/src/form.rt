@@ -1,6 +1,6 @@
 //! One line of a stimulus: first its form, then its ranges (choice of this profile).
 ghost use Rattle.std.specs.Prelude.{◌≡◌, ◌≤◌, IfOk, length, min};
-ghost use Rattle.dreq_pacing.specs.Lines.{IsLine};
+ghost use Rattle.dreq_pacing.specs.Lines.{IsLineOf};
 ghost use Rattle.dreq_pacing.specs.Form as spec;
 
 use crate::act::read_act;
@@ -11,14 +11,16 @@ use crate::number::{in_range, is_number};
 use crate::verb::{Verb, verb_of};
 use std::alloc::{AllocError, Global};
 
-/// The line that the fields are, in a file of version 1 or 2. The error is want of memory.
+/// The line that the fields are, beside so many machines, in a file of version 1 or 2. The error is want of memory.
 pub fn read_line(
     alloc: Global,
-    fields: &Fields,
+    machines: u8,
     two: bool,
+    fields: &Fields,
 ) -> Result<Result<Line, StimKind>, AllocError>
-    ensures value { IfOk result (λ said. said ≡ spec.line_of two fields.now) }
-    ensures line { IfOk result (λ said. IfOk said IsLine) }
+    requires { 1 ≤ machines }
+    ensures value { IfOk result (λ said. said ≡ spec.line_of machines two fields.now) }
+    ensures line { IfOk result (λ said. IfOk said (IsLineOf machines)) }
 {
     let mut rest = fields.again();
     let Some(clock) = rest.next() else {
@@ -28,7 +30,7 @@ pub fn read_line(
         return Ok(Err(StimKind::BadLine));
     };
     match verb_of(name, two) {
-        Some(verb) => read_form(alloc, verb, clock, &rest),
+        Some(verb) => read_form(alloc, machines, verb, clock, &rest),
         None => Ok(Err(StimKind::BadLine)),
     }
 }
@@ -36,12 +38,14 @@ pub fn read_line(
 /// The line with this word, its clock's field and those after the word.
 fn read_form(
     alloc: Global,
+    machines: u8,
     verb: Verb,
     clock: &[u8],
     args: &Fields,
 ) -> Result<Result<Line, StimKind>, AllocError>
-    ensures value { IfOk result (λ said. said ≡ spec.line_by verb clock.now args.now) }
-    ensures line { IfOk result (λ said. IfOk said IsLine) }
+    requires { 1 ≤ machines }
+    ensures value { IfOk result (λ said. said ≡ spec.line_by machines verb clock.now args.now) }
+    ensures line { IfOk result (λ said. IfOk said (IsLineOf machines)) }
 {
     if !has_form(verb, clock, args) {
         return Ok(Err(StimKind::BadLine));
@@ -49,7 +53,7 @@ fn read_form(
     let Some(clock) = in_range(clock, 0, 1_000_000_000_000) else {
         return Ok(Err(StimKind::Range));
     };
-    match read_act(alloc, verb, args)? {
+    match read_act(alloc, machines, verb, args)? {
         Some(act) => Ok(Ok(Line { clock, act })),
         None => Ok(Err(StimKind::Range)),
     }

@@ -2,6 +2,7 @@
 #![tactic(auto)]
 
 mod act;
+mod blocks;
 mod draft;
 mod due;
 mod fault;
@@ -11,8 +12,8 @@ mod laws;
 mod line;
 mod number;
 mod ports;
-mod stimulus;
 mod schedule;
+mod stimulus;
 mod transfer;
 mod verb;
 
@@ -24,5 +25,5 @@ pub use laws::{
 };
 pub use line::{Act, Line, Words};
 pub use ports::HostPorts;
-pub use stimulus::read_stimulus;
 pub use schedule::Schedule;
+pub use stimulus::{read_pair_stimulus, read_stimulus};

@@ -33,7 +33,7 @@ impl Words {
     }
 }
 
-/// What the system does. A machine is 0 to 3.
+/// What the system does. A machine is 0 to 3; while the lines of two blocks are read, 4 to 7 are those of the second.
 #[derive(Drop)]
 pub enum Act {
     /// The outside drives this level on a pin, 0 to 31, from this clock on.

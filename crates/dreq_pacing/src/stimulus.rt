@@ -1,28 +1,56 @@
 //! A stimulus, line by line: its version, and then its lines in order (choice of this profile).
-ghost use Rattle.std.specs.Prelude.{◌≡◌, ◌<◌, Ok, Err, IfOk, IfErr, MatchOption};
-ghost use Rattle.answers.specs.Answers.{Answers};
+ghost use Rattle.std.specs.Prelude.{◌≡◌, ◌<◌, ◌≤◌, Ok, Err, IfOk, IfErr, MatchOption};
+ghost use Rattle.answers.specs.Answers.{Answers, Gives};
 ghost use Rattle.dreq_pacing.specs.declared.fault.StimFault.TheVariants.{Memory};
+ghost use Rattle.dreq_pacing.specs.Lines.{IsScheduleOf};
 ghost use Rattle.dreq_pacing.specs.Form.{line_of};
 ghost use Rattle.dreq_pacing.specs.Reading as spec;
 ghost use Rattle.dreq_pacing.specs.Reading.{after_line, stimulus_of, told};
+ghost use Rattle.dreq_pacing.specs.Blocks.{pair_stimulus_of};
 
+use crate::blocks::split;
 use crate::draft::Draft;
 use crate::fault::{StimFault, StimKind};
 use crate::fields::Fields;
 use crate::form::read_line;
+use crate::line::Line;
 use crate::number::{in_range, is_number};
 use crate::schedule::Schedule;
 use byte_lines::first_line;
 use std::alloc::Global;
 
-/// The lines of a stimulus, or its first fault.
+/// The lines of a stimulus of one block, or its first fault. A machine is 0 to 3.
 ///
 /// A file holds at most 1,000,000 lines with fields; how long it may be is up to the caller. It takes memory in
 /// proportion to its lines with fields and to the words of its feeds.
+#[tactic(auto, unfolding(crate::specs::Reading::stimulus_of))]
 pub fn read_stimulus(alloc: Global, text: &[u8]) -> Result<Schedule, StimFault>
     ensures { Answers told result (stimulus_of text.now) }
 {
-    let mut reader = Reader::new(alloc);
+    let lines = read_lines(alloc, 4, text)?;
+    Ok(Schedule::of(lines))
+}
+
+/// The lines of a stimulus of two blocks on the same pins, for each block, or its first fault. A machine is 0 to 7,
+/// where 4 to 7 are 0 to 3 of the second block. A line that drives a pin is for both.
+///
+/// All else is as for one block: clocks never fall from a line to the next, whichever block they are for, and a file
+/// holds at most 1,000,000 lines with fields. It takes memory in proportion to them and to the words of the feeds.
+#[tactic(auto, unfolding(crate::specs::Blocks::pair_stimulus_of))]
+pub fn read_pair_stimulus(alloc: Global, text: &[u8]) -> Result<(Schedule, Schedule), StimFault>
+    ensures { Answers told result (pair_stimulus_of text.now) }
+{
+    let lines = read_lines(alloc, 8, text)?;
+    Ok(split(alloc, lines)?)
+}
+
+/// The lines of a text, beside so many machines, or its first fault.
+fn read_lines(alloc: Global, machines: u8, text: &[u8]) -> Result<Vec<Line>, StimFault>
+    requires { (1 ≤ machines) × (machines ≤ 8) }
+    ensures value { Gives told (λ lines. lines.items) result (spec.read_of machines text.now) }
+    ensures schedule { IfOk result (λ lines. IsScheduleOf machines lines.items) }
+{
+    let mut reader = Reader::new(alloc, machines);
     let mut rest = Some(text);
     let mut number = 1;
     while let Some(text) = rest {
@@ -46,14 +74,15 @@ pub struct Reader {
 }
 
 impl Reader {
-    /// Nothing so far. It takes no memory.
-    fn new(alloc: Global) -> Reader
-        ensures { result ≡ spec.first_reader }
+    /// Nothing so far, beside so many machines. It takes no memory.
+    fn new(alloc: Global, machines: u8) -> Reader
+        requires { (1 ≤ machines) × (machines ≤ 8) }
+        ensures { result ≡ spec.first_reader machines }
     {
         Reader {
             count: 0,
             two: false,
-            draft: Draft::new(alloc),
+            draft: Draft::new(alloc, machines),
         }
     }
 
@@ -62,6 +91,7 @@ impl Reader {
         ensures said { IfOk result (λ kind. MatchOption kind
             (after_line self.old fields.now ≡ Ok self.new)
             (λ k. after_line self.old fields.now ≡ Err k)) }
+        ensures machines { IfOk result (λ _. self.new.draft.machines ≡ self.old.draft.machines) }
         ensures memory { IfErr result (λ fault. fault ≡ Memory) }
     {
         let mut rest = fields.again();
@@ -80,8 +110,9 @@ impl Reader {
     /// The version line, by the fields after its word.
     fn take_version(&mut self, args: &Fields) -> Option<StimKind>
         requires { self.old.count < 1000000 }
-        ensures { MatchOption result (spec.with_version self.old (spec.version_of args.now) ≡ Ok self.new)
+        ensures said { MatchOption result (spec.with_version self.old (spec.version_of args.now) ≡ Ok self.new)
             (λ k. spec.with_version self.old (spec.version_of args.now) ≡ Err k) }
+        ensures machines { self.new.draft.machines ≡ self.old.draft.machines }
     {
         match version_of(args) {
             Ok(two) => {
@@ -97,11 +128,12 @@ impl Reader {
     fn take_line(&mut self, alloc: Global, fields: &Fields) -> Result<Option<StimKind>, StimFault>
         requires { self.old.count < 1000000 }
         ensures said { IfOk result (λ kind. MatchOption kind
-            (spec.with_said self.old (line_of self.old.two fields.now) ≡ Ok self.new)
-            (λ k. spec.with_said self.old (line_of self.old.two fields.now) ≡ Err k)) }
+            (spec.with_said self.old (line_of self.old.draft.machines self.old.two fields.now) ≡ Ok self.new)
+            (λ k. spec.with_said self.old (line_of self.old.draft.machines self.old.two fields.now) ≡ Err k)) }
+        ensures machines { IfOk result (λ _. self.new.draft.machines ≡ self.old.draft.machines) }
         ensures memory { IfErr result (λ fault. fault ≡ Memory) }
     {
-        match read_line(alloc, fields, self.two)? {
+        match read_line(alloc, self.draft.machines(), self.two, fields)? {
             Ok(line) => {
                 let objection = self.draft.add(line)?;
                 self.count += 1;

@@ -28,10 +28,12 @@ status_of (Some (fault.TooLong role)) = 1
 status_of (Some (fault.Words line kind)) = 1
 status_of (Some (fault.Source line kind)) = 1
 status_of (Some (fault.Config key kind)) = 1
+status_of (Some (fault.Second key kind)) = 1
 status_of (Some (fault.Stim line kind)) = 1
 status_of (Some fault.NoSpan) = 1
 status_of (Some (fault.Table line kind)) = 1
 status_of (Some (fault.Unproved name refusal)) = 3
+status_of (Some (fault.SecondUnproved name refusal)) = 3
 status_of (Some (fault.Flaw name flaw)) = 3
 status_of (Some fault.Out) = 5
 status_of (Some fault.Memory) = 6
@@ -41,6 +43,7 @@ abbrev pub file_word : File → List ℕ
 file_word file.Source = codes "source"
 file_word file.Words = codes "words"
 file_word file.Config = codes "config"
+file_word file.Second = codes "second"
 file_word file.Stimulus = codes "stimulus"
 file_word file.Table = codes "table"
 file_word file.Send = codes "send"
@@ -69,13 +72,13 @@ source_fault line text = line_fault (codes "piotool: source line ") line text
 abbrev pub source_line : ℕ → SourceKind → List ℕ
 source_line line kind = source_fault line (source_text kind)
 
--- the line of a key of the configuration, with this text after it
-abbrev pub key_line : List ℕ → List ℕ → List ℕ
-key_line key text = codes "piotool: config " ++ key ++ codes ": " ++ text ++ codes "\n"
+-- the line of a key of a configuration: what comes before the key, the key, and a fault's text
+abbrev pub key_line : List ℕ → List ℕ → List ℕ → List ℕ
+key_line front key text = front ++ key ++ codes ": " ++ text ++ codes "\n"
 
--- the line of a configuration's fault
-abbrev pub config_line : List ℕ → ConfigKind → List ℕ
-config_line key kind = key_line key (kind_text kind)
+-- the line of a configuration's fault, where this comes before the key
+abbrev pub config_line : List ℕ → List ℕ → ConfigKind → List ℕ
+config_line front key kind = key_line front key (kind_text kind)
 
 -- the line of a stimulus's fault
 abbrev pub stimulus_line : ℕ → StimKind → List ℕ
@@ -92,11 +95,13 @@ fault_line (fault.Shelf role) = shelf_line role
 fault_line (fault.TooLong role) = long_line role
 fault_line (fault.Words line kind) = words_line line kind
 fault_line (fault.Source line kind) = source_line line kind
-fault_line (fault.Config key kind) = config_line key kind
+fault_line (fault.Config key kind) = config_line (codes "piotool: config ") key kind
+fault_line (fault.Second key kind) = config_line (codes "piotool: second ") key kind
 fault_line (fault.Stim line kind) = stimulus_line line kind
 fault_line fault.NoSpan = codes "piotool: nospan\n"
 fault_line (fault.Table line kind) = table_line line kind
 fault_line (fault.Unproved name refusal) = refusal_line (codes "piotool: ") name refusal
+fault_line (fault.SecondUnproved name refusal) = refusal_line (codes "piotool: second ") name refusal
 fault_line (fault.Flaw name flaw) = flaw_line (codes "piotool: ") name flaw
 fault_line fault.Out = codes "piotool: out\n"
 fault_line fault.Memory = codes "piotool: memory\n"

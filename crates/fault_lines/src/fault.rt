@@ -18,6 +18,8 @@ pub enum File {
     Words,
     /// The configuration.
     Config,
+    /// The configuration of the second of two blocks.
+    Second,
     /// The stimulus.
     Stimulus,
     /// A table file.
@@ -41,6 +43,8 @@ pub enum Fault {
     Source(usize, SourceKind),
     /// The first fault of the configuration, or of the setup without one: the path of its key, and its kind.
     Config(Name, ConfigKind),
+    /// The first fault of the second block's configuration: the path of its key, and its kind.
+    Second(Name, ConfigKind),
     /// The first fault of the stimulus: its line, from 1 on, and its kind.
     Stim(usize, StimKind),
     /// No span has the name that was given.
@@ -49,6 +53,8 @@ pub enum Fault {
     Table(usize, TableKind),
     /// The first span that isn't provable: its name, and why (choice of this profile).
     Unproved(Name, Refusal),
+    /// The first span of the second block that isn't provable: its name, and why (choice of this profile).
+    SecondUnproved(Name, Refusal),
     /// A table doesn't prove the span with this name: what is wrong with it first (choice of this profile).
     Flaw(Name, Flaw),
     /// The output failed.

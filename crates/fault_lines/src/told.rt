@@ -21,10 +21,10 @@ pub fn status_of(fault: &Option<Fault>) -> u8
     match fault {
         None => 0,
         Some(Fault::TooLong(_) | Fault::Words(..) | Fault::Source(..)) => 1,
-        Some(Fault::Config(..) | Fault::Stim(..)) => 1,
+        Some(Fault::Config(..) | Fault::Second(..) | Fault::Stim(..)) => 1,
         Some(Fault::NoSpan | Fault::Table(..)) => 1,
         Some(Fault::Usage) => 2,
-        Some(Fault::Unproved(..) | Fault::Flaw(..)) => 3,
+        Some(Fault::Unproved(..) | Fault::SecondUnproved(..) | Fault::Flaw(..)) => 3,
         Some(Fault::Shelf(_)) => 4,
         Some(Fault::Out) => 5,
         Some(Fault::Memory) => 6,
@@ -43,11 +43,23 @@ pub fn put_fault<E: Sink>(err: &mut E, fault: &Fault) -> Result<(), SinkFailed>
         Fault::TooLong(file) => put_long_fault(err, *file),
         Fault::Words(line, kind) => put_words_fault(err, *line, *kind),
         Fault::Source(line, kind) => put_source_fault(err, *line, kind),
-        Fault::Config(key, kind) => put_config_fault(err, key.as_bytes(), *kind),
+        Fault::Config(key, kind) => put_config_fault(
+            err,
+            "piotool: config ",
+            key.as_bytes(),
+            *kind,
+        ),
+        Fault::Second(key, kind) => put_config_fault(
+            err,
+            "piotool: second ",
+            key.as_bytes(),
+            *kind,
+        ),
         Fault::Stim(line, kind) => put_stimulus_fault(err, *line, *kind),
         Fault::NoSpan => put_text(err, "piotool: nospan\n"),
         Fault::Table(line, kind) => put_table_fault(err, *line, *kind),
         Fault::Unproved(name, refusal) => put_refusal(err, "piotool: ", name, refusal),
+        Fault::SecondUnproved(name, refusal) => put_refusal(err, "piotool: second ", name, refusal),
         Fault::Flaw(name, flaw) => put_flaw(err, "piotool: ", name, flaw),
         Fault::Out => put_text(err, "piotool: out\n"),
         Fault::Memory => put_text(err, "piotool: memory\n"),
@@ -165,27 +177,33 @@ fn put_range_fault<E: Sink>(
     )
 }
 
-/// Puts the line of a configuration's fault: the path of its key, its code, and the address where two loads overlap.
-fn put_config_fault<E: Sink>(err: &mut E, key: &[u8], kind: ConfigKind) -> Result<(), SinkFailed>
-    ensures bytes { Takes (E.taken err.old) (spec.config_line key.now kind) (E.taken err.new) result }
+/// Puts the line of a configuration's fault: which configuration it is, the path of its key, its code, and the address where
+/// two loads overlap.
+fn put_config_fault<E: Sink>(
+    err: &mut E,
+    front: &str,
+    key: &[u8],
+    kind: ConfigKind,
+) -> Result<(), SinkFailed>
+    ensures bytes { Takes (E.taken err.old) (spec.config_line front.now key.now kind) (E.taken err.new) result }
     ensures cause { PutCounts (E.faults err.old) (E.faults err.new) result }
 {
     match kind {
-        ConfigKind::Overlap(address) => put_overlap(err, key, address),
-        other => put_key_fault(err, key, other.code()),
+        ConfigKind::Overlap(address) => put_overlap(err, front, key, address),
+        other => put_key_fault(err, front, key, other.code()),
     }
 }
 
 /// Puts the line of loads that overlap.
-fn put_overlap<E: Sink>(err: &mut E, key: &[u8], address: u8) -> Result<(), SinkFailed>
-    ensures bytes { Takes (E.taken err.old) (spec.config_line key.now (ConfigKind.Overlap address)) (E.taken err.new) result }
+fn put_overlap<E: Sink>(err: &mut E, front: &str, key: &[u8], address: u8) -> Result<(), SinkFailed>
+    ensures bytes { Takes (E.taken err.old) (spec.config_line front.now key.now (ConfigKind.Overlap address)) (E.taken err.new) result }
     ensures cause { PutCounts (E.faults err.old) (E.faults err.new) result }
 {
     let mut number = Buffer::new();
     put_all(
         err,
         &[
-            "piotool: config ".as_bytes(),
+            front.as_bytes(),
             key,
             ": C7 ".as_bytes(),
             number.format(address).as_bytes(),
@@ -195,14 +213,19 @@ fn put_overlap<E: Sink>(err: &mut E, key: &[u8], address: u8) -> Result<(), Sink
 }
 
 /// Puts the line of a key's fault.
-fn put_key_fault<E: Sink>(err: &mut E, key: &[u8], code: &str) -> Result<(), SinkFailed>
-    ensures bytes { Takes (E.taken err.old) (spec.key_line key.now code.now) (E.taken err.new) result }
+fn put_key_fault<E: Sink>(
+    err: &mut E,
+    front: &str,
+    key: &[u8],
+    code: &str,
+) -> Result<(), SinkFailed>
+    ensures bytes { Takes (E.taken err.old) (spec.key_line front.now key.now code.now) (E.taken err.new) result }
     ensures cause { PutCounts (E.faults err.old) (E.faults err.new) result }
 {
     put_all(
         err,
         &[
-            "piotool: config ".as_bytes(),
+            front.as_bytes(),
             key,
             ": ".as_bytes(),
             code.as_bytes(),
@@ -258,6 +281,7 @@ fn word_of(file: File) -> &'static str
         File::Source => "source",
         File::Words => "words",
         File::Config => "config",
+        File::Second => "second",
         File::Stimulus => "stimulus",
         File::Table => "table",
         File::Send => "send",

@@ -10,15 +10,19 @@ use Rattle.pin_matrix.specs.declared.span.Span.{Span}
 use Rattle.block_config.specs.Answer.{Refusal}
 use Rattle.block_config.specs.Arrays.{gather}
 use Rattle.setup_keys.specs.Block.{MachineKeys, SpanKeys, BlockKeys, keys_of_machine, keys_of_span, keys_of_block}
-use Rattle.block_config.specs.Config.{document_of, parsed, sections_at, Sections, no_machines, block_with, block_over, block_of_sections, block_of_table, config_block, config_setup_of}
+use Rattle.block_config.specs.Config.{document_of, parsed, sections_at, Sections, no_machines, owning_with, block_over, block_of_sections, block_of_table, said_of, config_block, config_setup_of, second_setup_of}
 use Rattle.block_config.specs.Default.{default_block, default_setup_of}
-use Rattle.block_config.specs.Exact.{SaysExactly}
+use Rattle.block_config.specs.Exact.{SaysExactly, OwnsExactly}
 use Rattle.block_config.specs.Loads.{all_loads, memory_of}
 use Rattle.block_config.specs.Machines.{machines_from}
 use Rattle.block_config.specs.Memory.{no_words}
+use Rattle.block_config.specs.Owning.{OwningKeys, keys_of_owning}
+use Rattle.block_config.specs.declared.owning.OwningSetup.{OwningSetup}
 use Rattle.block_config.specs.Pins.{pins_in}
 use Rattle.block_config.specs.Programs.{Loaded}
 use Rattle.block_config.specs.Spans.{span_names, configured, machine_at, span_pins, edge_at, required, Ends, ends_at, bounds_at, stalls_at, load_of_machine, SpanValues, values_at, span_keys_of, name_at, span_of_table, span_in, all_spans}
+use Rattle.block_config.specs.declared.pins.BlockNumber.{BlockNumber}
+use Rattle.block_config.specs.declared.pins.BlockNumber.TheVariants.{First, Second}
 use Rattle.block_config.specs.declared.path.Section.{Section}
 use Rattle.block_config.specs.declared.path.Section.TheVariants as section
 use Rattle.block_config.specs.Tables.{and_then, number_at, each_at, are_known, in_section, section_at, element_of}
@@ -127,19 +131,26 @@ none_placed ms = tt
 
 -- ---- the setup
 
-over_placed : (s : Sections) (loads : List Loaded) (k : BlockKeys) → block_over s loads ≡ Ok k → ArePlaced k.machines k.spans
-over_placed s loads k e =
-    let machines = goes_on (machines_from 0 no_machines loads s.machines) (λ machines. and_then (pins_in s.pins) (λ pins. and_then (all_spans machines loads s.spans) (λ spans. Ok (block_with (memory_of no_words loads) machines pins spans)))) k e in
-    let pins = goes_on (pins_in s.pins) (λ pins. and_then (all_spans machines.value loads s.spans) (λ spans. Ok (block_with (memory_of no_words loads) machines.value pins spans))) k machines.rest in
-    let spans = goes_on (all_spans machines.value loads s.spans) (λ spans. Ok (block_with (memory_of no_words loads) machines.value pins.value spans)) k pins.rest in
-    subst (λ (b : BlockKeys). ArePlaced b.machines b.spans) (ok_same _ k spans.rest) (spans_placed machines.value loads s.spans 0 [] spans.value (none_placed machines.value) spans.found)
+over_placed : (block : BlockNumber) (s : Sections) (loads : List Loaded) (k : OwningKeys) → block_over block s loads ≡ Ok k → ArePlaced k.block.machines k.block.spans
+over_placed block s loads k e =
+    let machines = goes_on (machines_from 0 no_machines loads s.machines) (λ machines. and_then (pins_in block s.pins) (λ pins. and_then (all_spans machines loads s.spans) (λ spans. Ok (owning_with (memory_of no_words loads) machines pins spans)))) k e in
+    let pins = goes_on (pins_in block s.pins) (λ pins. and_then (all_spans machines.value loads s.spans) (λ spans. Ok (owning_with (memory_of no_words loads) machines.value pins spans))) k machines.rest in
+    let spans = goes_on (all_spans machines.value loads s.spans) (λ spans. Ok (owning_with (memory_of no_words loads) machines.value pins.value spans)) k pins.rest in
+    subst (λ (o : OwningKeys). ArePlaced o.block.machines o.block.spans) (ok_same _ k spans.rest) (spans_placed machines.value loads s.spans 0 [] spans.value (none_placed machines.value) spans.found)
+
+said_placed : (block : BlockNumber) (bytes : List ℕ) (programs : List Assembled) (k : OwningKeys) → said_of block bytes programs ≡ Ok k → ArePlaced k.block.machines k.block.spans
+said_placed block bytes programs k e =
+    let table = goes_on (parsed (document_of bytes)) (block_of_table block programs) k e in
+    let sections = goes_on (sections_at table.value) (block_of_sections block programs) k table.rest in
+    let loads = goes_on (all_loads programs sections.value.loads) (block_over block sections.value) k sections.rest in
+    over_placed block sections.value loads.value k loads.rest
+
+block_placed : (said : Result OwningKeys Refusal) (k : BlockKeys) → ((o : OwningKeys) → said ≡ Ok o → ArePlaced o.block.machines o.block.spans) → made (λ o. o.block) said ≡ Ok k → ArePlaced k.machines k.spans
+block_placed (Ok o) k placed e = subst (λ (b : BlockKeys). ArePlaced b.machines b.spans) (ok_same o.block k e) (placed o refl)
+block_placed (Err r) k placed e = cc
 
 config_placed : (bytes : List ℕ) (programs : List Assembled) (k : BlockKeys) → config_block bytes programs ≡ Ok k → ArePlaced k.machines k.spans
-config_placed bytes programs k e =
-    let table = goes_on (parsed (document_of bytes)) (block_of_table programs) k e in
-    let sections = goes_on (sections_at table.value) (block_of_sections programs) k table.rest in
-    let loads = goes_on (all_loads programs sections.value.loads) (block_over sections.value) k sections.rest in
-    over_placed sections.value loads.value k loads.rest
+config_placed bytes programs k e = block_placed (said_of First bytes programs) k (said_placed First bytes programs) e
 
 -- a machine that is there in what a setup says is there in the setup
 there : (machines : List (Option MachineSetup)) (id : ℕ) → IsPlaced (map (option_map keys_of_machine) machines) id → IsSome (slice_index_or machines id None)
@@ -165,6 +176,12 @@ pub config_configured : (bytes : List ℕ) (programs : List Assembled) (u : Setu
 config_configured bytes programs u says e =
     let said : config_block bytes programs ≡ Ok (keys_of_block u) = sym says ∙ ap (made keys_of_block) e in
     all_there u.machines u.spans (config_placed bytes programs (keys_of_block u) said)
+
+-- and of a second block's
+pub second_configured : (bytes : List ℕ) (programs : List Assembled) (u : OwningSetup) → OwnsExactly (second_setup_of bytes programs) (said_of Second bytes programs) → second_setup_of bytes programs ≡ Ok u → AreConfigured u.setup
+second_configured bytes programs u says e =
+    let said : said_of Second bytes programs ≡ Ok (keys_of_owning u) = sym says ∙ ap (made keys_of_owning) e in
+    all_there u.setup.machines u.setup.spans (said_placed Second bytes programs (keys_of_owning u) said)
 
 -- the default has no spans
 pub default_configured : (programs : List Assembled) (u : Setup) → SaysExactly (default_setup_of programs) (default_block programs) → default_setup_of programs ≡ Ok u → AreConfigured u

@@ -1,2 +1,4 @@
 pub mod Configured
+pub mod Parts
 pub mod Preparing
+pub mod Pairing

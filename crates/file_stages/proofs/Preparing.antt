@@ -1,25 +1,15 @@
--- The reads of a run in a row: what one of them fails with, the run fails with.
-use Rattle.std.proofs.Common.{◌≡◌, ◌∙◌, ℕ, true, Option, Some, None, IfSome, List, refl, ap, subst}
-use Rattle.pio_edge.specs.Count.{Faults}
+-- The parts of what a run reads: its source, its setup, its stimulus.
+use Rattle.std.proofs.Common.{◌≡◌, ◌∙◌, ℕ, true, Option, Some, None, IfSome, List, refl, ap}
+use Rattle.pio_edge.specs.Count.{Faults, failed_at}
 use Rattle.pio_edge.specs.Edge.{Files}
 use Rattle.pio_assemble.specs.Program.{Assembled}
 use Rattle.pin_matrix.specs.declared.setup.Setup.{Setup}
 use Rattle.dreq_pacing.specs.declared.line.Line.{Line}
+use Rattle.fault_lines.specs.declared.fault.File.{File}
 use Rattle.fault_lines.specs.declared.fault.File.TheVariants as file
-use Rattle.fault_lines.specs.declared.fault.Fault.{Fault}
-use Rattle.fault_lines.specs.declared.fault.Fault.TheVariants as fault
-use Rattle.file_stages.specs.Judged.{Judged, right, wrong, and_then, is_right, source_at, setup_at, schedule_at, prepared_at}
-use Rattle.file_stages.specs.Stages.{ReadFails, shelved, source_plan, setup_plan, schedule_plan, run_plan}
-
--- of told files, what follows from both
-both_told : (files : Option Files) (P Q R : Files → Type 0) → ((f : Files) → P f → Q f → R f) → IfSome files P → IfSome files Q → IfSome files R
-both_told None P Q R so p q = tt
-both_told (Some f) P Q R so p q = so f p q
-
--- the same from one
-told : (files : Option Files) (P R : Files → Type 0) → ((f : Files) → P f → R f) → IfSome files P → IfSome files R
-told None P R so p = tt
-told (Some f) P R so p = so f p
+use Rattle.file_stages.specs.Judged.{Judged, right, and_then, is_right, source_at, setup_at, schedule_at, prepared_at}
+use Rattle.file_stages.specs.Stages.{HasSuch, source_plan, setup_plan, schedule_plan, run_plan}
+use Rattle.file_stages.proofs.Parts.{IsPart, told, both_told, of_all}
 
 -- the lines after a setup
 with_lines : Files → Option (List ℕ) → Setup → Judged (Setup × List Line)
@@ -33,119 +23,127 @@ prepared : (f : Files) (source : List ℕ) (config stimulus : Option (List ℕ))
 unfolding prepared_at with_setup with_lines
 prepared f source config stimulus = refl
 
--- a faulty source makes a faulty run
-source_wrong : (f : Files) (source : List ℕ) (config stimulus : Option (List ℕ)) (e : Fault) → source_at f source ≡ wrong e → prepared_at f source config stimulus ≡ wrong e
-source_wrong f source config stimulus e h =
-    prepared f source config stimulus ∙ ap (λ (j : Judged (List Assembled)). and_then j (with_setup f config stimulus)) h
-
--- so does a faulty setup
-setup_wrong : (f : Files) (source : List ℕ) (config stimulus : Option (List ℕ)) (programs : List Assembled) (e : Fault) → source_at f source ≡ right programs → setup_at f config programs ≡ wrong e → prepared_at f source config stimulus ≡ wrong e
+-- after a source that came out right
+prepared_from : (f : Files) (source : List ℕ) (config stimulus : Option (List ℕ)) (programs : List Assembled) → source_at f source ≡ right programs
+    → prepared_at f source config stimulus ≡ and_then (setup_at f config programs) (with_lines f stimulus)
 unfolding with_setup
-setup_wrong f source config stimulus programs e p h =
+prepared_from f source config stimulus programs p =
     prepared f source config stimulus ∙ ap (λ (j : Judged (List Assembled)). and_then j (with_setup f config stimulus)) p
-    ∙ ap (λ (j : Judged Setup). and_then j (with_lines f stimulus)) h
 
--- and a faulty stimulus
-lines_wrong : (f : Files) (source : List ℕ) (config stimulus : Option (List ℕ)) (programs : List Assembled) (setup : Setup) (e : Fault) → source_at f source ≡ right programs → setup_at f config programs ≡ right setup → schedule_at f stimulus ≡ wrong e → prepared_at f source config stimulus ≡ wrong e
-unfolding with_setup with_lines
-lines_wrong f source config stimulus programs setup e p q h =
-    prepared f source config stimulus ∙ ap (λ (j : Judged (List Assembled)). and_then j (with_setup f config stimulus)) p
-    ∙ ap (λ (j : Judged Setup). and_then j (with_lines f stimulus)) q
-    ∙ ap (λ (j : Judged (List Line)). and_then j (λ lines. right (setup, lines))) h
+-- and after a setup that did
+prepared_with : (f : Files) (source : List ℕ) (config stimulus : Option (List ℕ)) (programs : List Assembled) (setup : Setup)
+    → source_at f source ≡ right programs → setup_at f config programs ≡ right setup
+    → prepared_at f source config stimulus ≡ and_then (schedule_at f stimulus) (λ lines. right (setup, lines))
+unfolding with_lines
+prepared_with f source config stimulus programs setup p q =
+    prepared_from f source config stimulus programs p ∙ ap (λ (j : Judged Setup). and_then j (with_lines f stimulus)) q
 
--- what the source fails with
-pub source_fails : (files : Option Files) (before after : Faults) (source : List ℕ) (config stimulus : Option (List ℕ)) (e : Fault) → ReadFails (shelved files before after) (source_plan source) e → ReadFails (shelved files before after) (run_plan source config stimulus) e
-source_fails files before after source config stimulus (fault.Shelf file.Source) h = h
-source_fails files before after source config stimulus (fault.Shelf file.Words) h = absurd h.0
-source_fails files before after source config stimulus (fault.Shelf file.Config) h = absurd h.0
-source_fails files before after source config stimulus (fault.Shelf file.Stimulus) h = absurd h.0
-source_fails files before after source config stimulus (fault.Shelf file.Table) h = absurd h.0
-source_fails files before after source config stimulus (fault.Shelf file.Send) h = absurd h.0
-source_fails files before after source config stimulus fault.Memory h = h
-source_fails files before after source config stimulus fault.Usage h = absurd h
-source_fails files before after source config stimulus fault.Out h = absurd h
-source_fails files before after source config stimulus (fault.Unproved name refusal) h = absurd h
-source_fails files before after source config stimulus (fault.Flaw name flaw) h = absurd h
-source_fails files before after source config stimulus (fault.TooLong role) h = (h.0, told files _ _ (λ f k. source_wrong f source config stimulus (fault.TooLong role) k) h.1)
-source_fails files before after source config stimulus (fault.Words line kind) h = (h.0, told files _ _ (λ f k. source_wrong f source config stimulus (fault.Words line kind) k) h.1)
-source_fails files before after source config stimulus (fault.Source line kind) h = (h.0, told files _ _ (λ f k. source_wrong f source config stimulus (fault.Source line kind) k) h.1)
-source_fails files before after source config stimulus (fault.Config key kind) h = (h.0, told files _ _ (λ f k. source_wrong f source config stimulus (fault.Config key kind) k) h.1)
-source_fails files before after source config stimulus (fault.Stim line kind) h = (h.0, told files _ _ (λ f k. source_wrong f source config stimulus (fault.Stim line kind) k) h.1)
-source_fails files before after source config stimulus (fault.Table line kind) h = (h.0, told files _ _ (λ f k. source_wrong f source config stimulus (fault.Table line kind) k) h.1)
-source_fails files before after source config stimulus fault.NoSpan h = (h.0, told files _ _ (λ f k. source_wrong f source config stimulus fault.NoSpan k) h.1)
+-- the source
+source-named : (source : List ℕ) (config stimulus : Option (List ℕ)) (role : File) (before after : Faults)
+    → HasSuch ((source_plan source).file_in role) (λ name. after ≡ failed_at name before) → HasSuch ((run_plan source config stimulus).file_in role) (λ name. after ≡ failed_at name before)
+source-named source config stimulus file.Source before after h = h
+source-named source config stimulus file.Words before after h = absurd h
+source-named source config stimulus file.Config before after h = absurd h
+source-named source config stimulus file.Second before after h = absurd h
+source-named source config stimulus file.Stimulus before after h = absurd h
+source-named source config stimulus file.Table before after h = absurd h
+source-named source config stimulus file.Send before after h = absurd h
 
--- the source came out right
+source-reached : (files : Option Files) (source : List ℕ) (config stimulus : Option (List ℕ)) (role : File) (before after : Faults)
+    → HasSuch ((source_plan source).file_in role) (λ name. after ≡ failed_at name before) → IfSome files (λ f. (run_plan source config stimulus).reaches f role ≡ true)
+source-reached files source config stimulus file.Source before after h = of_all files _ (λ f. refl)
+source-reached files source config stimulus file.Words before after h = absurd h
+source-reached files source config stimulus file.Config before after h = absurd h
+source-reached files source config stimulus file.Second before after h = absurd h
+source-reached files source config stimulus file.Stimulus before after h = absurd h
+source-reached files source config stimulus file.Table before after h = absurd h
+source-reached files source config stimulus file.Send before after h = absurd h
+
+pub source_part : (files : Option Files) (source : List ℕ) (config stimulus : Option (List ℕ)) → IsPart files (source_plan source) (run_plan source config stimulus)
+source_part files source config stimulus = record {
+  named = source-named source config stimulus;
+  reached = source-reached files source config stimulus;
+  faults = λ e h. told files _ _ (λ f k. prepared f source config stimulus ∙ ap (λ (j : Judged (List Assembled)). and_then j (with_setup f config stimulus)) k) h;
+}
+
+-- the setup, after a source that came out right
+setup-named : (source : List ℕ) (config stimulus : Option (List ℕ)) (programs : List Assembled) (role : File) (before after : Faults)
+    → HasSuch ((setup_plan config programs).file_in role) (λ name. after ≡ failed_at name before) → HasSuch ((run_plan source config stimulus).file_in role) (λ name. after ≡ failed_at name before)
+setup-named source config stimulus programs file.Source before after h = absurd h
+setup-named source config stimulus programs file.Words before after h = absurd h
+setup-named source config stimulus programs file.Config before after h = h
+setup-named source config stimulus programs file.Second before after h = absurd h
+setup-named source config stimulus programs file.Stimulus before after h = absurd h
+setup-named source config stimulus programs file.Table before after h = absurd h
+setup-named source config stimulus programs file.Send before after h = absurd h
+
 IsRead : Option Files → List ℕ → List Assembled → Type 0
 IsRead files source programs = IfSome files (λ f. source_at f source ≡ right programs)
 
--- what the setup fails with, after a source that came out right
-setup_fails_here : (files : Option Files) (before after : Faults) (source : List ℕ) (config stimulus : Option (List ℕ)) (programs : List Assembled) (e : Fault) → IsRead files source programs → ReadFails (shelved files before after) (setup_plan config programs) e → ReadFails (shelved files before after) (run_plan source config stimulus) e
+setup-reached : (files : Option Files) (source : List ℕ) (config stimulus : Option (List ℕ)) (programs : List Assembled) → IsRead files source programs → (role : File) (before after : Faults)
+    → HasSuch ((setup_plan config programs).file_in role) (λ name. after ≡ failed_at name before) → IfSome files (λ f. (run_plan source config stimulus).reaches f role ≡ true)
 unfolding IsRead
-setup_fails_here files before after source config stimulus programs (fault.Shelf file.Source) p h = absurd h.0
-setup_fails_here files before after source config stimulus programs (fault.Shelf file.Words) p h = absurd h.0
-setup_fails_here files before after source config stimulus programs (fault.Shelf file.Config) p h = (h.0, told files _ _ (λ f k. ap is_right k) p)
-setup_fails_here files before after source config stimulus programs (fault.Shelf file.Stimulus) p h = absurd h.0
-setup_fails_here files before after source config stimulus programs (fault.Shelf file.Table) p h = absurd h.0
-setup_fails_here files before after source config stimulus programs (fault.Shelf file.Send) p h = absurd h.0
-setup_fails_here files before after source config stimulus programs fault.Memory p h = h
-setup_fails_here files before after source config stimulus programs fault.Usage p h = absurd h
-setup_fails_here files before after source config stimulus programs fault.Out p h = absurd h
-setup_fails_here files before after source config stimulus programs (fault.Unproved name refusal) p h = absurd h
-setup_fails_here files before after source config stimulus programs (fault.Flaw name flaw) p h = absurd h
-setup_fails_here files before after source config stimulus programs (fault.TooLong role) p h = (h.0, both_told files _ _ _ (λ f k m. setup_wrong f source config stimulus programs (fault.TooLong role) k m) p h.1)
-setup_fails_here files before after source config stimulus programs (fault.Words line kind) p h = (h.0, both_told files _ _ _ (λ f k m. setup_wrong f source config stimulus programs (fault.Words line kind) k m) p h.1)
-setup_fails_here files before after source config stimulus programs (fault.Source line kind) p h = (h.0, both_told files _ _ _ (λ f k m. setup_wrong f source config stimulus programs (fault.Source line kind) k m) p h.1)
-setup_fails_here files before after source config stimulus programs (fault.Config key kind) p h = (h.0, both_told files _ _ _ (λ f k m. setup_wrong f source config stimulus programs (fault.Config key kind) k m) p h.1)
-setup_fails_here files before after source config stimulus programs (fault.Stim line kind) p h = (h.0, both_told files _ _ _ (λ f k m. setup_wrong f source config stimulus programs (fault.Stim line kind) k m) p h.1)
-setup_fails_here files before after source config stimulus programs (fault.Table line kind) p h = (h.0, both_told files _ _ _ (λ f k m. setup_wrong f source config stimulus programs (fault.Table line kind) k m) p h.1)
-setup_fails_here files before after source config stimulus programs fault.NoSpan p h = (h.0, both_told files _ _ _ (λ f k m. setup_wrong f source config stimulus programs fault.NoSpan k m) p h.1)
+setup-reached files source config stimulus programs p file.Source before after h = absurd h
+setup-reached files source config stimulus programs p file.Words before after h = absurd h
+setup-reached files source config stimulus programs p file.Config before after h = told files _ _ (λ f k. ap is_right k) p
+setup-reached files source config stimulus programs p file.Second before after h = absurd h
+setup-reached files source config stimulus programs p file.Stimulus before after h = absurd h
+setup-reached files source config stimulus programs p file.Table before after h = absurd h
+setup-reached files source config stimulus programs p file.Send before after h = absurd h
 
--- the same where the shelf after the source is told by equations
-pub setup_fails : (files mid_files : Option Files) (before mid after : Faults) (source : List ℕ) (config stimulus : Option (List ℕ)) (programs : List Assembled) (e : Fault) → mid_files ≡ files → mid ≡ before → IfSome files (λ f. source_at f source ≡ right programs) → ReadFails (shelved mid_files mid after) (setup_plan config programs) e → ReadFails (shelved files before after) (run_plan source config stimulus) e
+pub setup_part : (files : Option Files) (source : List ℕ) (config stimulus : Option (List ℕ)) (programs : List Assembled) → IfSome files (λ f. source_at f source ≡ right programs)
+    → IsPart files (setup_plan config programs) (run_plan source config stimulus)
 unfolding IsRead
-setup_fails files mid_files before mid after source config stimulus programs e same quiet p h =
-    let there = subst (λ (fs : Option Files). ReadFails (shelved fs mid after) (setup_plan config programs) e) same h in
-    let here = subst (λ (m : Faults). ReadFails (shelved files m after) (setup_plan config programs) e) quiet there in
-    setup_fails_here files before after source config stimulus programs e p here
+setup_part files source config stimulus programs p = record {
+  named = setup-named source config stimulus programs;
+  reached = setup-reached files source config stimulus programs p;
+  faults = λ e h. both_told files _ _ _ (λ f k m. prepared_from f source config stimulus programs k ∙ ap (λ (j : Judged Setup). and_then j (with_lines f stimulus)) m) p h;
+}
 
--- source and setup came out right
+-- the stimulus, after a setup that did too
+lines-named : (source : List ℕ) (config stimulus : Option (List ℕ)) (role : File) (before after : Faults)
+    → HasSuch ((schedule_plan stimulus).file_in role) (λ name. after ≡ failed_at name before) → HasSuch ((run_plan source config stimulus).file_in role) (λ name. after ≡ failed_at name before)
+lines-named source config stimulus file.Source before after h = absurd h
+lines-named source config stimulus file.Words before after h = absurd h
+lines-named source config stimulus file.Config before after h = absurd h
+lines-named source config stimulus file.Second before after h = absurd h
+lines-named source config stimulus file.Stimulus before after h = h
+lines-named source config stimulus file.Table before after h = absurd h
+lines-named source config stimulus file.Send before after h = absurd h
+
 AreRead : Option Files → List ℕ → Option (List ℕ) → List Assembled → Setup → Type 0
 AreRead files source config programs setup =
     IfSome files (λ f. (source_at f source ≡ right programs) × (setup_at f config programs ≡ right setup))
 
 -- a run whose source and setup came out right comes to its stimulus
-stimulus_reached : (f : Files) (source : List ℕ) (config : Option (List ℕ)) (programs : List Assembled) (setup : Setup) → source_at f source ≡ right programs → setup_at f config programs ≡ right setup → is_right (and_then (source_at f source) (setup_at f config)) ≡ true
+stimulus_reached : (f : Files) (source : List ℕ) (config : Option (List ℕ)) (programs : List Assembled) (setup : Setup)
+    → source_at f source ≡ right programs → setup_at f config programs ≡ right setup
+    → is_right (and_then (source_at f source) (setup_at f config)) ≡ true
 stimulus_reached f source config programs setup p q =
     ap (λ (j : Judged (List Assembled)). is_right (and_then j (setup_at f config))) p ∙ ap is_right q
 
--- what the stimulus fails with, after a source and a setup that came out right
-lines_fail_here : (files : Option Files) (before after : Faults) (source : List ℕ) (config stimulus : Option (List ℕ)) (programs : List Assembled) (setup : Setup) (e : Fault) → AreRead files source config programs setup → ReadFails (shelved files before after) (schedule_plan stimulus) e → ReadFails (shelved files before after) (run_plan source config stimulus) e
+lines-reached : (files : Option Files) (source : List ℕ) (config stimulus : Option (List ℕ)) (programs : List Assembled) (setup : Setup) → AreRead files source config programs setup → (role : File) (before after : Faults)
+    → HasSuch ((schedule_plan stimulus).file_in role) (λ name. after ≡ failed_at name before) → IfSome files (λ f. (run_plan source config stimulus).reaches f role ≡ true)
 unfolding AreRead
-lines_fail_here files before after source config stimulus programs setup (fault.Shelf file.Source) p h = absurd h.0
-lines_fail_here files before after source config stimulus programs setup (fault.Shelf file.Words) p h = absurd h.0
-lines_fail_here files before after source config stimulus programs setup (fault.Shelf file.Config) p h = absurd h.0
-lines_fail_here files before after source config stimulus programs setup (fault.Shelf file.Table) p h = absurd h.0
-lines_fail_here files before after source config stimulus programs setup (fault.Shelf file.Send) p h = absurd h.0
-lines_fail_here files before after source config stimulus programs setup (fault.Shelf file.Stimulus) p h =
-    (h.0, told files _ _ (λ f k. stimulus_reached f source config programs setup k.0 k.1) p)
-lines_fail_here files before after source config stimulus programs setup fault.Memory p h = h
-lines_fail_here files before after source config stimulus programs setup fault.Usage p h = absurd h
-lines_fail_here files before after source config stimulus programs setup fault.Out p h = absurd h
-lines_fail_here files before after source config stimulus programs setup (fault.Unproved name refusal) p h = absurd h
-lines_fail_here files before after source config stimulus programs setup (fault.Flaw name flaw) p h = absurd h
-lines_fail_here files before after source config stimulus programs setup (fault.TooLong role) p h = (h.0, both_told files _ _ _ (λ f k m. lines_wrong f source config stimulus programs setup (fault.TooLong role) k.0 k.1 m) p h.1)
-lines_fail_here files before after source config stimulus programs setup (fault.Words line kind) p h = (h.0, both_told files _ _ _ (λ f k m. lines_wrong f source config stimulus programs setup (fault.Words line kind) k.0 k.1 m) p h.1)
-lines_fail_here files before after source config stimulus programs setup (fault.Source line kind) p h = (h.0, both_told files _ _ _ (λ f k m. lines_wrong f source config stimulus programs setup (fault.Source line kind) k.0 k.1 m) p h.1)
-lines_fail_here files before after source config stimulus programs setup (fault.Config key kind) p h = (h.0, both_told files _ _ _ (λ f k m. lines_wrong f source config stimulus programs setup (fault.Config key kind) k.0 k.1 m) p h.1)
-lines_fail_here files before after source config stimulus programs setup (fault.Stim line kind) p h = (h.0, both_told files _ _ _ (λ f k m. lines_wrong f source config stimulus programs setup (fault.Stim line kind) k.0 k.1 m) p h.1)
-lines_fail_here files before after source config stimulus programs setup (fault.Table line kind) p h = (h.0, both_told files _ _ _ (λ f k m. lines_wrong f source config stimulus programs setup (fault.Table line kind) k.0 k.1 m) p h.1)
-lines_fail_here files before after source config stimulus programs setup fault.NoSpan p h = (h.0, both_told files _ _ _ (λ f k m. lines_wrong f source config stimulus programs setup fault.NoSpan k.0 k.1 m) p h.1)
+lines-reached files source config stimulus programs setup p file.Source before after h = absurd h
+lines-reached files source config stimulus programs setup p file.Words before after h = absurd h
+lines-reached files source config stimulus programs setup p file.Config before after h = absurd h
+lines-reached files source config stimulus programs setup p file.Second before after h = absurd h
+lines-reached files source config stimulus programs setup p file.Stimulus before after h = told files _ _ (λ f k. stimulus_reached f source config programs setup k.0 k.1) p
+lines-reached files source config stimulus programs setup p file.Table before after h = absurd h
+lines-reached files source config stimulus programs setup p file.Send before after h = absurd h
 
--- the same where the shelf after source and setup is told by equations
-pub lines_fail : (files first_files mid_files : Option Files) (before first mid after : Faults) (source : List ℕ) (config stimulus : Option (List ℕ)) (programs : List Assembled) (setup : Setup) (e : Fault) → first_files ≡ files → first ≡ before → mid_files ≡ first_files → mid ≡ first → IfSome files (λ f. source_at f source ≡ right programs) → IfSome first_files (λ f. setup_at f config programs ≡ right setup) → ReadFails (shelved mid_files mid after) (schedule_plan stimulus) e → ReadFails (shelved files before after) (run_plan source config stimulus) e
+lines_part_of : (files : Option Files) (source : List ℕ) (config stimulus : Option (List ℕ)) (programs : List Assembled) (setup : Setup) → AreRead files source config programs setup
+    → IsPart files (schedule_plan stimulus) (run_plan source config stimulus)
 unfolding AreRead
-lines_fail files first_files mid_files before first mid after source config stimulus programs setup e same quiet same' quiet' p q h =
-    let there = subst (λ (fs : Option Files). ReadFails (shelved fs mid after) (schedule_plan stimulus) e) (same' ∙ same) h in
-    let here = subst (λ (m : Faults). ReadFails (shelved files m after) (schedule_plan stimulus) e) (quiet' ∙ quiet) there in
-    let set = subst (λ (fs : Option Files). IfSome fs (λ f. setup_at f config programs ≡ right setup)) same q in
-    lines_fail_here files before after source config stimulus programs setup e (both_told files _ _ _ (λ f k m. (k, m)) p set) here
+lines_part_of files source config stimulus programs setup p = record {
+  named = lines-named source config stimulus;
+  reached = lines-reached files source config stimulus programs setup p;
+  faults = λ e h. both_told files _ _ _ (λ f k m. prepared_with f source config stimulus programs setup k.0 k.1
+      ∙ ap (λ (j : Judged (List Line)). and_then j (λ lines. right (setup, lines))) m) p h;
+}
+
+pub lines_part : (files : Option Files) (source : List ℕ) (config stimulus : Option (List ℕ)) (programs : List Assembled) (setup : Setup) → IfSome files (λ f. source_at f source ≡ right programs)
+    → IfSome files (λ f. setup_at f config programs ≡ right setup) → IsPart files (schedule_plan stimulus) (run_plan source config stimulus)
+unfolding AreRead
+lines_part files source config stimulus programs setup p q = lines_part_of files source config stimulus programs setup (both_told files _ _ _ (λ f k m. (k, m)) p q)

@@ -13,9 +13,11 @@ use Rattle.fault_lines.specs.declared.fault.Fault.TheVariants as fault
 use Rattle.dreq_pacing.specs.declared.line.Line.{Line}
 use Rattle.dreq_pacing.specs.Reading as stimulus
 use Rattle.dreq_pacing.specs.Reading.{stimulus_of}
+use Rattle.dreq_pacing.specs.Blocks.{pair_stimulus_of}
 use Rattle.pin_matrix.specs.declared.setup.Setup.{Setup}
 use Rattle.block_config.specs.Answer as config
-use Rattle.block_config.specs.Config.{config_setup_of}
+use Rattle.block_config.specs.Config.{config_setup_of, second_setup_of}
+use Rattle.block_config.specs.declared.owning.OwningSetup.{OwningSetup}
 use Rattle.block_config.specs.Default.{default_setup_of}
 use Rattle.word_file.specs.declared.fault.WordFault.{WordFault}
 use Rattle.word_file.specs.Reading.{word_file}
@@ -24,6 +26,7 @@ use Rattle.span_bounds.specs.declared.row.Row.{Row}
 use Rattle.table_files.specs.Faults as table_file
 use Rattle.table_files.specs.Reading.{table_of}
 use Rattle.span_stage.specs.Named.{span_named}
+use Rattle.file_stages.specs.declared.pair.TwoBlocks.{TwoBlocks}
 
 -- a value, or the first fault on the way to it
 pub data Judged (X : Type 0) : Type 0 where
@@ -50,6 +53,7 @@ abbrev pub limit : File → ℕ
 limit file.Source = 262144
 limit file.Words = 262144
 limit file.Config = 262144
+limit file.Second = 262144
 limit file.Stimulus = 33554432
 limit file.Table = 8388608
 limit file.Send = 65536
@@ -91,6 +95,15 @@ abbrev pub setup_at : Files → Option (List ℕ) → List Assembled → Judged 
 setup_at files None programs = judged_setup (default_setup_of programs)
 setup_at files (Some name) programs = config_at files name programs
 
+-- a second block's setup with the pins that it owns, or its fault
+abbrev pub judged_second : Result OwningSetup config.Refusal → Judged OwningSetup
+judged_second (Ok second) = right second
+judged_second (Err refusal) = wrong (fault.Second refusal.key refusal.kind)
+
+-- what the second block's configuration with this name makes of programs
+unfoldable pub second_at : Files → List ℕ → List Assembled → Judged OwningSetup
+second_at files name programs = and_then (read_at file.Second (get files name)) (λ bytes. judged_second (second_setup_of bytes programs))
+
 -- a reading of a stimulus, or its fault
 abbrev pub judged_stimulus : Result (List Line) stimulus.Refusal → Judged (List Line)
 judged_stimulus (Ok lines) = right lines
@@ -110,6 +123,37 @@ unfoldable pub prepared_at : Files → List ℕ → Option (List ℕ) → Option
 prepared_at files source config stimulus =
     and_then (source_at files source) (λ programs. and_then (setup_at files config programs) (λ setup.
     and_then (schedule_at files stimulus) (λ lines. right (setup, lines))))
+
+-- a reading of the stimulus of two blocks, or its fault
+abbrev pub judged_lines : Result (List Line × List Line) stimulus.Refusal → Judged (List Line × List Line)
+judged_lines (Ok lines) = right lines
+judged_lines (Err refusal) = wrong (fault.Stim refusal.line refusal.kind)
+
+-- the lines of each block in the stimulus with this name
+unfoldable pub pair_stimulus_at : Files → List ℕ → Judged (List Line × List Line)
+pair_stimulus_at files name = and_then (read_at file.Stimulus (get files name)) (λ bytes. judged_lines (pair_stimulus_of bytes))
+
+-- the same, and no lines where none is named
+abbrev pub schedules_at : Files → Option (List ℕ) → Judged (List Line × List Line)
+schedules_at files None = right ([], [])
+schedules_at files (Some name) = pair_stimulus_at files name
+
+-- two blocks, and the lines of each
+abbrev pub two_blocks : Setup → OwningSetup → List Line × List Line → TwoBlocks
+two_blocks first second lines = record {
+  first = first;
+  second = second.setup;
+  own = second.own;
+  first_lines = lines.0;
+  second_lines = lines.1;
+}
+
+-- the setups of both blocks and the lines of each: source, configuration, second configuration and stimulus, in this order
+unfoldable pub pair_at : Files → (source config second : List ℕ) → (stimulus : Option (List ℕ)) → Judged TwoBlocks
+pair_at files source config second stimulus =
+    and_then (source_at files source) (λ programs. and_then (config_at files config programs) (λ first.
+    and_then (second_at files second programs) (λ owning. and_then (schedules_at files stimulus) (λ lines.
+    right (two_blocks first owning lines)))))
 
 -- a span of a setup, or the fault that none has the name
 abbrev pub judged_span : Setup → Option Span → Judged (Setup × Span)

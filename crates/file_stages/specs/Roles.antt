@@ -3,7 +3,7 @@ use Rattle.std.specs.Prelude.{ℕ, Bool, true, Option, Some, None, List}
 use Rattle.pio_edge.specs.Edge.{Files}
 use Rattle.fault_lines.specs.declared.fault.File.{File}
 use Rattle.fault_lines.specs.declared.fault.File.TheVariants as file
-use Rattle.file_stages.specs.Judged.{is_right, and_then, source_at, setup_at, span_at}
+use Rattle.file_stages.specs.Judged.{is_right, and_then, source_at, config_at, second_at, setup_at, span_at}
 
 -- no file at all
 abbrev pub no_file : File → Option (List ℕ)
@@ -23,6 +23,11 @@ words_alone name role = None
 abbrev pub config_alone : Option (List ℕ) → File → Option (List ℕ)
 config_alone name file.Config = name
 config_alone name role = None
+
+-- the second block's configuration, and no other file
+abbrev pub second_alone : List ℕ → File → Option (List ℕ)
+second_alone name file.Second = Some name
+second_alone name role = None
 
 -- the stimulus, where there is one, and no other file
 abbrev pub stimulus_alone : Option (List ℕ) → File → Option (List ℕ)
@@ -61,3 +66,24 @@ recheck_files source config table role = run_files source config None role
 abbrev pub recheck_reaches : Files → List ℕ → Option (List ℕ) → List ℕ → File → Bool
 recheck_reaches files source config name file.Table = is_right (span_at files source config name)
 recheck_reaches files source config name role = run_reaches files source config role
+
+-- the files of a run of two blocks: a stimulus where it is named
+abbrev pub pair_files : (source config second : List ℕ) → (stimulus : Option (List ℕ)) → File → Option (List ℕ)
+pair_files source config second stimulus file.Second = Some second
+pair_files source config second stimulus role = run_files source (Some config) stimulus role
+
+-- source and first configuration of two blocks are right
+abbrev pub first_is_right : Files → (source config : List ℕ) → Bool
+first_is_right files source config = is_right (and_then (source_at files source) (config_at files config))
+
+-- and so is the second configuration
+abbrev pub both_are_right : Files → (source config second : List ℕ) → Bool
+both_are_right files source config second =
+    is_right (and_then (source_at files source) (λ programs. and_then (config_at files config programs) (λ first. second_at files second programs)))
+
+-- such a run comes to the file of this role: what it reads before is right
+abbrev pub pair_reaches : Files → (source config second : List ℕ) → File → Bool
+pair_reaches files source config second file.Config = is_right (source_at files source)
+pair_reaches files source config second file.Second = first_is_right files source config
+pair_reaches files source config second file.Stimulus = both_are_right files source config second
+pair_reaches files source config second role = true

@@ -9,13 +9,15 @@ use Rattle.pio_edge.specs.Edge.{Files}
 use Rattle.pio_assemble.specs.Program.{Assembled}
 use Rattle.pin_matrix.specs.declared.setup.Setup.{Setup}
 use Rattle.dreq_pacing.specs.declared.line.Line.{Line}
+use Rattle.block_config.specs.declared.owning.OwningSetup.{OwningSetup}
 use Rattle.span_bounds.specs.declared.row.Row.{Row}
 use Rattle.fault_lines.specs.declared.fault.File.{File}
 use Rattle.fault_lines.specs.declared.fault.File.TheVariants as file
 use Rattle.fault_lines.specs.declared.fault.Fault.{Fault}
 use Rattle.fault_lines.specs.declared.fault.Fault.TheVariants as fault
-use Rattle.file_stages.specs.Judged.{Judged, right, wrong, read_at, source_at, words_at, setup_at, schedule_at, prepared_at, table_at}
-use Rattle.file_stages.specs.Roles.{source_alone, words_alone, config_alone, stimulus_alone, table_alone, send_alone, run_files, run_reaches}
+use Rattle.file_stages.specs.declared.pair.TwoBlocks.{TwoBlocks}
+use Rattle.file_stages.specs.Judged.{Judged, right, wrong, read_at, source_at, words_at, setup_at, second_at, schedule_at, schedules_at, prepared_at, pair_at, table_at}
+use Rattle.file_stages.specs.Roles.{source_alone, words_alone, config_alone, second_alone, stimulus_alone, table_alone, send_alone, run_files, run_reaches, pair_files, pair_reaches}
 
 -- there is one, and it is such
 abbrev pub HasSuch : {X : Type 0} → Option X → (X → Type 0) → Type 0
@@ -47,6 +49,7 @@ ReadFails shelf plan fault.Memory = shelf.after ≡ shelf.before
 ReadFails shelf plan fault.Usage = ⊥
 ReadFails shelf plan fault.Out = ⊥
 ReadFails shelf plan (fault.Unproved name refusal) = ⊥
+ReadFails shelf plan (fault.SecondUnproved name refusal) = ⊥
 ReadFails shelf plan (fault.Flaw name flaw) = ⊥
 ReadFails shelf plan e = (shelf.after ≡ shelf.before) × IfSome shelf.files (λ files. plan.comes_to files ≡ wrong e)
 
@@ -61,6 +64,7 @@ abbrev pub alone : File → List ℕ → File → Option (List ℕ)
 alone file.Source name role = source_alone name role
 alone file.Words name role = words_alone name role
 alone file.Config name role = config_alone (Some name) role
+alone file.Second name role = second_alone name role
 alone file.Stimulus name role = stimulus_alone (Some name) role
 alone file.Table name role = table_alone name role
 alone file.Send name role = send_alone name role
@@ -87,9 +91,17 @@ words_plan name = plan_of (λ files. words_at files name) (words_alone name)
 abbrev pub setup_plan : Option (List ℕ) → List Assembled → Plan Setup
 setup_plan name programs = plan_of (λ files. setup_at files name programs) (config_alone name)
 
+-- the setup of programs under a second block's configuration, and the pins that it owns
+abbrev pub second_plan : List ℕ → List Assembled → Plan OwningSetup
+second_plan name programs = plan_of (λ files. second_at files name programs) (second_alone name)
+
 -- the lines of a stimulus, or of none
 abbrev pub schedule_plan : Option (List ℕ) → Plan (List Line)
 schedule_plan name = plan_of (λ files. schedule_at files name) (stimulus_alone name)
+
+-- the lines of each block in the stimulus of two, or in none
+abbrev pub schedules_plan : Option (List ℕ) → Plan (List Line × List Line)
+schedules_plan name = plan_of (λ files. schedules_at files name) (stimulus_alone name)
 
 -- a table file's rows
 abbrev pub table_plan : List ℕ → Plan (List Row)
@@ -101,4 +113,12 @@ run_plan source config stimulus = record {
   comes_to = λ files. prepared_at files source config stimulus;
   file_in = run_files source config stimulus;
   reaches = λ files role. run_reaches files source config role;
+}
+
+-- two blocks and the lines of each
+abbrev pub pair_plan : (source config second : List ℕ) → (stimulus : Option (List ℕ)) → Plan TwoBlocks
+pair_plan source config second stimulus = record {
+  comes_to = λ files. pair_at files source config second stimulus;
+  file_in = pair_files source config second stimulus;
+  reaches = λ files role. pair_reaches files source config second role;
 }

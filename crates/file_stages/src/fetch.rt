@@ -35,7 +35,7 @@ fn limit_of(role: File) -> usize
     ensures small { result ≤ 33554432 }
 {
     match role {
-        File::Source | File::Words | File::Config => 262_144,
+        File::Source | File::Words | File::Config | File::Second => 262_144,
         File::Stimulus => 33_554_432,
         File::Table => 8_388_608,
         File::Send => 65_536,

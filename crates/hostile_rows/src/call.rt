@@ -1,19 +1,38 @@
 //! A call of the whole program over files in memory.
 ghost use Rattle.std.specs.Prelude.{◌≡◌};
 
+use crate::spelling::spelled;
 use commands::piotool;
 use pio_edge::{MemShelf, MemSink};
 use std::alloc::{AllocError, Global};
 use std::marker::Brand;
+use std::str::Split;
 use std::sync::ledger::{Blank, Ledger};
 use step_count::Steps;
 
-/// The files of a call, under the names `s`, `c` and `t`. One that isn't there has no bytes.
+/// The files of a call, under the names `s`, `c`, `d` and `t`. One that isn't there has no bytes.
 #[derive(Drop)]
 pub struct Held {
     pub source: Vec<u8>,
     pub config: Vec<u8>,
+    pub second: Vec<u8>,
     pub stimulus: Vec<u8>,
+}
+
+impl Held {
+    /// The files of the next three fields of a row: the source; the configuration, and after ` ## ` a second block's; the stimulus.
+    /// None where memory runs out, or the row is not well written.
+    pub fn of(alloc: Global, fields: &mut Split<'_, &str>) -> Option<Held> {
+        let source = spelled(alloc, fields.next()?)?;
+        let configs = fields.next()?;
+        let (config, second) = configs.split_once(" ## ").unwrap_or((configs, "-"));
+        Some(Held {
+            source,
+            config: spelled(alloc, config)?,
+            second: spelled(alloc, second)?,
+            stimulus: spelled(alloc, fields.next()?)?,
+        })
+    }
 }
 
 /// What fails outside a call: fetches by their numbers; puts and finishes of the output and of the error output by theirs, each
@@ -83,6 +102,7 @@ fn shelf_of(alloc: Global, held: &Held, fails: &[u64]) -> Result<MemShelf, Alloc
     let mut shelf = MemShelf::new(alloc, fails)?;
     hold(&mut shelf, "s", &held.source)?;
     hold(&mut shelf, "c", &held.config)?;
+    hold(&mut shelf, "d", &held.second)?;
     hold(&mut shelf, "t", &held.stimulus)?;
     Ok(shelf)
 }

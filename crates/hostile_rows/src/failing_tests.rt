@@ -81,11 +81,7 @@ fn holds(alloc: Global, line: &str, fails: Fails) -> Option<bool> {
 /// The call of a row, and what the row says that it leaves.
 fn whole_of(alloc: Global, fields: &mut Split<'_, &str>) -> Option<Whole> {
     let words = String::from_str(alloc, fields.next()?).ok()?;
-    let held = Held {
-        source: spelled(alloc, fields.next()?)?,
-        config: spelled(alloc, fields.next()?)?,
-        stimulus: spelled(alloc, fields.next()?)?,
-    };
+    let held = Held::of(alloc, fields)?;
     let status: u8 = fields.next()?.parse().ok()?;
     let err = spelled(alloc, fields.next()?)?;
     let text = spelled(alloc, fields.next()?)?;

@@ -1,6 +1,6 @@
 //! Files that are malformed, or as large as they may be, or a byte larger.
 use crate::call::{Failing, Held, Outcome, seen};
-use crate::hostile_rows::{CONFIGS, LIMITS, SOURCES, SPANS, STIMULI};
+use crate::hostile_rows::{CONFIGS, LIMITS, PAIRS, SOURCES, SPANS, STIMULI};
 use crate::spelling::spelled;
 use std::alloc::Global;
 use std::test::Fail;
@@ -36,6 +36,11 @@ fn stimuli_end_as_stated(rt: HostRuntime) -> Result<(), Fail> {
     each_ends_as_stated(rt.alloc(), STIMULI)
 }
 
+#[test]
+fn pairs_end_as_stated(rt: HostRuntime) -> Result<(), Fail> {
+    each_ends_as_stated(rt.alloc(), PAIRS)
+}
+
 /// Each row's call ends as the row says. The error names the row.
 fn each_ends_as_stated(alloc: Global, table: &str) -> Result<(), Fail> {
     for line in table.lines() {
@@ -50,11 +55,7 @@ fn each_ends_as_stated(alloc: Global, table: &str) -> Result<(), Fail> {
 fn ends_as_stated(alloc: Global, line: &str) -> Option<bool> {
     let mut fields = line.split(" ~ ");
     let words = fields.next()?;
-    let held = Held {
-        source: spelled(alloc, fields.next()?)?,
-        config: spelled(alloc, fields.next()?)?,
-        stimulus: spelled(alloc, fields.next()?)?,
-    };
+    let held = Held::of(alloc, &mut fields)?;
     let found = seen(alloc, words, &held, QUIET).ok()?;
     let status: u8 = fields.next()?.parse().ok()?;
     let out = spelled(alloc, fields.next()?)?;

@@ -11,3 +11,4 @@ mod TwinSteps
 mod TwinDue
 mod TwinCalm
 mod TwinAfterRest
+mod TwinStopping

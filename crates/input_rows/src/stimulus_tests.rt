@@ -1,6 +1,6 @@
 //! Rows of stimuli: what is read of them, worked by hand from the rules.
 use StimKind::{Backwards, BadLine, Crowded, Many, Range};
-use dreq_pacing::{StimFault, StimKind, read_stimulus};
+use dreq_pacing::{StimFault, StimKind, read_pair_stimulus, read_stimulus};
 use std::alloc::{AllocError, Global};
 use std::test::Fail;
 
@@ -79,6 +79,38 @@ static REFUSED: [(&str, usize, StimKind); 40] = [
     ("0 rx 0\nversion 3", 2, BadLine),
 ];
 
+/// Texts of two blocks, and how many lines are read for the first and for the second.
+static PAIRS: [(&str, usize, usize); 7] = [
+    ("", 0, 0),
+    // A pin is both blocks'.
+    ("5 pin 0 1\n5 pin 0 0", 2, 2),
+    // Machines 4 to 7 are the second block's.
+    ("0 rx 3\n0 rx 4", 1, 1),
+    ("0 tx 7 1\n0 rx 7\n0 feed 7 1 1\n0 drain 7 1", 0, 4),
+    // Machines of two blocks don't crowd each other.
+    ("0 tx 0 1\n0 tx 4 1", 1, 1),
+    ("0 feed 3 1 1\n0 feed 7 1 1\n1 drain 0 1\n1 drain 4 1", 2, 2),
+    (
+        "version 2\n3 disable 1\n3 enable 5\n3 restart 5\n4 pin 31 1",
+        2,
+        3,
+    ),
+];
+
+/// Texts of two blocks, and the first faulty line with its fault.
+static REFUSED_PAIRS: [(&str, usize, StimKind); 9] = [
+    ("0 rx 7\n0 tx 8 1", 2, Range),
+    ("0 drain 8 1", 1, Range),
+    // Clocks never fall, whichever block a line is for.
+    ("5 rx 0\n4 rx 4", 2, Backwards),
+    ("5 rx 4\n4 pin 0 1", 2, Backwards),
+    ("0 tx 4 1\n0 tx 4 2", 2, Crowded),
+    ("0 feed 6 1 1\n9 feed 6 1 1", 2, Crowded),
+    ("version 2\n3 disable 7\n3 enable 7", 3, Crowded),
+    ("0 enable 4", 1, BadLine),
+    ("version 3\n0 rx 4", 1, Range),
+];
+
 /// How many lines a text has, or its fault.
 fn lines_of(alloc: Global, text: &str) -> Result<usize, StimFault> {
     let schedule = read_stimulus(alloc, text.as_bytes())?;
@@ -97,6 +129,27 @@ fn refuses_lines(rt: HostRuntime) {
     for &(text, line, kind) in &REFUSED {
         let fault = StimFault::At { line, kind };
         assert_eq!(rt; lines_of(rt.alloc(), text), Err(fault), "{text:?}");
+    }
+}
+
+/// How many lines a text of two blocks has for each, or its fault.
+fn pair_of(alloc: Global, text: &str) -> Result<(usize, usize), StimFault> {
+    let (first, second) = read_pair_stimulus(alloc, text.as_bytes())?;
+    Ok((first.lines().len(), second.lines().len()))
+}
+
+#[test]
+fn reads_lines_of_two_blocks(rt: HostRuntime) {
+    for &(text, first, second) in &PAIRS {
+        assert_eq!(rt; pair_of(rt.alloc(), text), Ok((first, second)), "{text:?}");
+    }
+}
+
+#[test]
+fn refuses_lines_of_two_blocks(rt: HostRuntime) {
+    for &(text, line, kind) in &REFUSED_PAIRS {
+        let fault = StimFault::At { line, kind };
+        assert_eq!(rt; pair_of(rt.alloc(), text), Err(fault), "{text:?}");
     }
 }
 

@@ -2,6 +2,7 @@
 #![tactic(auto)]
 
 mod act;
+mod decoding;
 mod fields;
 mod instruction_text;
 mod laws;
@@ -9,7 +10,6 @@ mod name;
 mod numerals;
 mod op;
 mod operand_text;
-mod decoding;
 mod relocation;
 mod rule;
 mod spelling;
@@ -19,10 +19,10 @@ pub use act::{
     Act, Condition, InSource, MovDestination, MovOperation, MovSource, OutDestination,
     SetDestination, WaitSource,
 };
+pub use decoding::decode;
 pub use laws::{moved_reading, read_back, word_range};
 pub use name::Name;
 pub use op::Op;
-pub use decoding::decode;
 pub use relocation::relocate;
 pub use rule::SideRule;
 pub use spelling::spell;

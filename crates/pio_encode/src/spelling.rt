@@ -6,11 +6,11 @@ ghost use Rattle.pio_encode.specs.Spelling as spec;
 ghost use Rattle.pio_encode.specs.Text as text_spec;
 
 use crate::act::{Act, WaitSource};
+use crate::decoding::decode;
 use crate::fields::bits;
 use crate::instruction_text::act_text;
 use crate::numerals::{push_digit, push_number};
 use crate::op::Op;
-use crate::decoding::decode;
 use crate::rule::SideRule;
 use crate::word::encode;
 use arrayvec::ArrayString;

@@ -1,6 +1,7 @@
 //! The statements of a pioasm source: what one line says, or its first fault.
 #![tactic(auto)]
 
+mod any_statement;
 mod code;
 mod condition;
 mod directive;
@@ -11,7 +12,6 @@ mod laws;
 mod line;
 mod operand;
 mod optional;
-mod any_statement;
 mod statement;
 mod token;
 mod value;

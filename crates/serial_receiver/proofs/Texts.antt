@@ -11,7 +11,7 @@ use Rattle.serial_receiver.specs.declared.line.Heard.{Heard}
 use Rattle.pin_matrix.specs.Pins.{is_high}
 use Rattle.serial_receiver.specs.Frames.{frames, frames_from, levels_of}
 use Rattle.serial_receiver.specs.FrameText.{frame_line, frames_text}
-use Rattle.serial_receiver.specs.Hearing.{Brings, Hears, Receives, first_told, frame_list, level_after, level_code, taken_code}
+use Rattle.serial_receiver.specs.Hearing.{Brings, Hears, Receives, first_heard, frame_list, level_after, level_code, taken_code}
 
 pub frames_text-append : (xs ys : List Frame) → frames_text (xs ++ ys) ≡ frames_text xs ++ frames_text ys
 frames_text-append [] ys = refl
@@ -172,7 +172,7 @@ same_taken (Some a) None h = absurd (apart (head (taken_code None)) (head (taken
 
 -- a receiver of which nothing was told
 pub begin_receives : (pin bit : ℕ) (level : Bool) (taken : Option (List ℕ)) (p b : ℕ) (first : Bool) (now : Option (List ℕ)) (line : Line)
-    → first_told p b first now ≡ first_told pin bit level taken → Hears b first [] line → Receives pin bit level taken [] now p b line
+    → first_heard p b first now ≡ first_heard pin bit level taken → Hears b first [] line → Receives pin bit level taken [] now p b line
 unfolding frames_from
 begin_receives pin bit level taken p b first now line h hears =
     let one : p ≡ pin = cc in

@@ -1,5 +1,5 @@
 -- What a receiver keeps while it hears, and what it has told its sink: the trace's own words.
---   first_told     how it tells its callers which pin, bit and level it hears
+--   first_heard     how it tells its callers which pin, bit and level it hears
 --   IsReading      what is known of a frame that isn't ended
 --   Hears          the state of a line after some levels
 --   Heard          what more levels bring
@@ -28,8 +28,8 @@ taken_code (Some bytes) = 1 ∷ bytes
 
 -- What a receiver names in the place of what its sink had taken: its pin, the clocks of a bit, the level before clock 0, and what
 -- its sink had taken.
-abbrev pub first_told : (pin bit : ℕ) → (level : Bool) → (taken : Option (List ℕ)) → Option (List ℕ)
-first_told pin bit level taken = Some (pin ∷ bit ∷ level_code level ∷ taken_code taken)
+abbrev pub first_heard : (pin bit : ℕ) → (level : Bool) → (taken : Option (List ℕ)) → Option (List ℕ)
+first_heard pin bit level taken = Some (pin ∷ bit ∷ level_code level ∷ taken_code taken)
 
 -- Of a frame the level was read in the middle of the bits that are known, and of no other, where the levels of so many clocks from
 -- its fall on are known.

@@ -3,7 +3,7 @@ ghost use Rattle.std.specs.Prelude.{◌≡◌, ◌+◌, ◌<◌, ◌≤◌, ℕ,
 ghost use Rattle.pio_edge.specs.Edge.{Takes, PutCounts, TakesPrefix};
 ghost use Rattle.serial_receiver.specs.Frames.{frames, levels_of};
 ghost use Rattle.serial_receiver.specs.FrameText.{frames_text};
-ghost use Rattle.serial_receiver.specs.Hearing.{Receives, first_told, frame_list};
+ghost use Rattle.serial_receiver.specs.Hearing.{Receives, first_heard, frame_list};
 
 use crate::frame::{Frame, put_frame};
 use crate::line::{Heard, Line};
@@ -57,14 +57,14 @@ impl<'a, S: Sink> Trace for Receiver<'a, S> {
 
     ghost has_failed = { λ h. h.failed };
 
-    ghost ready = { λ h b. b ≡ first_told h.pin h.bit h.first (S.taken h.sink.now) };
+    ghost ready = { λ h b. b ≡ first_heard h.pin h.bit h.first (S.taken h.sink.now) };
 
     ghost holds = { λ h b l _. (pin bit : ℕ) (level : Bool) (taken : Option (List ℕ))
-        → b ≡ first_told pin bit level taken
+        → b ≡ first_heard pin bit level taken
         → Receives pin bit level taken l (S.taken h.sink.now) h.pin h.bit h.line };
 
     ghost broken = { λ h b l _. (pin bit : ℕ) (level : Bool) (taken : Option (List ℕ))
-        → b ≡ first_told pin bit level taken
+        → b ≡ first_heard pin bit level taken
         → TakesPrefix taken (frames_text (frames bit level (levels_of pin l))) (S.taken h.sink.now) };
 
     fn begin(&mut self) -> Result<(), TraceFailed> {

@@ -55,6 +55,8 @@ span = ["x"]|load = [{}]| => span: C3
 [pins]|level = [-1]| => pins.level: C4
 [pins]|bypass = 1|out = [1.0]| => pins.out: C3
 [pins]|bypass = [[1]]| => pins.bypass: C3
+[pins]|own = [1]| => pins: C2
+[pins]|own = []|high = 1| => pins: C2
 ### Loads.
 [[load]]|spam = 1| => load[0]: C2
 [[load]]|program = 1|at = 99| => load[0].program: C3
@@ -110,6 +112,41 @@ pub static SETUPS: &str = r#"
 [[machine]]|id = 3|program = "square"|start = "again"|[[machine]]|id = 1|program = "square"|[[load]]|program = "square"|at = 5| => 5:e081 6:e101 7:e000 8:0006 m1 5 5-8 1+0 in 0 jmp 0 out 0x0 set 0x5 side 0x0 shift true true false false 32 32 join false false status false 0 x 0 y 0 m3 6 5-8 1+0 in 0 jmp 0 out 0x0 set 0x5 side 0x0 shift true true false false 32 32 join false false status false 0 x 0 y 0 pins 0 0 0 0
 load = [{ program = "fixed" }]|[[machine]]|id = 2|program = "fixed"|divider = 2|fraction = 3|in_base = 4|out_base = 5|set_base = 6|side_base = 7|jmp_pin = 8|out_count = 9|set_count = 1|in_right = false|out_right = false|autopush = true|autopull = true|join_tx = false|join_rx = true|status_rx = true|push_threshold = 10|pull_threshold = 11|status_n = 12|x = 13|y = 14| => 7:e003 m2 7 7-7 2+3 in 4 jmp 8 out 5x9 set 6x1 side 7x0 shift false false true true 10 11 join false true status true 12 x 13 y 14 pins 0 0 0 0
 [[load]]|program = "fixed"|[[load]]|program = "long"|at = 16|[[span]]|name = "lap"|machine = 0|from_pin = 3|to_pin = 4|from_edge = "rise"|to_edge = "fall"|min = 5|max = 6|stalls = ["last", "first"]|[[span]]|name = "lap"|machine = 0|from_pin = 8|to_pin = 7|from_edge = "fall"|to_edge = "rise"|unit = "clocks"|min = 0|max = 1|[[machine]]|id = 0|program = "long"|start = "last"| => 7:e003 16:e000 17:e000 18:e000 19:e000 20:e000 21:e000 22:e000 23:e000 m0 23 16-23 1+0 in 0 jmp 0 out 0x0 set 0x5 side 0x0 shift true true false false 32 32 join false false status false 0 x 0 y 0 pins 0 0 0 0 lap m0 3 true 4 false ticks 5-6 [23 16] lap m0 8 false 7 true clocks 0-1 []
+"#;
+
+/// Configurations of a second block on the same pins: the first fault, or what the setup says and the pins that the block owns.
+pub static SECONDS: &str = r#"
+ => pins 0 0 0 0 own 0
+[pins]| => pins 0 0 0 0 own 0
+[pins]|own = []| => pins 0 0 0 0 own 0
+[pins]|own = [0, 31, 31]| => pins 0 0 0 0 own 80000001
+[pins]|own = [4, 5]|bypass = [3, 3]|out = [2]|level = [0, 1]| => pins 0 3 4 8 own 30
+### Its keys.
+[pins]|high = [1]| => pins: C2
+[pins]|high = []|own = 1| => pins: C2
+[pins]|Own = [1]| => pins: C2
+own = [1]| => top: C2
+[pins]|own = [1]|own = [1]| => file: C1
+### A type comes before a range.
+[pins]|own = [32]| => pins.own: C4
+[pins]|own = [-1]| => pins.own: C4
+[pins]|own = 1| => pins.own: C3
+[pins]|own = {}| => pins.own: C3
+[pins]|own = [32, "x"]| => pins.own: C3
+[pins]|own = [1.0]| => pins.own: C3
+### Level, out, bypass and own, whatever the order of the file.
+[pins]|own = 1|bypass = 1|out = 1|level = [32]| => pins.level: C4
+[pins]|own = 1|bypass = 1|out = [32]|level = [31]| => pins.out: C4
+[pins]|own = 1|bypass = [32]|out = [31]| => pins.bypass: C4
+[pins]|own = [32]|bypass = [31]| => pins.own: C4
+### Machines come before pins, and spans after them.
+[pins]|own = [32]|[[machine]]| => machine[0].id: C13
+[[span]]|[pins]|own = [32]| => pins.own: C4
+[[span]]|[pins]|own = [31]| => span[0].name: C13
+### Its machines have the numbers 0 to 3.
+[[machine]]|id = 4| => machine[0].id: C4
+[[load]]|program = "square"|[[load]]|program = "ahead"|at = 3| => load[1].at: C7 3
+[[load]]|program = "fixed"|[[machine]]|id = 3|program = "fixed"|[pins]|own = [1]| => 7:e003 m3 7 7-7 1+0 in 0 jmp 0 out 0x0 set 0x5 side 0x0 shift true true false false 32 32 join false false status false 0 x 0 y 0 pins 0 0 0 0 own 2
 "#;
 
 /// Whole files, the first fault, and its kind.

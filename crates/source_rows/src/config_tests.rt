@@ -1,12 +1,13 @@
-//! Configurations over four small programs: whole setups, which fault is the first, and its text; and default setups.
-use crate::config_rows::{DEFAULTS, FILES, KINDS, PROGRAMS, SETUPS};
+//! Configurations over four small programs: whole setups, which fault is the first, and its text; those of a second block;
+//! and default setups.
+use crate::config_rows::{DEFAULTS, FILES, KINDS, PROGRAMS, SECONDS, SETUPS};
 use crate::machine_rows::{HEADS, KEYS, MACHINE, RUNS};
-use crate::setup_texts::tell_setup_text;
+use crate::setup_texts::{tell_second_text, tell_setup_text};
 use crate::span_rows::{BOUNDS, ENDS, SPAN, SPANS};
 use crate::table::rows_hold;
 use crate::telling::Subject;
 use crate::toml_rows::{TEXTS, VALUES};
-use block_config::{ConfigFault, default_setup, read_config};
+use block_config::{ConfigFault, default_setup, read_config, read_second};
 use pin_matrix::Setup;
 use pio_assemble::assemble;
 use std::alloc::Global;
@@ -58,6 +59,11 @@ fn whole_setups(rt: HostRuntime) -> Result<(), Fail> {
 }
 
 #[test]
+fn second_setups(rt: HostRuntime) -> Result<(), Fail> {
+    rows_hold(rt.alloc(), Subject::SecondSetup, "", SECONDS)
+}
+
+#[test]
 fn default_setups(rt: HostRuntime) -> Result<(), Fail> {
     rows_hold(rt.alloc(), Subject::DefaultSetup, "", DEFAULTS)
 }
@@ -88,6 +94,15 @@ fn tell_made_kind(made: &Result<Setup, ConfigFault>, text: &mut String) -> Optio
 pub fn tell_setup(alloc: Global, source: &[u8], text: &mut String) -> Option<()> {
     let programs = assemble(alloc, PROGRAMS).ok()?;
     tell_made(&read_config(alloc, source, &programs), text)
+}
+
+/// Adds what the configuration of a second block over the four programs says, or its first fault.
+pub fn tell_second(alloc: Global, source: &[u8], text: &mut String) -> Option<()> {
+    let programs = assemble(alloc, PROGRAMS).ok()?;
+    match read_second(alloc, source, &programs) {
+        Ok(second) => tell_second_text(&second, text).ok(),
+        Err(fault) => tell_fault_text(&fault, text),
+    }
 }
 
 /// Adds what the default setup of a source's programs says, or its fault.

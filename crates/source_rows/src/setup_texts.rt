@@ -1,4 +1,5 @@
 //! Setups as short texts, for the tests.
+use block_config::OwningSetup;
 use pin_matrix::{MachineSetup, Setup, Span, SpanUnit};
 use std::alloc::AllocError;
 
@@ -20,6 +21,12 @@ pub fn tell_setup_text(setup: &Setup, text: &mut String) -> Result<(), AllocErro
         tell_span(span, text)?;
     }
     Ok(())
+}
+
+/// Adds what the setup of a second block says, and the pins that it owns.
+pub fn tell_second_text(second: &OwningSetup, text: &mut String) -> Result<(), AllocError> {
+    tell_setup_text(&second.setup, text)?;
+    write!(text, " own {:x}", second.own)
 }
 
 fn tell_memory(memory: &[u16], text: &mut String) -> Result<(), AllocError> {

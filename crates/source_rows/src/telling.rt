@@ -1,5 +1,5 @@
 //! What is told of a source, by what a table asks of it.
-use crate::config_tests::{tell_default, tell_fault, tell_kind, tell_setup};
+use crate::config_tests::{tell_default, tell_fault, tell_kind, tell_second, tell_setup};
 use crate::expression_tests::tell_expression;
 use crate::program_tests::{tell_shapes, tell_words};
 use crate::statement_tests::tell_lines;
@@ -31,6 +31,8 @@ pub enum Subject {
     ConfigKind,
     /// What the setup of a configuration says.
     Setup,
+    /// What the configuration of a second block says, or its first fault.
+    SecondSetup,
     /// What the default setup of a source says, or its fault.
     DefaultSetup,
 }
@@ -48,6 +50,7 @@ pub fn tell(alloc: Global, subject: Subject, source: &[u8], text: &mut String) -
         Subject::ConfigFault => tell_fault(alloc, source, text),
         Subject::ConfigKind => tell_kind(alloc, source, text),
         Subject::Setup => tell_setup(alloc, source, text),
+        Subject::SecondSetup => tell_second(alloc, source, text),
         Subject::DefaultSetup => tell_default(alloc, source, text),
     }
 }

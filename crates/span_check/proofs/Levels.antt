@@ -14,7 +14,7 @@ use Rattle.sm_registers.specs.Tick.{tick_of, tick_delay, tick_word, tick_by, cur
 use Rattle.block_core.specs.Block.{two_writes}
 use Rattle.span_step.specs.Courses.{is_edge}
 use Rattle.span_ticks.specs.Following.{level_after}
-use Rattle.span_check.specs.Marks.{changes}
+use Rattle.block_core.specs.Edges.{changes}
 
 -- nothing is written
 pub level-none : (p : ℕ) (level : Bool) → level_after p (two_writes no_intent.level) level ≡ level

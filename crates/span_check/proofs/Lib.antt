@@ -5,6 +5,7 @@ pub mod Levels
 pub mod Premises
 pub mod Steps
 pub mod Walk
+pub mod Paired
 pub mod Periods
 pub mod InTicks
 pub mod Pacing

@@ -18,7 +18,8 @@ use Rattle.block_core.specs.Slots.{Slot, enabled_by, timed_by, lined, has_tick, 
 use Rattle.block_core.specs.Block.{BlockState, view_of, two_writes}
 use Rattle.block_core.specs.Following.{place_at, intent_in}
 use Rattle.pin_matrix.specs.Pins.{is_high}
-use Rattle.span_check.specs.Marks.{Mark, mark_of, changes, counts, names}
+use Rattle.block_core.specs.Edges.{changes}
+use Rattle.span_check.specs.Marks.{Mark, mark_of, counts, names}
 use Rattle.span_check.specs.Holding.{counted, IsUnbroken}
 use Rattle.span_check.specs.Runs.{marks_over}
 use Rattle.span_check.proofs.Counting.{one_if, before_suc, counted-suc, counted-none}

@@ -1,4 +1,5 @@
 pub mod Marks
+pub mod Pairs
 pub mod Holding
 pub mod Runs
 pub mod Proved

@@ -1,18 +1,17 @@
 -- What a span looks at in one clock of a run: edges, as a logic analyser at the block's outputs would see them, and the ticks of its
 -- machine.
 --   Mark             what it looks at
---   changes          an edge: the level before and after
 --   counts, strays   which ticks count, and which must not come while the span is open
 --   mark_of          the mark of a clock
-use Rattle.std.specs.Prelude.{ℕ, ◌==◌, Bool, true, false, not, ◌&&◌, ◌||◌, Option, Some, None, List, slice_index_or}
+use Rattle.std.specs.Prelude.{ℕ, ◌==◌, Bool, true, false, not, ◌||◌, Option, Some, None, List, slice_index_or}
 use Rattle.std.specs.List.{list_any}
-use Rattle.pin_matrix.specs.Pins.{is_high}
 use Rattle.pin_matrix.specs.declared.span.Span.{Span}
 use Rattle.sm_registers.specs.declared.intent.Kind.{Kind}
 use Rattle.sm_registers.specs.declared.intent.Kind.TheVariants.{Off, First, Late, Delay}
 use Rattle.dreq_pacing.specs.declared.due.Due.{Due}
 use Rattle.block_core.specs.Slots.{Slot}
 use Rattle.block_core.specs.Block.{BlockState}
+use Rattle.block_core.specs.Edges.{has_edge}
 use Rattle.block_core.specs.Following.{place_at, intent_in}
 
 -- What a span looks at in a clock: whether its from-edge and its to-edge come, whether the machine has a tick that counts,
@@ -23,15 +22,6 @@ pub record Mark : Type 0 where
   pub counts : Bool
   pub strays : Bool
   pub breaks : Bool
-
--- the level changes in this direction: it rises, or it falls
-abbrev pub changes : (rise before after : Bool) → Bool
-changes true before after = not before && after
-changes false before after = before && not after
-
--- An edge of a pin in a clock: its output level after the clock isn't that before it. Pads and directions don't matter.
-abbrev pub has_edge : (pin : ℕ) (rise : Bool) → (before after : BlockState) → Bool
-has_edge pin rise before after = changes rise (is_high before.levels pin) (is_high after.levels pin)
 
 -- a tick that counts is any but a late one at an address that the span names
 abbrev pub counts : Kind → (named : Bool) → Bool
@@ -66,8 +56,8 @@ mark_of sp memory seen d before after =
     let tick = (intent_in memory seen d before sp.machine).kind in
     let named = names sp (pc_at (place_at before sp.machine)) in
     record {
-      from = has_edge sp.from_pin sp.from_rise before after;
-      to = has_edge sp.to_pin sp.to_rise before after;
+      from = has_edge sp.from_pin sp.from_rise before.levels after.levels;
+      to = has_edge sp.to_pin sp.to_rise before.levels after.levels;
       counts = counts tick named;
       strays = strays tick named;
       breaks = is_broken d sp.machine;

@@ -3,6 +3,8 @@
 
 mod checking;
 mod laws;
+mod pairs;
 
 pub use checking::{check, recheck};
 pub use laws::a_provable_span_holds_in_every_run;
+pub use pairs::a_provable_span_holds_in_every_pair;

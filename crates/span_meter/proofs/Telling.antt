@@ -10,7 +10,8 @@ use Rattle.span_meter.proofs.HeldLevels.{held-levels, last-levels-of, levels-app
 use Rattle.span_meter.specs.declared.edges.Edges.{Edges}
 use Rattle.span_meter.specs.declared.meter.Meter.{Meter}
 use Rattle.pin_matrix.specs.Pins.{is_high}
-use Rattle.span_meter.specs.Measured.{Ends, changes, clocks_to, ends_in, has_edge, is_from, is_to, measured, seen_of, with_distance}
+use Rattle.block_core.specs.Edges.{changes, has_edge}
+use Rattle.span_meter.specs.Measured.{Ends, clocks_to, ends_in, is_from, is_to, measured, seen_of, with_distance}
 use Rattle.span_meter.specs.Kept.{ends_of}
 use Rattle.span_meter.specs.Meters.{Counts, HasMeasured, Measures, Meters, after_clock, closed_at, closing, direction, ended, ends_code, first_told, fresh, most, moved, opened_at, seen_by, watched}
 use Rattle.span_meter.proofs.Distances.{fewer}

@@ -1,14 +1,13 @@
 -- What the edges of a span measure in samples, in clocks.
 --   Ends           the edges that a span goes between
---   has_edge       an edge of a pin, by the output levels before and after a clock
 --   clocks_to      how many clocks pass before the first to-edge
 --   measured       the clocks from each from-edge to the first to-edge after it
 --   seen_of        how many there are, the least and the greatest
-use Rattle.std.specs.Prelude.{ℕ, suc, ◌&&◌, Bool, true, false, not, Option, Some, None, List, [], ◌∷◌, length, min, max, if◌then◌else◌}
+use Rattle.std.specs.Prelude.{ℕ, suc, Bool, Option, Some, None, List, [], ◌∷◌, length, min, max, if◌then◌else◌}
 use Rattle.std.specs.Option.{option_map}
-use Rattle.pin_matrix.specs.Pins.{is_high}
 use Rattle.pin_matrix.specs.declared.span.Span.{Span}
 use Rattle.block_core.specs.declared.sample.Sample.{Sample}
+use Rattle.block_core.specs.Edges.{has_edge}
 use Rattle.span_meter.specs.declared.seen.Seen.{Seen}
 
 -- the edges that a span goes between: each a rise of a pin, or else a fall
@@ -21,15 +20,6 @@ pub record Ends : Type 0 where
 -- those of a span of a configuration
 abbrev pub ends_in : Span → Ends
 ends_in sp = record { from_pin = sp.from_pin; from_rise = sp.from_rise; to_pin = sp.to_pin; to_rise = sp.to_rise }
-
--- the level changes in this direction: it rises, or it falls
-abbrev pub changes : (rise before after : Bool) → Bool
-changes true before after = not before && after
-changes false before after = before && not after
-
--- an edge of a pin in a clock, by the output levels before and after it
-abbrev pub has_edge : (pin : ℕ) (rise : Bool) (before after : ℕ) → Bool
-has_edge pin rise before after = changes rise (is_high before pin) (is_high after pin)
 
 -- the from-edge comes in this clock
 abbrev pub is_from : Ends → (before after : ℕ) → Bool

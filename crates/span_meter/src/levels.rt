@@ -1,6 +1,6 @@
 //! Edges of pins.
 ghost use Rattle.std.specs.Prelude.{◌≡◌, ◌<◌};
-ghost use Rattle.span_meter.specs.Measured as spec;
+ghost use Rattle.block_core.specs.Edges as spec;
 
 use pin_matrix::is_high;
 

@@ -20,7 +20,8 @@ use Rattle.block_core.specs.Following.{place_at, intent_in}
 use Rattle.span_step.specs.Courses.{Rules, is_edge, watched}
 use Rattle.span_ticks.specs.Following.{level_after}
 use Rattle.pin_matrix.specs.Pins.{is_high}
-use Rattle.span_check.specs.Marks.{Mark, mark_of, changes, counts, names, pc_at}
+use Rattle.block_core.specs.Edges.{changes}
+use Rattle.span_check.specs.Marks.{Mark, mark_of, counts, names, pc_at}
 use Rattle.span_check.specs.Runs.{marks_over}
 use Rattle.span_refuted.proofs.Single.{Watch, Tick}
 use Rattle.span_refuted.proofs.Joining.{IsClean, clean_joined}

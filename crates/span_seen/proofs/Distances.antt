@@ -19,7 +19,7 @@ use Rattle.span_check.specs.Runs.{marks_in, state_beside}
 use Rattle.span_check.specs.Proved.{HoldsInEveryRun}
 use Rattle.span_meter.specs.Measured as meter
 use Rattle.span_meter.specs.Measured.{clocks_to, ends_in, greatest_of, least_of, least_with, measured, seen_of, with_distance}
-use Rattle.span_seen.specs.Within.{IsUndisturbed, IsWithin, seen_in}
+use Rattle.span_seen.specs.Within.{IsUndisturbed, IsWithin, measured_in}
 
 -- the samples from a clock on
 unfoldable samples_from : (ℕ → Sample) → (k count : ℕ) → List Sample
@@ -153,7 +153,7 @@ in_clocks Clocks lo hi n m clocks holds calm s d start some within to first =
     let most = h.most (s + d) ends within spoken in
     (omega arith, omega arith)
 
-pub seen_within : (u : Setup) (sp : Span) → sp.unit ≡ Clocks → HoldsInEveryRun u sp → (lines : List Line) (n : ℕ) → IsUndisturbed u sp lines n → IsWithin sp.min sp.max (seen_in u sp lines n)
+pub seen_within : (u : Setup) (sp : Span) → sp.unit ≡ Clocks → HoldsInEveryRun u sp → (lines : List Line) (n : ℕ) → IsUndisturbed u sp lines n → IsWithin sp.min sp.max (measured_in u sp lines n)
 seen_within u sp clocks holds lines n calm =
     let levels : ℕ → ℕ = λ k. (state_beside u lines k).levels in
     let e = ends_in sp in

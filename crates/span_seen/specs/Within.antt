@@ -1,6 +1,6 @@
 -- What a proved span promises of its measured distances.
 --   IsUndisturbed   no line disables or restarts the span's machine
---   seen_in         what the span measures in a run
+--   measured_in     what the span measures in a run
 --   IsWithin        the least and the greatest distance are within the bounds
 use Rattle.std.specs.Prelude.{◌≡◌, ℕ, ◌<◌, ◌≤◌, false, List}
 use Rattle.pin_matrix.specs.declared.setup.Setup.{Setup}
@@ -17,8 +17,8 @@ abbrev pub IsUndisturbed : Setup → Span → List Line → (n : ℕ) → Type 0
 IsUndisturbed u sp lines n = (c : ℕ) → c < n → is_broken (host_of (first_run u) lines c) sp.machine ≡ false
 
 -- what the span measures in the first n clocks of the setup's run beside a stimulus
-abbrev pub seen_in : Setup → Span → List Line → (n : ℕ) → Seen
-seen_in u sp lines n = seen_of (measured (ends_in sp) (first_run u).state.levels (samples (first_run u) lines n))
+abbrev pub measured_in : Setup → Span → List Line → (n : ℕ) → Seen
+measured_in u sp lines n = seen_of (measured (ends_in sp) (first_run u).state.levels (samples (first_run u) lines n))
 
 -- Where there are distances, the least and the greatest are within the bounds.
 pub record IsWithin (min max : ℕ) (s : Seen) : Type 0 where

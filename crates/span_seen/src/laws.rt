@@ -6,7 +6,7 @@ ghost use Rattle.pin_matrix.specs.declared.span.SpanUnit.TheVariants.{Clocks};
 ghost use Rattle.dreq_pacing.specs.declared.line.Line.{Line};
 ghost use Rattle.span_bounds.specs.Tables.{IsProvable};
 ghost use Rattle.span_verdict.specs.Sharing.{IsUnshared};
-ghost use Rattle.span_seen.specs.Within.{IsUndisturbed, IsWithin, seen_in};
+ghost use Rattle.span_seen.specs.Within.{IsUndisturbed, IsWithin, measured_in};
 
 use span_check::a_provable_span_holds_in_every_run;
 
@@ -17,7 +17,7 @@ pub fn a_proved_span_is_seen_within_its_bounds()
     ensures { (u : Setup) (sp : Span) → IsSome (slice_index_or u.machines sp.machine None)
         → IsProvable u sp → IsUnshared u sp → sp.unit ≡ Clocks
         → (lines : List Line) (n : ℕ) → IsUndisturbed u sp lines n
-        → IsWithin sp.min sp.max (seen_in u sp lines n) }
+        → IsWithin sp.min sp.max (measured_in u sp lines n) }
 {
     a_provable_span_holds_in_every_run();
 }

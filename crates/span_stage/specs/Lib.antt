@@ -1,3 +1,4 @@
 pub mod Configured
 pub mod Named
 pub mod Spans
+pub mod Pairs

@@ -2,7 +2,9 @@
 #![tactic(auto)]
 
 mod named;
+mod pairs;
 mod spans;
 
 pub use named::span_named;
+pub use pairs::ask_both_spans;
 pub use spans::{Verdicts, ask_spans, judge_spans, refuse};

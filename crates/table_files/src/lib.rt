@@ -7,8 +7,8 @@ mod flaw_line;
 mod form;
 mod laws;
 mod number;
-mod table;
 mod said;
+mod table;
 mod writing;
 
 pub use fault::{TableFault, TableKind};

@@ -4,8 +4,9 @@ use Rattle.std.specs.Prelude.{replicate, codes}
 use Rattle.std.proofs.lemmas.List.{length-replicate}
 use Rattle.block_core.specs.declared.sample.Sample.{Sample}
 use Rattle.block_core.specs.Sample.{bits_of, values_of}
-use Rattle.vcd_trace.specs.VcdText.{variables, widths, bit_line, vector_line, value_lines, change_lines, changes_text, dump_text}
-use Rattle.vcd_trace.specs.Groups.{bit_lines, bit_changes, vector_lines, vector_changes, vectors_of, values_text}
+use Rattle.vcd_trace.specs.VcdText.{variables, widths, bit_line, vector_line, value_lines, change_lines, changes_over, values_over, dump_text}
+use Rattle.vcd_trace.specs.TwinText.{twin_dump_text}
+use Rattle.vcd_trace.specs.Groups.{bit_lines, bit_changes, vector_lines, vector_changes, vectors_of}
 use Rattle.vcd_trace.proofs.TextLaws.{change_lines-append, value_lines-append}
 
 pub length-bits_of : (k n : ℕ) → length (bits_of k n) ≡ k
@@ -60,18 +61,35 @@ bits_then id count before now ws a b =
     change_lines-append id (replicate count 1) ws (bits_of count before) a (bits_of count now) b (length-bits_of count before ∙ sym (length-replicate count 1)) (length-bits_of count now ∙ sym (length-replicate count 1))
     ∙ ap (λ n. change_lines id (replicate count 1) (bits_of count before) (bits_of count now) ++ change_lines (id + n) ws a b) (length-replicate count 1)
 
-pub changes-groups : (a b : Sample) → length (vectors_of a) ≡ 16 → length (vectors_of b) ≡ 16 → changes_text a b ≡ bit_changes 33 32 a.level b.level ++ (bit_changes 65 32 a.direction b.direction ++ (bit_changes 97 8 a.flags b.flags ++ vector_changes 105 (vectors_of a) (vectors_of b)))
-unfolding changes_text
-changes-groups a b h k =
-    ap (λ ws. change_lines 33 ws (values_of a) (values_of b)) widths-groups
-    ∙ ap (λ v. change_lines 33 (replicate 32 1 ++ (replicate 32 1 ++ (replicate 8 1 ++ vector_widths))) v (values_of b)) (values-groups a)
-    ∙ ap (λ v. change_lines 33 (replicate 32 1 ++ (replicate 32 1 ++ (replicate 8 1 ++ vector_widths))) (bits_of 32 a.level ++ (bits_of 32 a.direction ++ (bits_of 8 a.flags ++ vectors_of a))) v) (values-groups b)
-    ∙ bits_then 33 32 a.level b.level (replicate 32 1 ++ (replicate 8 1 ++ vector_widths)) (bits_of 32 a.direction ++ (bits_of 8 a.flags ++ vectors_of a)) (bits_of 32 b.direction ++ (bits_of 8 b.flags ++ vectors_of b))
-    ∙ ap (λ x. bit_changes 33 32 a.level b.level ++ x)
-    (bits_then 65 32 a.direction b.direction (replicate 8 1 ++ vector_widths) (bits_of 8 a.flags ++ vectors_of a) (bits_of 8 b.flags ++ vectors_of b)
-    ∙ ap (λ x. bit_changes 65 32 a.direction b.direction ++ x)
-    (bits_then 97 8 a.flags b.flags vector_widths (vectors_of a) (vectors_of b)
-    ∙ ap (λ x. bit_changes 97 8 a.flags b.flags ++ x) (change_lines-vectors 105 vector_widths (vectors_of a) (vectors_of b) refl h k)))
+-- the numbers of the groups
+on_32 : (more : ℕ) → 33 + more + 32 ≡ 65 + more
+on_32 more = omega arith
+
+on_64 : (more : ℕ) → 65 + more + 32 ≡ 97 + more
+on_64 more = omega arith
+
+on_72 : (more : ℕ) → 97 + more + 8 ≡ 105 + more
+on_72 more = omega arith
+
+pub changes-groups : (more : ℕ) (a b : Sample) → length (vectors_of a) ≡ 16 → length (vectors_of b) ≡ 16 → changes_over more a b ≡ bit_changes (33 + more) 32 a.level b.level ++ (bit_changes (65 + more) 32 a.direction b.direction ++ (bit_changes (97 + more) 8 a.flags b.flags ++ vector_changes (105 + more) (vectors_of a) (vectors_of b)))
+unfolding changes_over
+changes-groups more a b h k =
+    let flags_widths = replicate 8 1 ++ vector_widths in
+    let flags_a = bits_of 8 a.flags ++ vectors_of a in
+    let flags_b = bits_of 8 b.flags ++ vectors_of b in
+    let ws = replicate 32 1 ++ (replicate 32 1 ++ flags_widths) in
+    ap (λ ws. change_lines (33 + more) ws (values_of a) (values_of b)) widths-groups
+    ∙ ap (λ v. change_lines (33 + more) ws v (values_of b)) (values-groups a)
+    ∙ ap (λ v. change_lines (33 + more) ws (bits_of 32 a.level ++ (bits_of 32 a.direction ++ flags_a)) v) (values-groups b)
+    ∙ bits_then (33 + more) 32 a.level b.level (replicate 32 1 ++ flags_widths) (bits_of 32 a.direction ++ flags_a) (bits_of 32 b.direction ++ flags_b)
+    ∙ ap (λ x. bit_changes (33 + more) 32 a.level b.level ++ x)
+    (ap (λ id. change_lines id (replicate 32 1 ++ flags_widths) (bits_of 32 a.direction ++ flags_a) (bits_of 32 b.direction ++ flags_b)) (on_32 more)
+    ∙ bits_then (65 + more) 32 a.direction b.direction flags_widths flags_a flags_b
+    ∙ ap (λ x. bit_changes (65 + more) 32 a.direction b.direction ++ x)
+    (ap (λ id. change_lines id flags_widths flags_a flags_b) (on_64 more)
+    ∙ bits_then (97 + more) 8 a.flags b.flags vector_widths (vectors_of a) (vectors_of b)
+    ∙ ap (λ x. bit_changes (97 + more) 8 a.flags b.flags ++ x)
+    (ap (λ id. change_lines id vector_widths (vectors_of a) (vectors_of b)) (on_72 more) ∙ change_lines-vectors (105 + more) vector_widths (vectors_of a) (vectors_of b) refl h k)))
 
 -- one group of bits, then the others
 lines_then : (id count now : ℕ) (ws b : List ℕ) → value_lines id (replicate count 1 ++ ws) (bits_of count now ++ b) ≡ bit_lines id count now ++ value_lines (id + count) ws b
@@ -80,19 +98,30 @@ lines_then id count now ws b =
     value_lines-append id (replicate count 1) ws (bits_of count now) b (length-bits_of count now ∙ sym (length-replicate count 1))
     ∙ ap (λ n. value_lines id (replicate count 1) (bits_of count now) ++ value_lines (id + n) ws b) (length-replicate count 1)
 
-pub values-text : (s : Sample) → length (vectors_of s) ≡ 16 → values_text s ≡ bit_lines 33 32 s.level ++ (bit_lines 65 32 s.direction ++ (bit_lines 97 8 s.flags ++ vector_lines 105 (vectors_of s)))
-unfolding values_text
-values-text s h =
-    ap (λ ws. value_lines 33 ws (values_of s)) widths-groups
-    ∙ ap (λ v. value_lines 33 (replicate 32 1 ++ (replicate 32 1 ++ (replicate 8 1 ++ vector_widths))) v) (values-groups s)
-    ∙ lines_then 33 32 s.level (replicate 32 1 ++ (replicate 8 1 ++ vector_widths)) (bits_of 32 s.direction ++ (bits_of 8 s.flags ++ vectors_of s))
-    ∙ ap (λ x. bit_lines 33 32 s.level ++ x)
-    (lines_then 65 32 s.direction (replicate 8 1 ++ vector_widths) (bits_of 8 s.flags ++ vectors_of s)
-    ∙ ap (λ x. bit_lines 65 32 s.direction ++ x)
-    (lines_then 97 8 s.flags vector_widths (vectors_of s)
-    ∙ ap (λ x. bit_lines 97 8 s.flags ++ x) (value_lines-vectors 105 vector_widths (vectors_of s) refl h)))
+pub values-text : (more : ℕ) (s : Sample) → length (vectors_of s) ≡ 16 → values_over more s ≡ bit_lines (33 + more) 32 s.level ++ (bit_lines (65 + more) 32 s.direction ++ (bit_lines (97 + more) 8 s.flags ++ vector_lines (105 + more) (vectors_of s)))
+unfolding values_over
+values-text more s h =
+    let flags_widths = replicate 8 1 ++ vector_widths in
+    let flags = bits_of 8 s.flags ++ vectors_of s in
+    ap (λ ws. value_lines (33 + more) ws (values_of s)) widths-groups
+    ∙ ap (λ v. value_lines (33 + more) (replicate 32 1 ++ (replicate 32 1 ++ flags_widths)) v) (values-groups s)
+    ∙ lines_then (33 + more) 32 s.level (replicate 32 1 ++ flags_widths) (bits_of 32 s.direction ++ flags)
+    ∙ ap (λ x. bit_lines (33 + more) 32 s.level ++ x)
+    (ap (λ id. value_lines id (replicate 32 1 ++ flags_widths) (bits_of 32 s.direction ++ flags)) (on_32 more)
+    ∙ lines_then (65 + more) 32 s.direction flags_widths flags
+    ∙ ap (λ x. bit_lines (65 + more) 32 s.direction ++ x)
+    (ap (λ id. value_lines id flags_widths flags) (on_64 more)
+    ∙ lines_then (97 + more) 8 s.flags vector_widths (vectors_of s)
+    ∙ ap (λ x. bit_lines (97 + more) 8 s.flags ++ x)
+    (ap (λ id. value_lines id vector_widths (vectors_of s)) (on_72 more) ∙ value_lines-vectors (105 + more) vector_widths (vectors_of s) refl h)))
 
 -- the dump's first line, its values, its last line
-pub dump-parts : (s : Sample) → dump_text s ≡ codes "$dumpvars\n" ++ (values_text s ++ codes "$end\n")
-unfolding dump_text values_text
-dump-parts s = append_assoc (codes "$dumpvars\n") (value_lines 33 widths (values_of s)) (codes "$end\n")
+pub dump-parts : (s : Sample) → dump_text s ≡ codes "$dumpvars\n" ++ (values_over 0 s ++ codes "$end\n")
+unfolding dump_text
+dump-parts s = append_assoc (codes "$dumpvars\n") (values_over 0 s) (codes "$end\n")
+
+pub twin_dump-parts : (s : Sample × Sample) → twin_dump_text s ≡ codes "$dumpvars\n" ++ (values_over 0 s.0 ++ (values_over 128 s.1 ++ codes "$end\n"))
+unfolding twin_dump_text
+twin_dump-parts s =
+    append_assoc (codes "$dumpvars\n" ++ values_over 0 s.0) (values_over 128 s.1) (codes "$end\n")
+    ∙ append_assoc (codes "$dumpvars\n") (values_over 0 s.0) (values_over 128 s.1 ++ codes "$end\n")

@@ -5,7 +5,8 @@ use Rattle.std.proofs.Math.Seq.{drop-cons}
 use Rattle.std.proofs.Math.ListN.{drop_of_length-le}
 use Rattle.vcd_trace.specs.declared.header.TheConstants.{GROUPS}
 use Rattle.vcd_trace.specs.declared.header.Group.{Group}
-use Rattle.vcd_trace.specs.VcdText.{Variable, variable, numbered, variables, declaration, declarations, header_text}
+use Rattle.vcd_trace.specs.VcdText.{Variable, variable, numbered, variables, declaration, declarations, scope_text, header_text}
+use Rattle.vcd_trace.specs.TwinText.{twin_header_text}
 
 pub length-numbered : (letter width from count : ℕ) → length (numbered letter width from count) ≡ count
 length-numbered letter width from zero = refl
@@ -40,9 +41,9 @@ count_from groups i = length (variables_of (drop i groups))
 abbrev pub no_group : Group
 no_group = record { letter = 0; width = 0; count = 0 }
 
-pub groups_text-all : groups_text 33 GROUPS 0 ≡ declarations 33 variables
+pub groups_text-all : (id : ℕ) → groups_text id GROUPS 0 ≡ declarations id variables
 unfolding groups_text variables
-groups_text-all = refl
+groups_text-all id = refl
 
 pub count_from-all : count_from GROUPS 0 ≡ 88
 unfolding count_from
@@ -72,10 +73,17 @@ count_from-turn i groups h =
     ∙ length-append (numbered g.letter g.width 0 g.count) (variables_of (drop (i + 1) groups))
     ∙ ap (λ n. n + length (variables_of (drop (i + 1) groups))) (length-numbered g.letter g.width 0 g.count)
 
+-- a scope's lines one by one
+pub scope-parts : (opening : List ℕ) (more : ℕ) → scope_text opening more ≡ opening ++ (declarations (33 + more) variables ++ codes "$upscope $end\n")
+scope-parts opening more = append_assoc opening (declarations (33 + more) variables) (codes "$upscope $end\n")
+
 -- the declaration commands one by one
-pub header-parts : header_text ≡ codes "$timescale 1 ns $end\n" ++ (codes "$scope module pio $end\n" ++ (declarations 33 variables ++ (codes "$upscope $end\n" ++ codes "$enddefinitions $end\n")))
+pub header-parts : header_text ≡ codes "$timescale 1 ns $end\n" ++ (scope_text (codes "$scope module pio $end\n") 0 ++ codes "$enddefinitions $end\n")
 unfolding header_text
-header-parts =
-    append_assoc (codes "$timescale 1 ns $end\n" ++ codes "$scope module pio $end\n" ++ declarations 33 variables) (codes "$upscope $end\n") (codes "$enddefinitions $end\n")
-    ∙ append_assoc (codes "$timescale 1 ns $end\n" ++ codes "$scope module pio $end\n") (declarations 33 variables) (codes "$upscope $end\n" ++ codes "$enddefinitions $end\n")
-    ∙ append_assoc (codes "$timescale 1 ns $end\n") (codes "$scope module pio $end\n") (declarations 33 variables ++ (codes "$upscope $end\n" ++ codes "$enddefinitions $end\n"))
+header-parts = append_assoc (codes "$timescale 1 ns $end\n") (scope_text (codes "$scope module pio $end\n") 0) (codes "$enddefinitions $end\n")
+
+pub twin_header-parts : twin_header_text ≡ codes "$timescale 1 ns $end\n" ++ (scope_text (codes "$scope module pio0 $end\n") 0 ++ (scope_text (codes "$scope module pio1 $end\n") 128 ++ codes "$enddefinitions $end\n"))
+unfolding twin_header_text
+twin_header-parts =
+    append_assoc (codes "$timescale 1 ns $end\n" ++ scope_text (codes "$scope module pio0 $end\n") 0) (scope_text (codes "$scope module pio1 $end\n") 128) (codes "$enddefinitions $end\n")
+    ∙ append_assoc (codes "$timescale 1 ns $end\n") (scope_text (codes "$scope module pio0 $end\n") 0) (scope_text (codes "$scope module pio1 $end\n") 128 ++ codes "$enddefinitions $end\n")

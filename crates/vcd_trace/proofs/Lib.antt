@@ -1,9 +1,11 @@
 pub mod BitLaws
 pub mod ChangesLaws
 pub mod Digits
+pub mod FormLaws
 pub mod HeaderLaws
 pub mod ListLaws
 pub mod Puts
+pub mod RoomLaws
 pub mod SilenceLaws
 pub mod TextLaws
 pub mod ToldLaws

@@ -1,10 +1,12 @@
--- Where no value has a line, the two samples are one.
+-- Where no value has a line, the two samples are one, or the two of each block.
 use Rattle.std.proofs.Common.{◌≡◌, ℕ, ◌+◌, ◌/◌, ◌%◌, ◌^◌, ◌<◌, Bool, true, false, cond, eqb, List, [], ◌∷◌, ◌++◌, zero, suc, length, refl, sym, ap, ◌∙◌, arith, eq-eqb, length-append}
+use Rattle.std.specs.Prelude.{◌&&◌}
 use borrow.Author.Tests.{eqb-true}
 use Rattle.block_core.specs.declared.sample.Sample.{Sample}
 use Rattle.block_core.specs.Sample.{bits_of, values_of, same_numbers, same_sample}
-use Rattle.vcd_trace.specs.Shows.{IsSample}
-use Rattle.vcd_trace.specs.VcdText.{widths, variables, bit_line, vector_line, value_line, change_lines, changes_text}
+use Rattle.vcd_trace.specs.Shows.{IsSample, AreSamples}
+use Rattle.vcd_trace.specs.VcdText.{widths, variables, bit_line, vector_line, value_line, change_lines, changes_over}
+use Rattle.vcd_trace.specs.TwinText.{same_samples, twin_changes_text}
 use Rattle.vcd_trace.specs.Groups.{vectors_of}
 use Rattle.vcd_trace.proofs.Digits.{half_fits}
 use Rattle.vcd_trace.proofs.ChangesLaws.{length-bits_of, values-groups}
@@ -99,8 +101,32 @@ length-values_of s h =
     all
 
 -- samples that differ have a line between them
-pub changes_text-some : (a b : Sample) → IsSample a → IsSample b → same_sample a b ≡ false → changes_text a b ≡ [] → ⊥
-unfolding changes_text
-changes_text-some a b h k differ none =
-    let same : same_sample a b ≡ true = same_sample-from a b h k (change_lines-none 33 widths (values_of a) (values_of b) (length-values_of a h) (length-values_of b k) none) in
+pub changes_over-some : (more : ℕ) (a b : Sample) → IsSample a → IsSample b → same_sample a b ≡ false → changes_over more a b ≡ [] → ⊥
+unfolding changes_over
+changes_over-some more a b h k differ none =
+    let same : same_sample a b ≡ true = same_sample-from a b h k (change_lines-none (33 + more) widths (values_of a) (values_of b) (length-values_of a h) (length-values_of b k) none) in
     cc
+
+-- a join that is empty has empty parts
+first_none : (x y : List ℕ) → x ++ y ≡ [] → x ≡ []
+first_none [] y h = refl
+first_none (a ∷ x) y h = cc
+
+last_none : (x y : List ℕ) → x ++ y ≡ [] → y ≡ []
+last_none [] y h = h
+last_none (a ∷ x) y h = cc
+
+-- one of two is false
+one_false : (x y : Bool) → (x && y) ≡ false → (x ≡ true → y ≡ false)
+one_false true y h e = h
+one_false false y h e = cc
+
+-- no line of the first block, so the second has one
+twin_some : (t : Bool) (a b : Sample × Sample) → same_sample a.0 b.0 ≡ t → AreSamples a → AreSamples b → same_samples a b ≡ false → twin_changes_text a b ≡ [] → ⊥
+twin_some true a b e h k differ none =
+    changes_over-some 128 a.1 b.1 h.second k.second (one_false _ _ differ e) (last_none (changes_over 0 a.0 b.0) (changes_over 128 a.1 b.1) none)
+twin_some false a b e h k differ none =
+    changes_over-some 0 a.0 b.0 h.first k.first e (first_none (changes_over 0 a.0 b.0) (changes_over 128 a.1 b.1) none)
+
+pub twin_changes-some : (a b : Sample × Sample) → AreSamples a → AreSamples b → same_samples a b ≡ false → twin_changes_text a b ≡ [] → ⊥
+twin_changes-some a b = twin_some (same_sample a.0 b.0) a b refl

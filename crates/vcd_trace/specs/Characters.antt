@@ -48,3 +48,7 @@ letter_t = 116
 -- `w`
 abbrev pub letter_w : ℕ
 letter_w = 119
+
+-- `~`
+abbrev pub tilde : ℕ
+tilde = 126

@@ -1,8 +1,8 @@
 -- What the lines of one group of values are: words of private clauses, which the whole text is made of.
 use Rattle.std.specs.Prelude.{ℕ, ◌+◌, ◌==◌, List, [], ◌∷◌, ◌++◌, replicate, if◌then◌else◌}
 use Rattle.block_core.specs.declared.sample.Sample.{Sample}
-use Rattle.block_core.specs.Sample.{bits_of, values_of}
-use Rattle.vcd_trace.specs.VcdText.{first_identifier, widths, value_lines, change_lines, vector_line}
+use Rattle.block_core.specs.Sample.{bits_of}
+use Rattle.vcd_trace.specs.VcdText.{value_lines, change_lines, vector_line}
 
 -- the lines of so many bits of a number
 unfoldable pub bit_lines : ℕ → ℕ → ℕ → List ℕ
@@ -21,10 +21,6 @@ vector_lines id (v ∷ vs) = vector_line id v ++ vector_lines (id + 1) vs
 abbrev pub vector_changes : ℕ → List ℕ → List ℕ → List ℕ
 vector_changes id (was ∷ before) (is ∷ now) = (if was == is then [] else vector_line id is) ++ vector_changes (id + 1) before now
 vector_changes id _ _ = []
-
--- the lines of all values of a sample
-unfoldable pub values_text : Sample → List ℕ
-values_text s = value_lines first_identifier widths (values_of s)
 
 -- a sample's values of more than one bit, in order
 abbrev pub vectors_of : Sample → List ℕ

@@ -1,7 +1,8 @@
 pub mod Characters
 pub mod Told
+pub mod TextForm
 pub mod VcdText
-pub mod Written
+pub mod TwinText
 pub mod Listing
 pub mod Shows
 pub mod Groups

@@ -11,3 +11,8 @@ pub record IsSample (s : Sample) : Type 0 where
   pub rx : length s.rx ≡ 4
   pub got : length s.got ≡ 4
   pub sticky : length s.sticky ≡ 4
+
+-- both samples of a pair are in these ranges
+pub record AreSamples (pair : Sample × Sample) : Type 0 where
+  pub first : IsSample pair.0
+  pub second : IsSample pair.1

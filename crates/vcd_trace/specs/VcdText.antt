@@ -1,9 +1,10 @@
 -- What the value-change text of a list of samples is (IEEE 1364-2005, section 18.2), for the 88 variables of this profile.
-use Rattle.std.specs.Prelude.{ℕ, ◌+◌, ◌==◌, Bool, true, false, List, [], ◌∷◌, ◌++◌, length, zero, suc, codes, decimal, map, if◌then◌else◌}
+use Rattle.std.specs.Prelude.{ℕ, ◌+◌, ◌-◌, ◌==◌, nat_lt, Bool, false, List, [], ◌∷◌, ◌++◌, zero, suc, codes, decimal, map, if◌then◌else◌}
 use Rattle.std.specs.Fmt.{digits}
-use Rattle.vcd_trace.specs.Characters.{newline, blank, hash, digit_0, letter_b, letter_d, letter_f, letter_p, letter_r, letter_s, letter_t, letter_w}
+use Rattle.vcd_trace.specs.Characters.{newline, blank, hash, digit_0, letter_b, letter_d, letter_f, letter_p, letter_r, letter_s, letter_t, letter_w, tilde}
 use Rattle.block_core.specs.declared.sample.Sample.{Sample}
 use Rattle.block_core.specs.Sample.{values_of, same_sample}
+use Rattle.vcd_trace.specs.TextForm.{TextForm, opened_text, whole_text, told_text}
 
 -- a variable of the text: its name, and its width in bits
 pub record Variable : Type 0 where
@@ -29,22 +30,35 @@ variables =
 unfoldable pub widths : List ℕ
 widths = map (λ v. v.width) variables
 
--- the identifier of the first variable, the first printable character but the blank (IEEE 1364-2005, section 18.2.1); those after it count on
+-- the number of the first variable, that of the first printable character but the blank; those after it count on
 abbrev pub first_identifier : ℕ
 first_identifier = 33
 
+-- how much greater the numbers are of the variables of a second scope
+abbrev pub second_scope : ℕ
+second_scope = 128
+
+-- The identifier of the variable with this number: one printable character, and of one of a second scope `~` and the character
+-- (IEEE 1364-2005, section 18.2.1; which characters is a choice of this profile).
+abbrev pub identifier : ℕ → List ℕ
+identifier id = if nat_lt id second_scope then id ∷ [] else tilde ∷ (id - second_scope) ∷ []
+
 -- `$var wire W ID NAME $end` (IEEE 1364-2005, section 18.2.3.7)
 abbrev pub declaration : ℕ → Variable → List ℕ
-declaration id v = codes "$var wire " ++ decimal v.width ++ blank ∷ id ∷ blank ∷ (v.name ++ codes " $end\n")
+declaration id v = codes "$var wire " ++ decimal v.width ++ blank ∷ (identifier id ++ blank ∷ (v.name ++ codes " $end\n"))
 
 -- the declarations of variables whose identifiers count on from one
 abbrev pub declarations : ℕ → List Variable → List ℕ
 declarations id [] = []
 declarations id (v ∷ rest) = declaration id v ++ declarations (id + 1) rest
 
+-- a scope of this first line (IEEE 1364-2005, section 18.2.3.4), whose variables have numbers so much greater
+abbrev pub scope_text : List ℕ → ℕ → List ℕ
+scope_text opening more = opening ++ declarations (first_identifier + more) variables ++ codes "$upscope $end\n"
+
 -- the declaration commands: time scale, scope, variables
 unfoldable pub header_text : List ℕ
-header_text = codes "$timescale 1 ns $end\n" ++ codes "$scope module pio $end\n" ++ declarations first_identifier variables ++ codes "$upscope $end\n" ++ codes "$enddefinitions $end\n"
+header_text = codes "$timescale 1 ns $end\n" ++ scope_text (codes "$scope module pio $end\n") 0 ++ codes "$enddefinitions $end\n"
 
 -- `#` and a clock (IEEE 1364-2005, section 18.2.2)
 abbrev pub clock_line : ℕ → List ℕ
@@ -52,11 +66,11 @@ clock_line clock = hash ∷ (decimal clock ++ newline ∷ [])
 
 -- a value of one bit: its digit and the identifier
 abbrev pub bit_line : ℕ → ℕ → List ℕ
-bit_line id value = (digit_0 + value) ∷ id ∷ newline ∷ []
+bit_line id value = (digit_0 + value) ∷ (identifier id ++ newline ∷ [])
 
 -- a value of more bits: `b`, its binary digits without leading zeros, a blank and the identifier
 abbrev pub vector_line : ℕ → ℕ → List ℕ
-vector_line id value = letter_b ∷ (digits 2 false value ++ blank ∷ id ∷ newline ∷ [])
+vector_line id value = letter_b ∷ (digits 2 false value ++ blank ∷ (identifier id ++ newline ∷ []))
 
 -- the line of a value of this width
 abbrev pub value_line : ℕ → ℕ → ℕ → List ℕ
@@ -72,38 +86,38 @@ abbrev pub change_lines : ℕ → List ℕ → List ℕ → List ℕ → List �
 change_lines id (w ∷ ws) (was ∷ before) (is ∷ now) = (if was == is then [] else value_line w id is) ++ change_lines (id + 1) ws before now
 change_lines id _ _ _ = []
 
+-- all values of a sample, of variables whose numbers are so much greater
+unfoldable pub values_over : ℕ → Sample → List ℕ
+values_over more s = value_lines (first_identifier + more) widths (values_of s)
+
 -- `$dumpvars`, all values of a sample, `$end` (IEEE 1364-2005, section 18.2.3.3)
 unfoldable pub dump_text : Sample → List ℕ
-dump_text s = codes "$dumpvars\n" ++ value_lines first_identifier widths (values_of s) ++ codes "$end\n"
+dump_text s = codes "$dumpvars\n" ++ values_over 0 s ++ codes "$end\n"
+
+-- the values that a clock changes, in order, of variables whose numbers are so much greater
+unfoldable pub changes_over : ℕ → Sample → Sample → List ℕ
+changes_over more before now = change_lines (first_identifier + more) widths (values_of before) (values_of now)
 
 -- the values that a clock changes, in order
-unfoldable pub changes_text : Sample → Sample → List ℕ
-changes_text before now = change_lines first_identifier widths (values_of before) (values_of now)
+abbrev pub changes_text : Sample → Sample → List ℕ
+changes_text before now = changes_over 0 before now
 
 -- what a clock adds to the text: nothing where its sample is that of the clock before
 abbrev pub step_text : ℕ → Sample → Sample → List ℕ
 step_text clock before now = if same_sample before now then [] else clock_line clock ++ changes_text before now
 
--- what these samples add from this clock on, after the sample of the clock before
-abbrev pub steps_text : ℕ → Sample → List Sample → List ℕ
-steps_text clock before [] = []
-steps_text clock before (now ∷ rest) = step_text clock before now ++ steps_text (clock + 1) now rest
+-- the text of samples
+abbrev pub vcd_form : TextForm Sample
+vcd_form = record { head = header_text ++ clock_line 0; first = dump_text; later = step_text; closing = clock_line }
 
 -- the text of the samples from clock 0 on, without the clock that closes it
 abbrev pub open_text : List Sample → List ℕ
-open_text [] = header_text ++ clock_line 0
-open_text (s ∷ rest) = header_text ++ clock_line 0 ++ dump_text s ++ steps_text 1 s rest
+open_text told = opened_text vcd_form told
 
--- the clock that closes the text: the one after the last sample, where there is a sample
-abbrev pub closing_text : List Sample → List ℕ
-closing_text [] = []
-closing_text (s ∷ rest) = clock_line (length (s ∷ rest))
-
--- the whole text of the samples from clock 0 on
+-- the whole text of the samples from clock 0 on, which ends with the clock after the last one
 abbrev pub vcd_text : List Sample → List ℕ
-vcd_text told = open_text told ++ closing_text told
+vcd_text told = whole_text vcd_form told
 
 -- the text after these samples, with the clock that closes it where their end was told
 abbrev pub text_of : List Sample → Bool → List ℕ
-text_of told true = vcd_text told
-text_of told false = open_text told
+text_of told ended = told_text vcd_form told ended

@@ -1,7 +1,7 @@
 //! The values that a clock changes, in the order of their identifiers.
 ghost use Rattle.std.specs.Prelude.{◌≡◌, ℕ, ◌+◌, ◌^◌, ◌<◌, ◌≤◌};
 ghost use Rattle.pio_edge.specs.Edge.{Takes, PutCounts};
-ghost use Rattle.vcd_trace.specs.VcdText.{changes_text};
+ghost use Rattle.vcd_trace.specs.VcdText.{changes_over};
 ghost use Rattle.vcd_trace.specs.Groups.{bit_changes, vector_changes};
 
 use crate::line::{put_bit, put_vector};
@@ -9,21 +9,29 @@ use crate::variable::{DIRECTION, FLAG, LEVEL, VECTOR, vectors_of};
 use block_core::Sample;
 use pio_edge::{Sink, SinkFailed};
 
-/// Puts the lines of the values that are not what they were.
+/// Puts the lines of the values that are not what they were, of variables whose numbers are so much greater.
 pub(crate) fn put_changes<S: Sink>(
     sink: &mut S,
+    more: u8,
     before: &Sample,
     now: &Sample,
 ) -> Result<(), SinkFailed>
-    ensures bytes { Takes (S.taken sink.old) (changes_text before.now now.now)
+    requires { more ≤ 128 }
+    ensures bytes { Takes (S.taken sink.old) (changes_over more before.now now.now)
         (S.taken sink.new) result }
     ensures cause { PutCounts (S.faults sink.old) (S.faults sink.new) result }
 {
     let (vectors_before, vectors_now) = (vectors_of(before), vectors_of(now));
-    put_changed_bits(sink, LEVEL, 32, before.level, now.level)?;
-    put_changed_bits(sink, DIRECTION, 32, before.direction, now.direction)?;
-    put_changed_bits(sink, FLAG, 8, u32::from(before.flags), u32::from(now.flags))?;
-    put_changed_vectors(sink, VECTOR, &vectors_before, &vectors_now)
+    put_changed_bits(sink, LEVEL + more, 32, before.level, now.level)?;
+    put_changed_bits(sink, DIRECTION + more, 32, before.direction, now.direction)?;
+    put_changed_bits(
+        sink,
+        FLAG + more,
+        8,
+        u32::from(before.flags),
+        u32::from(now.flags),
+    )?;
+    put_changed_vectors(sink, VECTOR + more, &vectors_before, &vectors_now)
 }
 
 // The low `count` bits, from bit 0 on; the others are 0.

@@ -6,7 +6,8 @@ use crate::trace::{Trace, TraceFailed};
 use block_core::Sample;
 use std::marker::Model;
 
-/// How often the output level of each pin changed in the samples that it was told of. It takes no memory, and never fails.
+/// How often the output level of each pin changed in the samples that it was told of. It takes no memory, and never
+/// fails.
 #[derive(Drop)]
 pub struct EdgeTrace {
     first: u32,

@@ -1,10 +1,11 @@
 //! The declarations that a trace begins with (IEEE 1364-2005, section 18.2.3).
 ghost use Rattle.std.specs.Prelude.{◌≡◌, ℕ, ◌+◌, ◌≤◌, ◌<◌, ◌∷◌, decimal};
 ghost use Rattle.pio_edge.specs.Edge.{Takes, PutCounts};
-ghost use Rattle.vcd_trace.specs.VcdText.{header_text, variables, variable, numbered};
+ghost use Rattle.vcd_trace.specs.VcdText.{header_text, scope_text, identifier, variables, variable, numbered};
+ghost use Rattle.vcd_trace.specs.TwinText.{twin_header_text};
 ghost use Rattle.vcd_trace.specs.VcdText.{declaration, declarations};
 
-use crate::variable::LEVEL;
+use crate::variable::{LEVEL, SECOND};
 use arrayvec::ArrayString;
 use itoa::Buffer;
 use pio_edge::{Sink, SinkFailed};
@@ -61,18 +62,39 @@ pub(crate) fn put_header<S: Sink>(sink: &mut S) -> Result<(), SinkFailed>
     ensures cause { PutCounts (S.faults sink.old) (S.faults sink.new) result }
 {
     sink.put(b"$timescale 1 ns $end\n")?;
-    sink.put(b"$scope module pio $end\n")?;
-    put_declarations(sink)?;
-    sink.put(b"$upscope $end\n")?;
+    put_scope(sink, b"$scope module pio $end\n", 0)?;
     sink.put(b"$enddefinitions $end\n")
 }
 
-fn put_declarations<S: Sink>(sink: &mut S) -> Result<(), SinkFailed>
-    ensures bytes { Takes (S.taken sink.old) (declarations LEVEL variables)
+/// Puts those of two blocks.
+pub(crate) fn put_twin_header<S: Sink>(sink: &mut S) -> Result<(), SinkFailed>
+    ensures bytes { Takes (S.taken sink.old) twin_header_text (S.taken sink.new) result }
+    ensures cause { PutCounts (S.faults sink.old) (S.faults sink.new) result }
+{
+    sink.put(b"$timescale 1 ns $end\n")?;
+    put_scope(sink, b"$scope module pio0 $end\n", 0)?;
+    put_scope(sink, b"$scope module pio1 $end\n", SECOND)?;
+    sink.put(b"$enddefinitions $end\n")
+}
+
+// A scope that begins with this line, whose variables have numbers so much greater.
+fn put_scope<S: Sink>(sink: &mut S, opening: &[u8], more: u8) -> Result<(), SinkFailed>
+    requires { more ≤ 128 }
+    ensures bytes { Takes (S.taken sink.old) (scope_text opening.now more) (S.taken sink.new) result }
+    ensures cause { PutCounts (S.faults sink.old) (S.faults sink.new) result }
+{
+    sink.put(opening)?;
+    put_declarations(sink, LEVEL + more)?;
+    sink.put(b"$upscope $end\n")
+}
+
+fn put_declarations<S: Sink>(sink: &mut S, first: u8) -> Result<(), SinkFailed>
+    requires { first ≤ 161 }
+    ensures bytes { Takes (S.taken sink.old) (declarations first variables)
         (S.taken sink.new) result }
     ensures cause { PutCounts (S.faults sink.old) (S.faults sink.new) result }
 {
-    let mut id = LEVEL;
+    let mut id = first;
     for group in &GROUPS {
         match put_group(sink, id, *group) {
             Ok(()) => {}
@@ -84,7 +106,7 @@ fn put_declarations<S: Sink>(sink: &mut S) -> Result<(), SinkFailed>
 }
 
 fn put_group<S: Sink>(sink: &mut S, first: u8, group: Group) -> Result<(), SinkFailed>
-    requires ids { first + group.count ≤ 128 }
+    requires ids { first + group.count ≤ 255 }
     requires letter { group.letter < 128 }
     ensures bytes { Takes (S.taken sink.old)
         (declarations first (numbered group.letter group.width 0 group.count))
@@ -107,7 +129,6 @@ fn put_declaration<S: Sink>(
     width: u8,
     number: u8,
 ) -> Result<(), SinkFailed>
-    requires id { id < 128 }
     requires letter { letter < 128 }
     ensures bytes { Takes (S.taken sink.old) (declaration id (variable letter width number))
         (S.taken sink.new) result }
@@ -118,10 +139,24 @@ fn put_declaration<S: Sink>(
     line.push_str("$var wire ");
     line.push_str(digits.format(width));
     line.push(' ');
-    line.push(char::from(id));
+    line.push_str(identifier_of(id).as_str());
     line.push(' ');
     line.push(char::from(letter));
     line.push_str(digits.format(number));
     line.push_str(" $end\n");
     sink.put(line.as_str().as_bytes())
+}
+
+/// The identifier of a variable.
+fn identifier_of(id: u8) -> ArrayString<2>
+    ensures { result.bytes ≡ identifier id }
+{
+    let mut text = ArrayString::<2>::new();
+    if id < SECOND {
+        text.push(char::from(id));
+    } else {
+        text.push('~');
+        text.push(char::from(id - SECOND));
+    }
+    text
 }

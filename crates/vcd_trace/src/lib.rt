@@ -1,4 +1,4 @@
-//! Traces of a block: who is told of its samples, and the value-change text (IEEE 1364-2005,
+//! Traces of a block, or of two: who is told of the samples, and the value-change text (IEEE 1364-2005,
 //! section 18).
 #![tactic(auto)]
 
@@ -10,7 +10,9 @@ mod laws;
 mod line;
 mod list;
 mod trace;
+mod twin_laws;
 mod twin_trace;
+mod twin_vcd;
 mod variable;
 mod vcd;
 
@@ -22,5 +24,11 @@ pub use laws::{
 };
 pub use list::ListTrace;
 pub use trace::{Trace, TraceFailed};
+pub use twin_laws::{
+    different_pairs_have_lines, each_variable_has_its_own_identifier,
+    failing_early_leaves_a_first_part_of_two, repeated_pairs_add_nothing,
+    the_text_of_two_ends_with_its_length, twin_text_only_grows,
+};
 pub use twin_trace::TwinTrace;
+pub use twin_vcd::TwinVcd;
 pub use vcd::VcdTrace;

@@ -1,8 +1,11 @@
 //! The lines of the value-change text, each put as one piece (IEEE 1364-2005, section 18.2).
-ghost use Rattle.std.specs.Prelude.{◌≡◌, ℕ, ◌+◌, ◌<◌, ◌≤◌, ◌^◌, drop};
+ghost use Rattle.std.specs.Prelude.{◌≡◌, ℕ, ◌+◌, ◌<◌, ◌≤◌, ◌^◌, ◌++◌, ◌∷◌, [], false, drop};
+ghost use Rattle.std.specs.Fmt.{digits};
 ghost use Rattle.pio_edge.specs.Edge.{Takes, PutCounts};
-ghost use Rattle.vcd_trace.specs.VcdText.{clock_line, bit_line, vector_line};
+ghost use Rattle.vcd_trace.specs.Characters.{blank, letter_b, newline, tilde};
+ghost use Rattle.vcd_trace.specs.VcdText.{clock_line, bit_line, vector_line, identifier};
 
+use crate::variable::SECOND;
 use arrayvec::ArrayString;
 use itoa::Buffer;
 use pio_edge::{Sink, SinkFailed};
@@ -26,7 +29,11 @@ pub(crate) fn put_bit<S: Sink>(sink: &mut S, id: u8, value: u8) -> Result<(), Si
     ensures bytes { Takes (S.taken sink.old) (bit_line id value) (S.taken sink.new) result }
     ensures cause { PutCounts (S.faults sink.old) (S.faults sink.new) result }
 {
-    sink.put(&[b'0' + value, id, b'\n'])
+    if id < SECOND {
+        sink.put(&[b'0' + value, id, b'\n'])
+    } else {
+        sink.put(&[b'0' + value, b'~', id - SECOND, b'\n'])
+    }
 }
 
 /// The line of a value of more bits.
@@ -35,22 +42,56 @@ pub(crate) fn put_vector<S: Sink>(sink: &mut S, id: u8, value: u32) -> Result<()
     ensures cause { PutCounts (S.faults sink.old) (S.faults sink.new) result }
 {
     let mut line = [0; LINE_ROOM];
-    let start = write_vector(&mut line, id, value);
+    let end = write_name(&mut line, id);
+    let start = write_digits(&mut line, end, value);
     sink.put(&line[start..])
 }
 
-/// Room for `b`, the 32 digits of a word, a blank, the identifier and the newline.
-const LINE_ROOM: usize = 36;
+/// Room for `b`, the 32 digits of a word, a blank, the identifier of up to two characters and the newline.
+const LINE_ROOM: usize = 37;
 
-// Writes a line up to the end of the room, from its last byte on, and says where it begins.
-fn write_vector(line: &mut [u8; LINE_ROOM], id: u8, value: u32) -> usize
-    ensures within { result ≤ LINE_ROOM }
-    ensures text { drop result line.new ≡ vector_line id value }
+// Writes the blank, the identifier and the newline up to the end of the room, and says where they begin.
+fn write_name(line: &mut [u8; LINE_ROOM], id: u8) -> usize
+    ensures after { 33 ≤ result }
+    ensures within { result < LINE_ROOM }
+    ensures text { drop result line.new ≡ blank ∷ (identifier id ++ newline ∷ []) }
+{
+    if id < SECOND {
+        write_character(line, id);
+        LINE_ROOM - 3
+    } else {
+        write_two_characters(line, id - SECOND);
+        LINE_ROOM - 4
+    }
+}
+
+// The identifier of a first scope.
+fn write_character(line: &mut [u8; LINE_ROOM], id: u8)
+    ensures { drop 34 line.new ≡ blank ∷ id ∷ newline ∷ [] }
 {
     line[LINE_ROOM - 3] = b' ';
     line[LINE_ROOM - 2] = id;
     line[LINE_ROOM - 1] = b'\n';
-    let mut start = LINE_ROOM - 3;
+}
+
+// That of a second scope.
+fn write_two_characters(line: &mut [u8; LINE_ROOM], id: u8)
+    ensures { drop 33 line.new ≡ blank ∷ tilde ∷ id ∷ newline ∷ [] }
+{
+    line[LINE_ROOM - 4] = b' ';
+    line[LINE_ROOM - 3] = b'~';
+    line[LINE_ROOM - 2] = id;
+    line[LINE_ROOM - 1] = b'\n';
+}
+
+// Writes `b` and the digits up to a place, from the last one on, and says where they begin.
+fn write_digits(line: &mut [u8; LINE_ROOM], end: usize, value: u32) -> usize
+    requires after { 33 ≤ end }
+    requires before { end < LINE_ROOM }
+    ensures within { result ≤ LINE_ROOM }
+    ensures text { drop result line.new ≡ letter_b ∷ (digits 2 false value ++ drop end line.old) }
+{
+    let mut start = end;
     let mut rest = value;
     loop {
         start -= 1;

@@ -1,20 +1,23 @@
-//! The variables: their identifiers are consecutive printable characters (IEEE 1364-2005,
-//! section 18.2.1).
+//! The variables by their numbers: those of the first scope are the codes of their identifiers, which are consecutive
+//! printable characters (IEEE 1364-2005, section 18.2.1).
 ghost use Rattle.std.specs.Prelude.{◌≡◌, ◌++◌, length};
 ghost use Rattle.vcd_trace.specs.Groups.{vectors_of};
 
 use block_core::Sample;
 
-/// The identifier of the first pin's level.
+/// How much greater the numbers of the variables of a second scope are.
+pub(crate) const SECOND: u8 = 128;
+
+/// The number of the first pin's level.
 pub(crate) const LEVEL: u8 = 33;
 
-/// The identifier of the first pin's direction.
+/// The number of the first pin's direction.
 pub(crate) const DIRECTION: u8 = LEVEL + 32;
 
-/// The identifier of the first IRQ flag.
+/// The number of the first IRQ flag.
 pub(crate) const FLAG: u8 = DIRECTION + 32;
 
-/// The identifier of the first value of more than one bit.
+/// The number of the first value of more than one bit.
 pub(crate) const VECTOR: u8 = FLAG + 8;
 
 /// The values of more than one bit, in the order of their identifiers.

@@ -1,8 +1,8 @@
 //! The value-change trace (IEEE 1364-2005, section 18), line by line into a sink that was lent.
 ghost use Rattle.std.specs.Prelude.{◌≡◌, false, []};
 ghost use Rattle.pio_edge.specs.Edge.{Takes, PutCounts, TakesPrefix};
-ghost use Rattle.vcd_trace.specs.VcdText.{open_text, step_text, text_of};
-ghost use Rattle.vcd_trace.specs.Written.{HasWritten, added_text, ended_text};
+ghost use Rattle.vcd_trace.specs.TextForm.{HasPut, added, ended};
+ghost use Rattle.vcd_trace.specs.VcdText.{vcd_form, open_text, step_text, text_of};
 
 use crate::changes::put_changes;
 use crate::dump::put_dump;
@@ -45,7 +45,7 @@ impl<'a, S: Sink> Trace for VcdTrace<'a, S> {
 
     ghost ready = { λ h b. S.taken h.sink.now ≡ b };
 
-    ghost holds = { λ h b l z. HasWritten b l z (S.taken h.sink.now) h.last };
+    ghost holds = { λ h b l z. HasPut vcd_form b l z (S.taken h.sink.now) h.last };
 
     ghost broken = { λ h b l z. TakesPrefix b (text_of l z) (S.taken h.sink.now) };
 
@@ -106,7 +106,7 @@ fn put_sample<S: Sink>(
     last: &Option<Sample>,
     sample: &Sample,
 ) -> Result<(), SinkFailed>
-    ensures bytes { Takes (S.taken sink.old) (added_text clock last.now sample.now)
+    ensures bytes { Takes (S.taken sink.old) (added vcd_form clock last.now sample.now)
         (S.taken sink.new) result }
     ensures cause { PutCounts (S.faults sink.old) (S.faults sink.new) result }
 {
@@ -118,7 +118,7 @@ fn put_sample<S: Sink>(
 
 // What the end adds after the sample that was told last.
 fn put_end<S: Sink>(sink: &mut S, clock: u64, last: Option<Sample>) -> Result<(), SinkFailed>
-    ensures bytes { Takes (S.taken sink.old) (ended_text clock last) (S.taken sink.new) result }
+    ensures bytes { Takes (S.taken sink.old) (ended vcd_form clock last) (S.taken sink.new) result }
     ensures cause { PutCounts (S.faults sink.old) (S.faults sink.new) result }
 {
     match last {
@@ -142,5 +142,5 @@ fn put_step<S: Sink>(
         return Ok(());
     }
     put_clock(sink, clock)?;
-    put_changes(sink, before, now)
+    put_changes(sink, 0, before, now)
 }

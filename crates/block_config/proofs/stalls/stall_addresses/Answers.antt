@@ -1,4 +1,5 @@
 use Rattle.std.proofs.Common.{ℕ, Ok, ◌<◌, length, option_map, sym, ap, ◌∙◌, arith, rules}
+use Rattle.std.proofs.lemmas.Result.{err_from_is_err_and}
 use Rattle.std.proofs.lemmas.List.{map-id}
 use Rattle.toml.specs.Data.{as_str}
 use Rattle.block_config.specs.Loads.{loaded_of}
@@ -12,15 +13,18 @@ push-requires c =
     let within : length c.loop-place.addresses.items < 16 = omega (arith, count_seen c.args.values.now, c.loop-place.invariant.count) in
     search (rules, within)
 
-pub returns-in-Err-clause-value : goal.returns-in-Err-clause-value
-returns-in-Err-clause-value c =
-    sym (gather_fails (λ (a : ℕ). a) (λ place front d. stall_of (option_map loaded_of c.args.load) (as_str d)) c.args.values.now c.loop-place.place c.index-values-place.result c.loop-place.addresses.items c.in-Err.kind _ c.loop-place.invariant.so_far c.loop-place-test.true (rw (← c.index-values-place.is) (sym c.in-Err.ensures.value)))
+pub returns-in_err-address-clause-value : goal.returns-in_err-address-clause-value
+returns-in_err-address-clause-value c =
+    let p = err_from_is_err_and c.from_residual.result c.from_residual.ensures.1 in
+    rw (p.1, p.2) (
+    sym (gather_fails (λ (a : ℕ). a) (λ place front d. stall_of (option_map loaded_of c.args.load) (as_str d)) c.args.values.now c.loop-place.place c.index-values-place.result c.loop-place.addresses.items c.in_err-address.field-0.0 _ c.loop-place.invariant.so_far c.loop-place-test.true (rw (← c.index-values-place.is) (sym c.in_err-address.ensures.value)))
+    )
 
 pub loop-place-preserved : goal.loop-place-preserved
 loop-place-preserved c = record {
   count = omega (arith, c.push.ensures.len, c.loop-place.invariant.count);
-  in_memory = addresses_more c.loop-place.addresses.items c.push.new.self.items c.in-Ok.address c.loop-place.invariant.in_memory c.in-Ok.ensures.in_memory c.push.ensures.items;
-  so_far = gather_more (λ (a : ℕ). a) (λ place front d. stall_of (option_map loaded_of c.args.load) (as_str d)) c.args.values.now c.loop-place.place c.index-values-place.result c.loop-place.addresses.items c.push.new.self.items c.in-Ok.address _ c.loop-place.invariant.so_far c.loop-place-test.true (rw (← c.index-values-place.is) (sym c.in-Ok.ensures.value)) c.push.ensures.items;
+  in_memory = addresses_more c.loop-place.addresses.items c.push.new.self.items c.in_ok-address.address c.loop-place.invariant.in_memory c.in_ok-address.ensures.in_memory c.push.ensures.items;
+  so_far = gather_more (λ (a : ℕ). a) (λ place front d. stall_of (option_map loaded_of c.args.load) (as_str d)) c.args.values.now c.loop-place.place c.index-values-place.result c.loop-place.addresses.items c.push.new.self.items c.in_ok-address.address _ c.loop-place.invariant.so_far c.loop-place-test.true (rw (← c.index-values-place.is) (sym c.in_ok-address.ensures.value)) c.push.ensures.items;
 }
 
 pub returns-clause-value : goal.returns-clause-value

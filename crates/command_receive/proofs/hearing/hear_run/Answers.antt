@@ -1,5 +1,5 @@
 use Rattle.std.proofs.Common.{refl}
-use Rattle.serial_receiver.specs.Hearing.{first_told}
+use Rattle.serial_receiver.specs.Hearing.{first_heard}
 use Rattle.command_receive.proofs.Stopping.{stopped, whole}
 use Rattle.command_receive.proofs.hearing.hear_run.Goals as goal
 
@@ -7,7 +7,7 @@ pub returns-in-Ok-clause-bytes : goal.returns-in-Ok-clause-bytes
 returns-in-Ok-clause-bytes g c =
     let trace = c.args.trace.now in
     let before = g.O.Sink.taken trace.sink.now in
-    let heard = c.in-Ok.ensures.ok (first_told trace.pin trace.bit trace.first before) refl trace.pin trace.bit trace.first before refl in
+    let heard = c.in-Ok.ensures.ok (first_heard trace.pin trace.bit trace.first before) refl trace.pin trace.bit trace.first before refl in
     whole c.args.block.now.run c.args.schedule.now c.args.clocks trace.pin trace.bit trace.first before _ c.requires.level heard.text
 
 pub returns-in-Err-clause-bytes : goal.returns-in-Err-clause-bytes
@@ -15,6 +15,6 @@ returns-in-Err-clause-bytes g c =
     let trace = c.args.trace.now in
     let before = g.O.Sink.taken trace.sink.now in
     let stops = c.in-Err.ensures.err in
-    let part = stops.breaks (first_told trace.pin trace.bit trace.first before) refl trace.pin trace.bit trace.first before refl in
+    let part = stops.breaks (first_heard trace.pin trace.bit trace.first before) refl trace.pin trace.bit trace.first before refl in
     stopped c.later_samples_follow.ensures c.stopping_early_leaves_a_first_part.ensures
     c.args.block.now.run c.args.schedule.now c.args.clocks stops.count trace.pin trace.bit trace.first before _ stops.within c.requires.level part

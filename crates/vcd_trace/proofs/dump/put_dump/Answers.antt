@@ -1,6 +1,6 @@
 use Rattle.std.proofs.Common.{refl}
 use Rattle.std.specs.Prelude.{codes}
-use Rattle.vcd_trace.specs.Groups.{values_text}
+use Rattle.vcd_trace.specs.VcdText.{values_over}
 use Rattle.vcd_trace.proofs.ChangesLaws.{dump-parts}
 use Rattle.pio_edge.proofs.PutLaws.{going_begins, going_on}
 use Rattle.vcd_trace.proofs.Puts.{takes_failed, takes_last}
@@ -18,5 +18,5 @@ returns-in_err-put_values-clause-bytes g c =
 pub returns-clause-bytes : goal.returns-clause-bytes
 returns-clause-bytes g c =
     let g1 = going_on _ _ _ _ _ _ _ (going_begins _ _) (dump-parts c.args.sample.now) c.in_ok-put.ensures.bytes in
-    let g2 = going_on _ _ _ _ _ (values_text c.args.sample.now) (codes "$end\n") g1 refl c.in_ok-put_values.ensures.bytes in
+    let g2 = going_on _ _ _ _ _ (values_over 0 c.args.sample.now) (codes "$end\n") g1 refl c.in_ok-put_values.ensures.bytes in
     takes_last _ _ _ _ _ c.put-2.result g2 c.put-2.ensures.bytes

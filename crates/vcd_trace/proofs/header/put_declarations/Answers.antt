@@ -7,7 +7,7 @@ use Rattle.vcd_trace.proofs.header.put_declarations.Goals as goal
 
 pub loop-group-init : goal.loop-group-init
 loop-group-init g c = record {
-  going = rw groups_text-all (going_begins _ _);
+  going = rw (groups_text-all c.args.first) (going_begins _ _);
   counts = search rules;
   room = rw count_from-all;
 }
@@ -30,7 +30,12 @@ loop-group-preserved g c =
 pub put_group-requires-clause-ids : goal.put_group-requires-clause-ids
 put_group-requires-clause-ids g c =
     let l = c.loop-group in
-    omega (arith, count_from-turn l.group-index GROUPS c.loop-group-test.true, l.invariant.room)
+    omega (arith, count_from-turn l.group-index GROUPS c.loop-group-test.true, l.invariant.room, c.requires)
+
+pub overflow_add-id : goal.overflow_add-id
+overflow_add-id g c =
+    let l = c.loop-group in
+    omega (arith, count_from-turn l.group-index GROUPS c.loop-group-test.true, l.invariant.room, c.requires)
 
 pub returns-clause-bytes : goal.returns-clause-bytes
 returns-clause-bytes g c =

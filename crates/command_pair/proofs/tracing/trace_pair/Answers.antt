@@ -1,0 +1,19 @@
+use Rattle.std.proofs.Common.{refl}
+use Rattle.call_ends.specs.Tasks.{twin_trace_text}
+use Rattle.command_pair.proofs.tracing.trace_pair.Goals as goal
+
+pub returns-in-Err-clause-bytes : goal.returns-in-Err-clause-bytes
+unfolding twin_trace_text
+returns-in-Err-clause-bytes g c =
+    let before = g.O.Sink.taken c.args.trace.now.sink.now in
+    let after = g.O.Sink.taken c.simulate_twin.new.trace.sink.now in
+    let stops = c.in-Err.ensures.err in
+    c.a_stopped_pair_leaves_a_first_part.ensures before after c.args.twin.now.twin c.simulate_twin.new.twin.twin c.args.first.now c.args.second.now c.args.clocks
+    (record {
+      count = stops.count;
+      within = stops.within;
+      ended = stops.ended;
+      whole = stops.whole;
+      run = stops.run;
+      breaks = stops.breaks before refl;
+    })

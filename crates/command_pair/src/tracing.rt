@@ -1,0 +1,162 @@
+//! The command `pair`: the trace of the first clocks of two blocks on one set of pins.
+ghost use Rattle.std.specs.Prelude.{◌≡◌, ◌+◌, ◌≤◌, ◌^◌, false, option_map};
+ghost use Rattle.block_core.specs.HostedTwin.{twin_stirring};
+ghost use Rattle.command_line.specs.Words.{pair as pair_asked};
+ghost use Rattle.pio_edge.specs.Edge.{PutCounts, Takes};
+ghost use Rattle.call_ends.specs.Tasks.{twin_start, twin_trace_text};
+ghost use Rattle.call_ends.specs.Outside.{call_of};
+ghost use Rattle.call_ends.specs.Promise.{CommandEnds};
+ghost use Rattle.call_ends.specs.Worked.{most_worked};
+ghost use Rattle.call_ends.specs.Written.{Writes};
+ghost use Rattle.fault_lines.specs.Output.{output_of};
+
+use block_core::Twin;
+use dreq_pacing::Schedule;
+use fault_lines::Fault;
+use fifo_pair::RingFifo;
+use file_stages::{PairFiles, TwoBlocks, prepare_pair};
+use idle_engine::{a_stopped_pair_leaves_a_first_part, simulate_twin};
+use pio_edge::{Shelf, Sink, SinkFailed};
+use span_stage::ask_both_spans;
+use std::alloc::Global;
+use std::sync::ledger::Ledger;
+use step_count::Steps;
+use vcd_trace::{TraceFailed, TwinVcd};
+
+/// Writes the trace of so many clocks of two blocks that a source sets up by two configurations, beside a stimulus where one is named.
+/// Each span of both has to be provable; the first one that isn't ends the run, and nothing is written. The first block's spans come
+/// before the second's. All memory is taken before the first piece is put.
+#[tactic(auto, unfolding(call_ends::specs::Tasks::judge), using(call_ends::proofs::Working::worked_by_both))]
+pub fn pair<F: Shelf, O: Sink, L: Ledger>(
+    alloc: Global,
+    files: PairFiles,
+    clocks: u64,
+    shelf: &mut F,
+    out: &mut O,
+    steps: &mut Steps<L>,
+) -> Result<(), Fault>
+    requires { clocks ≤ 10 ^ 12 }
+    ensures ends { CommandEnds
+        (pair_asked files.entry.source.now files.entry.config.now files.entry.second.now (option_map (λ t. t.now) files.entry.stimulus) clocks)
+        (call_of (F.holds shelf.old) (F.faults shelf.old) (F.faults shelf.new)
+        (output_of (O.taken out.old) (O.waiting out.old) (O.faults out.old))
+        (output_of (O.taken out.new) (O.waiting out.new) (O.faults out.new)))
+        result }
+    ensures same { F.holds shelf.new ≡ F.holds shelf.old }
+    ensures steps { steps.new ≤ steps.old + clocks }
+    ensures worked { steps.new ≤ steps.old + most_worked (F.holds shelf.old)
+        (pair_asked files.entry.source.now files.entry.config.now files.entry.second.now (option_map (λ t. t.now) files.entry.stimulus) clocks) }
+{
+    let blocks = prepare_pair(alloc, shelf, files)?;
+    ask_both_spans(alloc, &blocks.first, &blocks.second)?;
+    write_pair(alloc, &blocks, clocks, out, steps)
+}
+
+/// Writes the text of so many clocks of two blocks, or answers want of memory before it has put anything.
+#[tactic(auto, unfolding(call_ends::specs::Tasks::twin_trace_text))]
+fn write_pair<O: Sink, L: Ledger>(
+    alloc: Global,
+    blocks: &TwoBlocks,
+    clocks: u64,
+    out: &mut O,
+    steps: &mut Steps<L>,
+) -> Result<(), Fault>
+    requires { clocks ≤ 10 ^ 12 }
+    ensures ends { Writes (output_of (O.taken out.old) (O.waiting out.old) (O.faults out.old))
+        (output_of (O.taken out.new) (O.waiting out.new) (O.faults out.new))
+        (twin_trace_text (twin_start blocks.now) blocks.now.first_lines blocks.now.second_lines clocks) result }
+    ensures steps { steps.new ≤ steps.old + clocks }
+    ensures stirring { steps.new ≤ steps.old
+        + twin_stirring (twin_start blocks.now) blocks.now.first_lines blocks.now.second_lines clocks + 1 }
+{
+    match Twin::<RingFifo>::new(alloc, &blocks.first, &blocks.second, blocks.own) {
+        Ok(mut twin) => {
+            write_trace(
+                &mut twin,
+                &blocks.first_lines,
+                &blocks.second_lines,
+                clocks,
+                out,
+                steps,
+            )
+        }
+        Err(_) => Err(Fault::Memory),
+    }
+}
+
+/// Writes the text of so many clocks, and hands on what the output still keeps.
+fn write_trace<O: Sink, L: Ledger>(
+    twin: &mut Twin<RingFifo>,
+    first: &Schedule,
+    second: &Schedule,
+    clocks: u64,
+    out: &mut O,
+    steps: &mut Steps<L>,
+) -> Result<(), Fault>
+    requires fresh_first { twin.old.twin.first.clock ≡ 0 }
+    requires fresh_second { twin.old.twin.second.clock ≡ 0 }
+    requires within { clocks ≤ 10 ^ 12 }
+    ensures ends { Writes (output_of (O.taken out.old) (O.waiting out.old) (O.faults out.old))
+        (output_of (O.taken out.new) (O.waiting out.new) (O.faults out.new))
+        (twin_trace_text twin.old.twin first.now second.now clocks) result }
+    ensures steps { steps.new ≤ steps.old + clocks }
+    ensures stirring { steps.new ≤ steps.old + twin_stirring twin.old.twin first.now second.now clocks + 1 }
+{
+    match put_trace(twin, first, second, clocks, out, steps) {
+        Ok(()) => {}
+        Err(TraceFailed) => return Err(Fault::Out),
+    }
+    match out.finish() {
+        Ok(()) => Ok(()),
+        Err(SinkFailed) => Err(Fault::Out),
+    }
+}
+
+/// Puts the text of so many clocks.
+fn put_trace<O: Sink, L: Ledger>(
+    twin: &mut Twin<RingFifo>,
+    first: &Schedule,
+    second: &Schedule,
+    clocks: u64,
+    out: &mut O,
+    steps: &mut Steps<L>,
+) -> Result<(), TraceFailed>
+    requires fresh_first { twin.old.twin.first.clock ≡ 0 }
+    requires fresh_second { twin.old.twin.second.clock ≡ 0 }
+    requires within { clocks ≤ 10 ^ 12 }
+    ensures bytes { Takes (O.taken out.old) (twin_trace_text twin.old.twin first.now second.now clocks) (O.taken out.new) result }
+    ensures cause { PutCounts (O.faults out.old) (O.faults out.new) result }
+    ensures steps { steps.new ≤ steps.old + clocks }
+    ensures stirring { steps.new ≤ steps.old + twin_stirring twin.old.twin first.now second.now clocks + 1 }
+{
+    let mut trace = TwinVcd::new(out);
+    trace_pair(twin, first, second, clocks, &mut trace, steps)
+}
+
+/// Tells a trace so many clocks.
+#[tactic(auto, unfolding(call_ends::specs::Tasks::twin_trace_text))]
+fn trace_pair<O: Sink, L: Ledger>(
+    twin: &mut Twin<RingFifo>,
+    first: &Schedule,
+    second: &Schedule,
+    clocks: u64,
+    trace: &mut TwinVcd<'_, O>,
+    steps: &mut Steps<L>,
+) -> Result<(), TraceFailed>
+    requires fresh_first { twin.old.twin.first.clock ≡ 0 }
+    requires fresh_second { twin.old.twin.second.clock ≡ 0 }
+    requires within { clocks ≤ 10 ^ 12 }
+    requires working { trace.old.failed ≡ false }
+    ensures bytes { Takes (O.taken trace.old.sink.now) (twin_trace_text twin.old.twin first.now second.now clocks)
+        (O.taken trace.new.sink.now) result }
+    ensures cause { PutCounts (O.faults trace.old.sink.now) (O.faults trace.new.sink.now) result }
+    ensures same { trace.new.sink.ghost_name ≡ trace.old.sink.ghost_name }
+    ensures steps { steps.new ≤ steps.old + clocks }
+    ensures stirring { steps.new ≤ steps.old + twin_stirring twin.old.twin first.now second.now clocks + 1 }
+{
+    a_stopped_pair_leaves_a_first_part();
+    match simulate_twin(twin, first, second, clocks, trace, steps) {
+        Ok(()) => Ok(()),
+        Err(failed) => Err(failed),
+    }
+}
