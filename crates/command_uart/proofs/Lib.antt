@@ -1,1 +1,2 @@
+mod Enough
 mod Sent

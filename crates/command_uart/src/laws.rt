@@ -1,10 +1,12 @@
 //! What the text of the command is, as a law on a function that does nothing.
-ghost use Rattle.std.specs.Prelude.{◌≡◌, ◌≤◌, ◌*◌, ℕ, List};
+ghost use Rattle.std.specs.Prelude.{◌≡◌, ◌+◌, ◌*◌, ◌<◌, ◌≤◌, ℕ, List, length};
 ghost use Rattle.pin_matrix.specs.declared.setup.Setup.{Setup as Start};
 ghost use Rattle.block_core.specs.Block.{first_run};
 ghost use Rattle.call_ends.specs.Tasks.{received_text, sent_text};
 ghost use Rattle.pio_uart.specs.Feeding.{fed};
 ghost use Rattle.pio_uart.specs.Transmitter.{IsTransmitter};
+ghost use Rattle.serial_receiver.specs.FrameText.{frames_text};
+ghost use Rattle.command_uart.specs.Whole.{all_frames};
 
 use pio_uart::a_transmitter_sends_in_time;
 
@@ -17,3 +19,9 @@ pub fn a_transmitter_sends_this_text()
 {
     a_transmitter_sends_in_time();
 }
+
+/// Where the clocks are enough for the stop bit of the last byte, the text has a line for each byte, in order.
+pub fn clocks_enough_send_all()
+    ensures { (divider clocks : ℕ) (bytes : List ℕ) → divider * (80 * length bytes + 5) < clocks
+        → sent_text divider bytes clocks ≡ frames_text (all_frames divider 0 bytes) }
+{}

@@ -4,5 +4,5 @@
 mod laws;
 mod sending;
 
-pub use laws::a_transmitter_sends_this_text;
+pub use laws::{a_transmitter_sends_this_text, clocks_enough_send_all};
 pub use sending::uart;
