@@ -114,7 +114,8 @@ load = [{ program = "fixed" }]|[[machine]]|id = 2|program = "fixed"|divider = 2|
 [[load]]|program = "fixed"|[[load]]|program = "long"|at = 16|[[span]]|name = "lap"|machine = 0|from_pin = 3|to_pin = 4|from_edge = "rise"|to_edge = "fall"|min = 5|max = 6|stalls = ["last", "first"]|[[span]]|name = "lap"|machine = 0|from_pin = 8|to_pin = 7|from_edge = "fall"|to_edge = "rise"|unit = "clocks"|min = 0|max = 1|[[machine]]|id = 0|program = "long"|start = "last"| => 7:e003 16:e000 17:e000 18:e000 19:e000 20:e000 21:e000 22:e000 23:e000 m0 23 16-23 1+0 in 0 jmp 0 out 0x0 set 0x5 side 0x0 shift true true false false 32 32 join false false status false 0 x 0 y 0 pins 0 0 0 0 lap m0 3 true 4 false ticks 5-6 [23 16] lap m0 8 false 7 true clocks 0-1 []
 "#;
 
-/// Configurations of a second block on the same pins: the first fault, or what the setup says and the pins that the block owns.
+/// Configurations of a second block on the same pins: the first fault, or what the setup says and the pins that the block
+/// owns.
 pub static SECONDS: &str = r#"
  => pins 0 0 0 0 own 0
 [pins]| => pins 0 0 0 0 own 0
