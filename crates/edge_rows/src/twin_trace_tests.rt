@@ -1,5 +1,7 @@
-//! The whole text of two blocks over a sink in memory, and failing calls.
-ghost use Rattle.std.specs.Prelude.{◌≡◌, ◌≤◌, false};
+//! The whole text of two blocks over a sink in memory, failing calls, and a caller that lends its own sink.
+ghost use Rattle.std.specs.Prelude.{◌≡◌, ◌≤◌, ℕ, Option, List, true, false, OnOk};
+ghost use Rattle.pio_edge.specs.Edge.{with_bytes};
+ghost use Rattle.vcd_trace.specs.TwinText.{twin_text};
 
 use crate::trace_tests::{HEAD, HIGH, LOW, QUIET, ZEROS, begins};
 use block_core::Sample;
@@ -7,6 +9,29 @@ use pio_edge::{MemSink, Sink};
 use std::alloc::{AllocError, Global};
 use std::test::Fail;
 use vcd_trace::{TraceFailed, TwinTrace, TwinVcd};
+
+// Tells the samples of both blocks from clock 0 on, and their end.
+fn tell_all<T: TwinTrace>(trace: &mut T, pairs: &[(Sample, Sample)]) -> Result<(), TraceFailed>
+    requires { T.has_failed trace.old ≡ false }
+    ensures told { OnOk result ((b : Option (List ℕ)) → T.ready trace.old b
+        → T.holds trace.new b pairs.now true) }
+    ensures same { T.name trace.new ≡ T.name trace.old }
+{
+    trace.begin()?;
+    for (clock, pair) in pairs.iter().enumerate() {
+        trace.sample(clock as u64, &pair.0, &pair.1)?;
+    }
+    trace.end(pairs.len() as u64)
+}
+
+// A caller that lends its sink to a trace of two blocks knows afterwards what its sink took.
+fn put_text<S: Sink>(sink: &mut S, pairs: &[(Sample, Sample)]) -> Result<(), TraceFailed>
+    ensures { OnOk result
+        (S.taken sink.new ≡ with_bytes (S.taken sink.old) (twin_text pairs.now)) }
+{
+    let mut trace = TwinVcd::new(sink);
+    tell_all(&mut trace, pairs)
+}
 
 // What is told of both blocks, and the text that it has to have after the declarations.
 struct TwinRow {
@@ -265,4 +290,13 @@ fn fails<S: Sink>(sink: &mut S, row: &TwinRow) -> bool {
     let mut trace = TwinVcd::new(sink);
     let is_broken = tell(&mut trace, row).is_err();
     is_broken && trace.failed()
+}
+
+#[test]
+fn a_sink_is_lent_to_a_trace_of_two_and_comes_back(rt: HostRuntime) -> Result<(), Fail> {
+    let text = text_of(rt.alloc(), &ROWS[1])?;
+    let mut sink = MemSink::with_room(rt.alloc(), 8192, &[])?;
+    let passes = put_text(&mut sink, &[(LOW, LOW_1)]).is_ok();
+    assert!(rt; passes && sink.bytes() == text.as_bytes());
+    Ok(())
 }

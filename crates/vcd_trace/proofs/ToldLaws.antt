@@ -1,5 +1,5 @@
 -- What samples that are told one by one add to the text.
-use Rattle.std.proofs.Common.{◌≡◌, ℕ, Bool, true, false, cond, eqb, List, [], ◌∷◌, ◌++◌, refl, sym, ap, ◌∙◌, eq-eqb}
+use Rattle.std.proofs.Common.{◌≡◌, ℕ, Bool, true, false, cond, eqb, List, [], ◌∷◌, ◌++◌, refl, ap, eq-eqb}
 use Rattle.std.specs.Prelude.{◌&&◌}
 use lib.Pointwise.{pointwise}
 use Rattle.block_core.specs.declared.sample.Sample.{Sample}
@@ -41,8 +41,8 @@ derived_same-is a b =
     cc
 
 -- a clock whose sample differs adds its line and the changes
-pub step_text-changed : (clock : ℕ) (a b : Sample) → false ≡ derived_same a b → step_text clock a b ≡ clock_line clock ++ changes_text a b
-step_text-changed clock a b h = ap (λ t. cond t [] (clock_line clock ++ changes_text a b)) (sym (derived_same-is a b) ∙ sym h)
+pub step_text-changed : (clock : ℕ) (a b : Sample) → same_sample a b ≡ false → step_text clock a b ≡ clock_line clock ++ changes_text a b
+step_text-changed clock a b h = ap (λ t. cond t [] (clock_line clock ++ changes_text a b)) h
 
 -- a sample that is repeated adds nothing
 pub repeats_add-nothing : AddsNothing vcd_form

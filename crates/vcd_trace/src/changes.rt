@@ -10,7 +10,7 @@ use block_core::Sample;
 use pio_edge::{Sink, SinkFailed};
 
 /// Puts the lines of the values that are not what they were, of variables whose numbers are so much greater.
-// A copy for each scope, in which the numbers are constants: that of a first scope has no test of them.
+// A copy for each scope, so that its numbers are constants and none is tested.
 #[inline(always)]
 pub(crate) fn put_changes<S: Sink>(
     sink: &mut S,
@@ -64,6 +64,7 @@ fn put_changed_bits<S: Sink>(
     Ok(())
 }
 
+#[inline(always)]
 fn put_changed_vectors<S: Sink>(
     sink: &mut S,
     first: u8,

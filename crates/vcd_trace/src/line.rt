@@ -24,7 +24,7 @@ pub(crate) fn put_clock<S: Sink>(sink: &mut S, clock: u64) -> Result<(), SinkFai
 }
 
 /// The line of a value of one bit.
-// Its caller's numbers tell which of the two it is.
+// Put in place, where the number's scope is known.
 #[inline(always)]
 pub(crate) fn put_bit<S: Sink>(sink: &mut S, id: u8, value: u8) -> Result<(), SinkFailed>
     requires { value < 2 }

@@ -4,7 +4,6 @@ ghost use Rattle.std.specs.Prelude.{◌≡◌, false, []};
 ghost use Rattle.pio_edge.specs.Edge.{Takes, PutCounts, TakesPrefix};
 ghost use Rattle.vcd_trace.specs.TextForm.{HasPut, added, ended};
 ghost use Rattle.vcd_trace.specs.TwinText.{twin_form, twin_open_text, twin_step_text, twin_text_of, same_samples};
-ghost use Rattle.block_core.specs.Sample.{same_sample};
 
 use crate::changes::put_changes;
 use crate::dump::put_twin_dump;
@@ -13,6 +12,7 @@ use crate::line::put_clock;
 use crate::trace::TraceFailed;
 use crate::twin_trace::TwinTrace;
 use crate::variable::SECOND;
+use crate::vcd::is_same;
 use block_core::Sample;
 use pio_edge::{Sink, SinkFailed};
 
@@ -161,11 +161,4 @@ fn are_same(before: &(Sample, Sample), first: &Sample, second: &Sample) -> bool
     ensures { result ≡ same_samples before.now (first.now, second.now) }
 {
     is_same(&before.0, first) && is_same(&before.1, second)
-}
-
-// Whether a sample is the one before.
-fn is_same(before: &Sample, now: &Sample) -> bool
-    ensures { result ≡ same_sample before.now now.now }
-{
-    *before == *now
 }

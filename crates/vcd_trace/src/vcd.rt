@@ -1,6 +1,7 @@
 //! The value-change trace (IEEE 1364-2005, section 18), line by line into a sink that was lent.
 ghost use Rattle.std.specs.Prelude.{◌≡◌, false, []};
 ghost use Rattle.pio_edge.specs.Edge.{Takes, PutCounts, TakesPrefix};
+ghost use Rattle.block_core.specs.Sample.{same_sample};
 ghost use Rattle.vcd_trace.specs.TextForm.{HasPut, added, ended};
 ghost use Rattle.vcd_trace.specs.VcdText.{vcd_form, open_text, step_text, text_of};
 
@@ -138,9 +139,17 @@ fn put_step<S: Sink>(
         (S.taken sink.new) result }
     ensures cause { PutCounts (S.faults sink.old) (S.faults sink.new) result }
 {
-    if *before == *now {
+    if is_same(before, now) {
         return Ok(());
     }
     put_clock(sink, clock)?;
     put_changes(sink, 0, before, now)
+}
+
+/// Whether a sample shows what the one before shows.
+#[inline(always)]
+pub(crate) fn is_same(before: &Sample, now: &Sample) -> bool
+    ensures { result ≡ same_sample before.now now.now }
+{
+    *before == *now
 }

@@ -1,3 +1,4 @@
+use Rattle.std.proofs.Common.{sym, ◌∙◌}
 use Rattle.vcd_trace.proofs.ToldLaws.{step_text-changed}
 use Rattle.pio_edge.proofs.PutLaws.{going_begins, going_on}
 use Rattle.vcd_trace.proofs.Puts.{takes_failed, takes_last}
@@ -6,10 +7,10 @@ use Rattle.vcd_trace.proofs.vcd.put_step.Goals as goal
 pub returns-in_err-put_clock-clause-bytes : goal.returns-in_err-put_clock-clause-bytes
 returns-in_err-put_clock-clause-bytes g c =
     let a = c.args in
-    takes_failed _ _ _ _ _ _ _ c.from_residual.result (going_begins _ _) (step_text-changed a.clock a.before.now a.now.now c.if-eq.ensures) c.from_residual.ensures.0 c.in_err-put_clock.ensures.bytes
+    takes_failed _ _ _ _ _ _ _ c.from_residual.result (going_begins _ _) (step_text-changed a.clock a.before.now a.now.now (sym c.is_same.ensures ∙ c.if-is_same.false)) c.from_residual.ensures.0 c.in_err-put_clock.ensures.bytes
 
 pub returns-clause-bytes : goal.returns-clause-bytes
 returns-clause-bytes g c =
     let a = c.args in
-    let g1 = going_on _ _ _ _ _ _ _ (going_begins _ _) (step_text-changed a.clock a.before.now a.now.now c.if-eq.ensures) c.in_ok-put_clock.ensures.bytes in
+    let g1 = going_on _ _ _ _ _ _ _ (going_begins _ _) (step_text-changed a.clock a.before.now a.now.now (sym c.is_same.ensures ∙ c.if-is_same.false)) c.in_ok-put_clock.ensures.bytes in
     takes_last _ _ _ _ _ c.put_changes.result g1 c.put_changes.ensures.bytes
