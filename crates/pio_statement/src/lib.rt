@@ -3,17 +3,17 @@
 
 mod code;
 mod condition;
+mod cursor;
 mod directive;
 mod fault;
+mod first_token;
 mod form;
 mod instruction;
 mod laws;
 mod line;
 mod operand;
 mod optional;
-mod any_statement;
 mod statement;
-mod token;
 mod value;
 
 pub use fault::{StatementFault, StatementKind};
