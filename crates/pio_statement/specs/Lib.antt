@@ -6,3 +6,4 @@ pub mod Forms
 pub mod Instructions
 pub mod Statements
 pub mod Lines
+pub mod Cursor

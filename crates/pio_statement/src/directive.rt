@@ -1,137 +1,86 @@
 //! The directives of a line, after their names. E is an expression.
-ghost use Rattle.std.specs.List.{All};
-ghost use Rattle.pio_lex.specs.Tokens.{IsTokenOf};
-ghost use Rattle.pio_statement.specs.Answer.{Answers};
+ghost use Rattle.pio_statement.specs.Cursor.{Reads};
 ghost use Rattle.pio_statement.specs.Statements as spec;
 
-use crate::code::word;
-use crate::optional::{opt, pindirs, public};
-use crate::value::{expression, name};
+use crate::cursor::Cursor;
 use crate::{Statement, StatementFault};
-use pio_lex::{Directive, Token};
-use std::alloc::Global;
+use pio_lex::Directive;
 
-/// A directive's statement, after its name.
-pub fn directive(
-    alloc: Global,
-    source: &[u8],
-    tokens: &[Token],
-    directive: Directive,
-    at: usize,
-) -> Result<(Statement, usize), StatementFault>
-    requires { All (IsTokenOf source.now) tokens.now }
-    ensures { Answers result (spec.directive_at source.now tokens.now directive at) }
-{
-    match directive {
-        Directive::Program => program(alloc, source, tokens, at),
-        Directive::Define => define(alloc, source, tokens, at),
-        Directive::Origin => origin(alloc, source, tokens, at),
-        Directive::SideSet => side_set(alloc, source, tokens, at),
-        Directive::WrapTarget => Ok((Statement::WrapTarget, at)),
-        Directive::Wrap => Ok((Statement::Wrap, at)),
-        Directive::Word => lone_word(alloc, source, tokens, at),
-        Directive::LangOpt => Ok((Statement::LangOpt, at)),
-        Directive::PioVersion => pio_version(alloc, source, tokens, at),
-        Directive::Other => Err(StatementFault::SYNTAX),
+impl<'a> Cursor<'a> {
+    /// A directive's statement, after its name.
+    pub fn directive(&mut self, directive: Directive) -> Result<Statement, StatementFault>
+        ensures { Reads result self.old self.new
+            (spec.directive_at self.old.source self.old.tokens directive self.old.at) }
+    {
+        match directive {
+            Directive::Program => self.program(),
+            Directive::Define => self.define(),
+            Directive::Origin => self.origin(),
+            Directive::SideSet => self.side_set(),
+            Directive::WrapTarget => Ok(Statement::WrapTarget),
+            Directive::Wrap => Ok(Statement::Wrap),
+            Directive::Word => self.lone_word(),
+            Directive::LangOpt => Ok(Statement::LangOpt),
+            Directive::PioVersion => self.pio_version(),
+            Directive::Other => Err(StatementFault::SYNTAX),
+        }
     }
-}
 
-/// `.program NAME`
-#[tactic(auto, unfolding(crate::specs::Statements::program_at))]
-fn program(
-    alloc: Global,
-    source: &[u8],
-    tokens: &[Token],
-    at: usize,
-) -> Result<(Statement, usize), StatementFault>
-    requires { All (IsTokenOf source.now) tokens.now }
-    ensures { Answers result (spec.program_at source.now tokens.now at) }
-{
-    let (name, after) = name(alloc, source, tokens, at)?;
-    Ok((Statement::Program(name), after))
-}
+    /// `.program NAME`
+    #[tactic(auto, unfolding(crate::specs::Statements::program_at))]
+    fn program(&mut self) -> Result<Statement, StatementFault>
+        ensures { Reads result self.old self.new (spec.program_at self.old.source self.old.tokens self.old.at) }
+    {
+        Ok(Statement::Program(self.name()?))
+    }
 
-/// `.define [public] NAME E`
-#[tactic(auto, unfolding(crate::specs::Statements::define_at))]
-fn define(
-    alloc: Global,
-    source: &[u8],
-    tokens: &[Token],
-    at: usize,
-) -> Result<(Statement, usize), StatementFault>
-    requires { All (IsTokenOf source.now) tokens.now }
-    ensures { Answers result (spec.define_at source.now tokens.now at) }
-{
-    let (public, after) = public(tokens, at);
-    let (name, after) = name(alloc, source, tokens, after)?;
-    let (value, after) = expression(alloc, source, tokens, after)?;
-    let statement = Statement::Define {
-        public,
-        name,
-        value,
-    };
-    Ok((statement, after))
-}
+    /// `.define [public] NAME E`
+    #[tactic(auto, unfolding(crate::specs::Statements::define_at))]
+    fn define(&mut self) -> Result<Statement, StatementFault>
+        ensures { Reads result self.old self.new (spec.define_at self.old.source self.old.tokens self.old.at) }
+    {
+        let public = self.public();
+        let name = self.name()?;
+        let value = self.expression()?;
+        Ok(Statement::Define {
+            public,
+            name,
+            value,
+        })
+    }
 
-/// `.origin E`
-#[tactic(auto, unfolding(crate::specs::Statements::origin_at))]
-fn origin(
-    alloc: Global,
-    source: &[u8],
-    tokens: &[Token],
-    at: usize,
-) -> Result<(Statement, usize), StatementFault>
-    requires { All (IsTokenOf source.now) tokens.now }
-    ensures { Answers result (spec.origin_at source.now tokens.now at) }
-{
-    let (address, after) = expression(alloc, source, tokens, at)?;
-    Ok((Statement::Origin(address), after))
-}
+    /// `.origin E`
+    #[tactic(auto, unfolding(crate::specs::Statements::origin_at))]
+    fn origin(&mut self) -> Result<Statement, StatementFault>
+        ensures { Reads result self.old self.new (spec.origin_at self.old.source self.old.tokens self.old.at) }
+    {
+        Ok(Statement::Origin(self.expression()?))
+    }
 
-/// `.side_set E [opt] [pindirs]`
-#[tactic(auto, unfolding(crate::specs::Statements::side_set_at))]
-fn side_set(
-    alloc: Global,
-    source: &[u8],
-    tokens: &[Token],
-    at: usize,
-) -> Result<(Statement, usize), StatementFault>
-    requires { All (IsTokenOf source.now) tokens.now }
-    ensures { Answers result (spec.side_set_at source.now tokens.now at) }
-{
-    let (bits, after) = expression(alloc, source, tokens, at)?;
-    let (opt, after) = opt(tokens, after);
-    let (pindirs, after) = pindirs(tokens, after);
-    let statement = Statement::SideSet { bits, opt, pindirs };
-    Ok((statement, after))
-}
+    /// `.side_set E [opt] [pindirs]`
+    #[tactic(auto, unfolding(crate::specs::Statements::side_set_at))]
+    fn side_set(&mut self) -> Result<Statement, StatementFault>
+        ensures { Reads result self.old self.new (spec.side_set_at self.old.source self.old.tokens self.old.at) }
+    {
+        let bits = self.expression()?;
+        let opt = self.opt();
+        let pindirs = self.pindirs();
+        Ok(Statement::SideSet { bits, opt, pindirs })
+    }
 
-/// `.pio_version E`
-#[tactic(auto, unfolding(crate::specs::Statements::pio_version_at))]
-fn pio_version(
-    alloc: Global,
-    source: &[u8],
-    tokens: &[Token],
-    at: usize,
-) -> Result<(Statement, usize), StatementFault>
-    requires { All (IsTokenOf source.now) tokens.now }
-    ensures { Answers result (spec.pio_version_at source.now tokens.now at) }
-{
-    let (version, after) = expression(alloc, source, tokens, at)?;
-    Ok((Statement::PioVersion(version), after))
-}
+    /// `.pio_version E`
+    #[tactic(auto, unfolding(crate::specs::Statements::pio_version_at))]
+    fn pio_version(&mut self) -> Result<Statement, StatementFault>
+        ensures { Reads result self.old self.new (spec.pio_version_at self.old.source self.old.tokens self.old.at) }
+    {
+        Ok(Statement::PioVersion(self.expression()?))
+    }
 
-/// `.word E` without a label.
-#[tactic(auto, unfolding(crate::specs::Statements::lone_word_at))]
-fn lone_word(
-    alloc: Global,
-    source: &[u8],
-    tokens: &[Token],
-    at: usize,
-) -> Result<(Statement, usize), StatementFault>
-    requires { All (IsTokenOf source.now) tokens.now }
-    ensures { Answers result (spec.lone_word_at source.now tokens.now at) }
-{
-    let (word, after) = word(alloc, source, tokens, at)?;
-    Ok((Statement::Code(word), after))
+    /// `.word E` without a label.
+    #[tactic(auto, unfolding(crate::specs::Statements::lone_word_at))]
+    fn lone_word(&mut self) -> Result<Statement, StatementFault>
+        ensures { Reads result self.old self.new (spec.lone_word_at self.old.source self.old.tokens self.old.at) }
+    {
+        Ok(Statement::Code(self.word()?))
+    }
 }

@@ -1,210 +1,153 @@
 //! The forms of the instructions, after their first word. E is an expression.
-ghost use Rattle.std.specs.Prelude.{◌≡◌};
-ghost use Rattle.std.specs.List.{All};
-ghost use Rattle.pio_lex.specs.Tokens.{IsTokenOf};
-ghost use Rattle.pio_statement.specs.Answer.{Answers};
+ghost use Rattle.pio_statement.specs.Cursor.{Reads, Takes};
 ghost use Rattle.pio_statement.specs.Forms as spec;
 
-use crate::condition::{condition, past_condition};
-use crate::operand::{
-    in_source, mov_destination, mov_source, out_destination, set_destination, wait_source,
-};
-use crate::optional::{blocking, if_empty, if_full, irq_mode, operation, relative};
-use crate::token::{keyword_at, past_comma};
-use crate::value::expression;
+use crate::cursor::Cursor;
 use crate::{Form, StatementFault};
 use pio_encode::WaitSource;
-use pio_lex::{Keyword, Token};
-use std::alloc::Global;
+use pio_lex::Keyword;
 
-/// An instruction without its side-set and its delay.
-#[tactic(auto, unfolding(crate::specs::Forms::form_at))]
-pub fn form(
-    alloc: Global,
-    source: &[u8],
-    tokens: &[Token],
-    at: usize,
-) -> Result<(Form, usize), StatementFault>
-    requires { All (IsTokenOf source.now) tokens.now }
-    ensures { Answers result (spec.form_at source.now tokens.now at) }
-{
-    let Some((word, after)) = keyword_at(tokens, at) else {
-        return Err(StatementFault::SYNTAX);
-    };
-    match word {
-        Keyword::Nop => Ok((Form::Nop, after)),
-        Keyword::Jmp => jmp(alloc, source, tokens, after),
-        Keyword::Wait => wait(alloc, source, tokens, after),
-        Keyword::In => in_bits(alloc, source, tokens, after),
-        Keyword::Out => out_bits(alloc, source, tokens, after),
-        Keyword::Push => Ok(push(tokens, after)),
-        Keyword::Pull => Ok(pull(tokens, after)),
-        Keyword::Mov => mov(tokens, after),
-        Keyword::Irq => irq(alloc, source, tokens, after),
-        Keyword::Set => set(alloc, source, tokens, after),
-        _ => Err(StatementFault::SYNTAX),
+impl<'a> Cursor<'a> {
+    /// An instruction without its side-set and its delay.
+    #[tactic(auto, unfolding(crate::specs::Forms::form_at))]
+    pub fn form(&mut self) -> Result<Form, StatementFault>
+        ensures { Reads result self.old self.new (spec.form_at self.old.source self.old.tokens self.old.at) }
+    {
+        match self.keyword()? {
+            Keyword::Nop => Ok(Form::Nop),
+            Keyword::Jmp => self.jmp(),
+            Keyword::Wait => self.wait(),
+            Keyword::In => self.in_bits(),
+            Keyword::Out => self.out_bits(),
+            Keyword::Push => Ok(self.push()),
+            Keyword::Pull => Ok(self.pull()),
+            Keyword::Mov => self.mov(),
+            Keyword::Irq => self.irq(),
+            Keyword::Set => self.set(),
+            _ => Err(StatementFault::SYNTAX),
+        }
     }
-}
 
-/// `jmp [cond,] E`
-#[tactic(auto, unfolding(crate::specs::Forms::jmp_at))]
-fn jmp(
-    alloc: Global,
-    source: &[u8],
-    tokens: &[Token],
-    at: usize,
-) -> Result<(Form, usize), StatementFault>
-    requires { All (IsTokenOf source.now) tokens.now }
-    ensures { Answers result (spec.jmp_at source.now tokens.now at) }
-{
-    let (condition, after) = condition(tokens, at)?;
-    let after = past_condition(tokens, condition, after);
-    let (target, after) = expression(alloc, source, tokens, after)?;
-    Ok((Form::Jmp { condition, target }, after))
-}
-
-/// `wait E gpio, E`, `wait E pin, E`, `wait E irq, E [rel]`
-#[tactic(auto, unfolding(crate::specs::Forms::wait_at))]
-fn wait(
-    alloc: Global,
-    source: &[u8],
-    tokens: &[Token],
-    at: usize,
-) -> Result<(Form, usize), StatementFault>
-    requires { All (IsTokenOf source.now) tokens.now }
-    ensures { Answers result (spec.wait_at source.now tokens.now at) }
-{
-    let (polarity, after) = expression(alloc, source, tokens, at)?;
-    let (looked_at, after) = wait_source(tokens, after)?;
-    let (index, after) = expression(alloc, source, tokens, past_comma(tokens, after))?;
-    let (relative, after) = wait_relative(tokens, looked_at, after);
-    let form = Form::Wait {
-        polarity,
-        source: looked_at,
-        index,
-        relative,
-    };
-    Ok((form, after))
-}
-
-/// `[rel]`, after an IRQ flag alone.
-fn wait_relative(tokens: &[Token], looked_at: WaitSource, at: usize) -> (bool, usize)
-    ensures { result ≡ spec.wait_relative tokens.now looked_at at }
-{
-    match looked_at {
-        WaitSource::Irq => relative(tokens, at),
-        _ => (false, at),
+    /// `jmp [cond,] E`
+    #[tactic(auto, unfolding(crate::specs::Forms::jmp_at))]
+    fn jmp(&mut self) -> Result<Form, StatementFault>
+        ensures { Reads result self.old self.new (spec.jmp_at self.old.source self.old.tokens self.old.at) }
+    {
+        let condition = self.condition()?;
+        self.condition_comma(condition);
+        let target = self.expression()?;
+        Ok(Form::Jmp { condition, target })
     }
-}
 
-/// `in src, E`
-#[tactic(auto, unfolding(crate::specs::Forms::in_at))]
-fn in_bits(
-    alloc: Global,
-    source: &[u8],
-    tokens: &[Token],
-    at: usize,
-) -> Result<(Form, usize), StatementFault>
-    requires { All (IsTokenOf source.now) tokens.now }
-    ensures { Answers result (spec.in_at source.now tokens.now at) }
-{
-    let (from, after) = in_source(tokens, at)?;
-    let (count, after) = expression(alloc, source, tokens, past_comma(tokens, after))?;
-    Ok((
-        Form::In {
-            source: from,
-            count,
-        },
-        after,
-    ))
-}
+    /// `wait E gpio, E`, `wait E pin, E`, `wait E irq, E [rel]`
+    #[tactic(auto, unfolding(crate::specs::Forms::wait_at))]
+    fn wait(&mut self) -> Result<Form, StatementFault>
+        ensures { Reads result self.old self.new (spec.wait_at self.old.source self.old.tokens self.old.at) }
+    {
+        let polarity = self.expression()?;
+        let source = self.wait_source()?;
+        self.comma();
+        let index = self.expression()?;
+        let relative = self.wait_relative(source);
+        Ok(Form::Wait {
+            polarity,
+            source,
+            index,
+            relative,
+        })
+    }
 
-/// `out dst, E`
-#[tactic(auto, unfolding(crate::specs::Forms::out_at))]
-fn out_bits(
-    alloc: Global,
-    source: &[u8],
-    tokens: &[Token],
-    at: usize,
-) -> Result<(Form, usize), StatementFault>
-    requires { All (IsTokenOf source.now) tokens.now }
-    ensures { Answers result (spec.out_at source.now tokens.now at) }
-{
-    let (destination, after) = out_destination(tokens, at)?;
-    let (count, after) = expression(alloc, source, tokens, past_comma(tokens, after))?;
-    Ok((Form::Out { destination, count }, after))
-}
+    /// `[rel]`, after an IRQ flag alone.
+    fn wait_relative(&mut self, source: WaitSource) -> bool
+        ensures { Takes result self.old self.new (spec.wait_relative self.old.tokens source self.old.at) }
+    {
+        match source {
+            WaitSource::Irq => self.relative(),
+            _ => false,
+        }
+    }
 
-/// `push [iffull] [block or noblock]`
-#[tactic(auto, unfolding(crate::specs::Forms::push_at))]
-fn push(tokens: &[Token], at: usize) -> (Form, usize)
-    ensures { result ≡ spec.push_at tokens.now at }
-{
-    let (if_full, after) = if_full(tokens, at);
-    let (block, after) = blocking(tokens, after);
-    (Form::Push { if_full, block }, after)
-}
+    /// `in src, E`
+    #[tactic(auto, unfolding(crate::specs::Forms::in_at))]
+    fn in_bits(&mut self) -> Result<Form, StatementFault>
+        ensures { Reads result self.old self.new (spec.in_at self.old.source self.old.tokens self.old.at) }
+    {
+        let source = self.in_source()?;
+        self.comma();
+        let count = self.expression()?;
+        Ok(Form::In { source, count })
+    }
 
-/// `pull [ifempty] [block or noblock]`
-#[tactic(auto, unfolding(crate::specs::Forms::pull_at))]
-fn pull(tokens: &[Token], at: usize) -> (Form, usize)
-    ensures { result ≡ spec.pull_at tokens.now at }
-{
-    let (if_empty, after) = if_empty(tokens, at);
-    let (block, after) = blocking(tokens, after);
-    (Form::Pull { if_empty, block }, after)
-}
+    /// `out dst, E`
+    #[tactic(auto, unfolding(crate::specs::Forms::out_at))]
+    fn out_bits(&mut self) -> Result<Form, StatementFault>
+        ensures { Reads result self.old self.new (spec.out_at self.old.source self.old.tokens self.old.at) }
+    {
+        let destination = self.out_destination()?;
+        self.comma();
+        let count = self.expression()?;
+        Ok(Form::Out { destination, count })
+    }
 
-/// `mov dst, [! or ~ or ::] src`
-#[tactic(auto, unfolding(crate::specs::Forms::mov_at))]
-fn mov(tokens: &[Token], at: usize) -> Result<(Form, usize), StatementFault>
-    ensures { Answers result (spec.mov_at tokens.now at) }
-{
-    let (destination, after) = mov_destination(tokens, at)?;
-    let (operation, after) = operation(tokens, past_comma(tokens, after));
-    let (source, after) = mov_source(tokens, after)?;
-    let form = Form::Mov {
-        destination,
-        operation,
-        source,
-    };
-    Ok((form, after))
-}
+    /// `push [iffull] [block or noblock]`
+    #[tactic(auto, unfolding(crate::specs::Forms::push_at))]
+    fn push(&mut self) -> Form
+        ensures { Takes result self.old self.new (spec.push_at self.old.tokens self.old.at) }
+    {
+        let if_full = self.if_full();
+        let block = self.blocking();
+        Form::Push { if_full, block }
+    }
 
-/// `irq [set or nowait or wait or clear] E [rel]`
-#[tactic(auto, unfolding(crate::specs::Forms::irq_at))]
-fn irq(
-    alloc: Global,
-    source: &[u8],
-    tokens: &[Token],
-    at: usize,
-) -> Result<(Form, usize), StatementFault>
-    requires { All (IsTokenOf source.now) tokens.now }
-    ensures { Answers result (spec.irq_at source.now tokens.now at) }
-{
-    let (mode, after) = irq_mode(tokens, at);
-    let (index, after) = expression(alloc, source, tokens, after)?;
-    let (relative, after) = relative(tokens, after);
-    let form = Form::Irq {
-        mode,
-        index,
-        relative,
-    };
-    Ok((form, after))
-}
+    /// `pull [ifempty] [block or noblock]`
+    #[tactic(auto, unfolding(crate::specs::Forms::pull_at))]
+    fn pull(&mut self) -> Form
+        ensures { Takes result self.old self.new (spec.pull_at self.old.tokens self.old.at) }
+    {
+        let if_empty = self.if_empty();
+        let block = self.blocking();
+        Form::Pull { if_empty, block }
+    }
 
-/// `set dst, E`
-#[tactic(auto, unfolding(crate::specs::Forms::set_at))]
-fn set(
-    alloc: Global,
-    source: &[u8],
-    tokens: &[Token],
-    at: usize,
-) -> Result<(Form, usize), StatementFault>
-    requires { All (IsTokenOf source.now) tokens.now }
-    ensures { Answers result (spec.set_at source.now tokens.now at) }
-{
-    let (destination, after) = set_destination(tokens, at)?;
-    let (value, after) = expression(alloc, source, tokens, past_comma(tokens, after))?;
-    Ok((Form::Set { destination, value }, after))
+    /// `mov dst, [! or ~ or ::] src`
+    #[tactic(auto, unfolding(crate::specs::Forms::mov_at))]
+    fn mov(&mut self) -> Result<Form, StatementFault>
+        ensures { Reads result self.old self.new (spec.mov_at self.old.tokens self.old.at) }
+    {
+        let destination = self.mov_destination()?;
+        self.comma();
+        let operation = self.operation();
+        let source = self.mov_source()?;
+        Ok(Form::Mov {
+            destination,
+            operation,
+            source,
+        })
+    }
+
+    /// `irq [set or nowait or wait or clear] E [rel]`
+    #[tactic(auto, unfolding(crate::specs::Forms::irq_at))]
+    fn irq(&mut self) -> Result<Form, StatementFault>
+        ensures { Reads result self.old self.new (spec.irq_at self.old.source self.old.tokens self.old.at) }
+    {
+        let mode = self.irq_mode();
+        let index = self.expression()?;
+        let relative = self.relative();
+        Ok(Form::Irq {
+            mode,
+            index,
+            relative,
+        })
+    }
+
+    /// `set dst, E`
+    #[tactic(auto, unfolding(crate::specs::Forms::set_at))]
+    fn set(&mut self) -> Result<Form, StatementFault>
+        ensures { Reads result self.old self.new (spec.set_at self.old.source self.old.tokens self.old.at) }
+    {
+        let destination = self.set_destination()?;
+        self.comma();
+        let value = self.expression()?;
+        Ok(Form::Set { destination, value })
+    }
 }

@@ -4,8 +4,10 @@
 mod any_statement;
 mod code;
 mod condition;
+mod cursor;
 mod directive;
 mod fault;
+mod first_token;
 mod form;
 mod instruction;
 mod laws;
@@ -13,7 +15,6 @@ mod line;
 mod operand;
 mod optional;
 mod statement;
-mod token;
 mod value;
 
 pub use fault::{StatementFault, StatementKind};

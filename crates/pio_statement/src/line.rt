@@ -5,8 +5,7 @@ ghost use Rattle.pio_lex.specs.Tokens.{IsTokenOf};
 ghost use Rattle.pio_statement.specs.Answer.{Answers};
 ghost use Rattle.pio_statement.specs.Lines as spec;
 
-use crate::any_statement::statement;
-use crate::token::ends_at;
+use crate::cursor::Cursor;
 use crate::{Statement, StatementFault, StatementKind};
 use pio_lex::{Directive, Token, TokenKind};
 use std::alloc::Global;
@@ -94,8 +93,9 @@ fn known(
     ensures onward { IfOk result (λ read. from < length tokens.now → from < read.1) }
     ensures within { IfOk result (λ read. read.1 ≤ length tokens.now) }
 {
-    let (statement, after) = statement(alloc, source, tokens, from)?;
-    if ends_at(tokens, after) {
+    let mut cursor = Cursor::new(alloc, source, tokens, from);
+    let statement = cursor.statement()?;
+    if cursor.is_at_end() {
         Ok((statement, line_end(tokens, from)))
     } else {
         drop(statement);
