@@ -204,7 +204,15 @@ static SENT: [(&[&str], u16, u64); 3] = [
         1_000_000_000_000,
     ),
     (
-        &["uart", "--send", "a.txt", "--divider", "+010", "--clocks", "00"],
+        &[
+            "uart",
+            "--send",
+            "a.txt",
+            "--divider",
+            "+010",
+            "--clocks",
+            "00",
+        ],
         10,
         0,
     ),
@@ -217,7 +225,13 @@ static REFUSED: [&[&str]; 71] = [
     &["uart", "--divider", "1", "--clocks", "8"],
     &["uart", "--send", "a.txt", "--divider", "0", "--clocks", "8"],
     &[
-        "uart", "--send", "a.txt", "--divider", "8192", "--clocks", "8",
+        "uart",
+        "--send",
+        "a.txt",
+        "--divider",
+        "8192",
+        "--clocks",
+        "8",
     ],
     &[
         "uart",

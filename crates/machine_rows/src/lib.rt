@@ -47,5 +47,3 @@ mod shift_tests;
 mod stir_rows;
 #[cfg(test)]
 mod twin_tests;
-#[cfg(test)]
-mod twin_text_tests;
