@@ -1,7 +1,6 @@
 //! The statements of a pioasm source: what one line says, or its first fault.
 #![tactic(auto)]
 
-mod any_statement;
 mod code;
 mod condition;
 mod cursor;
