@@ -1,18 +1,30 @@
-//! The worked rows of whole calls of the program, run over a shelf and sinks in memory.
+//! The worked rows of whole calls of the program, run over a shelf and sinks in memory, and of listings.
 #![tactic(auto)]
 
+#[cfg(test)]
+mod call;
+#[cfg(test)]
+mod failing;
+#[cfg(test)]
+mod lines;
 #[cfg(test)]
 mod listing_rows;
 #[cfg(test)]
 mod listing_tests;
 #[cfg(test)]
-mod observer_tests;
-#[cfg(test)]
-mod rows;
+mod row;
 #[cfg(test)]
 mod rows_bounds;
 #[cfg(test)]
+mod rows_calls;
+#[cfg(test)]
 mod rows_config;
+#[cfg(test)]
+mod rows_config_faults;
+#[cfg(test)]
+mod rows_failing;
+#[cfg(test)]
+mod rows_limits;
 #[cfg(test)]
 mod rows_loads;
 #[cfg(test)]
@@ -20,7 +32,11 @@ mod rows_machine;
 #[cfg(test)]
 mod rows_observers;
 #[cfg(test)]
+mod rows_pairs;
+#[cfg(test)]
 mod rows_refused;
+#[cfg(test)]
+mod rows_source_faults;
 #[cfg(test)]
 mod rows_sources;
 #[cfg(test)]
@@ -30,8 +46,10 @@ mod rows_tables;
 #[cfg(test)]
 mod rows_verdicts;
 #[cfg(test)]
-mod span_tests;
+mod spelling;
 #[cfg(test)]
-mod table_tests;
+mod table;
 #[cfg(test)]
 mod tests;
+#[cfg(test)]
+mod trace;

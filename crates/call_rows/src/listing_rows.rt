@@ -154,32 +154,74 @@ pub static ROWS: [Row; 7] = [
     Row {
         shows: "a side-set of one bit, and public defines",
         programs: &[WS2812],
-        text: "program ws2812 origin none side 1 wrap 0 3\npublic T1 2\npublic T2 5\npublic T3 3\n00 6221 out x, 1 side 0 [2]\n01 1123 jmp !x, 3 side 1 [1]\n02 1400 jmp 0 side 1 [4]\n03 a442 nop side 0 [4]\n",
+        text: "program ws2812 origin none side 1 wrap 0 3
+public T1 2
+public T2 5
+public T3 3
+00 6221 out x, 1 side 0 [2]
+01 1123 jmp !x, 3 side 1 [1]
+02 1400 jmp 0 side 1 [4]
+03 a442 nop side 0 [4]
+",
     },
     Row {
         shows: "side-set that may be left out",
         programs: &[UART_TX],
-        text: "program uart_tx origin none side 1 opt wrap 0 3\n00 9fa0 pull block side 1 [7]\n01 f727 set x, 7 side 0 [7]\n02 6001 out pins, 1\n03 0642 jmp x--, 2 [6]\n",
+        text: "program uart_tx origin none side 1 opt wrap 0 3
+00 9fa0 pull block side 1 [7]
+01 f727 set x, 7 side 0 [7]
+02 6001 out pins, 1
+03 0642 jmp x--, 2 [6]
+",
     },
     Row {
         shows: "an origin, pindirs, and a label that isn't public",
         programs: &[PLACED],
-        text: "program p origin 5 side 2 opt pindirs wrap 1 2\npublic entry 1\n00 fd00 set pins, 0 side 3 [1]\n01 a042 nop\n02 1002 jmp 2 side 0\n",
+        text: "program p origin 5 side 2 opt pindirs wrap 1 2
+public entry 1
+00 fd00 set pins, 0 side 3 [1]
+01 a042 nop
+02 1002 jmp 2 side 0
+",
     },
     Row {
         shows: "values with their signs",
         programs: &[SIGNS],
-        text: "program signs origin 0 side 1 pindirs wrap 0 0\npublic low -2147483648\npublic high 2147483647\npublic minus -1\npublic entry 0\n00 e001 set pins, 1 side 0\n",
+        text: "program signs origin 0 side 1 pindirs wrap 0 0
+public low -2147483648
+public high 2147483647
+public minus -1
+public entry 0
+00 e001 set pins, 1 side 0
+",
     },
     Row {
         shows: "places of two digits",
         programs: &[ELEVEN],
-        text: "program eleven origin 31 side 5 wrap 10 0\n00 a042 nop side 0\n01 a042 nop side 0\n02 a042 nop side 0\n03 a042 nop side 0\n04 a042 nop side 0\n05 a042 nop side 0\n06 a042 nop side 0\n07 a042 nop side 0\n08 a042 nop side 0\n09 a042 nop side 0\n10 a042 nop side 0\n",
+        text: "program eleven origin 31 side 5 wrap 10 0
+00 a042 nop side 0
+01 a042 nop side 0
+02 a042 nop side 0
+03 a042 nop side 0
+04 a042 nop side 0
+05 a042 nop side 0
+06 a042 nop side 0
+07 a042 nop side 0
+08 a042 nop side 0
+09 a042 nop side 0
+10 a042 nop side 0
+",
     },
     Row {
         shows: "two programs, each under its own rule",
         programs: &[PLAIN, SIDED],
-        text: "program plain origin none side 0 wrap 0 0\npublic mine 1\n00 f727 set x, 7 [23]\nprogram sided origin none side 1 opt wrap 0 0\npublic yours 2\n00 f727 set x, 7 side 0 [7]\n",
+        text: "program plain origin none side 0 wrap 0 0
+public mine 1
+00 f727 set x, 7 [23]
+program sided origin none side 1 opt wrap 0 0
+public yours 2
+00 f727 set x, 7 side 0 [7]
+",
     },
 ];
 
@@ -203,20 +245,27 @@ pub static STOP_ROWS: [StopRow; 5] = [
         programs: &[UART_TX],
         fails: &[(15, 7)],
         room: 1_000,
-        text: "program uart_tx origin none side 1 opt wrap 0 3\n00 9fa0 pull block side 1 [7]\n01 f727",
+        text: "program uart_tx origin none side 1 opt wrap 0 3
+00 9fa0 pull block side 1 [7]
+01 f727",
     },
     StopRow {
         shows: "in the second program",
         programs: &[PLAIN, SIDED],
         fails: &[(20, 8)],
         room: 1_000,
-        text: "program plain origin none side 0 wrap 0 0\npublic mine 1\n00 f727 set x, 7 [23]\nprogram ",
+        text: "program plain origin none side 0 wrap 0 0
+public mine 1
+00 f727 set x, 7 [23]
+program ",
     },
     StopRow {
         shows: "at a line that is past the room",
         programs: &[UART_TX],
         fails: &[],
         room: 84,
-        text: "program uart_tx origin none side 1 opt wrap 0 3\n00 9fa0 pull block side 1 [7]\n",
+        text: "program uart_tx origin none side 1 opt wrap 0 3
+00 9fa0 pull block side 1 [7]
+",
     },
 ];

@@ -1,547 +1,511 @@
 //! Worked runs of all instructions, FIFOs, pins and sources, from the rules of the RP2040 Datasheet, chapter 3.
 
-use crate::rows::{Row, Text};
+/// Side-set, refills, flags, pins, synchronisers, FIFOs and X.
+pub static MACHINES: &str = r#"
+[square]
+s .program squarewave
+s     set pindirs, 1
+s again:
+s     set pins, 1 [1]
+s     set pins, 0
+s     jmp again
 
-pub static MACHINES: [Row; 12] = [
-    Row {
-        name: "a transmitter whose first PULL stalls, with its side-set",
-        words: &["piotool", "run", "--source", "s", "--clocks", "1"],
-        source: Some(
-            ".program uart_tx\n.side_set 1 opt\npull side 1 [7]\nset x, 7 side 0 [7]\nbitloop:\nout pins, 1\njmp x-- bitloop [6]\n",
-        ),
-        config: None,
-        stimulus: None,
-        out_fails: &[],
-        err_fails: &[],
-        status: 0,
-        out: Text::From(&["1!", "b100 u"], "#1\n"),
-        err: "",
-    },
-    Row {
-        name: "a refill while an OUT stalls",
-        words: &[
-            "piotool",
-            "run",
-            "--source",
-            "s",
-            "--config",
-            "c",
-            "--stimulus",
-            "t",
-            "--clocks",
-            "14",
-        ],
-        source: Some(".program p\nout pins, 1\n"),
-        config: Some(
-            "[[load]]\nprogram = \"p\"\n[[machine]]\nid = 0\nprogram = \"p\"\nautopull = true\nout_count = 1\n",
-        ),
-        stimulus: Some("10 tx 0 1\n"),
-        out_fails: &[],
-        err_fails: &[],
-        status: 0,
-        out: Text::From(&["b100 u"], "#10\nb1 i\n#11\nb0 i\n#12\n1!\n#13\n0!\n#14\n"),
-        err: "",
-    },
-    Row {
-        name: "a refill inside a delay",
-        words: &[
-            "piotool",
-            "run",
-            "--source",
-            "s",
-            "--config",
-            "c",
-            "--stimulus",
-            "t",
-            "--clocks",
-            "66",
-        ],
-        source: Some(".program p\nset x, 0 [31]\nout pins, 1\n"),
-        config: Some(
-            "[[load]]\nprogram = \"p\"\n[[machine]]\nid = 0\nprogram = \"p\"\nautopull = true\nout_count = 1\n",
-        ),
-        stimulus: Some("10 tx 0 1\n"),
-        out_fails: &[],
-        err_fails: &[],
-        status: 0,
-        out: Text::From(&[], "#10\nb1 i\n#11\nb0 i\n#32\n1!\n#65\n0!\n#66\n"),
-        err: "",
-    },
-    Row {
-        name: "an IRQ that waits for a machine that sees its flag",
-        words: &[
-            "piotool", "run", "--source", "s", "--config", "c", "--clocks", "4",
-        ],
-        source: Some(
-            ".program p\nirq wait 0\nset pins, 1\n.program q\nwait 1 irq 0\nset pins, 1\n",
-        ),
-        config: Some(
-            "[[load]]\nprogram = \"p\"\n[[load]]\nprogram = \"q\"\nat = 2\n[[machine]]\nid = 0\nprogram = \"p\"\nset_count = 1\n[[machine]]\nid = 1\nprogram = \"q\"\nset_base = 1\nset_count = 1\n",
-        ),
-        stimulus: None,
-        out_fails: &[],
-        err_fails: &[],
-        status: 0,
-        out: Text::From(&["1a"], "#1\n0a\n#2\n1\"\n#3\n1!\n#4\n"),
-        err: "",
-    },
-    Row {
-        name: "the highest machine's write counts",
-        words: &[
-            "piotool", "run", "--source", "s", "--config", "c", "--clocks", "3",
-        ],
-        source: Some(".program p\nset pins, 0\n.program q\nset pins, 1\n"),
-        config: Some(
-            "[[load]]\nprogram = \"p\"\n[[load]]\nprogram = \"q\"\nat = 1\n[[machine]]\nid = 1\nprogram = \"p\"\nset_base = 4\nset_count = 1\n[[machine]]\nid = 3\nprogram = \"q\"\nset_base = 4\nset_count = 1\n",
-        ),
-        stimulus: None,
-        out_fails: &[],
-        err_fails: &[],
-        status: 0,
-        out: Text::From(&["1%"], "#3\n"),
-        err: "",
-    },
-    Row {
-        name: "side-set takes precedence over SET",
-        words: &[
-            "piotool", "run", "--source", "s", "--config", "c", "--clocks", "3",
-        ],
-        source: Some(".program p\n.side_set 1\nset pins, 0 side 1\n"),
-        config: Some(
-            "[[load]]\nprogram = \"p\"\n[[machine]]\nid = 0\nprogram = \"p\"\nset_base = 4\nside_base = 4\nset_count = 1\n",
-        ),
-        stimulus: None,
-        out_fails: &[],
-        err_fails: &[],
-        status: 0,
-        out: Text::From(&["1%"], "#3\n"),
-        err: "",
-    },
-    Row {
-        name: "a WAIT after the synchronisers",
-        words: &[
-            "piotool",
-            "run",
-            "--source",
-            "s",
-            "--config",
-            "c",
-            "--stimulus",
-            "t",
-            "--clocks",
-            "10",
-        ],
-        source: Some(".program p\nwait 1 pin 0\nset pins, 1\n"),
-        config: Some(
-            "[[load]]\nprogram = \"p\"\n[[machine]]\nid = 0\nprogram = \"p\"\nset_base = 1\nset_count = 1\n",
-        ),
-        stimulus: Some("5 pin 0 1\n"),
-        out_fails: &[],
-        err_fails: &[],
-        status: 0,
-        out: Text::From(&[], "#8\n1\"\n#10\n"),
-        err: "",
-    },
-    Row {
-        name: "a WAIT on a pin that bypasses its synchroniser",
-        words: &[
-            "piotool",
-            "run",
-            "--source",
-            "s",
-            "--config",
-            "c",
-            "--stimulus",
-            "t",
-            "--clocks",
-            "10",
-        ],
-        source: Some(".program p\nwait 1 pin 0\nset pins, 1\n"),
-        config: Some(
-            "[[load]]\nprogram = \"p\"\n[[machine]]\nid = 0\nprogram = \"p\"\nset_base = 1\nset_count = 1\n[pins]\nbypass = [0]\n",
-        ),
-        stimulus: Some("5 pin 0 1\n"),
-        out_fails: &[],
-        err_fails: &[],
-        status: 0,
-        out: Text::From(&[], "#6\n1\"\n#10\n"),
-        err: "",
-    },
-    Row {
-        name: "the same by the pin's own number",
-        words: &[
-            "piotool",
-            "run",
-            "--source",
-            "s",
-            "--config",
-            "c",
-            "--stimulus",
-            "t",
-            "--clocks",
-            "10",
-        ],
-        source: Some(".program p\nwait 1 gpio 0\nset pins, 1\n"),
-        config: Some(
-            "[[load]]\nprogram = \"p\"\n[[machine]]\nid = 0\nprogram = \"p\"\nset_base = 1\nset_count = 1\nin_base = 7\n",
-        ),
-        stimulus: Some("5 pin 0 1\n"),
-        out_fails: &[],
-        err_fails: &[],
-        status: 0,
-        out: Text::From(&[], "#8\n1\"\n#10\n"),
-        err: "",
-    },
-    Row {
-        name: "a fifth word overruns TX",
-        words: &[
-            "piotool",
-            "run",
-            "--source",
-            "s",
-            "--stimulus",
-            "t",
-            "--clocks",
-            "8",
-        ],
-        source: Some(
-            ".program squarewave\n    set pindirs, 1\nagain:\n    set pins, 1 [1]\n    set pins, 0\n    jmp again\n",
-        ),
-        config: None,
-        stimulus: Some("0 tx 0 1\n1 tx 0 1\n2 tx 0 1\n3 tx 0 1\n4 tx 0 1\n"),
-        out_fails: &[],
-        err_fails: &[],
-        status: 0,
-        out: Text::From(
-            &["1A", "b1 i"],
-            "#1\n1!\nb10 i\n#2\nb11 i\n#3\n0!\nb100 i\n#4\nb1 u\n#5\n1!\n#7\n0!\n#8\n",
-        ),
-        err: "",
-    },
-    Row {
-        name: "a read of an empty RX",
-        words: &[
-            "piotool",
-            "run",
-            "--source",
-            "s",
-            "--stimulus",
-            "t",
-            "--clocks",
-            "8",
-        ],
-        source: Some(
-            ".program squarewave\n    set pindirs, 1\nagain:\n    set pins, 1 [1]\n    set pins, 0\n    jmp again\n",
-        ),
-        config: None,
-        stimulus: Some("0 rx 0\n"),
-        out_fails: &[],
-        err_fails: &[],
-        status: 0,
-        out: Text::From(&["1A", "b10 u"], "#1\n1!\n#3\n0!\n#5\n1!\n#7\n0!\n#8\n"),
-        err: "",
-    },
-    Row {
-        name: "X counts below zero, and its word is read",
-        words: &[
-            "piotool",
-            "run",
-            "--source",
-            "s",
-            "--stimulus",
-            "t",
-            "--clocks",
-            "4",
-        ],
-        source: Some(".program p\nstart:\njmp x-- start\nmov isr, x\npush\n"),
-        config: None,
-        stimulus: Some("3 rx 0\n"),
-        out_fails: &[],
-        err_fails: &[],
-        status: 0,
-        out: Text::From(
-            &[],
-            "#2\nb1 m\n#3\nb0 m\nb11111111111111111111111111111111 q\n#4\n",
-        ),
-        err: "",
-    },
-];
+# OUT on pin 0, with autopull.
+[pulling]
+c [[load]]
+c program = "p"
+c [[machine]]
+c id = 0
+c program = "p"
+c autopull = true
+c out_count = 1
 
-/// More of them.
-pub static MORE_MACHINES: [Row; 15] = [
-    Row {
-        name: "an instruction that came as a word",
-        words: &[
-            "piotool",
-            "run",
-            "--source",
-            "s",
-            "--stimulus",
-            "t",
-            "--clocks",
-            "8",
-        ],
-        source: Some(".program p\npull\nout exec, 16 [7]\nset pins, 0\n"),
-        config: None,
-        stimulus: Some("0 tx 0 0xe301\n"),
-        out_fails: &[],
-        err_fails: &[],
-        status: 0,
-        out: Text::From(&["b1 i", "b100 u"], "#1\nb0 i\n#3\n1!\n#7\n0!\n#8\n"),
-        err: "",
-    },
-    Row {
-        name: "a stalled IN pushes when there is room",
-        words: &[
-            "piotool",
-            "run",
-            "--source",
-            "s",
-            "--config",
-            "c",
-            "--stimulus",
-            "t",
-            "--clocks",
-            "8",
-        ],
-        source: Some(".program p\nin x, 8\n"),
-        config: Some(
-            "[[load]]\nprogram = \"p\"\n[[machine]]\nid = 0\nprogram = \"p\"\nautopush = true\npush_threshold = 8\nx = 5\n",
-        ),
-        stimulus: Some("6 rx 0\n"),
-        out_fails: &[],
-        err_fails: &[],
-        status: 0,
-        out: Text::From(
-            &["b1 m"],
-            "#1\nb10 m\n#2\nb11 m\n#3\nb100 m\n#4\nb1000 u\n#6\nb11 m\nb101000000000000000000000000 q\n#7\nb100 m\n#8\n",
-        ),
-        err: "",
-    },
-    Row {
-        name: "a transfer waits for a line",
-        words: &[
-            "piotool",
-            "run",
-            "--source",
-            "s",
-            "--stimulus",
-            "t",
-            "--clocks",
-            "8",
-        ],
-        source: Some(
-            ".program squarewave\n    set pindirs, 1\nagain:\n    set pins, 1 [1]\n    set pins, 0\n    jmp again\n",
-        ),
-        config: None,
-        stimulus: Some("0 feed 0 3 7 8 9\n3 tx 0 1\n"),
-        out_fails: &[],
-        err_fails: &[],
-        status: 0,
-        out: Text::From(
-            &["1A", "b1 i"],
-            "#1\n1!\n#3\n0!\nb10 i\n#4\nb11 i\n#5\n1!\n#7\n0!\nb100 i\n#8\n",
-        ),
-        err: "",
-    },
-    Row {
-        name: "a stalled OUT with a word in TX raises no flag",
-        words: &[
-            "piotool",
-            "run",
-            "--source",
-            "s",
-            "--config",
-            "c",
-            "--stimulus",
-            "t",
-            "--clocks",
-            "6",
-        ],
-        source: Some(".program p\nset x, 0\nout pins, 1\n"),
-        config: Some(
-            "[[load]]\nprogram = \"p\"\n[[machine]]\nid = 0\nprogram = \"p\"\nautopull = true\nout_count = 1\n",
-        ),
-        stimulus: Some("0 tx 0 1\n"),
-        out_fails: &[],
-        err_fails: &[],
-        status: 0,
-        out: Text::From(&["b1 i"], "#1\nb0 i\n#2\n1!\n#4\n0!\n#6\n"),
-        err: "",
-    },
-    Row {
-        name: "a late OUT takes precedence over its own side-set",
-        words: &[
-            "piotool",
-            "run",
-            "--source",
-            "s",
-            "--config",
-            "c",
-            "--stimulus",
-            "t",
-            "--clocks",
-            "8",
-        ],
-        source: Some(".program p\n.side_set 1\nout pins, 1 side 0\n"),
-        config: Some(
-            "[[load]]\nprogram = \"p\"\n[[machine]]\nid = 0\nprogram = \"p\"\nautopull = true\nout_count = 1\n",
-        ),
-        stimulus: Some("2 tx 0 3\n"),
-        out_fails: &[],
-        err_fails: &[],
-        status: 0,
-        out: Text::From(&["b100 u"], "#2\nb1 i\n#3\nb0 i\n#4\n1!\n#5\n0!\n#8\n"),
-        err: "",
-    },
-    Row {
-        name: "a disabled machine's divider runs on",
-        words: &[
-            "piotool",
-            "run",
-            "--source",
-            "s",
-            "--config",
-            "c",
-            "--stimulus",
-            "t",
-            "--clocks",
-            "11",
-        ],
-        source: Some(".program p\nset pins, 1\nset pins, 0\n"),
-        config: Some(
-            "[[load]]\nprogram = \"p\"\n[[machine]]\nid = 0\nprogram = \"p\"\ndivider = 2\nfraction = 128\n",
-        ),
-        stimulus: Some("version 2\n1 disable 0\n4 enable 0\n"),
-        out_fails: &[],
-        err_fails: &[],
-        status: 0,
-        out: Text::From(&["1!"], "#5\n0!\n#7\n1!\n#10\n0!\n#11\n"),
-        err: "",
-    },
-    Row {
-        name: "a restarted divider",
-        words: &[
-            "piotool",
-            "run",
-            "--source",
-            "s",
-            "--config",
-            "c",
-            "--stimulus",
-            "t",
-            "--clocks",
-            "11",
-        ],
-        source: Some(".program p\nset pins, 1\nset pins, 0\n"),
-        config: Some(
-            "[[load]]\nprogram = \"p\"\n[[machine]]\nid = 0\nprogram = \"p\"\ndivider = 2\nfraction = 128\n",
-        ),
-        stimulus: Some("version 2\n1 disable 0\n3 restart 0\n4 enable 0\n"),
-        out_fails: &[],
-        err_fails: &[],
-        status: 0,
-        out: Text::From(&["1!"], "#5\n0!\n#8\n1!\n#10\n0!\n#11\n"),
-        err: "",
-    },
-    Row {
-        name: "loads that overlap",
-        words: &[
-            "piotool", "run", "--source", "s", "--config", "c", "--clocks", "8",
-        ],
-        source: Some(
-            ".program squarewave\n    set pindirs, 1\nagain:\n    set pins, 1 [1]\n    set pins, 0\n    jmp again\n.program q\nnop\n",
-        ),
-        config: Some("[[load]]\nprogram = \"squarewave\"\n[[load]]\nprogram = \"q\"\nat = 3\n"),
-        stimulus: None,
-        out_fails: &[],
-        err_fails: &[],
-        status: 1,
-        out: Text::Nothing,
-        err: "piotool: config load[1].at: C7 3\n",
-    },
-    Row {
-        name: "defines alone: no program to run",
-        words: &["piotool", "run", "--source", "s", "--clocks", "8"],
-        source: Some(".define a 1\n"),
-        config: None,
-        stimulus: None,
-        out_fails: &[],
-        err_fails: &[],
-        status: 1,
-        out: Text::Nothing,
-        err: "piotool: config default: C5\n",
-    },
-    Row {
-        name: "a delay that doesn't fit",
-        words: &["piotool", "run", "--source", "s", "--clocks", "8"],
-        source: Some("/* c */ .program p\n.side_set 1\nset x, 1 side 0 [16]\n"),
-        config: None,
-        stimulus: None,
-        out_fails: &[],
-        err_fails: &[],
-        status: 1,
-        out: Text::Nothing,
-        err: "piotool: source line 3: S7 delay 16\n",
-    },
-    Row {
-        name: "a ring of defines",
-        words: &["piotool", "run", "--source", "s", "--clocks", "8"],
-        source: Some(".define a b\n.define b a\n"),
-        config: None,
-        stimulus: None,
-        out_fails: &[],
-        err_fails: &[],
-        status: 1,
-        out: Text::Nothing,
-        err: "piotool: source line 1: V2 a\n",
-    },
-    Row {
-        name: "a name of no symbol",
-        words: &["piotool", "run", "--source", "s", "--clocks", "8"],
-        source: Some(".program p\nset x, k\n"),
-        config: None,
-        stimulus: None,
-        out_fails: &[],
-        err_fails: &[],
-        status: 1,
-        out: Text::Nothing,
-        err: "piotool: source line 2: V1 k\n",
-    },
-    Row {
-        name: "a symbol twice",
-        words: &["piotool", "run", "--source", "s", "--clocks", "8"],
-        source: Some(".program p\na: nop\na: nop\n"),
-        config: None,
-        stimulus: None,
-        out_fails: &[],
-        err_fails: &[],
-        status: 1,
-        out: Text::Nothing,
-        err: "piotool: source line 3: S5 a\n",
-    },
-    Row {
-        name: "a negative number",
-        words: &["piotool", "run", "--source", "s", "--clocks", "8"],
-        source: Some(".program p\nset x -1\n"),
-        config: None,
-        stimulus: None,
-        out_fails: &[],
-        err_fails: &[],
-        status: 1,
-        out: Text::Nothing,
-        err: "piotool: source line 2: S7 data -1\n",
-    },
-    Row {
-        name: "a byte of no token",
-        words: &["piotool", "run", "--source", "s", "--clocks", "8"],
-        source: Some(".program p\njmp $\n"),
-        config: None,
-        stimulus: None,
-        out_fails: &[],
-        err_fails: &[],
-        status: 1,
-        out: Text::Nothing,
-        err: "piotool: source line 2: L1\n",
-    },
-];
+# The program p, loaded and run by machine 0.
+[machine]
+c [[load]]
+c program = "p"
+c [[machine]]
+c id = 0
+c program = "p"
+
+[wait]
+s .program p
+s wait 1 pin 0
+s set pins, 1
+
+# a transmitter whose first PULL stalls, with its side-set
+$ piotool run --source s --clocks 1
+s .program uart_tx
+s .side_set 1 opt
+s pull side 1 [7]
+s set x, 7 side 0 [7]
+s bitloop:
+s out pins, 1
+s jmp x-- bitloop [6]
+= 0
+>header pio
+>values 1!, b100 u
+> #1
+
+# a refill while an OUT stalls
+$ piotool run --source s --config c --stimulus t --clocks 14
+@ pulling
+s .program p
+s out pins, 1
+t 10 tx 0 1
+= 0
+>header pio
+>values b100 u
+> #10
+> b1 i
+> #11
+> b0 i
+> #12
+> 1!
+> #13
+> 0!
+> #14
+
+# a refill inside a delay
+$ piotool run --source s --config c --stimulus t --clocks 66
+@ pulling
+s .program p
+s set x, 0 [31]
+s out pins, 1
+t 10 tx 0 1
+= 0
+>header pio
+>values
+> #10
+> b1 i
+> #11
+> b0 i
+> #32
+> 1!
+> #65
+> 0!
+> #66
+
+# an IRQ that waits for a machine that sees its flag
+$ piotool run --source s --config c --clocks 4
+s .program p
+s irq wait 0
+s set pins, 1
+s .program q
+s wait 1 irq 0
+s set pins, 1
+c [[load]]
+c program = "p"
+c [[load]]
+c program = "q"
+c at = 2
+c [[machine]]
+c id = 0
+c program = "p"
+c set_count = 1
+c [[machine]]
+c id = 1
+c program = "q"
+c set_base = 1
+c set_count = 1
+= 0
+>header pio
+>values 1a
+> #1
+> 0a
+> #2
+> 1"
+> #3
+> 1!
+> #4
+
+# the highest machine's write counts
+$ piotool run --source s --config c --clocks 3
+s .program p
+s set pins, 0
+s .program q
+s set pins, 1
+c [[load]]
+c program = "p"
+c [[load]]
+c program = "q"
+c at = 1
+c [[machine]]
+c id = 1
+c program = "p"
+c set_base = 4
+c set_count = 1
+c [[machine]]
+c id = 3
+c program = "q"
+c set_base = 4
+c set_count = 1
+= 0
+>header pio
+>values 1%
+> #3
+
+# side-set takes precedence over SET
+$ piotool run --source s --config c --clocks 3
+@ machine
+s .program p
+s .side_set 1
+s set pins, 0 side 1
+c set_base = 4
+c side_base = 4
+c set_count = 1
+= 0
+>header pio
+>values 1%
+> #3
+
+# a WAIT after the synchronisers
+$ piotool run --source s --config c --stimulus t --clocks 10
+@ machine
+@ wait
+c set_base = 1
+c set_count = 1
+t 5 pin 0 1
+= 0
+>header pio
+>values
+> #8
+> 1"
+> #10
+
+# a WAIT on a pin that bypasses its synchroniser
+$ piotool run --source s --config c --stimulus t --clocks 10
+@ machine
+@ wait
+c set_base = 1
+c set_count = 1
+c [pins]
+c bypass = [0]
+t 5 pin 0 1
+= 0
+>header pio
+>values
+> #6
+> 1"
+> #10
+
+# the same by the pin's own number
+$ piotool run --source s --config c --stimulus t --clocks 10
+@ machine
+s .program p
+s wait 1 gpio 0
+s set pins, 1
+c set_base = 1
+c set_count = 1
+c in_base = 7
+t 5 pin 0 1
+= 0
+>header pio
+>values
+> #8
+> 1"
+> #10
+
+# a fifth word overruns TX
+$ piotool run --source s --stimulus t --clocks 8
+@ square
+t 0 tx 0 1
+t 1 tx 0 1
+t 2 tx 0 1
+t 3 tx 0 1
+t 4 tx 0 1
+= 0
+>header pio
+>values 1A, b1 i
+> #1
+> 1!
+> b10 i
+> #2
+> b11 i
+> #3
+> 0!
+> b100 i
+> #4
+> b1 u
+> #5
+> 1!
+> #7
+> 0!
+> #8
+
+# a read of an empty RX
+$ piotool run --source s --stimulus t --clocks 8
+@ square
+t 0 rx 0
+= 0
+>header pio
+>values 1A, b10 u
+> #1
+> 1!
+> #3
+> 0!
+> #5
+> 1!
+> #7
+> 0!
+> #8
+
+# X counts below zero, and its word is read
+$ piotool run --source s --stimulus t --clocks 4
+s .program p
+s start:
+s jmp x-- start
+s mov isr, x
+s push
+t 3 rx 0
+= 0
+>header pio
+>values
+> #2
+> b1 m
+> #3
+> b0 m
+> b11111111111111111111111111111111 q
+> #4
+"#;
+
+/// Words run, stalls, transfers, dividers, and faults of sources.
+pub static MORE_MACHINES: &str = r#"
+[square]
+s .program squarewave
+s     set pindirs, 1
+s again:
+s     set pins, 1 [1]
+s     set pins, 0
+s     jmp again
+
+# OUT on pin 0, with autopull.
+[pulling]
+c [[load]]
+c program = "p"
+c [[machine]]
+c id = 0
+c program = "p"
+c autopull = true
+c out_count = 1
+
+# A toggle with two and a half clocks a tick.
+[divided]
+s .program p
+s set pins, 1
+s set pins, 0
+c [[load]]
+c program = "p"
+c [[machine]]
+c id = 0
+c program = "p"
+c divider = 2
+c fraction = 128
+
+# an instruction that came as a word
+$ piotool run --source s --stimulus t --clocks 8
+s .program p
+s pull
+s out exec, 16 [7]
+s set pins, 0
+t 0 tx 0 0xe301
+= 0
+>header pio
+>values b1 i, b100 u
+> #1
+> b0 i
+> #3
+> 1!
+> #7
+> 0!
+> #8
+
+# a stalled IN pushes when there is room
+$ piotool run --source s --config c --stimulus t --clocks 8
+s .program p
+s in x, 8
+c [[load]]
+c program = "p"
+c [[machine]]
+c id = 0
+c program = "p"
+c autopush = true
+c push_threshold = 8
+c x = 5
+t 6 rx 0
+= 0
+>header pio
+>values b1 m
+> #1
+> b10 m
+> #2
+> b11 m
+> #3
+> b100 m
+> #4
+> b1000 u
+> #6
+> b11 m
+> b101000000000000000000000000 q
+> #7
+> b100 m
+> #8
+
+# a transfer waits for a line
+$ piotool run --source s --stimulus t --clocks 8
+@ square
+t 0 feed 0 3 7 8 9
+t 3 tx 0 1
+= 0
+>header pio
+>values 1A, b1 i
+> #1
+> 1!
+> #3
+> 0!
+> b10 i
+> #4
+> b11 i
+> #5
+> 1!
+> #7
+> 0!
+> b100 i
+> #8
+
+# a stalled OUT with a word in TX raises no flag
+$ piotool run --source s --config c --stimulus t --clocks 6
+@ pulling
+s .program p
+s set x, 0
+s out pins, 1
+t 0 tx 0 1
+= 0
+>header pio
+>values b1 i
+> #1
+> b0 i
+> #2
+> 1!
+> #4
+> 0!
+> #6
+
+# a late OUT takes precedence over its own side-set
+$ piotool run --source s --config c --stimulus t --clocks 8
+@ pulling
+s .program p
+s .side_set 1
+s out pins, 1 side 0
+t 2 tx 0 3
+= 0
+>header pio
+>values b100 u
+> #2
+> b1 i
+> #3
+> b0 i
+> #4
+> 1!
+> #5
+> 0!
+> #8
+
+# a disabled machine's divider runs on
+$ piotool run --source s --config c --stimulus t --clocks 11
+@ divided
+t version 2
+t 1 disable 0
+t 4 enable 0
+= 0
+>header pio
+>values 1!
+> #5
+> 0!
+> #7
+> 1!
+> #10
+> 0!
+> #11
+
+# a restarted divider
+$ piotool run --source s --config c --stimulus t --clocks 11
+@ divided
+t version 2
+t 1 disable 0
+t 3 restart 0
+t 4 enable 0
+= 0
+>header pio
+>values 1!
+> #5
+> 0!
+> #8
+> 1!
+> #10
+> 0!
+> #11
+
+# loads that overlap
+$ piotool run --source s --config c --clocks 8
+@ square
+s .program q
+s nop
+c [[load]]
+c program = "squarewave"
+c [[load]]
+c program = "q"
+c at = 3
+= 1
+! piotool: config load[1].at: C7 3
+
+# defines alone: no program to run
+$ piotool run --source s --clocks 8
+s .define a 1
+= 1
+! piotool: config default: C5
+
+# a delay that doesn't fit
+$ piotool run --source s --clocks 8
+s /* c */ .program p
+s .side_set 1
+s set x, 1 side 0 [16]
+= 1
+! piotool: source line 3: S7 delay 16
+
+# a ring of defines
+$ piotool run --source s --clocks 8
+s .define a b
+s .define b a
+= 1
+! piotool: source line 1: V2 a
+
+# a name of no symbol
+$ piotool run --source s --clocks 8
+s .program p
+s set x, k
+= 1
+! piotool: source line 2: V1 k
+
+# a symbol twice
+$ piotool run --source s --clocks 8
+s .program p
+s a: nop
+s a: nop
+= 1
+! piotool: source line 3: S5 a
+
+# a negative number
+$ piotool run --source s --clocks 8
+s .program p
+s set x -1
+= 1
+! piotool: source line 2: S7 data -1
+
+# a byte of no token
+$ piotool run --source s --clocks 8
+s .program p
+s jmp $
+= 1
+! piotool: source line 2: L1
+"#;

@@ -1,4 +1,4 @@
-use Rattle.hostile_rows.proofs.call.seen.Given as goal
+use Rattle.call_rows.proofs.call.seen.Given as goal
 
 -- each call has a ledger of its own, in one part
 abbrev pub ghosts-seen_of : goal.ghosts-seen_of

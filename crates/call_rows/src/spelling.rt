@@ -1,34 +1,10 @@
-//! The bytes that a text of a row spells.
-use std::alloc::{AllocError, Global};
+//! The bytes that a spelled line gives.
+use std::alloc::AllocError;
 
-/// The bytes of a text: a `|` is a newline, `^ff` the byte 0xff, and `` `3 nop|` `` three times `nop|`, with the number from 0 on
-/// in the place of `#`, and the next number in that of `@`; `&` is the identifier of the next variable of a trace; `-` alone is
-/// nothing. None where memory runs out, or the text is not well written.
-pub fn spelled(alloc: Global, text: &str) -> Option<Vec<u8>> {
-    let mut bytes = Vec::new(alloc);
-    if text != "-" {
-        add_parts(text, &mut bytes)?;
-        identify(&mut bytes);
-    }
-    Some(bytes)
-}
-
-/// Each `&` becomes the identifier of the next variable: `!` to `x`, and from `!` on again.
-fn identify(bytes: &mut Vec<u8>) {
-    let mut next = b'!';
-    for byte in bytes.iter_mut() {
-        if *byte == b'&' {
-            *byte = next;
-            next = if next == b'x' {
-                b'!'
-            } else {
-                next.wrapping_add(1)
-            };
-        }
-    }
-}
-
-fn add_parts(text: &str, bytes: &mut Vec<u8>) -> Option<()> {
+/// Adds the bytes of a spelled text: a `|` is a newline, `^ff` the byte 0xff, and `` `3 nop|` `` three times `nop|`,
+/// with the number from 0 on in the place of `#`, and the next number in that of `@`. In a repeated text `~32 nop|~`
+/// is 32 times `nop|`. None where memory runs out, or the text is not well written.
+pub fn spell(text: &str, bytes: &mut Vec<u8>) -> Option<()> {
     let mut is_repeated = false;
     for part in text.split('`') {
         if is_repeated {
@@ -42,13 +18,35 @@ fn add_parts(text: &str, bytes: &mut Vec<u8>) -> Option<()> {
 }
 
 fn repeat(part: &str, bytes: &mut Vec<u8>) -> Option<()> {
-    let (times, each) = part.split_once(' ')?;
-    let times: u32 = times.parse().ok()?;
+    let (times, each) = counted(part)?;
     if each.len() == 1 {
         return fill(times, each.as_bytes(), bytes).ok();
     }
     for number in 0..times {
-        add(each, number, bytes)?;
+        add_parts(each, number, bytes)?;
+    }
+    Some(())
+}
+
+/// How often a text is repeated, and the text.
+fn counted(part: &str) -> Option<(u32, &str)> {
+    let (times, each) = part.split_once(' ')?;
+    Some((times.parse().ok()?, each))
+}
+
+/// Adds a repeated text, the parts between tildes as often as they say.
+fn add_parts(text: &str, number: u32, bytes: &mut Vec<u8>) -> Option<()> {
+    let mut is_repeated = false;
+    for part in text.split('~') {
+        let (times, each) = if is_repeated {
+            counted(part)?
+        } else {
+            (1, part)
+        };
+        for _ in 0..times {
+            add(each, number, bytes)?;
+        }
+        is_repeated = !is_repeated;
     }
     Some(())
 }
