@@ -437,4 +437,63 @@ d: program = "p"
 = 0
 > ..$end
 > #1000000000000
+
+# The second block owns pin 1, so what it drives is on the pad: the first one waits for it, and sets pin 0.
+$ piotool pair --source s --config c --second d --clocks 6
+s .program a
+s wait 1 gpio 1
+s set pins, 1
+s .program b
+s: set pins, 1
+c [pins]
+c out = [0]
+c [[load]]
+c program = "a"
+c [[machine]]
+c id = 0
+c program = "a"
+c: set_count = 1
+d [pins]
+d out = [1]
+d own = [1]
+d [[load]]
+d program = "b"
+d [[machine]]
+d id = 0
+d program = "b"
+d set_base = 1
+d: set_count = 1
+= 0
+> ..$end
+> #4
+> 1!
+> #6
+
+# It drives pin 1, but doesn't own it.
+$ piotool pair --source s --config c --second d --clocks 6
+s .program a
+s wait 1 gpio 1
+s set pins, 1
+s .program b
+s: set pins, 1
+c [pins]
+c out = [0]
+c [[load]]
+c program = "a"
+c [[machine]]
+c id = 0
+c program = "a"
+c: set_count = 1
+d [pins]
+d out = [1]
+d [[load]]
+d program = "b"
+d [[machine]]
+d id = 0
+d program = "b"
+d set_base = 1
+d: set_count = 1
+= 0
+> ..$end
+> #6
 "#;
