@@ -58,7 +58,7 @@ none_of_faulty (fault ∷ faults) asked h = refl
 refused_wants_nothing : (words : List Text) → IsRefused words → wanted words ≡ None
 unfolding wanted
 refused_wants_nothing words (inl faulty) = none_of_faulty (fault_of tool words) (asked_of words) faulty
-refused_wants_nothing words (inr pair) = of_asked words pair.0 pair.1 ∙ with_room_by pair.0 true pair.2
+refused_wants_nothing words (inr full) = of_asked words full.0 full.1 ∙ with_room_by full.0 true full.2
 
 -- a command that was asked for ends the work of the words that asked for it
 pub work_ends : (words : List Text) (a : Asked) (c : Call) (r : Result (Unit {0}) Fault) → Asks words a → IsWithinRange a → CommandEnds a c r → WorkEnds words c r
