@@ -117,18 +117,13 @@ seen_between : (lo hi : ℕ) (ds : List ℕ) → AllByRecursion (IsBetween lo hi
 seen_between lo hi [] all = record { least = λ some. absurd (omega arith); most = λ some. absurd (omega arith) }
 seen_between lo hi (x ∷ xs) all = record { least = λ some. least_between lo hi x xs all.0 all.1; most = λ some. most_between lo hi (x ∷ xs) all }
 
--- an edge is the same to the checker and to the meter
-same_change : (rise before after : Bool) → meter.changes rise before after ≡ marks.changes rise before after
-same_change true before after = refl
-same_change false before after = refl
-
 from_mark : (sp : Span) (u : Setup) (lines : List Line) (c : ℕ) → (marks_in sp u lines c).from ≡ from_at (ends_in sp) (λ k. (state_beside u lines k).levels) c
 unfolding mark_of
-from_mark sp u lines c = sym (same_change sp.from_rise _ _)
+from_mark sp u lines c = refl
 
 to_mark : (sp : Span) (u : Setup) (lines : List Line) (c : ℕ) → (marks_in sp u lines c).to ≡ to_at (ends_in sp) (λ k. (state_beside u lines k).levels) c
 unfolding mark_of
-to_mark sp u lines c = sym (same_change sp.to_rise _ _)
+to_mark sp u lines c = refl
 
 breaks_mark : (sp : Span) (u : Setup) (lines : List Line) (c : ℕ) → (marks_in sp u lines c).breaks ≡ marks.is_broken (host_of (first_run u) lines c) sp.machine
 unfolding mark_of
