@@ -12,13 +12,16 @@ const VARIABLES: [(char, u8, u8); 7] = [
     ('s', 4, 4),
 ];
 
-/// Adds the lines up to `#0`, with a scope of each name. The identifiers of the second begin with `~`.
+/// What the identifiers of a block begin with: those of the second with a tilde.
+fn mark_of(block: usize) -> &'static str {
+    if block == 0 { "" } else { "~" }
+}
+
+/// Adds the lines up to `#0`, with a scope of each name.
 pub fn add_header(alloc: Global, names: &str, bytes: &mut Vec<u8>) -> Result<(), AllocError> {
     let mut text = String::from_str(alloc, "$timescale 1 ns $end\n")?;
-    let mut mark = "";
-    for name in names.split(' ') {
-        add_scope(name, mark, &mut text)?;
-        mark = "~";
+    for (block, name) in names.split(' ').enumerate() {
+        add_scope(name, mark_of(block), &mut text)?;
     }
     text.push_str("$enddefinitions $end\n#0\n")?;
     bytes.extend_from_slice(text.as_bytes())
@@ -44,15 +47,19 @@ fn add_scope(name: &str, mark: &str, text: &mut String) -> Result<(), AllocError
 /// comes after ` / `.
 pub fn add_first_sample(alloc: Global, lists: &str, bytes: &mut Vec<u8>) -> Result<(), AllocError> {
     let mut text = String::from_str(alloc, "$dumpvars\n")?;
-    let mut mark = "";
-    for list in lists.split(" / ") {
-        for id in b'!'..=b'x' {
-            add_value(list, mark, id, &mut text)?;
-        }
-        mark = "~";
+    for (block, list) in lists.split(" / ").enumerate() {
+        add_values(list, mark_of(block), &mut text)?;
     }
     text.push_str("$end\n")?;
     bytes.extend_from_slice(text.as_bytes())
+}
+
+/// Adds the values of a block.
+fn add_values(list: &str, mark: &str, text: &mut String) -> Result<(), AllocError> {
+    for id in b'!'..=b'x' {
+        add_value(list, mark, id, text)?;
+    }
+    Ok(())
 }
 
 /// Adds the value of a variable: that of the list, or 0. The variables up to `h` have one bit.
