@@ -15,49 +15,42 @@ use pio_encode::Name;
 use pio_expr::Scope;
 use pio_statement::{Statement, StatementKind};
 use std::alloc::{AllocError, Global};
-use std::collections::VecDeque;
 use std::mem::replace;
 
 /// The programs so far.
 #[derive(Drop)]
-pub struct Assembly {
+pub struct Assembly<'a> {
     /// In which names are looked up.
     scope: Scope,
     /// The lines after the next `.program`, whose symbols are not in the scope yet.
-    symbols: VecDeque<Line>,
+    symbols: &'a [Line],
     /// The program whose lines are read.
     draft: Draft,
     /// Those before it.
     programs: Vec<Program>,
 }
 
-impl Assembly {
+impl<'a> Assembly<'a> {
     /// Before the first of these lines.
-    pub fn begun(alloc: Global, mut symbols: VecDeque<Line>) -> Result<Self, AllocError>
-        ensures scope { IfOk result (λ a. a.scope ≡ spec.global_scope symbols.items) }
-        ensures symbols { IfOk result (λ a. a.symbols.items ≡ spec.after_program symbols.items) }
+    pub fn begun(alloc: Global, lines: &'a [Line]) -> Result<Self, AllocError>
+        ensures scope { IfOk result (λ a. a.scope ≡ spec.global_scope lines.now) }
+        ensures symbols { IfOk result (λ a. a.symbols.now ≡ spec.after_program lines.now) }
         ensures draft { IfOk result (λ a. a.draft ≡ begun None) }
         ensures programs { IfOk result (λ a. a.programs.items ≡ []) }
     {
         let mut scope = Scope::new(alloc);
-        match add_symbols(&mut scope, &mut symbols) {
-            Ok(()) => Ok(Assembly {
-                scope,
-                symbols,
-                draft: Draft::begun(alloc, None),
-                programs: Vec::new(alloc),
-            }),
-            Err(error) => {
-                drop(scope);
-                drop(symbols);
-                Err(error)
-            }
-        }
+        let symbols = add_symbols(alloc, &mut scope, lines)?;
+        Ok(Assembly {
+            scope,
+            symbols,
+            draft: Draft::begun(alloc, None),
+            programs: Vec::new(alloc),
+        })
     }
 
     /// Reads these lines.
     pub fn read(&mut self, alloc: Global, lines: &[Line]) -> Result<(), SourceFault>
-        requires { self.old.symbols.items ≡ spec.after_program lines.now }
+        requires { self.old.symbols.now ≡ spec.after_program lines.now }
         ensures { Gives (λ _. map assembled_of self.new.programs.items ++ finished self.new.draft) result
             (spec.with_programs (map assembled_of self.old.programs.items)
             (spec.programs_from lines.now self.old.scope self.old.draft)) }
@@ -79,14 +72,14 @@ impl Assembly {
     fn begin_program(&mut self, alloc: Global, name: &Name) -> Result<(), AllocError>
         ensures draft { OnOk result (self.new.draft ≡ begun (Some name.now)) }
         ensures scope { OnOk result
-            (self.new.scope ≡ spec.program_scope self.old.scope self.old.symbols.items) }
+            (self.new.scope ≡ spec.program_scope self.old.scope self.old.symbols.now) }
         ensures symbols { OnOk result
-            (self.new.symbols.items ≡ spec.after_program self.old.symbols.items) }
+            (self.new.symbols.now ≡ spec.after_program self.old.symbols.now) }
         ensures programs { OnOk result (map assembled_of self.new.programs.items
             ≡ map assembled_of self.old.programs.items ++ finished self.old.draft) }
     {
         self.scope.next_program();
-        add_symbols(&mut self.scope, &mut self.symbols)?;
+        self.symbols = add_symbols(alloc, &mut self.scope, self.symbols)?;
         let next = Draft::begun(alloc, Some(copy(alloc, name)?));
         add(&mut self.programs, replace(&mut self.draft, next))
     }
@@ -112,16 +105,15 @@ impl Assembly {
     /// The programs, after the last line.
     pub fn finish(self) -> Result<Vec<Program>, AllocError>
         ensures { IfOk result (λ v. map assembled_of v.items
-            ≡ map assembled_of self.programs.items ++ finished self.draft) }
+            ≡ map assembled_of self.entry.programs.items ++ finished self.entry.draft) }
     {
         let Assembly {
             scope,
-            symbols,
             draft,
             mut programs,
+            ..
         } = self;
         drop(scope);
-        drop(symbols);
         add(&mut programs, draft)?;
         Ok(programs)
     }

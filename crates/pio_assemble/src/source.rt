@@ -15,7 +15,6 @@ use crate::lines::read_lines;
 use crate::{Program, SourceFault};
 use pio_lex::{Token, tokens};
 use std::alloc::Global;
-use std::collections::VecDeque;
 
 /// The programs of a source, which may be any bytes, or its first fault.
 ///
@@ -41,21 +40,14 @@ fn read(alloc: Global, source: &[u8], tokens: &[Token]) -> Result<Vec<Program>, 
 {
     let lines = read_lines(alloc, source, tokens)?;
     first_fault(alloc, &lines)?;
-    // A scope takes its expressions for itself, so the lines are read again for it.
-    let symbols = read_lines(alloc, source, tokens)?;
-    programs(alloc, &lines, VecDeque::from(symbols))
+    programs(alloc, &lines)
 }
 
-/// The programs of lines whose statements have no fault; `symbols` are the same lines.
-fn programs(
-    alloc: Global,
-    lines: &[Line],
-    symbols: VecDeque<Line>,
-) -> Result<Vec<Program>, SourceFault>
-    requires { symbols.items ≡ lines.now }
+/// The programs of lines whose statements have no fault.
+fn programs(alloc: Global, lines: &[Line]) -> Result<Vec<Program>, SourceFault>
     ensures { Gives (λ v. map assembled_of v.items) result (spec.programs_of lines.now) }
 {
-    let mut assembly = Assembly::begun(alloc, symbols)?;
+    let mut assembly = Assembly::begun(alloc, lines)?;
     match assembly.read(alloc, lines) {
         Ok(()) => Ok(assembly.finish()?),
         Err(fault) => {

@@ -7,23 +7,28 @@ use crate::line::Line;
 use pio_encode::Name;
 use pio_expr::{Scope, Symbol};
 use pio_statement::{Statement, StatementKind};
-use std::alloc::AllocError;
-use std::collections::VecDeque;
+use std::alloc::{AllocError, Global};
 
-/// Adds the symbols of lines, up to where the next program begins. Takes these lines and that one.
-pub fn add_symbols(scope: &mut Scope, lines: &mut VecDeque<Line>) -> Result<(), AllocError>
-    ensures symbols { OnOk result (scope.new ≡ spec.scope_from lines.old.items scope.old 0) }
-    ensures rest { OnOk result (lines.new.items ≡ spec.after_program lines.old.items) }
+/// Adds the symbols of lines, up to where the next program begins. Gives the lines after that one.
+pub fn add_symbols<'a>(
+    alloc: Global,
+    scope: &mut Scope,
+    lines: &'a [Line],
+) -> Result<&'a [Line], AllocError>
+    ensures symbols { OnOk result (scope.new ≡ spec.scope_from lines.now scope.old 0) }
+    ensures rest { IfOk result (λ rest. rest.now ≡ spec.after_program lines.now) }
 {
+    let mut rest = lines;
     let mut words = 0;
-    while let Some(line) = lines.pop_front() {
+    while let Some((line, after)) = rest.split_first() {
+        rest = after;
         if program_on(&line.reading).is_some() {
-            drop(line);
-            return Ok(());
+            return Ok(rest);
         }
-        words = add_symbol(scope, words, line.reading)?;
+        add_symbol(alloc, scope, words, &line.reading)?;
+        words = words_on(words, &line.reading);
     }
-    Ok(())
+    Ok(rest)
 }
 
 /// The program that begins on a line, if one does.
@@ -37,20 +42,29 @@ pub fn program_on(reading: &Result<Statement, StatementKind>) -> Option<&Name>
     }
 }
 
-/// Adds the symbol of a line with so many words before it, and tells how many there are after it.
+/// Adds the symbol of a line with so many words before it, if it has one, and it is new.
 fn add_symbol(
+    alloc: Global,
     scope: &mut Scope,
     words: u8,
-    reading: Result<Statement, StatementKind>,
-) -> Result<u8, AllocError>
-    ensures symbols { OnOk result (scope.new ≡ spec.scope_on scope.old words reading) }
-    ensures words { IfOk result (λ after. after ≡ spec.words_on words reading) }
+    reading: &Result<Statement, StatementKind>,
+) -> Result<(), AllocError>
+    ensures { OnOk result (scope.new ≡ spec.scope_on scope.old words reading.now) }
 {
-    let after = words_on(words, &reading);
-    if let Some((name, is)) = symbol_of(words, reading) {
-        set_new(scope, name, is)?;
+    match reading {
+        Ok(Statement::Define { name, value, .. }) => {
+            if scope.is_new(name) {
+                scope.set(name, Symbol::Define(value.copy(alloc)?))?;
+            }
+        }
+        Ok(Statement::Label { name, .. }) => {
+            if scope.is_new(name) {
+                scope.set(name, Symbol::Label(words))?;
+            }
+        }
+        _ => {}
     }
-    Ok(after)
+    Ok(())
 }
 
 /// How many words there are after a line with so many before it.
@@ -62,33 +76,6 @@ fn words_on(words: u8, reading: &Result<Statement, StatementKind>) -> u8
         Ok(Statement::Code(_)) => more_words(words, 1),
         _ => words,
     }
-}
-
-/// The symbol of a line with so many words before it, if it has one.
-fn symbol_of(words: u8, reading: Result<Statement, StatementKind>) -> Option<(Name, Symbol)>
-    ensures { result ≡ spec.symbol_on words reading }
-{
-    match reading {
-        Ok(Statement::Define { name, value, .. }) => Some((name, Symbol::Define(value))),
-        Ok(Statement::Label { name, code, .. }) => {
-            drop(code);
-            Some((name, Symbol::Label(words)))
-        }
-        other => {
-            drop(other);
-            None
-        }
-    }
-}
-
-/// Adds a symbol, unless there is one of its name.
-fn set_new(scope: &mut Scope, name: Name, is: Symbol) -> Result<(), AllocError>
-    ensures { OnOk result (scope.new ≡ spec.with_new scope.old name is) }
-{
-    if scope.is_new(&name) {
-        scope.set(name, is)?;
-    }
-    Ok(())
 }
 
 /// More words of a program, which has at most 32.

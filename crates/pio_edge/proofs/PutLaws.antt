@@ -68,6 +68,16 @@ going_stops o m n whole rest line later g e p =
 pub going_ends : (o m : Option (List ℕ)) (whole : List ℕ) → Going o m whole [] → m ≡ with_bytes o whole
 going_ends o m whole g = g.taken ∙ ap (with_bytes o) (sym (append-nil g.done) ∙ g.all)
 
+-- where the line at the front of the rest failed, the whole text failed
+pub takes_failed : {T E : Type 0} (o m n : Option (List ℕ)) (whole rest line later : List ℕ) (r : Result T E) → Going o m whole rest → rest ≡ line ++ later → IsErr r → TakesPrefix m line n → Takes o whole n r
+takes_failed o m n whole rest line later (Ok x) g e f p = cc
+takes_failed o m n whole rest line later (Err x) g e f p = going_stops o m n whole rest line later g e p
+
+-- the put of all that is left ends the whole text, or fails in it
+pub takes_last : {T E : Type 0} (o m n : Option (List ℕ)) (whole rest : List ℕ) (r : Result T E) → Going o m whole rest → Takes m rest n r → Takes o whole n r
+takes_last o m n whole rest (Ok x) g h = going_ends o n whole (going_on o m n whole rest rest [] g (sym (append-nil rest)) h)
+takes_last o m n whole rest (Err x) g p = going_stops o m n whole rest rest [] g (sym (append-nil rest)) p
+
 -- the pieces from one on are this piece and those after it
 pub flat_map-drop : {A : Type 0} (f : A → List ℕ) (xs : List A) (i : ℕ) (d : A) → i < length xs → flat_map f (drop i xs) ≡ f (get_or xs i d) ++ flat_map f (drop (i + 1) xs)
 flat_map-drop f xs i d h = rw (add-one, drop-cons xs i d)

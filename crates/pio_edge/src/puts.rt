@@ -13,10 +13,7 @@ pub fn put_all<S: Sink>(sink: &mut S, pieces: &[&[u8]]) -> Result<(), SinkFailed
     ensures cause { PutCounts (S.faults sink.old) (S.faults sink.new) result }
 {
     for piece in pieces {
-        match sink.put(piece) {
-            Ok(()) => {}
-            Err(failed) => return Err(failed),
-        }
+        sink.put(piece)?;
     }
     Ok(())
 }

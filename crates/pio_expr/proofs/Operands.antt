@@ -17,7 +17,7 @@ use Rattle.pio_expr.specs.declared.turn.Turn.TheVariants.{Operation, Closed, End
 use Rattle.pio_expr.specs.declared.waiting.Waiting.{Waiting}
 use Rattle.pio_expr.specs.declared.waiting.Waiting.TheVariants as waiting
 use Rattle.pio_expr.specs.Marks.{mark_at, mark_of, mark_by}
-use Rattle.pio_expr.specs.Grammar.{misplaced, Place, next, value_read, items_by, item_by, most_open}
+use Rattle.pio_expr.specs.Grammar.{misplaced, Progress, next, value_read, items_by, item_by, most_open}
 use Rattle.pio_expr.specs.Waiting.{rest, openings, IsSound, IsFaultOf}
 use Rattle.pio_expr.specs.Turns.{innermost, is_level, is_reverse, opened, opening, first_before, all_before, kept_before, turn_by, operation_of}
 use Rattle.pio_expr.proofs.Chains.{no_mark}
@@ -28,14 +28,14 @@ use Rattle.pio_expr.proofs.Turning.{Turns, turn_is}
 pub fault_is : {X : Type 0} (answer : Result X Refusal) (refusal : Refusal) (fault : ExprFault) → fault ≡ expr_fault.At refusal.place refusal.kind → answer ≡ Err refusal → IsFaultOf answer fault
 fault_is answer refusal fault told e = rw told e
 
-pub opening_fault : (source : List ℕ) (tokens : List Token) (ws : List Waiting) (m : Mark) (p : Place) (refusal : Refusal) (fault : ExprFault) → fault ≡ expr_fault.At refusal.place refusal.kind → m ≡ mark_at tokens p.at → opening m p.at ws ≡ Err refusal → IsFaultOf ((rest source tokens ws).wants p) fault
+pub opening_fault : (source : List ℕ) (tokens : List Token) (ws : List Waiting) (m : Mark) (p : Progress) (refusal : Refusal) (fault : ExprFault) → fault ≡ expr_fault.At refusal.place refusal.kind → m ≡ mark_at tokens p.at → opening m p.at ws ≡ Err refusal → IsFaultOf ((rest source tokens ws).wants p) fault
 opening_fault source tokens ws m p refusal fault told is e = fault_is _ refusal fault told (subst (Opens source tokens ws p) e (opening_is source tokens ws m p (sym is)))
 
-pub opening_more : (source : List ℕ) (tokens : List Token) (ws : List Waiting) (m : Mark) (p : Place) (w : Waiting) → m ≡ mark_at tokens p.at → opening m p.at ws ≡ Ok (Some w) → ((rest source tokens ws).wants p ≡ (rest source tokens (w ∷ ws)).wants (next p)) × (IsSound ws → IsSound (w ∷ ws))
+pub opening_more : (source : List ℕ) (tokens : List Token) (ws : List Waiting) (m : Mark) (p : Progress) (w : Waiting) → m ≡ mark_at tokens p.at → opening m p.at ws ≡ Ok (Some w) → ((rest source tokens ws).wants p ≡ (rest source tokens (w ∷ ws)).wants (next p)) × (IsSound ws → IsSound (w ∷ ws))
 opening_more source tokens ws m p w is e = subst (Opens source tokens ws p) e (opening_is source tokens ws m p (sym is))
 
 -- a value is written
-pub opening_value : (source : List ℕ) (tokens : List Token) (ws : List Waiting) (m : Mark) (p : Place) → m ≡ mark_at tokens p.at → opening m p.at ws ≡ Ok None → (rest source tokens ws).wants p ≡ (rest source tokens ws).unary (record { at = p.at + 1; items = p.items ++ items_by source (slice_get tokens p.at) })
+pub opening_value : (source : List ℕ) (tokens : List Token) (ws : List Waiting) (m : Mark) (p : Progress) → m ≡ mark_at tokens p.at → opening m p.at ws ≡ Ok None → (rest source tokens ws).wants p ≡ (rest source tokens ws).unary (record { at = p.at + 1; items = p.items ++ items_by source (slice_get tokens p.at) })
 unfolding value_read
 opening_value source tokens ws m p is e = subst (Opens source tokens ws p) e (opening_is source tokens ws m p (sym is))
 
@@ -82,7 +82,7 @@ after_same source tokens ws kept items more m at is sound e f =
 -- and a token does this then
 pub after_turn : (source : List ℕ) (tokens : List Token) (ws kept : List Waiting) (items : List Item) (m : Mark) (at : ℕ) (turn : Result Turn Refusal) → mark_at tokens at ≡ m → IsSound ws → kept ≡ kept_before ws m → turn ≡ turn_by (operation_of m) (innermost kept) m at → Turns source tokens kept (record { at = at; items = items }) turn
 after_turn source tokens ws kept items m at turn is sound e f =
-    let p : Place = record { at = at; items = items } in
+    let p : Progress = record { at = at; items = items } in
     let w = all_written source tokens ws m p is sound in
     let done : first_before (innermost kept) m ≡ None = rw e w.done in
     let right : IsSound kept = rw e w.sound in
@@ -131,6 +131,6 @@ pub token_of_all : (source : List ℕ) (tokens : List Token) (at : ℕ) (t : Tok
 token_of_all source tokens at t h all = subst (IsTokenOf source) (get_or_from_slice_get tokens at t t h) (all at t (slice_get_within tokens at t h))
 
 -- where no token is there is no operand
-pub opening_outside : (source : List ℕ) (tokens : List Token) (ws : List Waiting) (p : Place) → slice_get tokens p.at ≡ None → (rest source tokens ws).wants p ≡ Err (misplaced p.at Syntax)
+pub opening_outside : (source : List ℕ) (tokens : List Token) (ws : List Waiting) (p : Progress) → slice_get tokens p.at ≡ None → (rest source tokens ws).wants p ≡ Err (misplaced p.at Syntax)
 unfolding mark_at
 opening_outside source tokens ws p h = opening_is source tokens ws mark.Other p (ap mark_by h)

@@ -12,7 +12,7 @@ use Rattle.pio_expr.specs.declared.mark.Mark.{Mark}
 use Rattle.pio_expr.specs.declared.mark.Mark.TheVariants as mark
 use Rattle.pio_expr.specs.Marks.{mark_at, mark_by}
 use Rattle.pio_expr.specs.Arithmetic.{sum_of, difference_of, product_of, quotient_of, negated, reversed}
-use Rattle.pio_expr.specs.Grammar.{Place, Read, Reader, Readers, then, next, written, item_by, items_by, value_read, chain, chain_by, product_operation, sum_operation, product_by, product_goes_on, sum_by, sum_goes_on, closed, closed_by, alone, alone_by, value_by, unary_by, level_by, readers_by, readers, read_items, most_open, expression_at}
+use Rattle.pio_expr.specs.Grammar.{Progress, Read, Reader, Readers, then, next, written, item_by, items_by, value_read, chain, chain_by, product_operation, sum_operation, product_by, product_goes_on, sum_by, sum_goes_on, closed, closed_by, alone, alone_by, value_by, unary_by, level_by, readers_by, readers, read_items, most_open, expression_at}
 use Rattle.pio_expr.specs.Values.{worked_out}
 use Rattle.pio_expr.specs.Trees.{Tree, Number, Name, Add, Subtract, Multiply, Divide, Negate, Reverse, postfix, of_both, tree_value, HasTree}
 
@@ -82,10 +82,10 @@ Wrote before (Err fault) = Unit {0}
 
 -- a rule writes a tree
 abbrev Writes : Reader → Type 0
-Writes reader = (place : Place) → Wrote place.items (reader place)
+Writes reader = (place : Progress) → Wrote place.items (reader place)
 
 -- a rule after another
-wrote_then : (before : List Item) (read : Read) (reader : Reader) → Wrote before read → ((place : Place) (t : Tree) → place.items ≡ before ++ postfix t → Wrote before (reader place)) → Wrote before (then read reader)
+wrote_then : (before : List Item) (read : Read) (reader : Reader) → Wrote before read → ((place : Progress) (t : Tree) → place.items ≡ before ++ postfix t → Wrote before (reader place)) → Wrote before (then read reader)
 wrote_then before (Ok place) reader h on = on place h.0 h.1
 wrote_then before (Err fault) reader h on = tt
 
@@ -128,8 +128,8 @@ joined : (before items : List Item) (t u : Tree) (op : Item) → (j : Joins op) 
 joined before items t u op j h =
     ap (λ xs. xs ++ op ∷ []) (h ∙ append_assoc before (postfix t) (postfix u)) ∙ append_assoc before (postfix t ++ postfix u) (op ∷ []) ∙ ap (λ xs. before ++ xs) (sym (j.1 t u))
 
-chain_step : (before : List Item) (t : Tree) (place : Place) (operand : Reader) (goes_on : Item → Reader) → place.items ≡ before ++ postfix t → Writes operand
-    → ((op : Item) (v : Tree) (after : Place) → after.items ++ op ∷ [] ≡ before ++ postfix v → Wrote before (goes_on op after))
+chain_step : (before : List Item) (t : Tree) (place : Progress) (operand : Reader) (goes_on : Item → Reader) → place.items ≡ before ++ postfix t → Writes operand
+    → ((op : Item) (v : Tree) (after : Progress) → after.items ++ op ∷ [] ≡ before ++ postfix v → Wrote before (goes_on op after))
     → (o : Option Item) → ((op : Item) → o ≡ Some op → Joins op) → Wrote before (chain_by operand goes_on o place)
 chain_step before t place operand goes_on e writes on None joins = (t, e)
 chain_step before t place operand goes_on e writes on (Some op) joins = by_operand (operand (next place)) (writes (next place)) (joins op refl) where
@@ -138,7 +138,7 @@ chain_step before t place operand goes_on e writes on (Some op) joins = by_opera
   by_operand (Ok after) h j = on op (j.0 t h.0) after (joined before after.items t h.0 op j (h.1 ∙ ap (λ xs. xs ++ postfix h.0) e))
 
 -- operations after a first operand
-chain_writes : (tokens : List Token) (operation_of : Mark → Option Item) (operand : Reader) → AllJoin operation_of → Writes operand → (n : ℕ) (before : List Item) (t : Tree) (place : Place) → place.items ≡ before ++ postfix t → Wrote before (chain tokens operation_of operand n place)
+chain_writes : (tokens : List Token) (operation_of : Mark → Option Item) (operand : Reader) → AllJoin operation_of → Writes operand → (n : ℕ) (before : List Item) (t : Tree) (place : Progress) → place.items ≡ before ++ postfix t → Wrote before (chain tokens operation_of operand n place)
 unfolding chain
 chain_writes tokens operation_of operand joins writes zero before t place e = (t, e)
 chain_writes tokens operation_of operand joins writes (suc n) before t place e =
@@ -152,7 +152,7 @@ sum_writes : (tokens : List Token) (operand : Reader) → Writes operand → Wri
 sum_writes tokens operand writes place = wrote_then place.items (product_by tokens operand place) (sum_goes_on tokens operand) (product_writes tokens operand writes place) (λ after t e. chain_writes tokens sum_operation (product_by tokens operand) sum_joins (product_writes tokens operand writes) (length tokens) place.items t after e)
 
 -- a `)` writes nothing
-closed_writes : (tokens : List Token) (before : List Item) (place : Place) (t : Tree) → place.items ≡ before ++ postfix t → Wrote before (closed tokens place)
+closed_writes : (tokens : List Token) (before : List Item) (place : Progress) (t : Tree) → place.items ≡ before ++ postfix t → Wrote before (closed tokens place)
 closed_writes tokens before place t e = by (mark_at tokens place.at) where
   by : (m : Mark) → Wrote before (closed_by m place)
   by mark.Close = (t, e)
@@ -162,7 +162,7 @@ closed_writes tokens before place t e = by (mark_at tokens place.at) where
 one_more : (before : List Item) (t u : Tree) (op : Item) (items : List Item) → postfix u ≡ postfix t ++ op ∷ [] → items ≡ before ++ postfix t → items ++ op ∷ [] ≡ before ++ postfix u
 one_more before t u op items is e = ap (λ xs. xs ++ op ∷ []) e ∙ append_assoc before (postfix t) (op ∷ []) ∙ ap (λ xs. before ++ xs) (sym is)
 
-alone_writes : (tokens : List Token) (at : ℕ) (before : List Item) (place : Place) (t : Tree) → place.items ≡ before ++ postfix t → Wrote before (alone tokens at place)
+alone_writes : (tokens : List Token) (at : ℕ) (before : List Item) (place : Progress) (t : Tree) → place.items ≡ before ++ postfix t → Wrote before (alone tokens at place)
 unfolding postfix
 alone_writes tokens at before place t e = by (mark_at tokens place.at) where
   by : (m : Mark) → Wrote before (alone_by m at (written item.Reverse place))
@@ -178,7 +178,7 @@ unfolding postfix
 token_tree source (kind.Number value) first size = (Number (pos value), refl)
 token_tree source _ first size = (Name (slice_range source first (first + size)), refl)
 
-value_writes : (source : List ℕ) (tokens : List Token) (place : Place) → mark_at tokens place.at ≡ mark.Value → Wrote place.items (Ok (value_read source tokens place))
+value_writes : (source : List ℕ) (tokens : List Token) (place : Progress) → mark_at tokens place.at ≡ mark.Value → Wrote place.items (Ok (value_read source tokens place))
 unfolding mark_at value_read
 value_writes source tokens place is = by (slice_get tokens place.at) is where
   by : (o : Option Token) → mark_by o ≡ mark.Value → (t : Tree) × (place.items ++ items_by source o ≡ place.items ++ postfix t)
@@ -195,7 +195,7 @@ abbrev DeeperWrite : Option Readers → Type 0
 DeeperWrite None = Unit {0}
 DeeperWrite (Some rules) = WriteAll rules
 
-value_by_writes : (source : List ℕ) (tokens : List Token) (deeper : Option Readers) → DeeperWrite deeper → (m : Mark) (place : Place) → mark_at tokens place.at ≡ m → Wrote place.items (value_by source tokens m deeper place)
+value_by_writes : (source : List ℕ) (tokens : List Token) (deeper : Option Readers) → DeeperWrite deeper → (m : Mark) (place : Progress) → mark_at tokens place.at ≡ m → Wrote place.items (value_by source tokens m deeper place)
 value_by_writes source tokens deeper all mark.Value place is = value_writes source tokens place is
 value_by_writes source tokens None all mark.Open place is = tt
 value_by_writes source tokens (Some rules) all mark.Open place is = wrote_then place.items (rules.level (next place)) (closed tokens) (all.level (next place)) (λ after t e. closed_writes tokens place.items after t e)
@@ -207,7 +207,7 @@ value_by_writes source tokens deeper all mark.Slash place is = tt
 value_by_writes source tokens deeper all mark.Reverse place is = tt
 value_by_writes source tokens deeper all mark.Other place is = tt
 
-unary_by_writes : (source : List ℕ) (tokens : List Token) (deeper : Option Readers) → DeeperWrite deeper → (m : Mark) (place : Place) → mark_at tokens place.at ≡ m → Wrote place.items (unary_by source tokens m deeper place)
+unary_by_writes : (source : List ℕ) (tokens : List Token) (deeper : Option Readers) → DeeperWrite deeper → (m : Mark) (place : Progress) → mark_at tokens place.at ≡ m → Wrote place.items (unary_by source tokens m deeper place)
 unfolding postfix
 unary_by_writes source tokens None all mark.Minus place is = tt
 unary_by_writes source tokens (Some rules) all mark.Minus place is =
@@ -222,7 +222,7 @@ unary_by_writes source tokens deeper all mark.Star place is = tt
 unary_by_writes source tokens deeper all mark.Slash place is = tt
 unary_by_writes source tokens deeper all mark.Other place is = tt
 
-level_by_writes : (source : List ℕ) (tokens : List Token) (deeper : Option Readers) → DeeperWrite deeper → (unary : Reader) → Writes unary → (m : Mark) (place : Place) → Wrote place.items (level_by source tokens m deeper unary place)
+level_by_writes : (source : List ℕ) (tokens : List Token) (deeper : Option Readers) → DeeperWrite deeper → (unary : Reader) → Writes unary → (m : Mark) (place : Progress) → Wrote place.items (level_by source tokens m deeper unary place)
 level_by_writes source tokens None all unary writes mark.Reverse place = tt
 level_by_writes source tokens (Some rules) all unary writes mark.Reverse place = wrote_then place.items (rules.value (next place)) (alone tokens place.at) (all.value (next place)) (λ after t e. alone_writes tokens place.at place.items after t e)
 level_by_writes source tokens deeper all unary writes mark.Value place = sum_writes tokens unary writes place

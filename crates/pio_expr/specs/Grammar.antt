@@ -6,7 +6,7 @@
 --   level   := :: value | sum
 -- Each `{..}` takes what it can. misplaced most 64 of `(`, `-` before a unary, and `::` are open at once. A `::` beside a sign or an
 -- operation in its parenthesis is ambiguous. What is met first is the answer.
---   Place, Reader      where reading is, and one rule of the grammar
+--   Progress, Reader   where reading is, and one rule of the grammar
 --   chain              what goes on after an operand, by operators of one rank
 --   Readers            the rules, by how many more openings are allowed
 --   expression_at      the expression that begins at a token
@@ -25,28 +25,28 @@ use Rattle.pio_expr.specs.declared.mark.Mark.TheVariants as mark
 use Rattle.pio_expr.specs.Marks.{mark_at}
 
 -- a place among the tokens, with the items that were read so far
-pub record Place : Type 0 where
+pub record Progress : Type 0 where
   pub at : ℕ
   pub items : List Item
 
 -- what reading gives: the place after what was read, or the first fault
 abbrev pub Read : Type 0
-Read = Result Place Refusal
+Read = Result Progress Refusal
 
 -- one rule of the grammar, from a place on
 abbrev pub Reader : Type 0
-Reader = Place → Read
+Reader = Progress → Read
 
 -- one rule after another
 abbrev pub then : Read → Reader → Read
 then read reader = read >>= reader
 
 -- the next token
-abbrev pub next : Place → Place
+abbrev pub next : Progress → Progress
 next place = record { at = place.at + 1; items = place.items }
 
 -- one more item
-abbrev pub written : Item → Place → Place
+abbrev pub written : Item → Progress → Progress
 written item place = record { at = place.at; items = place.items ++ item ∷ [] }
 
 -- this is wrong at a token
@@ -54,7 +54,7 @@ abbrev pub misplaced : ℕ → ExprKind → Refusal
 misplaced at kind = record { place = at; kind = kind }
 
 -- a fault of the token at a place
-abbrev pub refused : ExprKind → Place → Read
+abbrev pub refused : ExprKind → Progress → Read
 refused kind place = Err (misplaced place.at kind)
 
 -- the item of a token that is a value by itself: a number, or a name as it is in the source
@@ -68,7 +68,7 @@ items_by source (Some token) = item_by source token.kind token.first token.lengt
 items_by source None = []
 
 -- the value at a place
-unfoldable pub value_read : List ℕ → List Token → Place → Place
+unfoldable pub value_read : List ℕ → List Token → Progress → Progress
 value_read source tokens place = record { at = place.at + 1; items = place.items ++ items_by source (slice_get tokens place.at) }
 
 -- the operations of a product

@@ -13,7 +13,7 @@ use Rattle.pio_expr.specs.Faults.{expr_told}
 use Rattle.pio_expr.specs.declared.postfix.Reading.{Reading}
 use Rattle.pio_expr.specs.declared.waiting.Waiting.{Waiting}
 use Rattle.pio_expr.specs.declared.waiting.Waiting.TheVariants as waiting
-use Rattle.pio_expr.specs.Grammar.{Place, Read, Reader, then, written, alone, closed, product_goes_on, sum_goes_on, readers, most_open}
+use Rattle.pio_expr.specs.Grammar.{Progress, Read, Reader, then, written, alone, closed, product_goes_on, sum_goes_on, readers, most_open}
 
 -- what is read on: after a unary, after a product, after the whole parenthesis, and where an operand is wanted
 pub record Rest : Type 0 where
@@ -96,7 +96,7 @@ goes_on true what place = what.wants place
 goes_on false what place = what.unary place
 
 -- where a reading is
-abbrev pub place_of : Reading → ℕ → Place
+abbrev pub place_of : Reading → ℕ → Progress
 place_of reading at = record { at = at; items = reading.items.items }
 
 -- what the grammar gives for the whole from here on

@@ -1,7 +1,9 @@
 //! An expression: its numbers, names and operations in postfix order.
-ghost use Rattle.std.specs.Prelude.{◌≡◌};
+ghost use Rattle.std.specs.Prelude.{◌≡◌, IfOk};
 
+use crate::name::copy;
 use pio_encode::Name;
+use std::alloc::{AllocError, Global};
 use std::marker::Model;
 
 /// One item of an expression in postfix order. An operation takes what comes before it.
@@ -20,6 +22,24 @@ pub enum Item {
     Negate,
     /// The 32 bits in the opposite order, `::`.
     Reverse,
+}
+
+impl Item {
+    /// One of its own. The error is want of memory.
+    fn copy(&self, alloc: Global) -> Result<Self, AllocError>
+        ensures { IfOk result (λ copy. copy ≡ self.now) }
+    {
+        Ok(match self {
+            Item::Number(value) => Item::Number(*value),
+            Item::Name(name) => Item::Name(copy(alloc, name)?),
+            Item::Add => Item::Add,
+            Item::Subtract => Item::Subtract,
+            Item::Multiply => Item::Multiply,
+            Item::Divide => Item::Divide,
+            Item::Negate => Item::Negate,
+            Item::Reverse => Item::Reverse,
+        })
+    }
 }
 
 /// An expression, seen as the list of its items in postfix order.
@@ -42,6 +62,17 @@ impl Expr {
         ensures { result ≡ items.items }
     {
         Expr { items }
+    }
+
+    /// One of its own. The error is want of memory.
+    pub fn copy(&self, alloc: Global) -> Result<Self, AllocError>
+        ensures { IfOk result (λ copy. copy ≡ self.now) }
+    {
+        let mut items = Vec::with_capacity(alloc, self.items.len())?;
+        for item in &self.items {
+            items.push(item.copy(alloc)?)?;
+        }
+        Ok(Expr { items })
     }
 
     /// Its items, in postfix order.

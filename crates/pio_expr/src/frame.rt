@@ -8,6 +8,7 @@ ghost use Rattle.pio_expr.specs.Values.{number_by, left_by, first_of, after_firs
 ghost use Rattle.pio_expr.specs.Frames.{is_local, looked_up, looked_at, Looks, Agrees, Shows, Rests};
 
 use crate::arithmetic::{add, divide, multiply, negate, reverse, subtract};
+use crate::name::copy;
 use crate::symbols::Symbols;
 use crate::{Item, Symbol, ValueFault, ValueKind};
 use indexmap::IndexMap;
@@ -79,10 +80,9 @@ impl<'a> Frame<'a> {
         ensures local { self.new.local ≡ self.old.local }
     {
         while let Some((item, rest)) = self.rest.split_first() {
-            let named = match look_at(alloc, symbols, kept, under, self.local, item) {
-                Ok(Named::Number(number)) => number,
-                Ok(Named::Define(place, items)) => return Ok(Pause::Waits(place, items)),
-                Err(fault) => return Err(fault),
+            let named = match look_at(alloc, symbols, kept, under, self.local, item)? {
+                Named::Number(number) => number,
+                Named::Define(place, items) => return Ok(Pause::Waits(place, items)),
             };
             match apply(item, named, &mut self.numbers) {
                 Ok(number) => self.numbers.push_front(number)?,
@@ -194,11 +194,4 @@ fn take(numbers: &mut VecDeque<i32>) -> i32
     ensures left { numbers.new.items ≡ after_first numbers.old.items }
 {
     numbers.pop_front().unwrap_or(0)
-}
-
-/// A name of its own.
-fn copy(alloc: Global, name: &Name) -> Result<Name, AllocError>
-    ensures { IfOk result (λ copy. copy ≡ name.now) }
-{
-    Ok(Name::new(String::from_str(alloc, name.as_str())?))
 }

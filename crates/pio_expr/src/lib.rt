@@ -7,6 +7,7 @@ mod fault;
 mod frame;
 mod laws;
 mod mark;
+mod name;
 mod parse;
 mod postfix;
 mod scope;

@@ -31,10 +31,9 @@ pub fn parse_expr(
     let mut wanted = true;
     let mut at = from;
     loop {
-        match reading.step(alloc, source, tokens, at, wanted) {
-            Ok(Some(next)) => wanted = next,
-            Ok(None) => return Ok((Expr::new(reading.items), at)),
-            Err(fault) => return Err(fault),
+        match reading.step(alloc, source, tokens, at, wanted)? {
+            Some(next) => wanted = next,
+            None => return Ok((Expr::new(reading.items), at)),
         }
         at += 1;
     }

@@ -61,10 +61,7 @@ impl Reading {
         if !wanted {
             return self.after(mark, at);
         }
-        match self.operand(alloc, source, tokens, at, mark) {
-            Ok(next) => Ok(Some(next)),
-            Err(fault) => Err(fault),
-        }
+        Ok(Some(self.operand(alloc, source, tokens, at, mark)?))
     }
 
     /// Reads a token where an operand is wanted; whether another is wanted after it.

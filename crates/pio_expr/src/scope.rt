@@ -62,13 +62,13 @@ impl Scope {
 
     /// Adds a symbol after the globals, or once a program has begun, after those of the program. The error is want of
     /// memory.
-    pub fn set(&mut self, name: Name, is: Symbol) -> Result<(), AllocError>
-        requires { IsNew self.old name }
-        ensures ok { OnOk result (self.new ≡ with_symbol self.old name is) }
+    pub fn set(&mut self, name: &Name, is: Symbol) -> Result<(), AllocError>
+        requires { IsNew self.old name.now }
+        ensures ok { OnOk result (self.new ≡ with_symbol self.old name.now is) }
         ensures err { OnErr result (self.new ≡ self.old) }
     {
         self.kept.clear();
-        self.symbols.set(self.alloc, &name, is)
+        self.symbols.set(self.alloc, name, is)
     }
 
     /// The value of an expression, or its first fault. With `own` it is the expression of this symbol, which is under way

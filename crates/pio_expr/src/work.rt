@@ -113,13 +113,12 @@ impl<'a> Work<'a> {
             → Holds symbols.now kept.old.entries own items self.old
             → Steps symbols.now own items kept.old.entries self.old kept.new.entries self.new result }
     {
-        match self.top.run(alloc, symbols, kept, &self.begun) {
-            Ok(Pause::Waits(place, items)) => {
+        match self.top.run(alloc, symbols, kept, &self.begun)? {
+            Pause::Waits(place, items) => {
                 self.wait(alloc, symbols, place, items)?;
                 Ok(None)
             }
-            Ok(Pause::Done(value)) => self.finish(kept, value),
-            Err(fault) => Err(fault),
+            Pause::Done(value) => self.finish(kept, value),
         }
     }
 

@@ -2,7 +2,7 @@
 ghost use Rattle.std.specs.Prelude.{◌≡◌, ◌+◌, ◌<◌, length, slice_get, IfSome};
 ghost use Rattle.std.specs.List.{All};
 ghost use Rattle.pio_lex.specs.Tokens.{IsTokenOf};
-ghost use Rattle.pio_statement.specs.Cursor.{MovesTo, Reads, TakesWord, Passes, Enters};
+ghost use Rattle.pio_statement.specs.Cursor.{MovesTo, Reads, ReadsWord, Passes, Enters};
 ghost use Rattle.pio_statement.specs.Tokens as spec;
 
 use crate::StatementFault;
@@ -26,9 +26,9 @@ pub struct Cursor<'a> {
 impl<'a> Model for Cursor<'a> {
     ghost use Rattle.std.specs.List.{All};
     ghost use Rattle.pio_lex.specs.Tokens.{IsTokenOf};
-    ghost use Rattle.pio_statement.specs.Cursor.{Place};
+    ghost use Rattle.pio_statement.specs.Cursor.{Position};
 
-    ghost Value = { Place };
+    ghost Value = { Position };
 
     ghost view = { λ c. record { source = c.source.now; tokens = c.tokens.now; at = c.at } };
 
@@ -80,7 +80,7 @@ impl<'a> Cursor<'a> {
     /// A keyword.
     #[tactic(auto, unfolding(crate::specs::Tokens::keyword_at))]
     pub fn keyword(&mut self) -> Result<Keyword, StatementFault>
-        ensures { TakesWord result self.old self.new (spec.keyword_at self.old.tokens self.old.at) }
+        ensures { ReadsWord result self.old self.new (spec.keyword_at self.old.tokens self.old.at) }
     {
         match self.kind() {
             Some(TokenKind::Keyword(word)) => {

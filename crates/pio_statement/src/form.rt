@@ -1,5 +1,5 @@
 //! The forms of the instructions, after their first word. E is an expression.
-ghost use Rattle.pio_statement.specs.Cursor.{Reads, Takes};
+ghost use Rattle.pio_statement.specs.Cursor.{Reads, ReadsOptional};
 ghost use Rattle.pio_statement.specs.Forms as spec;
 
 use crate::cursor::Cursor;
@@ -59,7 +59,7 @@ impl<'a> Cursor<'a> {
 
     /// `[rel]`, after an IRQ flag alone.
     fn wait_relative(&mut self, source: WaitSource) -> bool
-        ensures { Takes result self.old self.new (spec.wait_relative self.old.tokens source self.old.at) }
+        ensures { ReadsOptional result self.old self.new (spec.wait_relative self.old.tokens source self.old.at) }
     {
         match source {
             WaitSource::Irq => self.relative(),
@@ -92,7 +92,7 @@ impl<'a> Cursor<'a> {
     /// `push [iffull] [block or noblock]`
     #[tactic(auto, unfolding(crate::specs::Forms::push_at))]
     fn push(&mut self) -> Form
-        ensures { Takes result self.old self.new (spec.push_at self.old.tokens self.old.at) }
+        ensures { ReadsOptional result self.old self.new (spec.push_at self.old.tokens self.old.at) }
     {
         let if_full = self.if_full();
         let block = self.blocking();
@@ -102,7 +102,7 @@ impl<'a> Cursor<'a> {
     /// `pull [ifempty] [block or noblock]`
     #[tactic(auto, unfolding(crate::specs::Forms::pull_at))]
     fn pull(&mut self) -> Form
-        ensures { Takes result self.old self.new (spec.pull_at self.old.tokens self.old.at) }
+        ensures { ReadsOptional result self.old self.new (spec.pull_at self.old.tokens self.old.at) }
     {
         let if_empty = self.if_empty();
         let block = self.blocking();

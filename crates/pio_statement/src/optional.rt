@@ -1,5 +1,5 @@
 //! The words that may be left out: where one is, nothing is taken.
-ghost use Rattle.pio_statement.specs.Cursor.{Takes};
+ghost use Rattle.pio_statement.specs.Cursor.{ReadsOptional};
 ghost use Rattle.pio_statement.specs.Operands as spec;
 
 use crate::IrqMode;
@@ -11,7 +11,7 @@ impl<'a> Cursor<'a> {
     /// What an IRQ does: `set nowait wait clear`.
     #[tactic(auto, unfolding(crate::specs::Operands::irq_mode_at, crate::specs::Tokens::keyword_at))]
     pub fn irq_mode(&mut self) -> IrqMode
-        ensures { Takes result self.old self.new (spec.irq_mode_at self.old.tokens self.old.at) }
+        ensures { ReadsOptional result self.old self.new (spec.irq_mode_at self.old.tokens self.old.at) }
     {
         match self.kind() {
             Some(TokenKind::Keyword(Keyword::Set | Keyword::NoWait)) => {
@@ -33,7 +33,7 @@ impl<'a> Cursor<'a> {
     /// Whether a PUSH or a PULL stalls: `block noblock`.
     #[tactic(auto, unfolding(crate::specs::Operands::blocking_at, crate::specs::Tokens::keyword_at))]
     pub fn blocking(&mut self) -> bool
-        ensures { Takes result self.old self.new (spec.blocking_at self.old.tokens self.old.at) }
+        ensures { ReadsOptional result self.old self.new (spec.blocking_at self.old.tokens self.old.at) }
     {
         match self.kind() {
             Some(TokenKind::Keyword(Keyword::Block)) => {
@@ -51,7 +51,7 @@ impl<'a> Cursor<'a> {
     /// `iffull`
     #[tactic(auto, unfolding(crate::specs::Operands::if_full_at, crate::specs::Tokens::keyword_at))]
     pub fn if_full(&mut self) -> bool
-        ensures { Takes result self.old self.new (spec.if_full_at self.old.tokens self.old.at) }
+        ensures { ReadsOptional result self.old self.new (spec.if_full_at self.old.tokens self.old.at) }
     {
         match self.kind() {
             Some(TokenKind::Keyword(Keyword::IfFull)) => {
@@ -65,7 +65,7 @@ impl<'a> Cursor<'a> {
     /// `ifempty`
     #[tactic(auto, unfolding(crate::specs::Operands::if_empty_at, crate::specs::Tokens::keyword_at))]
     pub fn if_empty(&mut self) -> bool
-        ensures { Takes result self.old self.new (spec.if_empty_at self.old.tokens self.old.at) }
+        ensures { ReadsOptional result self.old self.new (spec.if_empty_at self.old.tokens self.old.at) }
     {
         match self.kind() {
             Some(TokenKind::Keyword(Keyword::IfEmpty)) => {
@@ -79,7 +79,7 @@ impl<'a> Cursor<'a> {
     /// `rel`
     #[tactic(auto, unfolding(crate::specs::Operands::relative_at, crate::specs::Tokens::keyword_at))]
     pub fn relative(&mut self) -> bool
-        ensures { Takes result self.old self.new (spec.relative_at self.old.tokens self.old.at) }
+        ensures { ReadsOptional result self.old self.new (spec.relative_at self.old.tokens self.old.at) }
     {
         match self.kind() {
             Some(TokenKind::Keyword(Keyword::Rel)) => {
@@ -93,7 +93,7 @@ impl<'a> Cursor<'a> {
     /// `opt`
     #[tactic(auto, unfolding(crate::specs::Operands::opt_at, crate::specs::Tokens::keyword_at))]
     pub fn opt(&mut self) -> bool
-        ensures { Takes result self.old self.new (spec.opt_at self.old.tokens self.old.at) }
+        ensures { ReadsOptional result self.old self.new (spec.opt_at self.old.tokens self.old.at) }
     {
         match self.kind() {
             Some(TokenKind::Keyword(Keyword::Opt)) => {
@@ -107,7 +107,7 @@ impl<'a> Cursor<'a> {
     /// `pindirs`
     #[tactic(auto, unfolding(crate::specs::Operands::pindirs_at, crate::specs::Tokens::keyword_at))]
     pub fn pindirs(&mut self) -> bool
-        ensures { Takes result self.old self.new (spec.pindirs_at self.old.tokens self.old.at) }
+        ensures { ReadsOptional result self.old self.new (spec.pindirs_at self.old.tokens self.old.at) }
     {
         match self.kind() {
             Some(TokenKind::Keyword(Keyword::Pindirs)) => {
@@ -121,7 +121,7 @@ impl<'a> Cursor<'a> {
     /// `public`
     #[tactic(auto, unfolding(crate::specs::Operands::public_at, crate::specs::Tokens::keyword_at))]
     pub fn public(&mut self) -> bool
-        ensures { Takes result self.old self.new (spec.public_at self.old.tokens self.old.at) }
+        ensures { ReadsOptional result self.old self.new (spec.public_at self.old.tokens self.old.at) }
     {
         match self.kind() {
             Some(TokenKind::Keyword(Keyword::Public)) => {
@@ -135,7 +135,7 @@ impl<'a> Cursor<'a> {
     /// What a MOV does to the word: `! ~ ::`, or nothing.
     #[tactic(auto, unfolding(crate::specs::Operands::operation_at))]
     pub fn operation(&mut self) -> MovOperation
-        ensures { Takes result self.old self.new (spec.operation_at self.old.tokens self.old.at) }
+        ensures { ReadsOptional result self.old self.new (spec.operation_at self.old.tokens self.old.at) }
     {
         match self.kind() {
             Some(TokenKind::Bang | TokenKind::Tilde) => {

@@ -19,10 +19,7 @@ pub fn put_listing<S: Sink>(sink: &mut S, programs: &[Program]) -> Result<(), Si
     ensures cause { PutCounts (S.faults sink.old) (S.faults sink.new) result }
 {
     for program in programs {
-        match put_program(sink, program) {
-            Ok(()) => {}
-            Err(failed) => return Err(failed),
-        }
+        put_program(sink, program)?;
     }
     Ok(())
 }

@@ -14,10 +14,7 @@ pub(crate) fn put_publics<S: Sink>(sink: &mut S, symbols: &[Symbol]) -> Result<(
 {
     for symbol in symbols {
         if symbol.public {
-            match put_public(sink, symbol) {
-                Ok(()) => {}
-                Err(failed) => return Err(failed),
-            }
+            put_public(sink, symbol)?;
         }
     }
     Ok(())

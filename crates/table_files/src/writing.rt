@@ -25,10 +25,7 @@ fn put_rows<S: Sink>(sink: &mut S, table: &Table) -> Result<(), SinkFailed>
 {
     let mut rows = table.rows();
     while let Some(row) = rows.next() {
-        match put_row(sink, &row) {
-            Ok(()) => {}
-            Err(failed) => return Err(failed),
-        }
+        put_row(sink, &row)?;
     }
     Ok(())
 }

@@ -4,7 +4,6 @@ pub mod Digits
 pub mod FormLaws
 pub mod HeaderLaws
 pub mod ListLaws
-pub mod Puts
 pub mod RoomLaws
 pub mod SilenceLaws
 pub mod TextLaws

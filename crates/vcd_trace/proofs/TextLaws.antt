@@ -1,10 +1,10 @@
 -- Laws of the lines of values and changes.
-use Rattle.std.proofs.Common.{◌≡◌, ℕ, ◌+◌, ◌-◌, ◌/◌, ◌%◌, ◌<◌, cond, eqb, List, [], ◌∷◌, ◌++◌, suc, length, drop, get_or, refl, sym, ap, ◌∙◌, append_assoc, arith, eq-eqb, subst}
+use Rattle.std.proofs.Common.{◌≡◌, ℕ, ◌+◌, ◌-◌, ◌/◌, ◌%◌, ◌<◌, cond, eqb, List, [], ◌∷◌, ◌++◌, suc, length, drop, get_or, Result, IsErr, refl, sym, ap, ◌∙◌, append_assoc, arith, eq-eqb, subst}
 use borrow.Author.Tests.{ne_eqb}
 use Rattle.std.proofs.Common.{Option}
-use Rattle.pio_edge.specs.Edge.{with_bytes, TakesPrefix}
+use Rattle.pio_edge.specs.Edge.{with_bytes, TakesPrefix, Takes}
 use Rattle.pio_edge.specs.Puts.{Going}
-use Rattle.pio_edge.proofs.PutLaws.{going_on, going_stops, going_ends, with_bytes-nil}
+use Rattle.pio_edge.proofs.PutLaws.{going_on, takes_failed, going_ends, with_bytes-nil}
 use Rattle.std.specs.Prelude.{replicate}
 use Rattle.std.proofs.Math.Seq.{drop-cons}
 use Rattle.block_core.specs.Sample.{bits_of}
@@ -109,5 +109,5 @@ pub going_stayed : (o m n : Option (List ℕ)) (whole rest line later : List ℕ
 going_stayed o m n whole rest line later a b g e h k = going_on o m n whole rest [] later g (e ∙ ap (λ x. x ++ later) (no_line a b line h)) (k ∙ sym (with_bytes-nil m))
 
 -- the line of a value that changes failed
-pub going_failed : (o m n : Option (List ℕ)) (whole rest line later : List ℕ) (a b : ℕ) → Going o m whole rest → rest ≡ cond (eqb a b) [] line ++ later → (a ≡ b → ⊥) → TakesPrefix m line n → TakesPrefix o whole n
-going_failed o m n whole rest line later a b g e h t = going_stops o m n whole rest line later g (e ∙ ap (λ x. x ++ later) (one_line a b line h)) t
+pub going_failed : {T E : Type 0} (o m n : Option (List ℕ)) (whole rest line later : List ℕ) (a b : ℕ) (r : Result T E) → Going o m whole rest → rest ≡ cond (eqb a b) [] line ++ later → (a ≡ b → ⊥) → IsErr r → TakesPrefix m line n → Takes o whole n r
+going_failed o m n whole rest line later a b r g e h f t = takes_failed o m n whole rest line later r g (e ∙ ap (λ x. x ++ later) (one_line a b line h)) f t

@@ -55,10 +55,7 @@ fn put_changed_bits<S: Sink>(
     let mut changed = before ^ now;
     while changed != 0 {
         let place = changed.trailing_zeros();
-        match put_bit(sink, first + place as u8, ((now >> place) % 2) as u8) {
-            Ok(()) => {}
-            Err(failed) => return Err(failed),
-        }
+        put_bit(sink, first + place as u8, ((now >> place) % 2) as u8)?;
         changed &= changed - 1;
     }
     Ok(())
@@ -78,10 +75,7 @@ fn put_changed_vectors<S: Sink>(
 {
     for place in 0..16 {
         if before[place] != now[place] {
-            match put_vector(sink, first + place as u8, now[place]) {
-                Ok(()) => {}
-                Err(failed) => return Err(failed),
-            }
+            put_vector(sink, first + place as u8, now[place])?;
         }
     }
     Ok(())

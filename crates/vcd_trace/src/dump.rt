@@ -55,10 +55,7 @@ fn put_bits<S: Sink>(sink: &mut S, first: u8, count: u8, mut now: u32) -> Result
     ensures cause { PutCounts (S.faults sink.old) (S.faults sink.new) result }
 {
     for step in 0..count {
-        match put_bit(sink, first + step, (now % 2) as u8) {
-            Ok(()) => {}
-            Err(failed) => return Err(failed),
-        }
+        put_bit(sink, first + step, (now % 2) as u8)?;
         now /= 2;
     }
     Ok(())
@@ -71,10 +68,7 @@ fn put_vectors<S: Sink>(sink: &mut S, first: u8, now: &[u32; 16]) -> Result<(), 
     ensures cause { PutCounts (S.faults sink.old) (S.faults sink.new) result }
 {
     for place in 0..16 {
-        match put_vector(sink, first + place as u8, now[place]) {
-            Ok(()) => {}
-            Err(failed) => return Err(failed),
-        }
+        put_vector(sink, first + place as u8, now[place])?;
     }
     Ok(())
 }

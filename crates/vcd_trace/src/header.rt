@@ -96,10 +96,7 @@ fn put_declarations<S: Sink>(sink: &mut S, first: u8) -> Result<(), SinkFailed>
 {
     let mut id = first;
     for group in &GROUPS {
-        match put_group(sink, id, *group) {
-            Ok(()) => {}
-            Err(failed) => return Err(failed),
-        }
+        put_group(sink, id, *group)?;
         id += group.count;
     }
     Ok(())
@@ -114,10 +111,7 @@ fn put_group<S: Sink>(sink: &mut S, first: u8, group: Group) -> Result<(), SinkF
     ensures cause { PutCounts (S.faults sink.old) (S.faults sink.new) result }
 {
     for number in 0..group.count {
-        match put_declaration(sink, first + number, group.letter, group.width, number) {
-            Ok(()) => {}
-            Err(failed) => return Err(failed),
-        }
+        put_declaration(sink, first + number, group.letter, group.width, number)?;
     }
     Ok(())
 }

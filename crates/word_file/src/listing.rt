@@ -16,10 +16,7 @@ pub fn put_words<S: Sink>(sink: &mut S, words: &[u16], rule: &SideRule) -> Resul
     ensures cause { PutCounts (S.faults sink.old) (S.faults sink.new) result }
 {
     for (place, word) in words.iter().enumerate() {
-        match sink.put(word_line(rule, place as u8, *word).as_str().as_bytes()) {
-            Ok(()) => {}
-            Err(failed) => return Err(failed),
-        }
+        sink.put(word_line(rule, place as u8, *word).as_str().as_bytes())?;
     }
     Ok(())
 }

@@ -12,5 +12,5 @@ returns-in-Err c =
     let a = c.in_ok-assembly.assembly in
     let begun = c.in_ok-assembly.ensures in
     let same : with_programs (map assembled_of a.programs.items) (programs_from lines a.scope a.draft) ≡ programs_of lines =
-    rw (begun.programs, begun.scope, begun.draft, c.requires) (none_before (programs_of lines)) in
+    rw (begun.programs, begun.scope, begun.draft) (none_before (programs_of lines)) in
     subst (answers.Refuses (told c.in-Err.fault)) same c.in-Err.ensures

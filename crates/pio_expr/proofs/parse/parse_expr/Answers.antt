@@ -2,8 +2,8 @@ use Rattle.std.proofs.Common.{arith}
 use Rattle.pio_expr.proofs.Answered.{all_left}
 use Rattle.pio_expr.proofs.parse.parse_expr.Goals as goal
 
-pub loop-next-init : goal.loop-next-init
-loop-next-init c = record {
+pub loop-reading-init : goal.loop-reading-init
+loop-reading-init c = record {
   within = c.requires.from;
   onward = omega arith;
   begun = λ e. cc;

@@ -2,7 +2,7 @@ use Rattle.std.proofs.Common.{◌-◌, bit_xor, sym, ap, subst, ◌∙◌, List,
 use Rattle.std.specs.Int.Bits.{xor_zero_l}
 use Rattle.std.proofs.lemmas.Nat.{xor_lt, and_le_l}
 use Rattle.pio_edge.specs.Puts.{Going}
-use Rattle.pio_edge.proofs.PutLaws.{going_begins, going_on, going_stops}
+use Rattle.pio_edge.proofs.PutLaws.{takes_failed, going_begins, going_on}
 use Rattle.vcd_trace.specs.Groups.{bit_changes}
 use Rattle.vcd_trace.proofs.TextLaws.{bit_changes-same, going_done}
 use Rattle.vcd_trace.proofs.BitLaws.{xor_twice, lowest_within, changed_bits-next}
@@ -23,19 +23,19 @@ overflow_add-first g c =
     let lowest = lowest_within c.loop-changed.changed c.args.count (omega arith) (search rules) c.loop-changed.invariant.within in
     omega (arith, lowest)
 
-pub returns-in-Err-clause-bytes : goal.returns-in-Err-clause-bytes
-returns-in-Err-clause-bytes g c =
+pub returns-in_err-put_bit-clause-bytes : goal.returns-in_err-put_bit-clause-bytes
+returns-in_err-put_bit-clause-bytes g c =
     let a = c.args in
-    going_stops _ _ _ _ _ _ _ c.loop-changed.invariant.going
-    (changed_bits-next a.first a.count c.loop-changed.changed a.now (omega arith) (search rules) c.loop-changed.invariant.within) c.in-Err.ensures.bytes
+    takes_failed _ _ _ _ _ _ _ c.from_residual.result c.loop-changed.invariant.going
+    (changed_bits-next a.first a.count c.loop-changed.changed a.now (omega arith) (search rules) c.loop-changed.invariant.within) c.from_residual.ensures.0 c.in_err-put_bit.ensures.bytes
 
 pub loop-changed-preserved : goal.loop-changed-preserved
 loop-changed-preserved g c =
     let a = c.args in
     let n = c.loop-changed.changed in
     record {
-      going = going_on _ _ _ _ _ _ _ c.loop-changed.invariant.going (changed_bits-next a.first a.count n a.now (omega arith) (search rules) c.loop-changed.invariant.within) c.in-Ok.ensures.bytes;
-      counts = c.in-Ok.ensures.cause.ok ∙ c.loop-changed.invariant.counts;
+      going = going_on _ _ _ _ _ _ _ c.loop-changed.invariant.going (changed_bits-next a.first a.count n a.now (omega arith) (search rules) c.loop-changed.invariant.within) c.in_ok-put_bit.ensures.bytes;
+      counts = c.in_ok-put_bit.ensures.cause.ok ∙ c.loop-changed.invariant.counts;
       within = omega (arith, and_le_l n (n - 1), c.loop-changed.invariant.within);
     }
 

@@ -1,8 +1,7 @@
 use Rattle.std.proofs.Common.{◌+◌, ◌≡◌, ◌++◌, refl}
 use Rattle.vcd_trace.specs.Groups.{bit_changes, vector_changes, vectors_of}
 use Rattle.vcd_trace.proofs.ChangesLaws.{changes-groups}
-use Rattle.pio_edge.proofs.PutLaws.{going_begins, going_on}
-use Rattle.vcd_trace.proofs.Puts.{takes_failed, takes_last}
+use Rattle.pio_edge.proofs.PutLaws.{going_begins, going_on, takes_failed, takes_last}
 use Rattle.vcd_trace.proofs.changes.put_changes.Goals as goal
 
 pub returns-in_err-put_changed_bits-clause-bytes : goal.returns-in_err-put_changed_bits-clause-bytes

@@ -2,8 +2,7 @@ use Rattle.std.proofs.Common.{refl}
 use Rattle.std.specs.Prelude.{codes}
 use Rattle.vcd_trace.specs.VcdText.{values_over}
 use Rattle.vcd_trace.proofs.ChangesLaws.{dump-parts}
-use Rattle.pio_edge.proofs.PutLaws.{going_begins, going_on}
-use Rattle.vcd_trace.proofs.Puts.{takes_failed, takes_last}
+use Rattle.pio_edge.proofs.PutLaws.{going_begins, going_on, takes_failed, takes_last}
 use Rattle.vcd_trace.proofs.dump.put_dump.Goals as goal
 
 pub returns-in_err-put-clause-bytes : goal.returns-in_err-put-clause-bytes

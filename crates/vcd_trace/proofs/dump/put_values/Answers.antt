@@ -1,8 +1,7 @@
 use Rattle.std.proofs.Common.{◌+◌, ◌∙◌, ◌++◌, sym, refl, ap}
 use Rattle.vcd_trace.specs.Groups.{bit_lines, vector_lines, vectors_of}
 use Rattle.vcd_trace.proofs.ChangesLaws.{values-text}
-use Rattle.pio_edge.proofs.PutLaws.{going_begins, going_on}
-use Rattle.vcd_trace.proofs.Puts.{takes_failed, takes_last}
+use Rattle.pio_edge.proofs.PutLaws.{going_begins, going_on, takes_failed, takes_last}
 use Rattle.vcd_trace.proofs.dump.put_values.Goals as goal
 
 pub returns-in_err-put_bits-clause-bytes : goal.returns-in_err-put_bits-clause-bytes

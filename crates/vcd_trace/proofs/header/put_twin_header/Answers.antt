@@ -2,8 +2,7 @@ use Rattle.std.proofs.Common.{◌++◌, refl}
 use Rattle.std.specs.Prelude.{codes}
 use Rattle.vcd_trace.specs.VcdText.{scope_text}
 use Rattle.vcd_trace.proofs.HeaderLaws.{twin_header-parts}
-use Rattle.pio_edge.proofs.PutLaws.{going_begins, going_on}
-use Rattle.vcd_trace.proofs.Puts.{takes_failed, takes_last}
+use Rattle.pio_edge.proofs.PutLaws.{going_begins, going_on, takes_failed, takes_last}
 use Rattle.vcd_trace.proofs.header.put_twin_header.Goals as goal
 
 pub returns-in_err-put-clause-bytes : goal.returns-in_err-put-clause-bytes

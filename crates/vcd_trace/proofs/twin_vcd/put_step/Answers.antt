@@ -1,8 +1,7 @@
 use Rattle.std.proofs.Common.{sym, ◌∙◌, refl}
 use Rattle.vcd_trace.specs.VcdText.{changes_over}
 use Rattle.vcd_trace.proofs.ToldLaws.{twin_step-changed}
-use Rattle.pio_edge.proofs.PutLaws.{going_begins, going_on}
-use Rattle.vcd_trace.proofs.Puts.{takes_failed, takes_last}
+use Rattle.pio_edge.proofs.PutLaws.{going_begins, going_on, takes_failed, takes_last}
 use Rattle.vcd_trace.proofs.twin_vcd.put_step.Goals as goal
 
 pub returns-in_err-put_clock-clause-bytes : goal.returns-in_err-put_clock-clause-bytes

@@ -1,7 +1,6 @@
 use Rattle.std.proofs.Common.{sym, ◌∙◌}
 use Rattle.vcd_trace.proofs.ToldLaws.{step_text-changed}
-use Rattle.pio_edge.proofs.PutLaws.{going_begins, going_on}
-use Rattle.vcd_trace.proofs.Puts.{takes_failed, takes_last}
+use Rattle.pio_edge.proofs.PutLaws.{going_begins, going_on, takes_failed, takes_last}
 use Rattle.vcd_trace.proofs.vcd.put_step.Goals as goal
 
 pub returns-in_err-put_clock-clause-bytes : goal.returns-in_err-put_clock-clause-bytes

@@ -32,7 +32,7 @@ loop-line-preserved c =
           let scoped = ap (λ s. s.scope) w.self-is ∙ after.scope ∙ ap (program_scope it.scope) following in
           record {
             programs = rw (ap (λ s. map assembled_of s.programs.items) w.self-is ∙ after.programs, scoped, ap (λ s. s.draft) w.self-is ∙ after.draft) programs;
-            symbols = ap (λ s. s.symbols.items) w.self-is ∙ after.symbols ∙ ap after_program following;
+            symbols = ap (λ s. s.symbols.now) w.self-is ∙ after.symbols ∙ ap after_program following;
           }
       | in-None+in_default w ↦
           let goes_on = sym w.in-None.ensures.name in
@@ -40,7 +40,7 @@ loop-line-preserved c =
           let adds = adds_left lines i l c.loop-line-test.true c.line-item.is it.scope it.draft w.draft_line.new.self.draft goes_on after.value in
           record {
             programs = rw (ap (λ s. map assembled_of s.programs.items) w.self-is ∙ ap (λ v. map assembled_of v.items) after.programs, ap (λ s. s.scope) w.self-is ∙ after.scope, ap (λ s. s.draft) w.self-is) (ap (with_programs first) adds ∙ c.loop-line.invariant.programs);
-            symbols = ap (λ s. s.symbols.items) w.self-is ∙ ap (λ q. q.items) after.symbols ∙ c.loop-line.invariant.symbols ∙ sym (after_adds lines i l c.loop-line-test.true c.line-item.is goes_on);
+            symbols = ap (λ s. s.symbols.now) w.self-is ∙ ap (λ q. q.now) after.symbols ∙ c.loop-line.invariant.symbols ∙ sym (after_adds lines i l c.loop-line-test.true c.line-item.is goes_on);
           }
     ]
 
