@@ -1,16 +1,61 @@
 //! The command `piotool` for clap, one function for each subcommand. Where memory is wanted nothing is made.
-ghost use Rattle.std.specs.Prelude.{IfOk};
-ghost use Rattle.clap.specs.Simple.{new_app};
-ghost use Rattle.command_line.specs.Making.{IsApp, Offers, Takes};
-ghost use Rattle.command_line.specs.Tool.{asm_app, check_app, dis_app, gen_app, measure_app, pair_app, receive_app, recheck_app, run_app, shares_app, table_app, uart_app, bare_app, tool as tool_app};
+ghost use Rattle.std.specs.Prelude.{◌≡◌, IfOk, Ok};
+ghost use Rattle.clap.specs.Simple.{App, new_app};
+ghost use Rattle.command_line.specs.Making.{Gains, IsApp, Offers, Takes};
+ghost use Rattle.command_line.specs.Making.{number_rule, text_rule};
+ghost use Rattle.command_line.specs.Making.{paired_app, sourced_app, spanned_app, timed, traced_app};
+ghost use Rattle.command_line.specs.Tool.{asm_app, bare_app, check_app, clocks_rule, dis_app};
+ghost use Rattle.command_line.specs.Tool.{gen_app, measure_app, pair_app, receive_app, recheck_app};
+ghost use Rattle.command_line.specs.Tool.{run_app, shares_app, table_app, uart_app};
+ghost use Rattle.command_line.specs.Tool.{tool as tool_app};
 
 use crate::arguments;
+use crate::order::{
+    LAST_PIN, LEAST_BIT, LEAST_DIVIDER, MOST_BIT, MOST_CLOCKS, MOST_DIVIDER, MOST_SEED,
+};
 use clap::{Arg, Command};
 use std::alloc::{AllocError, Global};
 
 /// Where a newcomer begins.
 const FIRST_RUN: &str = "A first trace: piotool run --source blink.pio --clocks 1000 > blink.vcd\n\
     README.md leads from there to a wave viewer, and docs/FAULTS.md says what each refusal means.";
+
+/// `--source S`: the source's name.
+const SOURCE: &str = "The program, in pioasm";
+
+/// `--config C`: the configuration's name.
+const CONFIG: &str = "What the block starts from, in TOML";
+
+/// `--second B`: the name of the second block's configuration.
+const SECOND: &str =
+    "The configuration of the second block, in TOML; its key pins.own lists the pins that it drives";
+
+/// `--span NAME`: the name of a span.
+const SPAN: &str = "The name of a span of the configuration";
+
+/// `--table F`: the name of a file with a table.
+const TABLE: &str = "The table, in the form in which the command table writes it";
+
+/// `--stimulus T`: the stimulus's name.
+const STIMULUS: &str = "What the system and the outside do, clock by clock";
+
+/// `--clocks N`: 0 to 10^12 clocks.
+const CLOCKS: &str = "How many clocks to work out, up to 10^12";
+
+/// `--seed K`: 0 to 2^64 - 1, which load is drawn.
+const SEED: &str = "Which load is drawn: any number below 2^64";
+
+/// `--pin P`: 0 to 31, the number of a pin.
+const PIN: &str = "The pin of the line, 0 to 31";
+
+/// `--bit B`: 2 to 65,535, how many clocks a bit takes.
+const BIT: &str = "How many clocks a bit takes, 2 to 65535";
+
+/// `--send F`: the name of a file of bytes.
+const SEND: &str = "The bytes to send, as they are";
+
+/// `--divider I`: 1 to 8,191, how many clocks a tick takes.
+const DIVIDER: &str = "How many clocks a tick takes, 1 to 8191; a bit takes eight ticks";
 
 /// The command with all its subcommands.
 pub fn tool<'a>(alloc: Global) -> Result<Command<'a>, AllocError>
@@ -59,16 +104,12 @@ fn asm<'a>(alloc: Global) -> Result<Command<'a>, AllocError>
 fn run<'a>(alloc: Global) -> Result<Command<'a>, AllocError>
     ensures { IfOk result (IsApp run_app) }
 {
-    let command = named(
+    traced(
         alloc,
         "run",
         "Traces the pins of a program clock by clock, as a value-change dump",
         "Example: piotool run --source uart.pio --config uart.toml --stimulus uart.stim --clocks 100000 > uart.vcd",
-    );
-    let command = with_argument(command, arguments::source(alloc));
-    let command = with_argument(command, arguments::config(alloc));
-    let command = with_argument(command, arguments::stimulus(alloc));
-    with_argument(command, arguments::clocks(alloc))
+    )
 }
 
 #[tactic(auto, unfolding(crate::specs::Tool::dis_app))]
@@ -93,17 +134,15 @@ fn dis<'a>(alloc: Global) -> Result<Command<'a>, AllocError>
 fn check<'a>(alloc: Global) -> Result<Command<'a>, AllocError>
     ensures { IfOk result (IsApp check_app) }
 {
-    let command = named(
+    sourced(
         alloc,
         "check",
         "Says of each span of the configuration whether its bounds hold in every run",
         "Example: piotool check --source uart.pio --config uart.toml",
-    );
-    let command = with_argument(command, arguments::source(alloc));
-    with_argument(command, arguments::config(alloc))
+    )
 }
 
-#[tactic(auto, unfolding(crate::specs::Tool::gen_app))]
+#[tactic(auto, unfolding(crate::specs::Tool::gen_app, crate::specs::Tool::seed_rule))]
 fn generate<'a>(alloc: Global) -> Result<Command<'a>, AllocError>
     ensures { IfOk result (IsApp gen_app) }
 {
@@ -113,90 +152,74 @@ fn generate<'a>(alloc: Global) -> Result<Command<'a>, AllocError>
         "Runs the load that a seed draws, and writes how many edges and words it had",
         "Example: piotool gen --seed 7 --clocks 1000",
     );
-    let command = with_argument(command, arguments::seed(alloc));
-    with_argument(command, arguments::clocks(alloc))
+    let command = with_number(alloc, command, "seed", (0, MOST_SEED), SEED);
+    with_clocks(alloc, command)
 }
 
 #[tactic(auto, unfolding(crate::specs::Tool::table_app))]
 fn table<'a>(alloc: Global) -> Result<Command<'a>, AllocError>
     ensures { IfOk result (IsApp table_app) }
 {
-    let command = named(
+    spanned(
         alloc,
         "table",
         "Writes the table that proves a span: what its machine may come to, and how old an open edge is there",
         "Example: piotool table --source uart.pio --config uart.toml --span bit > bit.table",
-    );
-    let command = with_argument(command, arguments::source(alloc));
-    let command = with_argument(command, arguments::config(alloc));
-    with_argument(command, arguments::span(alloc))
+    )
 }
 
-#[tactic(auto, unfolding(crate::specs::Tool::recheck_app))]
+#[tactic(auto, unfolding(crate::specs::Tool::recheck_app, crate::specs::Tool::table_rule))]
 fn recheck<'a>(alloc: Global) -> Result<Command<'a>, AllocError>
     ensures { IfOk result (IsApp recheck_app) }
 {
-    let command = named(
+    let command = spanned(
         alloc,
         "recheck",
         "Says whether the table in a file proves a span, without working one out",
         "Example: piotool recheck --source uart.pio --config uart.toml --span bit --table bit.table",
     );
-    let command = with_argument(command, arguments::source(alloc));
-    let command = with_argument(command, arguments::config(alloc));
-    let command = with_argument(command, arguments::span(alloc));
-    with_argument(command, arguments::table(alloc))
+    with_text(alloc, command, "table", true, TABLE)
 }
 
 #[tactic(auto, unfolding(crate::specs::Tool::shares_app))]
 fn shares<'a>(alloc: Global) -> Result<Command<'a>, AllocError>
     ensures { IfOk result (IsApp shares_app) }
 {
-    let command = named(
+    sourced(
         alloc,
         "shares",
         "Writes for each machine which pins and IRQ flags another may change that it uses itself",
         "Example: piotool shares --source uart.pio --config uart.toml",
-    );
-    let command = with_argument(command, arguments::source(alloc));
-    with_argument(command, arguments::config(alloc))
+    )
 }
 
 #[tactic(auto, unfolding(crate::specs::Tool::measure_app))]
 fn measure<'a>(alloc: Global) -> Result<Command<'a>, AllocError>
     ensures { IfOk result (IsApp measure_app) }
 {
-    let command = named(
+    traced(
         alloc,
         "measure",
         "Counts each span of the configuration in a run, and writes the fewest and the most clocks that it took",
         "Example: piotool measure --source uart.pio --config uart.toml --stimulus uart.stim --clocks 100000",
-    );
-    let command = with_argument(command, arguments::source(alloc));
-    let command = with_argument(command, arguments::config(alloc));
-    let command = with_argument(command, arguments::stimulus(alloc));
-    with_argument(command, arguments::clocks(alloc))
+    )
 }
 
-#[tactic(auto, unfolding(crate::specs::Tool::receive_app))]
+#[tactic(auto, unfolding(crate::specs::Tool::receive_app, crate::specs::Tool::pin_rule, crate::specs::Tool::bit_rule,))]
 fn receive<'a>(alloc: Global) -> Result<Command<'a>, AllocError>
     ensures { IfOk result (IsApp receive_app) }
 {
-    let command = named(
+    let command = traced(
         alloc,
         "receive",
         "Reads a pin as a UART does, and writes each byte with the clock of its start bit",
         "Example: piotool receive --source uart.pio --config uart.toml --stimulus uart.stim --clocks 100000 --pin 0 --bit 8",
     );
-    let command = with_argument(command, arguments::source(alloc));
-    let command = with_argument(command, arguments::config(alloc));
-    let command = with_argument(command, arguments::stimulus(alloc));
-    let command = with_argument(command, arguments::clocks(alloc));
-    let command = with_argument(command, arguments::pin(alloc));
-    with_argument(command, arguments::bit(alloc))
+    let command = with_number(alloc, command, "pin", (0, LAST_PIN), PIN);
+    with_number(alloc, command, "bit", (LEAST_BIT, MOST_BIT), BIT)
 }
 
-#[tactic(auto, unfolding(crate::specs::Tool::uart_app))]
+#[tactic(auto, unfolding(crate::specs::Tool::uart_app, crate::specs::Tool::send_rule, crate::specs::Tool::divider_rule,))]
 fn uart<'a>(alloc: Global) -> Result<Command<'a>, AllocError>
     ensures { IfOk result (IsApp uart_app) }
 {
@@ -206,26 +229,28 @@ fn uart<'a>(alloc: Global) -> Result<Command<'a>, AllocError>
         "Sends the bytes of a file by the proved UART transmitter, and writes each byte with the clock of its start bit",
         "Example: piotool uart --send hello.txt --divider 135 --clocks 1000000",
     );
-    let command = with_argument(command, arguments::send(alloc));
-    let command = with_argument(command, arguments::divider(alloc));
-    with_argument(command, arguments::clocks(alloc))
+    let command = with_text(alloc, command, "send", true, SEND);
+    let command = with_number(
+        alloc,
+        command,
+        "divider",
+        (LEAST_DIVIDER, MOST_DIVIDER),
+        DIVIDER,
+    );
+    with_clocks(alloc, command)
 }
 
 #[tactic(auto, unfolding(crate::specs::Tool::pair_app))]
 fn pair<'a>(alloc: Global) -> Result<Command<'a>, AllocError>
     ensures { IfOk result (IsApp pair_app) }
 {
-    let command = named(
+    let command = paired(
         alloc,
         "pair",
         "Writes the trace of two blocks on the same pins, as a value change dump",
         "Example: piotool pair --source link.pio --config sender.toml --second receiver.toml --clocks 1000",
     );
-    let command = with_argument(command, arguments::source(alloc));
-    let command = with_argument(command, arguments::needed_config(alloc));
-    let command = with_argument(command, arguments::second(alloc));
-    let command = with_argument(command, arguments::stimulus(alloc));
-    with_argument(command, arguments::clocks(alloc))
+    with_time(alloc, command)
 }
 
 /// A subcommand that takes no arguments yet: its name, and for its help what it writes and an example.
@@ -240,6 +265,113 @@ fn named<'a>(
     Ok(Command::new(alloc, name).about(about).after_help(example))
 }
 
+/// A subcommand that takes a source, and a configuration where one is given.
+#[tactic(auto, unfolding(crate::specs::Tool::source_rule, crate::specs::Tool::config_rule))]
+fn sourced<'a>(
+    alloc: Global,
+    name: &'a str,
+    about: &'a str,
+    example: &'a str,
+) -> Result<Command<'a>, AllocError>
+    ensures { IfOk result (IsApp (sourced_app name.entry.now)) }
+{
+    let command = named(alloc, name, about, example);
+    let command = with_text(alloc, command, "source", true, SOURCE);
+    with_text(alloc, command, "config", false, CONFIG)
+}
+
+/// A subcommand that takes the name of a span as well.
+#[tactic(auto, unfolding(crate::specs::Tool::span_rule))]
+fn spanned<'a>(
+    alloc: Global,
+    name: &'a str,
+    about: &'a str,
+    example: &'a str,
+) -> Result<Command<'a>, AllocError>
+    ensures { IfOk result (IsApp (spanned_app name.entry.now)) }
+{
+    let command = sourced(alloc, name, about, example);
+    with_text(alloc, command, "span", true, SPAN)
+}
+
+/// A subcommand that takes a stimulus, where one is given, and a number of clocks as well.
+fn traced<'a>(
+    alloc: Global,
+    name: &'a str,
+    about: &'a str,
+    example: &'a str,
+) -> Result<Command<'a>, AllocError>
+    ensures { IfOk result (IsApp (traced_app name.entry.now)) }
+{
+    let command = sourced(alloc, name, about, example);
+    with_time(alloc, command)
+}
+
+/// A subcommand that takes a source and the configurations of two blocks.
+#[tactic(auto, unfolding(crate::specs::Tool::source_rule, crate::specs::Tool::needed_config_rule, crate::specs::Tool::config_rule, crate::specs::Tool::second_rule,))]
+fn paired<'a>(
+    alloc: Global,
+    name: &'a str,
+    about: &'a str,
+    example: &'a str,
+) -> Result<Command<'a>, AllocError>
+    ensures { IfOk result (IsApp (paired_app name.entry.now)) }
+{
+    let command = named(alloc, name, about, example);
+    let command = with_text(alloc, command, "source", true, SOURCE);
+    let command = with_text(alloc, command, "config", true, CONFIG);
+    with_text(alloc, command, "second", true, SECOND)
+}
+
+/// The command with a stimulus, where one is given, and a number of clocks more.
+#[tactic(auto, unfolding(crate::specs::Tool::stimulus_rule))]
+fn with_time<'a>(
+    alloc: Global,
+    command: Result<Command<'a>, AllocError>,
+) -> Result<Command<'a>, AllocError>
+    ensures { (a : App) → IfOk command.entry (IsApp a) → IfOk result (IsApp (timed a)) }
+{
+    let command = with_text(alloc, command, "stimulus", false, STIMULUS);
+    with_clocks(alloc, command)
+}
+
+/// The command with a number of clocks more.
+#[tactic(auto, unfolding(crate::specs::Tool::clocks_rule))]
+fn with_clocks<'a>(
+    alloc: Global,
+    command: Result<Command<'a>, AllocError>,
+) -> Result<Command<'a>, AllocError>
+    ensures { Gains command.entry clocks_rule result }
+{
+    with_number(alloc, command, "clocks", (0, MOST_CLOCKS), CLOCKS)
+}
+
+/// The command with one option more that takes any text.
+fn with_text<'a>(
+    alloc: Global,
+    command: Result<Command<'a>, AllocError>,
+    name: &'a str,
+    needed: bool,
+    help: &'a str,
+) -> Result<Command<'a>, AllocError>
+    ensures { Gains command.entry (text_rule name.entry.now needed) result }
+{
+    with_argument(command, arguments::text(alloc, name, needed, help))
+}
+
+/// The command with one option more that takes a number between the ends.
+fn with_number<'a>(
+    alloc: Global,
+    command: Result<Command<'a>, AllocError>,
+    name: &'a str,
+    ends: (u64, u64),
+    help: &'a str,
+) -> Result<Command<'a>, AllocError>
+    ensures { Gains command.entry (number_rule name.entry.now ends.0 ends.1) result }
+{
+    with_argument(command, arguments::number(alloc, name, ends, help))
+}
+
 /// The command with one argument more.
 fn with_argument<'a>(
     command: Result<Command<'a>, AllocError>,
@@ -247,8 +379,7 @@ fn with_argument<'a>(
 ) -> Result<Command<'a>, AllocError>
     ensures { Takes command.entry argument.entry result }
 {
-    let command = command?;
-    command.arg(argument)
+    command?.arg(argument)
 }
 
 /// The command with one subcommand more.
@@ -258,7 +389,18 @@ fn add<'a>(
 ) -> Result<Command<'a>, AllocError>
     ensures { Offers command.entry sub.entry result }
 {
-    let command = command?;
-    let sub = sub?;
+    let (command, sub) = both(command, sub)?;
     command.subcommand(sub)
+}
+
+/// Both values, where there are both.
+fn both<A: Drop, B: Drop>(
+    a: Result<A, AllocError>,
+    b: Result<B, AllocError>,
+) -> Result<(A, B), AllocError>
+    ensures { IfOk result (λ made. (a ≡ Ok made.0) × (b ≡ Ok made.1)) }
+{
+    let a = a?;
+    let b = b?;
+    Ok((a, b))
 }

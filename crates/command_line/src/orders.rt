@@ -4,6 +4,7 @@ ghost use Rattle.clap.specs.Matches.{found_of, has_subcommand};
 ghost use Rattle.clap.specs.Simple.{subcommand_rows_of};
 ghost use Rattle.clap.specs.Walk.{rows_of};
 ghost use Rattle.std.specs.Option.{option_map};
+ghost use Rattle.command_line.specs.Asking.{checker_asked, observer_asked};
 ghost use Rattle.command_line.specs.Words.{Asks, HasCause, IsTaken, IsWithinRange, asked_by, asm_asked, check_asked, dis_asked, gen_asked, measure_asked, pair_asked};
 ghost use Rattle.command_line.specs.Words.{has_no_room as has_no_room_of, receive_asked, recheck_asked, run_asked, shares_asked, subcommand_asked, table_asked, uart_asked};
 
@@ -60,30 +61,55 @@ fn order_of<'a>(matches: &ArgMatches<'a>) -> Order<'a>
     let Some((name, found)) = matches.subcommand() else {
         unreachable!()
     };
+    program_order(name, found)
+}
+
+/// What the subcommand of this name asks for.
+fn program_order<'a>(name: &str, matches: &ArgMatches<'a>) -> Order<'a>
+    ensures { asked_by result ≡ subcommand_asked name.now (rows_of (found_of matches.now)) }
+{
     if name == "asm" {
-        asm_order(found)
+        asm_order(matches)
     } else if name == "run" {
-        run_order(found)
+        run_order(matches)
     } else if name == "check" {
-        check_order(found)
+        check_order(matches)
     } else if name == "table" {
-        table_order(found)
-    } else if name == "recheck" {
-        recheck_order(found)
-    } else if name == "shares" {
-        shares_order(found)
-    } else if name == "gen" {
-        gen_order(found)
-    } else if name == "measure" {
-        measure_order(found)
-    } else if name == "receive" {
-        receive_order(found)
-    } else if name == "uart" {
-        uart_order(found)
-    } else if name == "pair" {
-        pair_order(found)
+        table_order(matches)
     } else {
-        dis_order(found)
+        checker_order(name, matches)
+    }
+}
+
+/// What the subcommand of this name asks for, which is none of those before it.
+fn checker_order<'a>(name: &str, matches: &ArgMatches<'a>) -> Order<'a>
+    ensures { asked_by result ≡ checker_asked name.now (rows_of (found_of matches.now)) }
+{
+    if name == "recheck" {
+        recheck_order(matches)
+    } else if name == "shares" {
+        shares_order(matches)
+    } else if name == "gen" {
+        gen_order(matches)
+    } else if name == "measure" {
+        measure_order(matches)
+    } else {
+        observer_order(name, matches)
+    }
+}
+
+/// What the subcommand of this name asks for, which is none of those before it.
+fn observer_order<'a>(name: &str, matches: &ArgMatches<'a>) -> Order<'a>
+    ensures { asked_by result ≡ observer_asked name.now (rows_of (found_of matches.now)) }
+{
+    if name == "receive" {
+        receive_order(matches)
+    } else if name == "uart" {
+        uart_order(matches)
+    } else if name == "pair" {
+        pair_order(matches)
+    } else {
+        dis_order(matches)
     }
 }
 
