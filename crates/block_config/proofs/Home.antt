@@ -13,8 +13,9 @@ use Rattle.block_config.specs.Loads.{covers}
 use Rattle.block_config.specs.Machines.{named_load, load_at, moved_place, start_of, start_at, machine_of_table}
 use Rattle.block_config.specs.Programs.{Loaded, find_loaded, place_in, place_of, label_of}
 use Rattle.block_config.specs.Values.{or_fault, text_of}
-use Rattle.block_config.proofs.MachineParts.{machine_parts, run_parts}
+use Rattle.block_config.proofs.MachineParts.{machine_parts}
 use Rattle.block_config.proofs.Ranges.{goes_on, off_key, ok_same}
+use Rattle.block_config.proofs.RunParts.{run_parts}
 
 found_covered : (p : Loaded → Bool) (ls : List Loaded) (l : Loaded) → find p ls ≡ Some l → list_any p ls ≡ true
 found_covered p [] l e = cc

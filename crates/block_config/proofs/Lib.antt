@@ -11,6 +11,7 @@ pub mod Says
 pub mod Outside
 pub mod Apart
 pub mod MachineParts
+pub mod RunParts
 pub mod Home
 pub mod Gathered
 pub mod LoadsFit

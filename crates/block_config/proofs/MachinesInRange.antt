@@ -14,8 +14,9 @@ use Rattle.block_config.specs.Values.{text_of}
 use Rattle.block_config.proofs.Gathered.{found_keeps, read_table}
 use Rattle.block_config.proofs.Home.{named_found, start_covered, covered_below}
 use Rattle.block_config.proofs.LoadsFit.{IsLoad}
-use Rattle.block_config.proofs.MachineParts.{machine_parts, run_parts}
+use Rattle.block_config.proofs.MachineParts.{machine_parts}
 use Rattle.block_config.proofs.Ranges.{goes_on, off_key, ok_same, number_within, all_within, all_defaulted}
+use Rattle.block_config.proofs.RunParts.{run_parts}
 
 record Runs (r : RunKeys) : Type 0 where
   id : r.id < 4
