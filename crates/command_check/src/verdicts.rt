@@ -42,10 +42,8 @@ pub fn check<'a, F: Shelf, O: Sink>(
         stimulus: None,
     };
     let (setup, _) = prepare(alloc, shelf, files)?;
-    match judge_spans(alloc, &setup) {
-        Ok(verdicts) => tell_verdicts(out, &setup, verdicts),
-        Err(_) => Err(Fault::Memory),
-    }
+    let verdicts = judge_spans(alloc, &setup)?;
+    tell_verdicts(out, &setup, verdicts)
 }
 
 /// Writes the lines of verdicts, and then ends with the fault of the first span that isn't provable, if there is one.
@@ -55,10 +53,8 @@ fn tell_verdicts<O: Sink>(out: &mut O, setup: &Setup, verdicts: Verdicts) -> Res
     ensures { TellsVerdicts setup.now (output_of (O.taken out.old) (O.waiting out.old) (O.faults out.old))
         (output_of (O.taken out.new) (O.waiting out.new) (O.faults out.new)) result }
 {
-    match write_verdicts(out, setup.spans.as_slice(), &verdicts.found) {
-        Ok(()) => refuse(setup, verdicts.refused),
-        Err(fault) => Err(fault),
-    }
+    write_verdicts(out, setup.spans.as_slice(), &verdicts.found)?;
+    refuse(setup, verdicts.refused)
 }
 
 /// Writes the lines of the verdicts on spans, and hands on what the output still keeps.
@@ -72,10 +68,7 @@ fn write_verdicts<O: Sink>(
         (output_of (O.taken out.new) (O.waiting out.new) (O.faults out.new))
         (verdict_text spans.now found.now) result }
 {
-    match put_verdicts(out, spans, found) {
-        Ok(()) => {}
-        Err(SinkFailed) => return Err(Fault::Out),
-    }
+    put_verdicts(out, spans, found)?;
     match out.finish() {
         Ok(()) => Ok(()),
         Err(SinkFailed) => Err(Fault::Out),
@@ -93,10 +86,7 @@ fn put_verdicts<O: Sink>(
     ensures cause { PutCounts (O.faults out.old) (O.faults out.new) result }
 {
     for place in 0..spans.len() {
-        match put_line(out, &spans[place], &found[place]) {
-            Ok(()) => {}
-            Err(failed) => return Err(failed),
-        }
+        put_line(out, &spans[place], &found[place])?;
     }
     Ok(())
 }

@@ -36,10 +36,8 @@ pub fn generate<F: Shelf, O: Sink, L: Ledger>(
     ensures steps { steps.new ≤ steps.old + clocks }
     ensures worked { steps.new ≤ steps.old + most_worked (F.holds shelf.old) (gen_asked seed clocks) }
 {
-    match summarise(alloc, seed, clocks, steps) {
-        Ok(summary) => write_summary(out, &summary),
-        Err(_) => Err(Fault::Memory),
-    }
+    let summary = summarise(alloc, seed, clocks, steps)?;
+    write_summary(out, &summary)
 }
 
 /// Writes the lines of a summary, and hands on what the output still keeps.
@@ -48,10 +46,7 @@ fn write_summary<O: Sink>(out: &mut O, summary: &Summary) -> Result<(), Fault>
         (output_of (O.taken out.new) (O.waiting out.new) (O.faults out.new))
         (summary_text summary.now) result }
 {
-    match put_summary(out, summary) {
-        Ok(()) => {}
-        Err(SinkFailed) => return Err(Fault::Out),
-    }
+    put_summary(out, summary)?;
     match out.finish() {
         Ok(()) => Ok(()),
         Err(SinkFailed) => Err(Fault::Out),

@@ -40,10 +40,7 @@ fn write_listing<O: Sink>(out: &mut O, programs: &[Program]) -> Result<(), Fault
         (output_of (O.taken out.new) (O.waiting out.new) (O.faults out.new))
         (listing_text (map assembled_of programs.now)) result }
 {
-    match put_listing(out, programs) {
-        Ok(()) => {}
-        Err(SinkFailed) => return Err(Fault::Out),
-    }
+    put_listing(out, programs)?;
     match out.finish() {
         Ok(()) => Ok(()),
         Err(SinkFailed) => Err(Fault::Out),

@@ -44,10 +44,7 @@ fn write_words<O: Sink>(out: &mut O, words: &[u16], rule: &SideRule) -> Result<(
         (output_of (O.taken out.new) (O.waiting out.new) (O.faults out.new))
         (word_lines rule.now words.now) result }
 {
-    match put_words(out, words, rule) {
-        Ok(()) => {}
-        Err(SinkFailed) => return Err(Fault::Out),
-    }
+    put_words(out, words, rule)?;
     match out.finish() {
         Ok(()) => Ok(()),
         Err(SinkFailed) => Err(Fault::Out),

@@ -23,10 +23,7 @@ pub(crate) fn write_lines<O: Sink>(
         (output_of (O.taken out.new) (O.waiting out.new) (O.faults out.new))
         (seen_lines spans.now (seen_so_far meter.now)) result }
 {
-    match put_lines(out, spans, meter) {
-        Ok(()) => {}
-        Err(SinkFailed) => return Err(Fault::Out),
-    }
+    put_lines(out, spans, meter)?;
     match out.finish() {
         Ok(()) => Ok(()),
         Err(SinkFailed) => Err(Fault::Out),
@@ -40,10 +37,7 @@ fn put_lines<O: Sink>(out: &mut O, spans: &[Span], meter: &SpanMeter) -> Result<
     ensures cause { PutCounts (O.faults out.old) (O.faults out.new) result }
 {
     for place in 0..spans.len() {
-        match put_line(out, &spans[place], meter.seen(place)) {
-            Ok(()) => {}
-            Err(failed) => return Err(failed),
-        }
+        put_line(out, &spans[place], meter.seen(place))?;
     }
     Ok(())
 }

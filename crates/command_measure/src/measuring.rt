@@ -73,10 +73,8 @@ fn write_measured<O: Sink, L: Ledger>(
     ensures steps { steps.new ≤ steps.old + clocks }
     ensures stirring { steps.new ≤ steps.old + stirring (first_run setup.now) schedule.now clocks + 1 }
 {
-    match metered(alloc, setup, schedule, clocks, steps) {
-        Ok(meter) => write_lines(out, setup.spans.as_slice(), &meter),
-        Err(_) => Err(Fault::Memory),
-    }
+    let meter = metered(alloc, setup, schedule, clocks, steps)?;
+    write_lines(out, setup.spans.as_slice(), &meter)
 }
 
 /// A meter that was told so many clocks of a setup. All memory is taken before the first clock; the error is want of it.

@@ -69,19 +69,9 @@ fn write_pair<O: Sink, L: Ledger>(
     ensures stirring { steps.new ≤ steps.old
         + twin_stirring (twin_start blocks.now) blocks.now.first_lines blocks.now.second_lines clocks + 1 }
 {
-    match Twin::<RingFifo>::new(alloc, &blocks.first, &blocks.second, blocks.own) {
-        Ok(mut twin) => {
-            write_trace(
-                &mut twin,
-                &blocks.first_lines,
-                &blocks.second_lines,
-                clocks,
-                out,
-                steps,
-            )
-        }
-        Err(_) => Err(Fault::Memory),
-    }
+    let mut twin = Twin::<RingFifo>::new(alloc, &blocks.first, &blocks.second, blocks.own)?;
+    let (first, second) = (&blocks.first_lines, &blocks.second_lines);
+    write_trace(&mut twin, first, second, clocks, out, steps)
 }
 
 /// Writes the text of so many clocks, and hands on what the output still keeps.
@@ -102,10 +92,7 @@ fn write_trace<O: Sink, L: Ledger>(
     ensures steps { steps.new ≤ steps.old + clocks }
     ensures stirring { steps.new ≤ steps.old + twin_stirring twin.old.twin first.now second.now clocks + 1 }
 {
-    match put_trace(twin, first, second, clocks, out, steps) {
-        Ok(()) => {}
-        Err(TraceFailed) => return Err(Fault::Out),
-    }
+    put_trace(twin, first, second, clocks, out, steps)?;
     match out.finish() {
         Ok(()) => Ok(()),
         Err(SinkFailed) => Err(Fault::Out),
@@ -120,7 +107,7 @@ fn put_trace<O: Sink, L: Ledger>(
     clocks: u64,
     out: &mut O,
     steps: &mut Steps<L>,
-) -> Result<(), TraceFailed>
+) -> Result<(), SinkFailed>
     requires fresh_first { twin.old.twin.first.clock ≡ 0 }
     requires fresh_second { twin.old.twin.second.clock ≡ 0 }
     requires within { clocks ≤ 10 ^ 12 }
@@ -142,7 +129,7 @@ fn trace_pair<O: Sink, L: Ledger>(
     clocks: u64,
     trace: &mut TwinVcd<'_, O>,
     steps: &mut Steps<L>,
-) -> Result<(), TraceFailed>
+) -> Result<(), SinkFailed>
     requires fresh_first { twin.old.twin.first.clock ≡ 0 }
     requires fresh_second { twin.old.twin.second.clock ≡ 0 }
     requires within { clocks ≤ 10 ^ 12 }
@@ -157,6 +144,6 @@ fn trace_pair<O: Sink, L: Ledger>(
     a_stopped_pair_leaves_a_first_part();
     match simulate_twin(twin, first, second, clocks, trace, steps) {
         Ok(()) => Ok(()),
-        Err(failed) => Err(failed),
+        Err(TraceFailed) => Err(SinkFailed),
     }
 }

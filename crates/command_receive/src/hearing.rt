@@ -82,10 +82,8 @@ pub fn write_received<O: Sink, L: Ledger>(
     ensures steps { steps.new ≤ steps.old + clocks }
     ensures stirring { steps.new ≤ steps.old + stirring (first_run setup.now) schedule.now clocks + 1 }
 {
-    match Block::<RingFifo>::new(alloc, setup) {
-        Ok(mut block) => write_frames(&mut block, schedule, clocks, line, out, steps),
-        Err(_) => Err(Fault::Memory),
-    }
+    let mut block = Block::<RingFifo>::new(alloc, setup)?;
+    write_frames(&mut block, schedule, clocks, line, out, steps)
 }
 
 /// Writes the lines of the frames in so many clocks, and hands on what the output still keeps.
@@ -107,10 +105,7 @@ fn write_frames<O: Sink, L: Ledger>(
     ensures steps { steps.new ≤ steps.old + clocks }
     ensures stirring { steps.new ≤ steps.old + stirring block.old.run schedule.now clocks + 1 }
 {
-    match put_frames(block, schedule, clocks, line, out, steps) {
-        Ok(()) => {}
-        Err(TraceFailed) => return Err(Fault::Out),
-    }
+    put_frames(block, schedule, clocks, line, out, steps)?;
     match out.finish() {
         Ok(()) => Ok(()),
         Err(SinkFailed) => Err(Fault::Out),
@@ -125,7 +120,7 @@ fn put_frames<O: Sink, L: Ledger>(
     line: SerialLine,
     out: &mut O,
     steps: &mut Steps<L>,
-) -> Result<(), TraceFailed>
+) -> Result<(), SinkFailed>
     requires fresh { block.old.run.clock ≡ 0 }
     requires within { clocks ≤ 10 ^ 12 }
     requires pin { line.pin < 32 }
@@ -156,7 +151,7 @@ fn hear_run<O: Sink, L: Ledger>(
     clocks: u64,
     trace: &mut Receiver<'_, O>,
     steps: &mut Steps<L>,
-) -> Result<(), TraceFailed>
+) -> Result<(), SinkFailed>
     requires fresh { block.old.run.clock ≡ 0 }
     requires within { clocks ≤ 10 ^ 12 }
     requires working { trace.old.failed ≡ false }
@@ -172,6 +167,6 @@ fn hear_run<O: Sink, L: Ledger>(
     stopping_early_leaves_a_first_part();
     match simulate(block, schedule, clocks, trace, steps) {
         Ok(()) => Ok(()),
-        Err(failed) => Err(failed),
+        Err(TraceFailed) => Err(SinkFailed),
     }
 }

@@ -71,10 +71,8 @@ fn write_run<O: Sink, L: Ledger>(
     ensures steps { steps.new ≤ steps.old + clocks }
     ensures stirring { steps.new ≤ steps.old + stirring (first_run setup.now) schedule.now clocks + 1 }
 {
-    match Block::<RingFifo>::new(alloc, setup) {
-        Ok(mut block) => write_trace(&mut block, schedule, clocks, out, steps),
-        Err(_) => Err(Fault::Memory),
-    }
+    let mut block = Block::<RingFifo>::new(alloc, setup)?;
+    write_trace(&mut block, schedule, clocks, out, steps)
 }
 
 /// Writes the text of so many clocks, and hands on what the output still keeps.
@@ -93,10 +91,7 @@ fn write_trace<O: Sink, L: Ledger>(
     ensures steps { steps.new ≤ steps.old + clocks }
     ensures stirring { steps.new ≤ steps.old + stirring block.old.run schedule.now clocks + 1 }
 {
-    match put_trace(block, schedule, clocks, out, steps) {
-        Ok(()) => {}
-        Err(TraceFailed) => return Err(Fault::Out),
-    }
+    put_trace(block, schedule, clocks, out, steps)?;
     match out.finish() {
         Ok(()) => Ok(()),
         Err(SinkFailed) => Err(Fault::Out),
@@ -110,7 +105,7 @@ fn put_trace<O: Sink, L: Ledger>(
     clocks: u64,
     out: &mut O,
     steps: &mut Steps<L>,
-) -> Result<(), TraceFailed>
+) -> Result<(), SinkFailed>
     requires fresh { block.old.run.clock ≡ 0 }
     requires within { clocks ≤ 10 ^ 12 }
     ensures bytes { Takes (O.taken out.old) (trace_text block.old.run schedule.now clocks) (O.taken out.new) result }
@@ -130,7 +125,7 @@ fn trace_run<O: Sink, L: Ledger>(
     clocks: u64,
     trace: &mut VcdTrace<'_, O>,
     steps: &mut Steps<L>,
-) -> Result<(), TraceFailed>
+) -> Result<(), SinkFailed>
     requires fresh { block.old.run.clock ≡ 0 }
     requires within { clocks ≤ 10 ^ 12 }
     requires working { trace.old.failed ≡ false }
@@ -144,6 +139,6 @@ fn trace_run<O: Sink, L: Ledger>(
     a_stopped_run_leaves_a_first_part();
     match simulate(block, schedule, clocks, trace, steps) {
         Ok(()) => Ok(()),
-        Err(failed) => Err(failed),
+        Err(TraceFailed) => Err(SinkFailed),
     }
 }

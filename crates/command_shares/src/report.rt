@@ -46,10 +46,7 @@ fn write_shares<O: Sink>(out: &mut O, setup: &Setup) -> Result<(), Fault>
         (output_of (O.taken out.new) (O.waiting out.new) (O.faults out.new))
         (shares_text setup.now) result }
 {
-    match put_shares(out, setup) {
-        Ok(()) => {}
-        Err(SinkFailed) => return Err(Fault::Out),
-    }
+    put_shares(out, setup)?;
     match out.finish() {
         Ok(()) => Ok(()),
         Err(SinkFailed) => Err(Fault::Out),

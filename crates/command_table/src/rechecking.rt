@@ -136,10 +136,7 @@ fn write_rechecked<O: Sink>(out: &mut O, name: &Name) -> Result<(), Fault>
         (output_of (O.taken out.new) (O.waiting out.new) (O.faults out.new))
         (rechecked_line name.now) result }
 {
-    match put_rechecked(out, name) {
-        Ok(()) => {}
-        Err(SinkFailed) => return Err(Fault::Out),
-    }
+    put_rechecked(out, name)?;
     match out.finish() {
         Ok(()) => Ok(()),
         Err(SinkFailed) => Err(Fault::Out),

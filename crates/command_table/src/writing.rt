@@ -57,10 +57,10 @@ fn tell_table<O: Sink>(alloc: Global, setup: &Setup, span: &Span, out: &mut O) -
     ensures { TellsTable setup.now span.now (output_of (O.taken out.old) (O.waiting out.old) (O.faults out.old))
         (output_of (O.taken out.new) (O.waiting out.new) (O.faults out.new)) result }
 {
-    match found_table(alloc, setup, span) {
-        Ok(Ok(table)) => write_table(out, &table),
-        Ok(Err(refusal)) => Err(unproved(alloc, span, refusal)),
-        Err(_) => Err(Fault::Memory),
+    let found = found_table(alloc, setup, span)?;
+    match found {
+        Ok(table) => write_table(out, &table),
+        Err(refusal) => Err(unproved(alloc, span, refusal)),
     }
 }
 
@@ -73,10 +73,8 @@ fn found_table(
     requires { IsSome (slice_index_or setup.now.machines span.now.machine None) }
     ensures { IfOk result (λ found. IsFound setup.now span.now found) }
 {
-    match check(alloc, setup, span) {
-        Ok(verdict) => Ok(table_or(verdict)),
-        Err(error) => Err(error),
-    }
+    let verdict = check(alloc, setup, span)?;
+    Ok(table_or(verdict))
 }
 
 /// The table of a verdict that is proved, or why it isn't.
@@ -96,10 +94,7 @@ fn write_table<O: Sink>(out: &mut O, table: &Table) -> Result<(), Fault>
         (output_of (O.taken out.new) (O.waiting out.new) (O.faults out.new))
         (table_text table.now) result }
 {
-    match put_table(out, table) {
-        Ok(()) => {}
-        Err(SinkFailed) => return Err(Fault::Out),
-    }
+    put_table(out, table)?;
     match out.finish() {
         Ok(()) => Ok(()),
         Err(SinkFailed) => Err(Fault::Out),

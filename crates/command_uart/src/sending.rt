@@ -69,10 +69,8 @@ fn send_bytes<O: Sink, L: Ledger>(
     ensures steps { steps.new ≤ steps.old + clocks }
     ensures stirring { steps.new ≤ steps.old + stirring (first_run (transmitter_of divider)) (fed bytes.now) clocks + 1 }
 {
-    match feed(alloc, bytes) {
-        Ok(schedule) => write_sent(alloc, &schedule, divider, clocks, out, steps),
-        Err(_) => Err(Fault::Memory),
-    }
+    let schedule = feed(alloc, bytes)?;
+    write_sent(alloc, &schedule, divider, clocks, out, steps)
 }
 
 /// Writes a line for each byte that the transmitter sends beside this feed, or answers want of memory before it has put anything.

@@ -41,8 +41,6 @@ fn tell<E: Sink>(err: &mut E, fault: &Fault) -> Result<(), SinkFailed>
         (output_of (E.taken err.new) (E.waiting err.new) (E.faults err.new))
         (fault_line fault.now) }
 {
-    match put_fault(err, fault) {
-        Ok(()) => err.finish(),
-        Err(failed) => Err(failed),
-    }
+    put_fault(err, fault)?;
+    err.finish()
 }

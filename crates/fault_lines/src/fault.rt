@@ -1,10 +1,15 @@
 //! Everything that keeps a command from its text, with the line and the status that tell it.
 
+ghost use Rattle.std.specs.Prelude.{◌≡◌};
+ghost use Rattle.fault_lines.specs.declared.fault.Fault.TheVariants.{Out, Memory};
+
 use block_config::ConfigKind;
 use dreq_pacing::StimKind;
 use pio_assemble::SourceKind;
+use pio_edge::SinkFailed;
 use pio_encode::Name;
 use span_verdict::Flaw;
+use std::alloc::AllocError;
 use table_files::TableKind;
 use verdict_lines::Refusal;
 use word_file::WordKind;
@@ -61,4 +66,20 @@ pub enum Fault {
     Out,
     /// Memory ran out.
     Memory,
+}
+
+impl From<SinkFailed> for Fault {
+    ghost from_gives = { λ _ fault. fault ≡ Out };
+
+    fn from(_failed: SinkFailed) -> Self {
+        Fault::Out
+    }
+}
+
+impl From<AllocError> for Fault {
+    ghost from_gives = { λ _ fault. fault ≡ Memory };
+
+    fn from(_error: AllocError) -> Self {
+        Fault::Memory
+    }
 }

@@ -1,5 +1,5 @@
 //! How an end is told: its status, and its line on the standard error (choice of this profile).
-ghost use Rattle.std.specs.Prelude.{◌≡◌, ◌++◌};
+ghost use Rattle.std.specs.Prelude.{◌≡◌, ◌++◌, codes};
 ghost use Rattle.pio_edge.specs.Edge.{Takes, PutCounts};
 ghost use Rattle.fault_lines.specs.Told as spec;
 ghost use Rattle.fault_lines.specs.Told.{fault_line, file_word};
@@ -118,9 +118,9 @@ fn put_source_fault<E: Sink>(err: &mut E, line: usize, kind: &SourceKind) -> Res
     ensures cause { PutCounts (E.faults err.old) (E.faults err.new) result }
 {
     match kind {
-        SourceKind::Duplicate(name) => put_named_fault(err, line, "S5 ", name.as_bytes()),
-        SourceKind::Unknown(name) => put_named_fault(err, line, "V1 ", name.as_bytes()),
-        SourceKind::Cycle(name) => put_named_fault(err, line, "V2 ", name.as_bytes()),
+        SourceKind::Duplicate(name) => put_named_fault(err, line, kind.code(), name.as_bytes()),
+        SourceKind::Unknown(name) => put_named_fault(err, line, kind.code(), name.as_bytes()),
+        SourceKind::Cycle(name) => put_named_fault(err, line, kind.code(), name.as_bytes()),
         SourceKind::Range { what, value } => put_range_fault(err, line, *what, *value),
         other => put_line_fault(err, "piotool: source line ", line, other.code()),
     }
@@ -133,7 +133,7 @@ fn put_named_fault<E: Sink>(
     code: &str,
     name: &[u8],
 ) -> Result<(), SinkFailed>
-    ensures bytes { Takes (E.taken err.old) (spec.source_fault line (code.now ++ name.now)) (E.taken err.new) result }
+    ensures bytes { Takes (E.taken err.old) (spec.source_fault line (code.now ++ codes " " ++ name.now)) (E.taken err.new) result }
     ensures cause { PutCounts (E.faults err.old) (E.faults err.new) result }
 {
     let mut number = Buffer::new();
@@ -144,6 +144,7 @@ fn put_named_fault<E: Sink>(
             number.format(line).as_bytes(),
             ": ".as_bytes(),
             code.as_bytes(),
+            " ".as_bytes(),
             name,
             "\n".as_bytes(),
         ],

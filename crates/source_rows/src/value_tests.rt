@@ -51,7 +51,7 @@ fn add_symbols(alloc: Global, scope: &mut Scope, list: &str) -> Option<()> {
 fn add(alloc: Global, scope: &mut Scope, name: &str, is: Symbol) -> Result<(), AllocError> {
     let name = Name::new(String::from_str(alloc, name)?);
     if scope.is_new(&name) {
-        scope.set(name, is)?;
+        scope.set(&name, is)?;
     }
     Ok(())
 }

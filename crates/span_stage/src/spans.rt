@@ -24,10 +24,8 @@ pub fn ask_spans(alloc: Global, setup: &Setup) -> Result<(), Fault>
     requires { AreConfigured setup.now }
     ensures { AreAsked setup.now result }
 {
-    match judge_spans(alloc, setup) {
-        Ok(verdicts) => refuse(setup, verdicts.refused),
-        Err(_) => Err(Fault::Memory),
-    }
+    let verdicts = judge_spans(alloc, setup)?;
+    refuse(setup, verdicts.refused)
 }
 
 /// Ends with the fault of the first span that isn't provable, where there is one. Else each holds in every run.
@@ -56,10 +54,7 @@ pub fn judge_spans(alloc: Global, setup: &Setup) -> Result<Verdicts, AllocError>
         refused: None,
     };
     for place in 0..spans.len() {
-        match judge_next(alloc, setup, &spans[place], &mut verdicts) {
-            Ok(()) => {}
-            Err(error) => return Err(error),
-        }
+        judge_next(alloc, setup, &spans[place], &mut verdicts)?;
     }
     Ok(verdicts)
 }
@@ -87,10 +82,8 @@ fn keep(
 ) -> Result<(), AllocError>
     ensures { IfOk result (λ _. verdicts.new.items ≡ verdicts.old.items ++ found ∷ []) }
 {
-    match verdicts.push(found) {
-        Ok(()) => Ok(()),
-        Err(_) => Err(AllocError),
-    }
+    verdicts.push(found)?;
+    Ok(())
 }
 
 /// The verdict on a span, whose machine is configured, without its table. The error is want of memory.
@@ -102,10 +95,8 @@ fn judge_span(
     requires { IsSome (slice_index_or setup.now.machines span.now.machine None) }
     ensures { IfOk result (λ found. IsVerdictOn setup.now span.now found) }
 {
-    match check(alloc, setup, span) {
-        Ok(verdict) => Ok(found_by(verdict)),
-        Err(error) => Err(error),
-    }
+    let verdict = check(alloc, setup, span)?;
+    Ok(found_by(verdict))
 }
 
 /// Keeps the refusal that came before, else takes that of this span, if it isn't proved. The error is want of memory.

@@ -6,13 +6,13 @@ use Rattle.command_measure.proofs.Seen.{as_many, lines_are_text}
 use Rattle.command_measure.proofs.measuring.write_measured.Goals as goal
 
 pub write_lines-requires : goal.write_lines-requires
-write_lines-requires g c = as_many _ _ c.as_slice.result.now c.in-Ok.meter c.in-Ok.ensures.seen c.as_slice.ensures.list
+write_lines-requires g c = as_many _ _ c.as_slice.result.now c.in_ok-meter.meter c.in_ok-meter.ensures.seen c.as_slice.ensures.list
 
-pub returns-in-Ok-clause-ends : goal.returns-in-Ok-clause-ends
-returns-in-Ok-clause-ends g c =
+pub returns-clause-ends : goal.returns-clause-ends
+returns-clause-ends g c =
     let old = c.args.out.now in
     let new = c.write_lines.new.out in
     let P : List ℕ → Type 0 = λ text. Writes (output_of (g.O.Sink.taken old) (g.O.Sink.waiting old) (g.O.Sink.faults old))
     (output_of (g.O.Sink.taken new) (g.O.Sink.waiting new) (g.O.Sink.faults new)) text c.write_lines.result in
-    subst P (lines_are_text (first_run c.args.setup.now) c.args.setup.now.spans c.as_slice.result.now c.args.schedule.now c.args.clocks c.in-Ok.meter c.in-Ok.ensures.seen c.as_slice.ensures.list)
+    subst P (lines_are_text (first_run c.args.setup.now) c.args.setup.now.spans c.as_slice.result.now c.args.schedule.now c.args.clocks c.in_ok-meter.meter c.in_ok-meter.ensures.seen c.as_slice.ensures.list)
     c.write_lines.ensures
