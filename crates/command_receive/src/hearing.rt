@@ -63,7 +63,8 @@ pub fn receive<F: Shelf, O: Sink, L: Ledger>(
     write_received(alloc, &setup, &schedule, clocks, line, out, steps)
 }
 
-/// Writes the lines of the frames in so many clocks of a setup, or answers want of memory before it has put anything.
+/// Writes the lines of the frames in so many clocks of a setup, and hands on what the output still keeps; or answers want
+/// of memory before it has put anything.
 pub fn write_received<O: Sink, L: Ledger>(
     alloc: Global,
     setup: &Setup,
@@ -83,29 +84,7 @@ pub fn write_received<O: Sink, L: Ledger>(
     ensures stirring { steps.new ≤ steps.old + stirring (first_run setup.now) schedule.now clocks + 1 }
 {
     let mut block = Block::<RingFifo>::new(alloc, setup)?;
-    write_frames(&mut block, schedule, clocks, line, out, steps)
-}
-
-/// Writes the lines of the frames in so many clocks, and hands on what the output still keeps.
-fn write_frames<O: Sink, L: Ledger>(
-    block: &mut Block<RingFifo>,
-    schedule: &Schedule,
-    clocks: u64,
-    line: SerialLine,
-    out: &mut O,
-    steps: &mut Steps<L>,
-) -> Result<(), Fault>
-    requires fresh { block.old.run.clock ≡ 0 }
-    requires within { clocks ≤ 10 ^ 12 }
-    requires pin { line.pin < 32 }
-    requires bit { 2 ≤ line.bit }
-    ensures ends { Writes (output_of (O.taken out.old) (O.waiting out.old) (O.faults out.old))
-        (output_of (O.taken out.new) (O.waiting out.new) (O.faults out.new))
-        (received_text block.old.run line.pin line.bit schedule.now clocks) result }
-    ensures steps { steps.new ≤ steps.old + clocks }
-    ensures stirring { steps.new ≤ steps.old + stirring block.old.run schedule.now clocks + 1 }
-{
-    put_frames(block, schedule, clocks, line, out, steps)?;
+    put_frames(&mut block, schedule, clocks, line, out, steps)?;
     match out.finish() {
         Ok(()) => Ok(()),
         Err(SinkFailed) => Err(Fault::Out),

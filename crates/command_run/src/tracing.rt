@@ -54,8 +54,8 @@ pub fn run<F: Shelf, O: Sink, L: Ledger>(
     write_run(alloc, &setup, &schedule, clocks, out, steps)
 }
 
-/// Writes the text of so many clocks from a setup, or answers want of memory before it has put anything.
-#[tactic(auto, unfolding(call_ends::specs::Tasks::trace_text))]
+/// Writes the text of so many clocks from a setup, and hands on what the output still keeps; or answers want of memory
+/// before it has put anything.
 fn write_run<O: Sink, L: Ledger>(
     alloc: Global,
     setup: &Setup,
@@ -72,26 +72,7 @@ fn write_run<O: Sink, L: Ledger>(
     ensures stirring { steps.new ≤ steps.old + stirring (first_run setup.now) schedule.now clocks + 1 }
 {
     let mut block = Block::<RingFifo>::new(alloc, setup)?;
-    write_trace(&mut block, schedule, clocks, out, steps)
-}
-
-/// Writes the text of so many clocks, and hands on what the output still keeps.
-fn write_trace<O: Sink, L: Ledger>(
-    block: &mut Block<RingFifo>,
-    schedule: &Schedule,
-    clocks: u64,
-    out: &mut O,
-    steps: &mut Steps<L>,
-) -> Result<(), Fault>
-    requires fresh { block.old.run.clock ≡ 0 }
-    requires within { clocks ≤ 10 ^ 12 }
-    ensures ends { Writes (output_of (O.taken out.old) (O.waiting out.old) (O.faults out.old))
-        (output_of (O.taken out.new) (O.waiting out.new) (O.faults out.new))
-        (trace_text block.old.run schedule.now clocks) result }
-    ensures steps { steps.new ≤ steps.old + clocks }
-    ensures stirring { steps.new ≤ steps.old + stirring block.old.run schedule.now clocks + 1 }
-{
-    put_trace(block, schedule, clocks, out, steps)?;
+    put_trace(&mut block, schedule, clocks, out, steps)?;
     match out.finish() {
         Ok(()) => Ok(()),
         Err(SinkFailed) => Err(Fault::Out),

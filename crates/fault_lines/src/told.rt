@@ -1,5 +1,7 @@
 //! How an end is told: its status, and its line on the standard error (choice of this profile).
-ghost use Rattle.std.specs.Prelude.{◌≡◌, ◌++◌, codes};
+ghost use Rattle.std.specs.Prelude.{◌≡◌, ◌++◌, codes, decimal};
+ghost use Rattle.std.specs.Fmt.{signed_decimal};
+ghost use Rattle.pio_assemble.specs.Fault.{quantity_text};
 ghost use Rattle.pio_edge.specs.Edge.{Takes, PutCounts};
 ghost use Rattle.fault_lines.specs.Told as spec;
 ghost use Rattle.fault_lines.specs.Told.{fault_line, file_word};
@@ -121,7 +123,9 @@ fn put_source_fault<E: Sink>(err: &mut E, line: usize, kind: &SourceKind) -> Res
         SourceKind::Duplicate(name) => put_named_fault(err, line, kind.code(), name.as_bytes()),
         SourceKind::Unknown(name) => put_named_fault(err, line, kind.code(), name.as_bytes()),
         SourceKind::Cycle(name) => put_named_fault(err, line, kind.code(), name.as_bytes()),
-        SourceKind::Range { what, value } => put_range_fault(err, line, *what, *value),
+        SourceKind::Range { what, value } => {
+            put_range_fault(err, line, kind.code(), *what, *value)
+        }
         other => put_line_fault(err, "piotool: source line ", line, other.code()),
     }
 }
@@ -151,14 +155,17 @@ fn put_named_fault<E: Sink>(
     )
 }
 
-/// Puts the line of a number out of its range.
+/// Puts the line of a number out of its range: the code, the number's word and its value.
 fn put_range_fault<E: Sink>(
     err: &mut E,
     line: usize,
+    code: &'static str,
     what: Quantity,
     value: i32,
 ) -> Result<(), SinkFailed>
-    ensures bytes { Takes (E.taken err.old) (spec.source_line line (SourceKind.Range what value)) (E.taken err.new) result }
+    ensures bytes { Takes (E.taken err.old)
+        (spec.source_fault line (code.now ++ codes " " ++ quantity_text what ++ codes " " ++ signed_decimal value))
+        (E.taken err.new) result }
     ensures cause { PutCounts (E.faults err.old) (E.faults err.new) result }
 {
     let mut number = Buffer::new();
@@ -169,7 +176,8 @@ fn put_range_fault<E: Sink>(
             b"piotool: source line ",
             number.format(line).as_bytes(),
             b": ",
-            b"S7 ",
+            code.as_bytes(),
+            b" ",
             what.text().as_bytes(),
             b" ",
             digits.format(value).as_bytes(),
@@ -190,14 +198,22 @@ fn put_config_fault<E: Sink>(
     ensures cause { PutCounts (E.faults err.old) (E.faults err.new) result }
 {
     match kind {
-        ConfigKind::Overlap(address) => put_overlap(err, front, key, address),
+        ConfigKind::Overlap(address) => put_overlap(err, front, key, kind.code(), address),
         other => put_key_fault(err, front, key, other.code()),
     }
 }
 
-/// Puts the line of loads that overlap.
-fn put_overlap<E: Sink>(err: &mut E, front: &str, key: &[u8], address: u8) -> Result<(), SinkFailed>
-    ensures bytes { Takes (E.taken err.old) (spec.config_line front.now key.now (ConfigKind.Overlap address)) (E.taken err.new) result }
+/// Puts the line of loads that overlap: the code and the address.
+fn put_overlap<'a, E: Sink>(
+    err: &mut E,
+    front: &'a str,
+    key: &'a [u8],
+    code: &'a str,
+    address: u8,
+) -> Result<(), SinkFailed>
+    ensures bytes { Takes (E.taken err.old)
+        (spec.key_line front.now key.now (code.now ++ codes " " ++ decimal address))
+        (E.taken err.new) result }
     ensures cause { PutCounts (E.faults err.old) (E.faults err.new) result }
 {
     let mut number = Buffer::new();
@@ -206,7 +222,9 @@ fn put_overlap<E: Sink>(err: &mut E, front: &str, key: &[u8], address: u8) -> Re
         &[
             front.as_bytes(),
             key,
-            ": C7 ".as_bytes(),
+            ": ".as_bytes(),
+            code.as_bytes(),
+            " ".as_bytes(),
             number.format(address).as_bytes(),
             "\n".as_bytes(),
         ],
