@@ -14,7 +14,7 @@ use Rattle.vcd_trace.specs.TwinText.{twin_text}
 use Rattle.vcd_trace.specs.VcdText.{vcd_text}
 use Rattle.span_meter.specs.Measured.{ends_in, measured, seen_of}
 use Rattle.span_meter.specs.SeenText.{seen_line}
-use Rattle.span_meter.specs.declared.seen.Seen.{Seen}
+use Rattle.span_meter.specs.declared.seen.SeenDistances.{SeenDistances}
 use Rattle.serial_receiver.specs.Frames.{frames, levels_of}
 use Rattle.serial_receiver.specs.FrameText.{frames_text}
 use Rattle.pio_uart.specs.Feeding.{frames_fed}
@@ -65,7 +65,7 @@ unfoldable pub twin_trace_text : TwinRun → (first second : List Line) → ℕ 
 twin_trace_text start first second clocks = twin_text (twin_samples start first second clocks)
 
 -- what a span measures in so many clocks from a start, beside the lines of a stimulus: before clock 0 the levels are the start's
-abbrev pub seen_in : Run → Span → List Line → ℕ → Seen
+abbrev pub seen_in : Run → Span → List Line → ℕ → SeenDistances
 seen_in start sp lines clocks = seen_of (measured (ends_in sp) start.state.levels (samples start lines clocks))
 
 -- the line of what each span measures, in order

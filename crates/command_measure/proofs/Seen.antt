@@ -3,8 +3,8 @@ use Rattle.std.proofs.Common.{◌≡◌, ◌∙◌, ℕ, List, [], ◌∷◌, le
 use Rattle.std.proofs.lemmas.List.{length-map}
 use Rattle.block_core.specs.declared.sample.Sample.{Sample}
 use Rattle.pin_matrix.specs.declared.span.Span.{Span}
-use Rattle.span_meter.specs.declared.seen.Seen.{Seen}
-use Rattle.span_meter.specs.Measured.{Ends, ends_in, measured, seen_of}
+use Rattle.span_meter.specs.declared.seen.SeenDistances.{SeenDistances}
+use Rattle.span_meter.specs.Measured.{SpanEdges, ends_in, measured, seen_of}
 use Rattle.span_meter.specs.Meters.{HasMeasured, Meters, first_told, seen_so_far, watched}
 use Rattle.dreq_pacing.specs.declared.line.Line.{Line}
 use Rattle.block_core.specs.Block.{Run}
@@ -14,7 +14,7 @@ use Rattle.command_measure.specs.Lines.{seen_lines}
 use Rattle.command_measure.proofs.LineByLine.{lines_of_each}
 
 -- a fresh meter names its levels and its edges
-pub names : (levels : ℕ) (ends : List Ends) (t : Meters) → HasMeasured levels ends [] t → first_told t.first (watched t.meters) ≡ first_told levels ends
+pub names : (levels : ℕ) (ends : List SpanEdges) (t : Meters) → HasMeasured levels ends [] t → first_told t.first (watched t.meters) ≡ first_told levels ends
 names levels ends t h = ap₂ first_told h.first h.watches
 
 each_span : (levels : ℕ) (told : List Sample) (spans : List Span)
@@ -37,7 +37,7 @@ seen_in_run start now levels spans slice lines clocks t run first all h =
     ∙ ap (map (λ sp. seen_in start sp lines clocks)) all
 
 -- there is a measure for each span
-pub as_many : (see : Span → Seen) (spans slice : List Span) (t : Meters) → seen_so_far t ≡ map see spans → slice ≡ spans → length (seen_so_far t) ≡ length slice
+pub as_many : (see : Span → SeenDistances) (spans slice : List Span) (t : Meters) → seen_so_far t ≡ map see spans → slice ≡ spans → length (seen_so_far t) ≡ length slice
 as_many see spans slice t seen all = ap length seen ∙ length-map spans see ∙ ap length (sym all)
 
 -- and their lines are the text

@@ -10,7 +10,7 @@ ghost use Rattle.span_meter.specs.SeenText.{seen_line};
 use fault_lines::Fault;
 use pin_matrix::Span;
 use pio_edge::{Sink, SinkFailed};
-use span_meter::{Seen, SpanMeter, put_seen};
+use span_meter::{SeenDistances, SpanMeter, put_seen};
 
 /// Writes the lines of what a meter of these spans has measured, and hands on what the output still keeps. It takes no memory.
 pub(crate) fn write_lines<O: Sink>(
@@ -43,7 +43,7 @@ fn put_lines<O: Sink>(out: &mut O, spans: &[Span], meter: &SpanMeter) -> Result<
 }
 
 /// Puts the line of what was measured of a span.
-fn put_line<O: Sink>(out: &mut O, span: &Span, seen: Seen) -> Result<(), SinkFailed>
+fn put_line<O: Sink>(out: &mut O, span: &Span, seen: SeenDistances) -> Result<(), SinkFailed>
     ensures bytes { Takes (O.taken out.old) (seen_line span.now.name seen) (O.taken out.new) result }
     ensures cause { PutCounts (O.faults out.old) (O.faults out.new) result }
 {

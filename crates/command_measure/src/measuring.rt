@@ -10,7 +10,7 @@ ghost use Rattle.call_ends.specs.Promise.{CommandEnds};
 ghost use Rattle.call_ends.specs.Worked.{most_worked};
 ghost use Rattle.call_ends.specs.Written.{Writes};
 ghost use Rattle.fault_lines.specs.Output.{output_of};
-ghost use Rattle.span_meter.specs.Measured.{Ends};
+ghost use Rattle.span_meter.specs.Measured.{SpanEdges};
 ghost use Rattle.span_meter.specs.Meters.{HasMeasured, seen_so_far};
 
 use crate::lines::write_lines;
@@ -107,7 +107,7 @@ fn meter_run<F: Fifo, L: Ledger>(
 )
     requires fresh { block.old.run.clock ≡ 0 }
     requires within { clocks ≤ 10 ^ 12 }
-    ensures measured { (levels : ℕ) (ends : List Ends) → HasMeasured levels ends [] meter.old
+    ensures measured { (levels : ℕ) (ends : List SpanEdges) → HasMeasured levels ends [] meter.old
         → HasMeasured levels ends (samples block.old.run schedule.now clocks) meter.new }
     ensures steps { steps.new ≤ steps.old + clocks }
     ensures stirring { steps.new ≤ steps.old + stirring block.old.run schedule.now clocks + 1 }

@@ -4,7 +4,7 @@ use Rattle.pin_matrix.specs.declared.setup.Setup.{Setup}
 use Rattle.pin_matrix.specs.declared.span.Span.{Span}
 use Rattle.span_bounds.specs.declared.row.Row.{Row}
 use Rattle.span_bounds.specs.Answers.{IsGoodLeast}
-use Rattle.span_check.specs.Proved.{HoldsInEveryRun, IsKept}
+use Rattle.span_check.specs.Proved.{HoldsInEveryRun, VerdictHolds}
 use Rattle.span_verdict.specs.declared.table_flaw.Flaw.{Flaw}
 use Rattle.span_verdict.specs.declared.verdict.Verdict.{Verdict}
 use Rattle.span_verdict.specs.declared.verdict.Verdict.TheVariants as verdict
@@ -18,7 +18,7 @@ use Rattle.fault_lines.specs.Output.{Output}
 use Rattle.span_stage.specs.Spans.{IsProvableAlone, IsRefused}
 use Rattle.call_ends.specs.Needs.{HasFlaw, IsProvedBy, IsSharedBy}
 use Rattle.call_ends.specs.Written.{Writes}
-use Rattle.command_table.specs.Tables.{IsFound, IsRefusalOf, IsFlawOf, TellsTable, TellsRecheck, table_or}
+use Rattle.command_table.specs.Tables.{IsTableVerdict, IsRefusalOf, IsFlawOf, TellsTable, TellsRecheck, table_or}
 
 -- a span that isn't provable is told, or memory ran out
 pub refused_tells : (u : Setup) (sp : Span) (out : Output) (refusal : Refusal) (e : Fault) → IsRefused u sp refusal → IsRefusalOf sp refusal e → TellsTable u sp out out (Err e)
@@ -76,26 +76,26 @@ rechecked_tells u sp rows before after (Err (fault.Unproved n refusal)) p k w = 
 rechecked_tells u sp rows before after (Err (fault.Flaw n flaw)) p k w = absurd w
 
 -- what a verdict finds
-pub finds : (u : Setup) (sp : Span) (found : Verdict) → IsVerdict u sp found → IsKept u sp found → IsFound u sp (table_or found)
+pub finds : (u : Setup) (sp : Span) (found : Verdict) → IsVerdict u sp found → VerdictHolds u sp found → IsTableVerdict u sp (table_or found)
 finds u sp (verdict.Proved rows opens) v k = (record { provable = v.provable; alone = v.alone }, (k, v.table))
 finds u sp (verdict.Unproved at cause) v k = v
 finds u sp (verdict.Shared m) v k = v
 
 -- a verdict that was found by an equation
-pub finds_by : (u : Setup) (sp : Span) (found : Verdict) (r : Result (List Row) Refusal) → r ≡ table_or found → IsVerdict u sp found → IsKept u sp found → IsFound u sp r
-finds_by u sp found r is v k = subst (λ (x : Result (List Row) Refusal). IsFound u sp x) (sym is) (finds u sp found v k)
+pub finds_by : (u : Setup) (sp : Span) (found : Verdict) (r : Result (List Row) Refusal) → r ≡ table_or found → IsVerdict u sp found → VerdictHolds u sp found → IsTableVerdict u sp r
+finds_by u sp found r is v k = subst (λ (x : Result (List Row) Refusal). IsTableVerdict u sp x) (sym is) (finds u sp found v k)
 
 -- the table that was found is told
-pub proved_tells : (u : Setup) (sp : Span) (rows : List Row) (before after : Output) (r : Result (Unit {0}) Fault) → IsFound u sp (Ok rows) → Writes before after (table_text rows) r
+pub proved_tells : (u : Setup) (sp : Span) (rows : List Row) (before after : Output) (r : Result (Unit {0}) Fault) → IsTableVerdict u sp (Ok rows) → Writes before after (table_text rows) r
     → TellsTable u sp before after r
 proved_tells u sp rows before after r h w = written_tells u sp rows before after r h.0 h.1.0 h.1.1 w
 
-pub proved_tells_at : (u : Setup) (sp : Span) (found : Result (List Row) Refusal) (rows : List Row) (before after : Output) (r : Result (Unit {0}) Fault) → found ≡ Ok rows → IsFound u sp found
+pub proved_tells_at : (u : Setup) (sp : Span) (found : Result (List Row) Refusal) (rows : List Row) (before after : Output) (r : Result (Unit {0}) Fault) → found ≡ Ok rows → IsTableVerdict u sp found
     → Writes before after (table_text rows) r → TellsTable u sp before after r
 proved_tells_at u sp found rows before after r is h w =
-    proved_tells u sp rows before after r (subst (λ (x : Result (List Row) Refusal). IsFound u sp x) is h) w
+    proved_tells u sp rows before after r (subst (λ (x : Result (List Row) Refusal). IsTableVerdict u sp x) is h) w
 
-pub refused_tells_at : (u : Setup) (sp : Span) (found : Result (List Row) Refusal) (refusal : Refusal) (out : Output) (e : Fault) → found ≡ Err refusal → IsFound u sp found → IsRefusalOf sp refusal e
+pub refused_tells_at : (u : Setup) (sp : Span) (found : Result (List Row) Refusal) (refusal : Refusal) (out : Output) (e : Fault) → found ≡ Err refusal → IsTableVerdict u sp found → IsRefusalOf sp refusal e
     → TellsTable u sp out out (Err e)
 refused_tells_at u sp found refusal out e is h i =
-    refused_tells u sp out refusal e (subst (λ (x : Result (List Row) Refusal). IsFound u sp x) is h) i
+    refused_tells u sp out refusal e (subst (λ (x : Result (List Row) Refusal). IsTableVerdict u sp x) is h) i

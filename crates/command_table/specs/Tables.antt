@@ -28,9 +28,9 @@ table_or (verdict.Unproved k cause) = Err (refusal.Unproved k cause)
 table_or (verdict.Shared m) = Err (refusal.Shared m)
 
 -- the span is provable and holds in every run, and these are the rows of its least closed table; or this is why it isn't
-abbrev pub IsFound : Setup → Span → Result (List Row) Refusal → Type 0
-IsFound u sp (Ok rows) = IsProvableAlone u sp × (HoldsInEveryRun u sp × IsGoodLeast u sp rows)
-IsFound u sp (Err why) = IsRefused u sp why
+abbrev pub IsTableVerdict : Setup → Span → Result (List Row) Refusal → Type 0
+IsTableVerdict u sp (Ok rows) = IsProvableAlone u sp × (HoldsInEveryRun u sp × IsGoodLeast u sp rows)
+IsTableVerdict u sp (Err why) = IsRefused u sp why
 
 -- the fault is that of a span that is refused, or want of memory
 abbrev pub IsRefusalOf : Span → Refusal → Fault → Type 0

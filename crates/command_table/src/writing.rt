@@ -6,7 +6,7 @@ ghost use Rattle.call_ends.specs.Outside.{call_of};
 ghost use Rattle.call_ends.specs.Promise.{CommandEnds};
 ghost use Rattle.call_ends.specs.Written.{Writes};
 ghost use Rattle.command_table.specs.Tables as spec;
-ghost use Rattle.command_table.specs.Tables.{IsFound, TellsTable};
+ghost use Rattle.command_table.specs.Tables.{IsTableVerdict, TellsTable};
 ghost use Rattle.fault_lines.specs.Output.{output_of};
 
 use crate::fault::unproved;
@@ -71,7 +71,7 @@ fn found_table(
     span: &Span,
 ) -> Result<Result<Table, Refusal>, AllocError>
     requires { IsSome (slice_index_or setup.now.machines span.now.machine None) }
-    ensures { IfOk result (λ found. IsFound setup.now span.now found) }
+    ensures { IfOk result (λ found. IsTableVerdict setup.now span.now found) }
 {
     let verdict = check(alloc, setup, span)?;
     Ok(table_or(verdict))

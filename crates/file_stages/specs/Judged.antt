@@ -166,7 +166,7 @@ span_at files source config name =
     and_then (prepared_at files source config None) (λ prepared. judged_span prepared.0 (span_named name prepared.0.spans))
 
 -- a reading of a table file, or its fault
-abbrev pub judged_table : Result (List Row) table_file.Refusal → Judged (List Row)
+abbrev pub judged_table : Result (List Row) table_file.TableRefusal → Judged (List Row)
 judged_table (Ok rows) = right rows
 judged_table (Err refusal) = wrong (fault.Table refusal.line refusal.kind)
 

@@ -13,7 +13,7 @@ use Rattle.span_bounds.specs.declared.entry.Entry.{Entry}
 use Rattle.span_bounds.specs.declared.entry.Entry.TheVariants.{Absent, Present}
 use Rattle.span_bounds.specs.Tables.{LiesAt}
 use Rattle.span_bounds.specs.Edges.{at, nexts_at, spot, EachNext, IsClosedAt}
-use Rattle.span_bounds.specs.Reach.{Holds, AllHold, IsReach}
+use Rattle.span_bounds.specs.Reach.{IsHeldBy, AreHeld, IsReach}
 use Rattle.span_bounds.specs.Sums.{total, passages, waits, one_if}
 use Rattle.span_bounds.specs.Count.{LieBut, IsUnder, Count, Counting, Counted}
 use Rattle.span_bounds.proofs.Nexts.{EachNext-at, EachNext-more, EachNext-map, same_or_not}
@@ -75,7 +75,7 @@ Counting-step u sp g x x' m m' i a items k n reach l entry e lk q near c r = on 
   inside_x : spot n < length x
   inside_x = rw c.under.size near
 
-  held : AllHold (at g) (nexts_at u sp i a)
+  held : AreHeld (at g) (nexts_at u sp i a)
   held = elim (reach.sweep.steps i a l entry) [ inl h ↦ absurd h | inr h ↦ h ]
 
   here : (P : Next → Type 0) → EachNext P (nexts_at u sp i a) → P n
@@ -83,7 +83,7 @@ Counting-step u sp g x x' m m' i a items k n reach l entry e lk q near c r = on 
 
   lies : (f : ℕ → Entry) → IsClosedAt u sp f → (is_open a && n.passes) ≡ false → LiesAt n.ages (f (spot n))
   lies f s z = here (λ y. (is_open a && y.passes) ≡ false → LiesAt y.ages (f (spot y))) (closed_lie_but u sp f i a l s (needed f s)) z where
-    needed : (f : ℕ → Entry) → IsClosedAt u sp f → Holds a (f i)
+    needed : (f : ℕ → Entry) → IsClosedAt u sp f → IsHeldBy a (f i)
     needed f s = rw entry at (reach.sweep.least f s i l)
 
   open_count : (v : ℕ) → is_open a ≡ true → n.passes ≡ true → (if is_open a then passages v (take (k + 1) items) else 0) ≡ (if is_open a then passages v (take k items) else 0) + one_if (spot n == v)
@@ -113,7 +113,7 @@ Counting-step u sp g x x' m m' i a items k n reach l entry e lk q near c r = on 
     counted : (v : ℕ) → slice_index m v ≡ total i (waits u sp (at g) v) + (if is_open a then passages v (take k items) else 0) → slice_index m v + one_if (spot n == v) ≡ total i (waits u sp (at g) v) + (if is_open a then passages v (take (k + 1) items) else 0)
     counted v h = rw (h, open_count v (and_both (is_open a) n.passes z).0 (and_both (is_open a) n.passes z).1) (omega arith)
   on false z w = rw (w.0, w.1) (record {
-    under = IsUnder-join u sp g x (spot n) n.ages near c.under (λ f s. lies f s z) (here (λ y. Holds y.ages (at g (spot y))) held);
+    under = IsUnder-join u sp g x (spot n) n.ages near c.under (λ f s. lies f s z) (here (λ y. IsHeldBy y.ages (at g (spot y))) held);
     numbers = c.numbers;
     small = λ v. rw size_more (small v (c.small v));
     count = λ v b. rw (shut_count v (is_open a) z) (c.count v b);
@@ -142,12 +142,12 @@ Counting-begins u sp g x x' m i a reach l entry e c = rw e (record {
   inside : i < length x
   inside = rw c.under.size l
 
-  holds : (e : Entry) → e ≡ Present a → Holds Empty e
+  holds : (e : Entry) → e ≡ Present a → IsHeldBy Empty e
   holds e q = rw q (λ o. absurd (shut o)) where
     shut : false ≡ true → ⊥
     shut o = cc
 
-  lies : (b : Ages) (e : Entry) → Holds b e → LiesAt Empty e
+  lies : (b : Ages) (e : Entry) → IsHeldBy b e → LiesAt Empty e
   lies b Absent h = h
   lies b (Present c) h = tt
 

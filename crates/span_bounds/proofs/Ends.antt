@@ -18,7 +18,7 @@ use Rattle.span_step.specs.declared.stepped.Next.{Next}
 use Rattle.span_step.specs.Contexts.{Context, IsInside}
 use Rattle.span_step.specs.Laws.{AllImplied, AllReach, ReachesAge, most_of, most_on, first_cause}
 use Rattle.span_step.specs.Steps.{context_steps, bounds_of, bounds_in, period_of}
-use Rattle.span_step.proofs.Wider.{IsWithin-context_steps}
+use Rattle.span_step.proofs.Wider.{IsNarrower-context_steps}
 use Rattle.span_step.proofs.Aging.{AllReach-context_steps}
 use Rattle.span_step.proofs.Overdue.{overdue_alike, overdue_bad, IsConfigured}
 use Rattle.span_bounds.specs.declared.entry.Entry.{Entry}
@@ -27,7 +27,7 @@ use Rattle.span_bounds.specs.declared.row.Row.{Row}
 use Rattle.span_bounds.specs.Numbers.{number_of, context_at}
 use Rattle.span_bounds.specs.Tables.{LiesAt, entry_at, rows_from, start_context, AllLieIn, EachRow, IsTableFrom, IsTable, IsClosed}
 use Rattle.span_bounds.specs.Edges.{at, nexts_at, spot, AllLie, IsClosedAt}
-use Rattle.span_bounds.specs.Reach.{Holds, Below}
+use Rattle.span_bounds.specs.Reach.{IsHeldBy, Below}
 use Rattle.span_bounds.specs.Sums.{passages, one_if, open_at}
 use Rattle.span_bounds.specs.Take.{IsTaken}
 use Rattle.span_bounds.specs.Answers.{HasCause, IsGoodLeast, IsBadEverywhere, cause_at, AreGoodBelow}
@@ -180,7 +180,7 @@ module _ (u : Setup) (sp : Span) (l x : List Entry) (t : IsTaken u sp l x) (read
     present : {a : Ages} → Present a ≡ Absent → ⊥
     present e = cc
 
-    on : (e : Entry) → at t.reach (number_of (start_context u sp)) ≡ e → (number_of (start_context u sp) < 139392) ⊎ (139392 ≤ number_of (start_context u sp)) → Holds Empty (at t.reach (number_of (start_context u sp))) → LiesAt Empty (at x (number_of (start_context u sp)))
+    on : (e : Entry) → at t.reach (number_of (start_context u sp)) ≡ e → (number_of (start_context u sp) < 139392) ⊎ (139392 ≤ number_of (start_context u sp)) → IsHeldBy Empty (at t.reach (number_of (start_context u sp))) → LiesAt Empty (at x (number_of (start_context u sp)))
     on Absent q c h = absurd (rw q at h)
     on (Present a) q (inl m) h = t.keeps.rows (number_of (start_context u sp)) a m q
     on (Present a) q (inr m) h = absurd (present (sym q ∙ get_or_past t.reach (number_of (start_context u sp)) Absent (rw t.reached.sweep.size m)))
@@ -246,7 +246,7 @@ IsBadEverywhere-ends u sp l x n k t ready m e = record { bad = λ others o c. rw
 
   at_row : (f : ℕ → Entry) (a : Ages) → first_cause (context_steps u sp (context_at n) a).causes ≡ Some k → (g : Entry) → f n ≡ g → LiesAt a g → (a : Ages) × ((f n ≡ Present a) × HasCause k (context_steps u sp (context_at n) a).causes)
   at_row f a w Absent q h = absurd h
-  at_row f a w (Present b) q h = (b, (q, has_more k _ _ (IsWithin-context_steps u sp (context_at n) a b h).causes (first_has _ k w)))
+  at_row f a w (Present b) q h = (b, (q, has_more k _ _ (IsNarrower-context_steps u sp (context_at n) a b h).causes (first_has _ k w)))
 
   none : None ≡ Some k → ⊥
   none y = cc

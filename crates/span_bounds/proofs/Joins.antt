@@ -8,14 +8,14 @@ use Rattle.span_step.specs.declared.ages.Ages.{Ages}
 use Rattle.span_step.specs.declared.ages.Ages.TheVariants.{Empty, Between}
 use Rattle.span_step.specs.declared.stepped.Next.{Next}
 use Rattle.span_step.specs.Contexts.{IsInside, is_open}
-use Rattle.span_step.specs.Laws.{AreAlike, Follows, AreInside, SameAfterEdge}
-use Rattle.span_step.proofs.Wider.{IsWithin-context_steps}
+use Rattle.span_step.specs.Laws.{AreAlike, GoesLike, AreInside, SameAfterEdge}
+use Rattle.span_step.proofs.Wider.{IsNarrower-context_steps}
 use Rattle.span_step.proofs.Alike.{SameAfterEdge-context_steps}
 use Rattle.span_bounds.specs.declared.entry.Entry.{Entry}
 use Rattle.span_bounds.specs.declared.entry.Entry.TheVariants.{Absent, Present}
 use Rattle.span_bounds.specs.Tables.{LiesAt}
 use Rattle.span_bounds.specs.Edges.{at, nexts_at, spot, AllLie, IsClosedAt}
-use Rattle.span_bounds.specs.Reach.{Holds, Below}
+use Rattle.span_bounds.specs.Reach.{IsHeldBy, Below}
 use Rattle.span_bounds.specs.Sums.{join, join_into}
 use Rattle.span_bounds.specs.Count.{EntryIn, LieBut, IsUnder}
 use Rattle.span_bounds.proofs.Nexts.{EachNext-map, same_or_not}
@@ -70,7 +70,7 @@ join_open Empty b h = inr h
 join_open (Between lo hi) Empty h = inl refl
 join_open (Between lo hi) (Between low high) h = inl refl
 
-join_holds : (a : Ages) (e f : Entry) → Holds a f → Below e f → Holds (join_into a e) f
+join_holds : (a : Ages) (e f : Entry) → IsHeldBy a f → Below e f → IsHeldBy (join_into a e) f
 join_holds a Absent f h k = h
 join_holds a (Present b) Absent h k = absurd h
 join_holds a (Present b) (Present c) h k = λ o. elim (join_open a b o) [ inl p ↦ h p | inr p ↦ k p ]
@@ -88,7 +88,7 @@ lies_still x p a c j l h = on (same_or_not j p) where
   on (inl e) = rw (e, at_same x p (Present (join_into a (at x p))) l) (lies_joined a c (at x p) (rw e at h))
   on (inr n) = rw (at_other x p j (Present (join_into a (at x p))) n) h
 
-pub IsUnder-join : (u : Setup) (sp : Span) (g x : List Entry) (p : ℕ) (a : Ages) → p < 139392 → IsUnder u sp g x → ((f : ℕ → Entry) → IsClosedAt u sp f → LiesAt a (f p)) → Holds a (at g p) → IsUnder u sp g (joined_at x p a)
+pub IsUnder-join : (u : Setup) (sp : Span) (g x : List Entry) (p : ℕ) (a : Ages) → p < 139392 → IsUnder u sp g x → ((f : ℕ → Entry) → IsClosedAt u sp f → LiesAt a (f p)) → IsHeldBy a (at g p) → IsUnder u sp g (joined_at x p a)
 IsUnder-join u sp g x p a l s needed h = record {
   size = length-set x p (Present (join_into a (at x p))) ∙ s.size;
   least = λ f c j m. least f c j m (same_or_not j p);
@@ -106,7 +106,7 @@ IsUnder-join u sp g x p a l s needed h = record {
   within j m (inr n) = rw (at_other x p j (Present (join_into a (at x p))) n) (s.within j m)
 
 -- what follows ages inside lies where theirs do
-pub follows_lie : (f : ℕ → Entry) (ms ns : List Next) → AreAlike (Follows AreInside) ms ns → AllLie f ns → AllLie f ms
+pub follows_lie : (f : ℕ → Entry) (ms ns : List Next) → AreAlike (GoesLike AreInside) ms ns → AllLie f ns → AllLie f ms
 follows_lie f [] ns h l = tt
 follows_lie f (m ∷ ms) [] h l = absurd h
 follows_lie f (m ∷ ms) (n ∷ ns) h l = (rw h.0.context (lies_trans m.ages n.ages _ h.0.ages l.0), follows_lie f ms ns h.1 l.1)
@@ -114,7 +114,7 @@ follows_lie f (m ∷ ms) (n ∷ ns) h l = (rw h.0.context (lies_trans m.ages n.a
 lies_same : (a b : Ages) (e : Entry) → a ≡ b → LiesAt b e → LiesAt a e
 lies_same a b e q h = rw q h
 
-pub follows_edge : (f : ℕ → Entry) (ms ns : List Next) → AreAlike (Follows SameAfterEdge) ms ns → LieBut true f ns → LieBut true f ms
+pub follows_edge : (f : ℕ → Entry) (ms ns : List Next) → AreAlike (GoesLike SameAfterEdge) ms ns → LieBut true f ns → LieBut true f ms
 follows_edge f [] ns h l = tt
 follows_edge f (m ∷ ms) [] h l = absurd h
 follows_edge f (m ∷ ms) (n ∷ ns) h l =
@@ -125,7 +125,7 @@ lie_but o f ns h = EachNext-map (λ n. LiesAt n.ages (f (spot n))) (λ n. (o && 
 
 along : (u : Setup) (sp : Span) (f : ℕ → Entry) (i : ℕ) (a b : Ages) → IsInside a b → AllLie f (nexts_at u sp i b) → AllLie f (nexts_at u sp i a)
 unfolding nexts_at
-along u sp f i a b k h = follows_lie f _ _ (IsWithin-context_steps u sp _ a b k).nexts h
+along u sp f i a b k h = follows_lie f _ _ (IsNarrower-context_steps u sp _ a b k).nexts h
 
 pub beside : (u : Setup) (sp : Span) (f : ℕ → Entry) (i : ℕ) (a b : Ages) → LieBut true f (nexts_at u sp i b) → LieBut true f (nexts_at u sp i a)
 unfolding nexts_at
@@ -139,12 +139,12 @@ closed_lies u sp f i a l c h = on (f i) refl h where
   on (Present b) q k = along u sp f i a b k (c.steps i b l q)
 
 -- after a row that a closed table has, all nexts lie in it but the passages of an open row
-pub closed_lie_but : (u : Setup) (sp : Span) (f : ℕ → Entry) (i : ℕ) (a : Ages) → i < 139392 → IsClosedAt u sp f → Holds a (f i) → LieBut (is_open a) f (nexts_at u sp i a)
+pub closed_lie_but : (u : Setup) (sp : Span) (f : ℕ → Entry) (i : ℕ) (a : Ages) → i < 139392 → IsClosedAt u sp f → IsHeldBy a (f i) → LieBut (is_open a) f (nexts_at u sp i a)
 closed_lie_but u sp f i a l c h = on (f i) refl h where
   by : (a b : Ages) → AllLie f (nexts_at u sp i b) → LieBut (is_open a) f (nexts_at u sp i a)
   by Empty b k = lie_but false f _ (along u sp f i Empty b tt k)
   by (Between lo hi) b k = beside u sp f i (Between lo hi) b (lie_but true f _ k)
 
-  on : (e : Entry) → f i ≡ e → Holds a e → LieBut (is_open a) f (nexts_at u sp i a)
+  on : (e : Entry) → f i ≡ e → IsHeldBy a e → LieBut (is_open a) f (nexts_at u sp i a)
   on Absent q k = absurd k
   on (Present b) q k = by a b (c.steps i b l q)

@@ -10,15 +10,15 @@ use Rattle.span_step.specs.declared.ages.Ages.{Ages}
 use Rattle.span_step.specs.declared.ages.Ages.TheVariants.{Empty, Between}
 use Rattle.span_step.specs.declared.stepped.Next.{Next}
 use Rattle.span_step.specs.Contexts.{IsInside, is_open}
-use Rattle.span_step.specs.Laws.{AreAlike, Follows, AreInside, OpenAlike}
-use Rattle.span_step.proofs.Wider.{IsWithin-context_steps}
+use Rattle.span_step.specs.Laws.{AreAlike, GoesLike, AreInside, OpenAlike}
+use Rattle.span_step.proofs.Wider.{IsNarrower-context_steps}
 use Rattle.span_step.proofs.Alike.{OpenAlike-context_steps}
 use Rattle.span_bounds.specs.declared.entry.Entry.{Entry}
 use Rattle.span_bounds.specs.declared.entry.Entry.TheVariants.{Absent, Present}
 use Rattle.span_bounds.specs.Numbers.{number_of}
 use Rattle.span_bounds.specs.Tables.{LiesAt, start_context}
 use Rattle.span_bounds.specs.Edges.{at, nexts_at, spot, AllLie, IsClosedAt, Among}
-use Rattle.span_bounds.specs.Reach.{Holds, holds, Below, AllHold, plain, rises_left, room, IsNeeded, Sweep, Visit, Raised}
+use Rattle.span_bounds.specs.Reach.{IsHeldBy, holds, Below, AreHeld, plain, rises_left, room, IsNeeded, Sweep, SweepAtRow, Raised}
 use Rattle.span_bounds.proofs.Nexts.{EachNext-at, EachNext-more, EachNext-map, Among-push, Among-pop, same_or_not}
 
 inside_open : (a b : Ages) → IsInside a b → is_open a ≡ true → is_open b ≡ true
@@ -27,11 +27,11 @@ inside_open (Between lo hi) Empty h e = absurd h
 inside_open (Between lo hi) (Between low high) h e = refl
 
 -- ages that are open no more than others which lie at an entry are held by it
-holds_by : (a b : Ages) (e : Entry) → (is_open a ≡ true → is_open b ≡ true) → LiesAt b e → Holds a e
+holds_by : (a b : Ages) (e : Entry) → (is_open a ≡ true → is_open b ≡ true) → LiesAt b e → IsHeldBy a e
 holds_by a b Absent k h = h
 holds_by a b (Present c) k h = λ o. inside_open b c h (k o)
 
-follows_inside : (f : ℕ → Entry) (ms ns : List Next) → AreAlike (Follows AreInside) ms ns → AllLie f ns → AllHold f ms
+follows_inside : (f : ℕ → Entry) (ms ns : List Next) → AreAlike (GoesLike AreInside) ms ns → AllLie f ns → AreHeld f ms
 follows_inside f [] ns h l = tt
 follows_inside f (m ∷ ms) [] h l = absurd h
 follows_inside f (m ∷ ms) (n ∷ ns) h l =
@@ -40,31 +40,31 @@ follows_inside f (m ∷ ms) (n ∷ ns) h l =
 open_with : (a b : Bool) → a ≡ b → a ≡ true → b ≡ true
 open_with a b e h = sym e ∙ h
 
-follows_open : (f : ℕ → Entry) (ms ns : List Next) → AreAlike (Follows OpenAlike) ms ns → AllLie f ns → AllHold f ms
+follows_open : (f : ℕ → Entry) (ms ns : List Next) → AreAlike (GoesLike OpenAlike) ms ns → AllLie f ns → AreHeld f ms
 follows_open f [] ns h l = tt
 follows_open f (m ∷ ms) [] h l = absurd h
 follows_open f (m ∷ ms) (n ∷ ns) h l =
     (rw h.0.context (holds_by m.ages n.ages _ (open_with _ _ h.0.ages) l.0), follows_open f ms ns h.1 l.1)
 
-holds_along : (u : Setup) (sp : Span) (f : ℕ → Entry) (i : ℕ) (a b : Ages) → (is_open a ≡ true → is_open b ≡ true) → AllLie f (nexts_at u sp i b) → AllHold f (nexts_at u sp i a)
+holds_along : (u : Setup) (sp : Span) (f : ℕ → Entry) (i : ℕ) (a b : Ages) → (is_open a ≡ true → is_open b ≡ true) → AllLie f (nexts_at u sp i b) → AreHeld f (nexts_at u sp i a)
 unfolding nexts_at
-holds_along u sp f i Empty b k l = follows_inside f _ _ (IsWithin-context_steps u sp _ Empty b tt).nexts l
+holds_along u sp f i Empty b k l = follows_inside f _ _ (IsNarrower-context_steps u sp _ Empty b tt).nexts l
 holds_along u sp f i (Between lo hi) b k l = follows_open f _ _ (OpenAlike-context_steps u sp _ (Between lo hi) b (sym (k refl))) l
 
-closed_holds : (u : Setup) (sp : Span) (f : ℕ → Entry) (i : ℕ) (a : Ages) → i < 139392 → IsClosedAt u sp f → Holds a (f i) → AllHold f (nexts_at u sp i a)
+closed_holds : (u : Setup) (sp : Span) (f : ℕ → Entry) (i : ℕ) (a : Ages) → i < 139392 → IsClosedAt u sp f → IsHeldBy a (f i) → AreHeld f (nexts_at u sp i a)
 closed_holds u sp f i a l c h = on (f i) refl h where
-  on : (e : Entry) → f i ≡ e → Holds a e → AllHold f (nexts_at u sp i a)
+  on : (e : Entry) → f i ≡ e → IsHeldBy a e → AreHeld f (nexts_at u sp i a)
   on Absent q k = absurd k
   on (Present b) q k = holds_along u sp f i a b k (c.steps i b l q)
 
 -- what a needed row leads to is needed
 pub IsNeeded-next : (u : Setup) (sp : Span) (i : ℕ) (a : Ages) (k : ℕ) (d : Next) → i < 139392 → IsNeeded u sp i a → k < length (nexts_at u sp i a) → IsNeeded u sp (spot (get_or (nexts_at u sp i a) k d)) (get_or (nexts_at u sp i a) k d).ages
-IsNeeded-next u sp i a k d l h m = record { needed = λ f c. EachNext-at (λ n. Holds n.ages (f (spot n))) _ k d (closed_holds u sp f i a l c (h.needed f c)) m }
+IsNeeded-next u sp i a k d l h m = record { needed = λ f c. EachNext-at (λ n. IsHeldBy n.ages (f (spot n))) _ k d (closed_holds u sp f i a l c (h.needed f c)) m }
 
-pub Holds-below : (a : Ages) (e f : Entry) → Holds a e → Below e f → Holds a f
-Holds-below a Absent f h b = absurd h
-Holds-below a (Present c) Absent h b = absurd b
-Holds-below a (Present c) (Present d) h b = λ o. b (h o)
+pub IsHeldBy-below : (a : Ages) (e f : Entry) → IsHeldBy a e → Below e f → IsHeldBy a f
+IsHeldBy-below a Absent f h b = absurd h
+IsHeldBy-below a (Present c) Absent h b = absurd b
+IsHeldBy-below a (Present c) (Present d) h b = λ o. b (h o)
 
 pub Below-refl : (e : Entry) → Below e e
 Below-refl Absent = tt
@@ -82,14 +82,14 @@ below_raised Empty (Present b) q = absurd (bad q) where
   bad e = cc
 below_raised (Between lo hi) (Present b) q = λ o. refl
 
-holds_plain : (a : Ages) → Holds a (Present (plain a))
+holds_plain : (a : Ages) → IsHeldBy a (Present (plain a))
 holds_plain a = λ o. open_plain a ∙ o
 
-plain_held : (a : Ages) (e : Entry) → Holds a e → Holds (plain a) e
+plain_held : (a : Ages) (e : Entry) → IsHeldBy a e → IsHeldBy (plain a) e
 plain_held a Absent h = h
 plain_held a (Present b) h = λ o. h (sym (open_plain a) ∙ o)
 
-holds_true : (a : Ages) (e : Entry) → holds a e ≡ true → Holds a e
+holds_true : (a : Ages) (e : Entry) → holds a e ≡ true → IsHeldBy a e
 holds_true a Absent q = absurd (bad q) where
   bad : false ≡ true → ⊥
   bad e = cc
@@ -121,20 +121,20 @@ module _ (u : Setup) (sp : Span) (g : List Entry) (w : List ℕ) (s : Sweep u sp
   raised_below : (j : ℕ) → Below (at g j) (at (set g i (Present (plain a))) j)
   raised_below j = below_set g i j (Present (plain a)) inside (below_raised a (at g i) fails)
 
-  pub AllHold-raised : (ns : List Next) → AllHold (at g) ns → AllHold (at (set g i (Present (plain a)))) ns
-  AllHold-raised ns h = EachNext-map (λ m. Holds m.ages (at g (spot m))) (λ m. Holds m.ages (at (set g i (Present (plain a))) (spot m))) (λ m k. Holds-below m.ages _ _ k (raised_below (spot m))) ns h
+  pub AreHeld-raised : (ns : List Next) → AreHeld (at g) ns → AreHeld (at (set g i (Present (plain a)))) ns
+  AreHeld-raised ns h = EachNext-map (λ m. IsHeldBy m.ages (at g (spot m))) (λ m. IsHeldBy m.ages (at (set g i (Present (plain a))) (spot m))) (λ m k. IsHeldBy-below m.ages _ _ k (raised_below (spot m))) ns h
 
   pub Sweep-raised : Sweep u sp (set g i (Present (plain a))) (i ∷ w)
   Sweep-raised = record {
     size = length-set g i (Present (plain a)) ∙ s.size;
     near = λ j h. elim h [ inl e ↦ rw e l | inr m ↦ s.near j m ];
-    begins = Holds-below Empty _ _ s.begins (raised_below _);
+    begins = IsHeldBy-below Empty _ _ s.begins (raised_below _);
     steps = λ j b m q. steps j b m q (same_or_not j i);
     least = λ f c j m. least f c j m (same_or_not j i);
   } where
-    steps : (j : ℕ) (b : Ages) → j < 139392 → at (set g i (Present (plain a))) j ≡ Present b → (j ≡ i) ⊎ (j ≢ i) → Among j (i ∷ w) ⊎ AllHold (at (set g i (Present (plain a)))) (nexts_at u sp j b)
+    steps : (j : ℕ) (b : Ages) → j < 139392 → at (set g i (Present (plain a))) j ≡ Present b → (j ≡ i) ⊎ (j ≢ i) → Among j (i ∷ w) ⊎ AreHeld (at (set g i (Present (plain a)))) (nexts_at u sp j b)
     steps j b m q (inl e) = inl (inl e)
-    steps j b m q (inr d) = elim (s.steps j b m (sym (at_other g i j _ d) ∙ q)) [ inl k ↦ inl (inr k) | inr k ↦ inr (AllHold-raised _ k) ]
+    steps j b m q (inr d) = elim (s.steps j b m (sym (at_other g i j _ d) ∙ q)) [ inl k ↦ inl (inr k) | inr k ↦ inr (AreHeld-raised _ k) ]
 
     least : (f : ℕ → Entry) → IsClosedAt u sp f → (j : ℕ) → j < 139392 → (j ≡ i) ⊎ (j ≢ i) → Below (at (set g i (Present (plain a))) j) (f j)
     least f c j m (inl e) = rw (e, at_same g i (Present (plain a)) inside) (plain_held a (f i) (n.needed f c))
@@ -151,26 +151,26 @@ wider u sp g w v k near s = record {
 }
 
 -- the next that is at a place is raised
-pub Visit-raised : (u : Setup) (sp : Span) (g g' : List Entry) (w w' : List ℕ) (i : ℕ) (a : Ages) (k : ℕ) (d : Next) → i < 139392 → k < length (nexts_at u sp i a) → spot (get_or (nexts_at u sp i a) k d) < 139392 →
-    Visit u sp g w i a (take k (nexts_at u sp i a)) →
+pub SweepAtRow-raised : (u : Setup) (sp : Span) (g g' : List Entry) (w w' : List ℕ) (i : ℕ) (a : Ages) (k : ℕ) (d : Next) → i < 139392 → k < length (nexts_at u sp i a) → spot (get_or (nexts_at u sp i a) k d) < 139392 →
+    SweepAtRow u sp g w i a (take k (nexts_at u sp i a)) →
     Raised (spot (get_or (nexts_at u sp i a) k d)) (get_or (nexts_at u sp i a) k d).ages g g' w w' →
-    Visit u sp g' w' i a (take (k + 1) (nexts_at u sp i a))
-Visit-raised u sp g g' w w' i a k d l m below v r = on (holds n.ages (at g (spot n))) refl r where
+    SweepAtRow u sp g' w' i a (take (k + 1) (nexts_at u sp i a))
+SweepAtRow-raised u sp g g' w w' i a k d l m below v r = on (holds n.ages (at g (spot n))) refl r where
   n : Next
   n = get_or (nexts_at u sp i a) k d
 
-  on : (z : Bool) → holds n.ages (at g (spot n)) ≡ z → MatchBool z ((g' ≡ g) × (w' ≡ w)) ((g' ≡ set g (spot n) (Present (plain n.ages))) × (w' ≡ w ++ spot n ∷ [])) → Visit u sp g' w' i a (take (k + 1) (nexts_at u sp i a))
+  on : (z : Bool) → holds n.ages (at g (spot n)) ≡ z → MatchBool z ((g' ≡ g) × (w' ≡ w)) ((g' ≡ set g (spot n) (Present (plain n.ages))) × (w' ≡ w ++ spot n ∷ [])) → SweepAtRow u sp g' w' i a (take (k + 1) (nexts_at u sp i a))
   on true q e = rw (e.0, e.1) (record {
     sweep = v.sweep;
     row = v.row;
-    held = EachNext-more (λ x. Holds x.ages (at g (spot x))) _ k d m v.held (holds_true _ _ q);
+    held = EachNext-more (λ x. IsHeldBy x.ages (at g (spot x))) _ k d m v.held (holds_true _ _ q);
     same = v.same;
   })
   on false q e = rw (e.0, e.1) (record {
     sweep = wider u sp _ (spot n ∷ i ∷ w) (i ∷ (w ++ spot n ∷ [])) there near raised;
     row = v.row;
-    held = EachNext-more (λ x. Holds x.ages (at (set g (spot n) (Present (plain n.ages))) (spot x))) _ k d m
-        (AllHold-raised u sp g (i ∷ w) v.sweep (spot n) n.ages below q needed _ v.held)
+    held = EachNext-more (λ x. IsHeldBy x.ages (at (set g (spot n) (Present (plain n.ages))) (spot x))) _ k d m
+        (AreHeld-raised u sp g (i ∷ w) v.sweep (spot n) n.ages below q needed _ v.held)
         (rw (at_same g (spot n) (Present (plain n.ages)) (rw v.sweep.size below)) (holds_plain n.ages));
     same = same (same_or_not i (spot n)) v.same;
   }) where
@@ -229,23 +229,23 @@ room_starts g g' w w' i e q l r =
     omega (arith, room_blank g w e q, room_raised i Empty g g' w w' inside r)
 
 -- where all nexts are done, the row waits no more
-pub Visit-done : (u : Setup) (sp : Span) (g : List Entry) (w : List ℕ) (i : ℕ) (a : Ages) → Visit u sp g w i a (nexts_at u sp i a) → Sweep u sp g w
-Visit-done u sp g w i a v = record {
+pub SweepAtRow-done : (u : Setup) (sp : Span) (g : List Entry) (w : List ℕ) (i : ℕ) (a : Ages) → SweepAtRow u sp g w i a (nexts_at u sp i a) → Sweep u sp g w
+SweepAtRow-done u sp g w i a v = record {
   size = v.sweep.size;
   near = λ j h. v.sweep.near j (inr h);
   begins = v.sweep.begins;
   steps = λ j b m q. steps j b q v.same (v.sweep.steps j b m q);
   least = v.sweep.least;
 } where
-  steps : (j : ℕ) (b : Ages) → at g j ≡ Present b → (at g i ≡ Present a) ⊎ Among i w → Among j (i ∷ w) ⊎ AllHold (at g) (nexts_at u sp j b) → Among j w ⊎ AllHold (at g) (nexts_at u sp j b)
+  steps : (j : ℕ) (b : Ages) → at g j ≡ Present b → (at g i ≡ Present a) ⊎ Among i w → Among j (i ∷ w) ⊎ AreHeld (at g) (nexts_at u sp j b) → Among j w ⊎ AreHeld (at g) (nexts_at u sp j b)
   steps j b q s (inl (inr h)) = inl h
   steps j b q s (inr h) = inr h
   steps j b q (inr o) (inl (inl h)) = inl (rw h o)
   steps j b q (inl o) (inl (inl h)) =
       let same : a ≡ b = cc in inr (rw (h, ← same) v.held)
 
-pub Visit-begins : (u : Setup) (sp : Span) (g : List Entry) (w : List ℕ) (i : ℕ) (a : Ages) → i < 139392 → at g i ≡ Present a → Sweep u sp g (i ∷ w) → Visit u sp g w i a []
-Visit-begins u sp g w i a l q s = record {
+pub SweepAtRow-begins : (u : Setup) (sp : Span) (g : List Entry) (w : List ℕ) (i : ℕ) (a : Ages) → i < 139392 → at g i ≡ Present a → Sweep u sp g (i ∷ w) → SweepAtRow u sp g w i a []
+SweepAtRow-begins u sp g w i a l q s = record {
   sweep = s;
   row = record { needed = λ f c. rw q at (s.least f c i l) };
   held = tt;
@@ -253,13 +253,13 @@ Visit-begins u sp g w i a l q s = record {
 }
 
 -- the same as the code has it
-pub Visit-step : (u : Setup) (sp : Span) (g g' : List Entry) (w w' : List ℕ) (i : ℕ) (a : Ages) (items : List Next) (k : ℕ) (n : Next) (p : ℕ) → i < 139392 → items ≡ nexts_at u sp i a → k < length items → n ≡ get_or items k n → p ≡ spot n → p < 139392 →
-    Visit u sp g w i a (take k items) → Raised p n.ages g g' w w' → Visit u sp g' w' i a (take (k + 1) items)
-Visit-step u sp g g' w w' i a items k n p l e m q o below v r =
+pub SweepAtRow-step : (u : Setup) (sp : Span) (g g' : List Entry) (w w' : List ℕ) (i : ℕ) (a : Ages) (items : List Next) (k : ℕ) (n : Next) (p : ℕ) → i < 139392 → items ≡ nexts_at u sp i a → k < length items → n ≡ get_or items k n → p ≡ spot n → p < 139392 →
+    SweepAtRow u sp g w i a (take k items) → Raised p n.ages g g' w w' → SweepAtRow u sp g' w' i a (take (k + 1) items)
+SweepAtRow-step u sp g g' w w' i a items k n p l e m q o below v r =
     let q' : n ≡ get_or (nexts_at u sp i a) k n = rw e at q in
     let r' : Raised (spot n) n.ages g g' w w' = rw o at r in
     let below' : spot n < 139392 = rw o at below in
-    rw e (Visit-raised u sp g g' w w' i a k n l (rw e at m)
+    rw e (SweepAtRow-raised u sp g g' w w' i a k n l (rw e at m)
     (subst (λ x. spot x < 139392) q' below')
     (rw e at v)
     (subst (λ x. Raised (spot x) x.ages g g' w w') q' r'))
@@ -267,7 +267,7 @@ Visit-step u sp g g' w w' i a items k n p l e m q o below v r =
 absent : (i : ℕ) → i < 139392 → at (replicate 139392 Absent) i ≡ Absent
 absent i l = get_or-replicate 139392 i Absent Absent l
 
-lies_holds_empty : (e : Entry) → LiesAt Empty e → Holds Empty e
+lies_holds_empty : (e : Entry) → LiesAt Empty e → IsHeldBy Empty e
 lies_holds_empty Absent h = h
 lies_holds_empty (Present b) h = λ o. absurd (closed o) where
   closed : false ≡ true → ⊥
@@ -293,7 +293,7 @@ Sweep-starts u sp g g' w w' i e o q l r =
       others : (j : ℕ) → j < 139392 → j ≢ i → at (set g i (Present Empty)) j ≡ Absent
       others j m n = at_other g i j (Present Empty) n ∙ rw e (absent j m)
 
-      steps : (j : ℕ) (b : Ages) → j < 139392 → at (set g i (Present Empty)) j ≡ Present b → (j ≡ i) ⊎ (j ≢ i) → Among j (i ∷ []) ⊎ AllHold (at (set g i (Present Empty))) (nexts_at u sp j b)
+      steps : (j : ℕ) (b : Ages) → j < 139392 → at (set g i (Present Empty)) j ≡ Present b → (j ≡ i) ⊎ (j ≢ i) → Among j (i ∷ []) ⊎ AreHeld (at (set g i (Present Empty))) (nexts_at u sp j b)
       steps j b m p (inl h) = inl (inl h)
       steps j b m p (inr n) = absurd (different (sym (others j m n) ∙ p)) where
         different : {b : Ages} → Absent ≡ Present b → ⊥
@@ -320,6 +320,6 @@ Sweep-skip u sp g w i e s = record {
   different : {b : Ages} → Absent ≡ Present b → ⊥
   different x = cc
 
-  drop_it : (j : ℕ) (b : Ages) → at g j ≡ Present b → (j ≡ i) ⊎ Among j w → Among j w ⊎ AllHold (at g) (nexts_at u sp j b)
+  drop_it : (j : ℕ) (b : Ages) → at g j ≡ Present b → (j ≡ i) ⊎ Among j w → Among j w ⊎ AreHeld (at g) (nexts_at u sp j b)
   drop_it j b q (inl h) = absurd (different (sym (rw h e) ∙ q))
   drop_it j b q (inr h) = inl h

@@ -11,16 +11,16 @@ use Rattle.span_step.specs.declared.ages.Ages.{Ages}
 use Rattle.span_step.specs.declared.ages.Ages.TheVariants.{Empty, Between}
 use Rattle.span_step.specs.declared.stepped.Next.{Next}
 use Rattle.span_step.specs.Contexts.{is_open}
-use Rattle.span_step.specs.Laws.{AreAlike, Follows, SameAfterEdge}
+use Rattle.span_step.specs.Laws.{AreAlike, GoesLike, SameAfterEdge}
 use Rattle.span_step.proofs.Alike.{SameAfterEdge-context_steps}
 use Rattle.span_bounds.specs.declared.entry.Entry.{Entry}
 use Rattle.span_bounds.specs.declared.entry.Entry.TheVariants.{Absent, Present}
 use Rattle.span_bounds.specs.Tables.{LiesAt}
 use Rattle.span_bounds.specs.Edges.{at, nexts_at, spot, AllLie, Among}
-use Rattle.span_bounds.specs.Reach.{Holds, Below, AllHold, IsReach}
+use Rattle.span_bounds.specs.Reach.{IsHeldBy, Below, AreHeld, IsReach}
 use Rattle.span_bounds.specs.Sums.{total, passages, waits, waits_by, one_if, open_at, join_into}
 use Rattle.span_bounds.specs.Count.{LieBut, Count}
-use Rattle.span_bounds.specs.Take.{Take, Taking, IsTaken, Takes, TakesRow, AreReady, Passed, work_left, is_ready, ages_or_none, PassToLeft, unmet}
+use Rattle.span_bounds.specs.Take.{Take, Taking, IsTaken, IsTaking, TakesRow, AreReady, Passed, work_left, is_ready, ages_or_none, PassToLeft, unmet}
 use Rattle.span_bounds.proofs.Nexts.{EachNext-more, EachNext-map, EachNext-both, same_or_not, Among-push, Among-pop}
 use Rattle.span_bounds.proofs.Reaching.{at_same, at_other}
 use Rattle.span_bounds.proofs.Joins.{joined_at, lies_at_join, lies_still, IsUnder-join, closed_lies, beside}
@@ -51,7 +51,7 @@ Take-starts u sp g x m ready r c q = record {
   settled = λ i l shut. c.count i l ∙ total-zero 139392 _ (λ w m. waits_shut u sp g i w (λ a e. held w a m e) shut);
   done = λ i a l shut e. done i a l (at g i) refl shut e (c.under.within i l);
 } where
-  held : (w : ℕ) (a : Ages) → w < 139392 → at g w ≡ Present a → AllHold (at g) (nexts_at u sp w a)
+  held : (w : ℕ) (a : Ages) → w < 139392 → at g w ≡ Present a → AreHeld (at g) (nexts_at u sp w a)
   held w a m e = elim (r.sweep.steps w a m e) [ inl h ↦ absurd h | inr h ↦ h ]
 
   shut_empty : (a b : Ages) → is_open b ≡ false → (is_open a ≡ true → is_open b ≡ true) → a ≡ b
@@ -63,14 +63,14 @@ Take-starts u sp g x m ready r c q = record {
   done i a l Absent q shut e h = absurd (rw (e, q) at h)
   done i a l (Present b) q shut e h =
       let shut' : is_open b ≡ false = rw q at shut in
-      let h' : Holds a (Present b) = rw (e, q) at h in
+      let h' : IsHeldBy a (Present b) = rw (e, q) at h in
       let same : a ≡ b = shut_empty a b shut' h' in
       let f : LieBut false (at x) (nexts_at u sp i b) = rw shut' at (c.fresh i b l q) in
       rw same (all_but_false (at x) _ f)
 
 -- a number that isn't ready needn't wait
-pub Takes-skip : (u : Setup) (sp : Span) (l x : List Entry) (m ready : List ℕ) (i : ℕ) → is_ready l m i ≡ false → Takes u sp l x m (i ∷ ready) → Takes u sp l x m ready
-Takes-skip u sp l x m ready i q t = record {
+pub IsTaking-skip : (u : Setup) (sp : Span) (l x : List Entry) (m ready : List ℕ) (i : ℕ) → is_ready l m i ≡ false → IsTaking u sp l x m (i ∷ ready) → IsTaking u sp l x m ready
+IsTaking-skip u sp l x m ready i q t = record {
   reach = t.reach;
   reached = t.reached;
   take = record {
@@ -100,7 +100,7 @@ zero_from : (n : ℕ) → (n == 0) ≡ true → n ≡ 0
 zero_from n e = grind (arith, nat_tests)
 
 -- a row begins to be taken
-pub TakesRow-begins : (u : Setup) (sp : Span) (l l' x : List Entry) (m ready : List ℕ) (i : ℕ) (a : Ages) → i < 139392 → is_ready l m i ≡ true → l' ≡ set l i Absent → a ≡ ages_or_none (at x i) → Takes u sp l x m (i ∷ ready) → TakesRow u sp l' x m ready i a [] (nexts_at u sp i a)
+pub TakesRow-begins : (u : Setup) (sp : Span) (l l' x : List Entry) (m ready : List ℕ) (i : ℕ) (a : Ages) → i < 139392 → is_ready l m i ≡ true → l' ≡ set l i Absent → a ≡ ages_or_none (at x i) → IsTaking u sp l x m (i ∷ ready) → TakesRow u sp l' x m ready i a [] (nexts_at u sp i a)
 TakesRow-begins u sp l l' x m ready i a b q e o t = rw e (record {
   reach = t.reach;
   reached = t.reached;
@@ -278,7 +278,7 @@ TakesRow-step u sp l x x' m m' ready ready' i a items k n lk q b bi t0 r = on n.
     open_reach : open_at (at t.reach (spot n)) ≡ true
     open_reach = rw (s.left.left (spot n) b open_p) at open_p
 
-    held_there : (e : Entry) → open_at e ≡ true → Holds n.ages e
+    held_there : (e : Entry) → open_at e ≡ true → IsHeldBy n.ages e
     held_there Absent o = absurd (clash o refl)
     held_there (Present c) o = λ y. o
 
@@ -318,7 +318,7 @@ TakesRow-step u sp l x x' m m' ready ready' i a items k n lk q b bi t0 r = on n.
     finished j d c o h e (inr y) = all_still x (spot n) n.ages _ inside_x (s.finished j d c o h (rw (at_other x (spot n) j (Present (join_into n.ages (at x (spot n)))) y) at e))
 
 -- all nexts are done
-pub TakesRow-ends : (u : Setup) (sp : Span) (l x : List Entry) (m ready : List ℕ) (i : ℕ) (a : Ages) → TakesRow u sp l x m ready i a (nexts_at u sp i a) [] → Takes u sp l x m ready
+pub TakesRow-ends : (u : Setup) (sp : Span) (l x : List Entry) (m ready : List ℕ) (i : ℕ) (a : Ages) → TakesRow u sp l x m ready i a (nexts_at u sp i a) [] → IsTaking u sp l x m ready
 TakesRow-ends u sp l x m ready i a t = record {
   reach = t.reach;
   reached = t.reached;
@@ -347,8 +347,8 @@ TakesRow-ends u sp l x m ready i a t = record {
   done j d c o e (inr y) = s.finished j d c o y e
 
 -- a number is taken from the end
-pub Takes-pop : (u : Setup) (sp : Span) (l x : List Entry) (m w w' : List ℕ) (i : ℕ) → w ≡ w' ++ i ∷ [] → Takes u sp l x m w → Takes u sp l x m (i ∷ w')
-Takes-pop u sp l x m w w' i e t0 = record {
+pub IsTaking-pop : (u : Setup) (sp : Span) (l x : List Entry) (m w w' : List ℕ) (i : ℕ) → w ≡ w' ++ i ∷ [] → IsTaking u sp l x m w → IsTaking u sp l x m (i ∷ w')
+IsTaking-pop u sp l x m w w' i e t0 = record {
   reach = t.reach;
   reached = t.reached;
   take = record {
@@ -362,13 +362,13 @@ Takes-pop u sp l x m w w' i e t0 = record {
     done = s.done;
   };
 } where
-  t : Takes u sp l x m (w' ++ i ∷ [])
+  t : IsTaking u sp l x m (w' ++ i ∷ [])
   t = rw e at t0
 
   s : Take u sp t.reach l x m (w' ++ i ∷ [])
   s = t.take
 
-follows_left : (l : List Entry) (ms ns : List Next) → AreAlike (Follows SameAfterEdge) ms ns → PassToLeft l ns → PassToLeft l ms
+follows_left : (l : List Entry) (ms ns : List Next) → AreAlike (GoesLike SameAfterEdge) ms ns → PassToLeft l ns → PassToLeft l ms
 follows_left l [] ns h k = tt
 follows_left l (m ∷ ms) [] h k = absurd h
 follows_left l (m ∷ ms) (n ∷ ns) h k = (λ p. rw h.0.context (k.0 (sym h.0.passes ∙ p)), follows_left l ms ns h.1 k.1)
@@ -379,7 +379,7 @@ unfolding nexts_at
 left_alike u sp l i a b h = follows_left l _ _ (SameAfterEdge-context_steps u sp _ a b) h
 
 -- nothing waits any more
-pub IsTaken-ends : (u : Setup) (sp : Span) (l x : List Entry) (m ready : List ℕ) → ready ≡ [] → Takes u sp l x m ready → IsTaken u sp l x
+pub IsTaken-ends : (u : Setup) (sp : Span) (l x : List Entry) (m ready : List ℕ) → ready ≡ [] → IsTaking u sp l x m ready → IsTaken u sp l x
 IsTaken-ends u sp l x m ready none t = record {
   reach = t.reach;
   reached = t.reached;
@@ -398,17 +398,17 @@ IsTaken-ends u sp l x m ready none t = record {
   some : (i : ℕ) → i < 139392 → open_at (at l i) ≡ true → 1 ≤ total 139392 (waits u sp (at l) i)
   some i c o = elim (cases_lt 0 (slice_index m i)) [ inl h ↦ omega (arith, s.count i c) | inr h ↦ absurd (nobody i (s.queued i c o (omega arith))) ]
 
-  near : (a : Ages) (i : ℕ) → Holds a (at t.reach i) → (i < 139392) ⊎ (139392 ≤ i) → i < 139392
+  near : (a : Ages) (i : ℕ) → IsHeldBy a (at t.reach i) → (i < 139392) ⊎ (139392 ≤ i) → i < 139392
   near a i h (inl c) = c
   near a i h (inr c) = absurd (rw (get_or_past t.reach i Absent (rw t.reached.sweep.size c)) at h)
 
-  held : (w : ℕ) (a : Ages) → w < 139392 → at t.reach w ≡ Present a → AllHold (at t.reach) (nexts_at u sp w a)
+  held : (w : ℕ) (a : Ages) → w < 139392 → at t.reach w ≡ Present a → AreHeld (at t.reach) (nexts_at u sp w a)
   held w a c q = elim (t.reached.sweep.steps w a c q) [ inl h ↦ absurd h | inr h ↦ h ]
 
   waited : (v w : ℕ) (a : Ages) → w < 139392 → at l w ≡ Present a → is_open a ≡ true → passages v (nexts_at u sp w a) ≤ total 139392 (waits u sp (at l) v)
   waited v w a c q o = let e : waits u sp (at l) v w ≡ passages v (nexts_at u sp w a) = rw (q, o) refl in omega (arith, total-one 139392 (waits u sp (at l) v) w c)
 
-  goes_left : (w : ℕ) (a : Ages) → w < 139392 → at l w ≡ Present a → is_open a ≡ true → (n : Next) → (n.passes ≡ true → 1 ≤ passages (spot n) (nexts_at u sp w a)) → Holds n.ages (at t.reach (spot n)) → n.passes ≡ true → open_at (at l (spot n)) ≡ true
+  goes_left : (w : ℕ) (a : Ages) → w < 139392 → at l w ≡ Present a → is_open a ≡ true → (n : Next) → (n.passes ≡ true → 1 ≤ passages (spot n) (nexts_at u sp w a)) → IsHeldBy n.ages (at t.reach (spot n)) → n.passes ≡ true → open_at (at l (spot n)) ≡ true
   goes_left w a c q o n k h p = not_false _ (λ shut. never (s.count (spot n) b) (s.settled (spot n) b shut) (k p) (waited (spot n) w a c q o)) where
     b : spot n < 139392
     b = near n.ages (spot n) h (cases_lt (spot n) 139392)
@@ -421,7 +421,7 @@ IsTaken-ends u sp l x m ready none t = record {
   stays w b c o (Present a) q =
       let opens : is_open a ≡ true = rw q at o in
       let there : at t.reach w ≡ Present a = sym (s.left.left w c o) ∙ q in
-      left_alike u sp l w b a (EachNext-both (λ n. n.passes ≡ true → 1 ≤ passages (spot n) (nexts_at u sp w a)) (λ n. Holds n.ages (at t.reach (spot n))) (λ n. n.passes ≡ true → open_at (at l (spot n)) ≡ true) (goes_left w a c q opens) _ (counted_each _) (held w a c there))
+      left_alike u sp l w b a (EachNext-both (λ n. n.passes ≡ true → 1 ≤ passages (spot n) (nexts_at u sp w a)) (λ n. IsHeldBy n.ages (at t.reach (spot n))) (λ n. n.passes ≡ true → open_at (at l (spot n)) ≡ true) (goes_left w a c q opens) _ (counted_each _) (held w a c there))
 
   by : (i w : ℕ) (e : Entry) → at l w ≡ e → 1 ≤ waits_by u sp i w e → (open_at (at l w) ≡ true) × ((b : Ages) → 1 ≤ passages i (nexts_at u sp w b))
   by i w Absent q h = absurd (omega arith)

@@ -15,7 +15,7 @@ use Rattle.span_bounds.specs.declared.entry.Entry.{Entry}
 use Rattle.span_bounds.specs.declared.entry.Entry.TheVariants.{Absent, Present}
 use Rattle.span_bounds.specs.Numbers.{number_of}
 use Rattle.span_bounds.specs.Edges.{at, nexts_at, spot, EachNext}
-use Rattle.span_bounds.specs.Reach.{Holds, AllHold}
+use Rattle.span_bounds.specs.Reach.{IsHeldBy, AreHeld}
 use Rattle.span_bounds.specs.Sums.{total, passages, waits, waits_by, one_if, open_at}
 use Rattle.span_bounds.proofs.Nexts.{EachNext-map}
 
@@ -111,11 +111,11 @@ open_nexts u sp i Empty h = absurd (shut h) where
   shut e = cc
 open_nexts u sp i (Between lo hi) h = all_open _ _ (AllReach-context_steps u sp _ (Between lo hi) 0 (omega arith))
 
-no_passages : (g : List Entry) (v : ℕ) (ns : List Next) → open_at (at g v) ≡ false → AllOpen ns → AllHold (at g) ns → passages v ns ≡ 0
+no_passages : (g : List Entry) (v : ℕ) (ns : List Next) → open_at (at g v) ≡ false → AllOpen ns → AreHeld (at g) ns → passages v ns ≡ 0
 unfolding passages AllOpen
 no_passages g v [] shut o h = refl
 no_passages g v (n ∷ ns) shut o h = rw (none (n.passes) refl, no_passages g v ns shut o.1 h.1) refl where
-  opened : (e : Entry) → is_open n.ages ≡ true → Holds n.ages e → open_at e ≡ false → ⊥
+  opened : (e : Entry) → is_open n.ages ≡ true → IsHeldBy n.ages e → open_at e ≡ false → ⊥
   opened Absent p k q = absurd k
   opened (Present b) p k q = let t : is_open b ≡ true = k p in cc
 
@@ -128,7 +128,7 @@ no_passages g v (n ∷ ns) shut o h = rw (none (n.passes) refl, no_passages g v 
   none false q = refl
 
 -- no open row passes to a number that isn't open
-pub waits_shut : (u : Setup) (sp : Span) (g : List Entry) (v w : ℕ) → ((a : Ages) → at g w ≡ Present a → AllHold (at g) (nexts_at u sp w a)) → open_at (at g v) ≡ false → waits u sp (at g) v w ≡ 0
+pub waits_shut : (u : Setup) (sp : Span) (g : List Entry) (v w : ℕ) → ((a : Ages) → at g w ≡ Present a → AreHeld (at g) (nexts_at u sp w a)) → open_at (at g v) ≡ false → waits u sp (at g) v w ≡ 0
 waits_shut u sp g v w steps shut = on (at g w) refl where
   by : (a : Ages) (z : Bool) → at g w ≡ Present a → is_open a ≡ z → (if z then passages v (nexts_at u sp w a) else 0) ≡ 0
   by a true q o = no_passages g v _ shut (open_nexts u sp w a o) (steps a q)

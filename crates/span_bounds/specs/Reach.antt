@@ -1,7 +1,7 @@
 -- The first sweep: which contexts have a row in each closed table, and in which of them ages are open.
---   Holds            an entry is there, and open where the ages are
+--   IsHeldBy         an entry is there, and open where the ages are
 --   Sweep            the first sweep on its way, with the numbers that wait
---   Visit            the same while the nexts of a row are looked at
+--   SweepAtRow       the same while the nexts of a row are looked at
 --   IsReach          its end
 use Rattle.std.specs.Prelude.{◌≡◌, ℕ, ◌<◌, ◌⊎◌, Bool, true, false, not, ◌||◌, if◌then◌else◌, MatchBool, List, [], ◌∷◌, ◌++◌, length, slice_set, sum_by}
 use Rattle.pin_matrix.specs.declared.setup.Setup.{Setup}
@@ -17,9 +17,9 @@ use Rattle.span_bounds.specs.Tables.{start_context}
 use Rattle.span_bounds.specs.Edges.{at, nexts_at, spot, EachNext, IsClosedAt, Among}
 
 -- an entry is there, and open where these ages are
-abbrev pub Holds : Ages → Entry → Type 0
-Holds a Absent = ⊥
-Holds a (Present b) = is_open a ≡ true → is_open b ≡ true
+abbrev pub IsHeldBy : Ages → Entry → Type 0
+IsHeldBy a Absent = ⊥
+IsHeldBy a (Present b) = is_open a ≡ true → is_open b ≡ true
 
 -- the same as a test
 abbrev pub holds : Ages → Entry → Bool
@@ -29,11 +29,11 @@ holds a (Present b) = not (is_open a) || is_open b
 -- the second is there where the first is, and open where the first is
 abbrev pub Below : Entry → Entry → Type 0
 Below Absent e = Unit {0}
-Below (Present a) e = Holds a e
+Below (Present a) e = IsHeldBy a e
 
 -- each next is held
-abbrev pub AllHold : (ℕ → Entry) → List Next → Type 0
-AllHold f ns = EachNext (λ n. Holds n.ages (f (spot n))) ns
+abbrev pub AreHeld : (ℕ → Entry) → List Next → Type 0
+AreHeld f ns = EachNext (λ n. IsHeldBy n.ages (f (spot n))) ns
 
 -- the ages for a mark: open or not
 abbrev pub plain : Ages → Ages
@@ -51,22 +51,22 @@ room g = sum_by rises_left g
 
 -- every closed table holds these ages at this number
 pub record IsNeeded (u : Setup) (sp : Span) (i : ℕ) (a : Ages) : Type 0 where
-  pub needed : (f : ℕ → Entry) → IsClosedAt u sp f → Holds a (f i)
+  pub needed : (f : ℕ → Entry) → IsClosedAt u sp f → IsHeldBy a (f i)
 
 -- the first sweep on its way: the start is there; what a row leads to is there, unless the row waits; and no more is there
 -- than in every closed table
 pub record Sweep (u : Setup) (sp : Span) (g : List Entry) (waiting : List ℕ) : Type 0 where
   pub size : length g ≡ 139392
   pub near : (i : ℕ) → Among i waiting → i < 139392
-  pub begins : Holds Empty (at g (number_of (start_context u sp)))
-  pub steps : (i : ℕ) (a : Ages) → i < 139392 → at g i ≡ Present a → Among i waiting ⊎ AllHold (at g) (nexts_at u sp i a)
+  pub begins : IsHeldBy Empty (at g (number_of (start_context u sp)))
+  pub steps : (i : ℕ) (a : Ages) → i < 139392 → at g i ≡ Present a → Among i waiting ⊎ AreHeld (at g) (nexts_at u sp i a)
   pub least : (f : ℕ → Entry) → IsClosedAt u sp f → (i : ℕ) → i < 139392 → Below (at g i) (f i)
 
 -- the same while the nexts of a row are looked at, of which these are done
-pub record Visit (u : Setup) (sp : Span) (g : List Entry) (waiting : List ℕ) (i : ℕ) (a : Ages) (done : List Next) : Type 0 where
+pub record SweepAtRow (u : Setup) (sp : Span) (g : List Entry) (waiting : List ℕ) (i : ℕ) (a : Ages) (done : List Next) : Type 0 where
   pub sweep : Sweep u sp g (i ∷ waiting)
   pub row : IsNeeded u sp i a
-  pub held : AllHold (at g) done
+  pub held : AreHeld (at g) done
   pub same : (at g i ≡ Present a) ⊎ Among i waiting
 
 -- its end

@@ -71,7 +71,7 @@ pub record IsTaken (u : Setup) (sp : Span) (l x : List Entry) : Type 0 where
   pub done : (i : ℕ) (a : Ages) → i < 139392 → open_at (at l i) ≡ false → at x i ≡ Present a → AllLie (at x) (nexts_at u sp i a)
 
 -- the third sweep on its way after some first sweep
-pub record Takes (u : Setup) (sp : Span) (l x : List Entry) (m ready : List ℕ) : Type 0 where
+pub record IsTaking (u : Setup) (sp : Span) (l x : List Entry) (m ready : List ℕ) : Type 0 where
   pub reach : List Entry
   pub reached : IsReach u sp reach
   pub take : Take u sp reach l x m ready

@@ -12,21 +12,21 @@ use std::marker::Model;
 
 /// What is known of a context: no row, a row without ages, or a row with some.
 #[derive(Clone, Copy)]
-pub(crate) enum Mark {
+pub(crate) enum ContextMark {
     Absent,
     Closed,
     Open,
 }
 
-impl Mark {
+impl ContextMark {
     /// The mark of a row with these ages.
-    pub(crate) fn of(ages: Ages) -> Mark
+    pub(crate) fn of(ages: Ages) -> ContextMark
         ensures { spec.marked result ≡ Present (plain ages) }
     {
         if ages.is_open() {
-            Mark::Open
+            ContextMark::Open
         } else {
-            Mark::Closed
+            ContextMark::Closed
         }
     }
 
@@ -35,9 +35,9 @@ impl Mark {
         ensures { result ≡ spec.marked self }
     {
         match self {
-            Mark::Absent => Entry::Absent,
-            Mark::Closed => Entry::Present(Ages::Empty),
-            Mark::Open => Entry::Present(Ages::Between(0, 0)),
+            ContextMark::Absent => Entry::Absent,
+            ContextMark::Closed => Entry::Present(Ages::Empty),
+            ContextMark::Open => Entry::Present(Ages::Between(0, 0)),
         }
     }
 }
@@ -45,7 +45,7 @@ impl Mark {
 /// A mark for each context in order, 139,392 of them, seen as entries.
 #[derive(Drop)]
 pub(crate) struct Marks {
-    marks: Vec<Mark>,
+    marks: Vec<ContextMark>,
 }
 
 impl Model for Marks {
@@ -65,7 +65,7 @@ impl Marks {
     pub(crate) fn new(alloc: Global) -> Result<Marks, AllocError>
         ensures { IfOk result (λ marks. marks ≡ replicate 139392 Absent) }
     {
-        let marks = vec![in alloc; Mark::Absent; CONTEXTS]?;
+        let marks = vec![in alloc; ContextMark::Absent; CONTEXTS]?;
         Ok(Marks { marks })
     }
 
@@ -79,7 +79,7 @@ impl Marks {
     }
 
     /// Says something else of a context.
-    pub(crate) fn put(&mut self, number: usize, mark: Mark)
+    pub(crate) fn put(&mut self, number: usize, mark: ContextMark)
         requires { number < 139392 }
         ensures value { self.new ≡ slice_set self.old number (spec.marked mark) }
         ensures size { length self.old ≡ 139392 }

@@ -6,7 +6,7 @@ ghost use Rattle.span_bounds.specs.Reach as spec;
 ghost use Rattle.span_bounds.specs.Reach.{Sweep, IsReach, Raised, room};
 
 use crate::entry::Entry;
-use crate::marks::{Mark, Marks};
+use crate::marks::{ContextMark, Marks};
 use crate::number::number_of;
 use crate::row_step::row_step;
 use crate::stack::Stack;
@@ -95,7 +95,7 @@ fn raise(grid: &mut Marks, waiting: &mut Stack, number: usize, ages: Ages)
 {
     if !holds(ages, grid.at(number)) {
         waiting.push(number);
-        grid.put(number, Mark::of(ages));
+        grid.put(number, ContextMark::of(ages));
     }
 }
 

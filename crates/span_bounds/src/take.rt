@@ -5,12 +5,12 @@ ghost use Rattle.span_bounds.specs.Reach.{IsReach};
 ghost use Rattle.span_bounds.specs.Count.{Count};
 ghost use Rattle.span_bounds.specs.Sums as sums;
 ghost use Rattle.span_bounds.specs.Take as spec;
-ghost use Rattle.span_bounds.specs.Take.{Takes, IsTaken, AreReady, Passed, work_left};
+ghost use Rattle.span_bounds.specs.Take.{IsTaking, IsTaken, AreReady, Passed, work_left};
 
 use crate::count::join;
 use crate::entry::Entry;
 use crate::grid::Grid;
-use crate::marks::{Mark, Marks};
+use crate::marks::{ContextMark, Marks};
 use crate::number::number_of;
 use crate::row_step::row_step;
 use crate::stack::Stack;
@@ -98,9 +98,9 @@ fn take_number<L: Ledger>(
 )
     requires configured { IsSome (slice_index_or setup.now.machines span.now.machine None) }
     requires number { number < 139392 }
-    requires takes { Takes setup.now span.now left.old table.old missing.old.items (number ∷ ready.old) }
+    requires takes { IsTaking setup.now span.now left.old table.old missing.old.items (number ∷ ready.old) }
     requires room { work_left missing.old.items ready.old ≤ 139392 }
-    ensures takes { Takes setup.now span.now left.new table.new missing.new.items ready.new }
+    ensures takes { IsTaking setup.now span.now left.new table.new missing.new.items ready.new }
     ensures work { work_left missing.new.items ready.new ≤ work_left missing.old.items ready.old }
     ensures steps { steps.new ≤ steps.old + 1 }
 {
@@ -128,13 +128,13 @@ fn take_row<L: Ledger>(
     requires number { number < 139392 }
     requires is_ready { spec.is_ready left.old missing.old.items number ≡ true }
     requires ages { ages ≡ spec.ages_or_none (at table.old number) }
-    requires takes { Takes setup.now span.now left.old table.old missing.old.items (number ∷ ready.old) }
+    requires takes { IsTaking setup.now span.now left.old table.old missing.old.items (number ∷ ready.old) }
     requires room { work_left missing.old.items ready.old ≤ 139392 }
-    ensures takes { Takes setup.now span.now left.new table.new missing.new.items ready.new }
+    ensures takes { IsTaking setup.now span.now left.new table.new missing.new.items ready.new }
     ensures work { work_left missing.new.items ready.new ≤ work_left missing.old.items ready.old }
     ensures steps { steps.new ≤ steps.old + 1 }
 {
-    left.put(number, Mark::Absent);
+    left.put(number, ContextMark::Absent);
     let stepped = row_step(setup, span, number, ages, steps);
     for next in stepped.nexts.as_slice() {
         pass(table, missing, ready, number_of(&next.context), next);

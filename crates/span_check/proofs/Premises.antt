@@ -28,7 +28,7 @@ use Rattle.span_bounds.specs.declared.row.Row.{Row}
 use Rattle.span_bounds.specs.Numbers.{number_of}
 use Rattle.span_bounds.specs.Tables.{entry_at, IsTable}
 use Rattle.span_ticks.specs.Rows.{IsInRow, IsSoundTable}
-use Rattle.span_ticks.specs.UnderWay.{Watch, IsAt, IsUnderWay, flow_of}
+use Rattle.span_ticks.specs.UnderWay.{Watch, IsContextOf, IsUnderWay, flow_of}
 use Rattle.span_ticks.specs.Following.{InAges, level_after, IsFollowed}
 
 pub record Laws : Type 0 where
@@ -39,7 +39,7 @@ pub record Laws : Type 0 where
   pub room : (u : Setup) (sp : Span) (rows : Context → Option Ages) (s : MachineSetup) (r : Registers) (w : Watch)
       → slice_index_or u.machines sp.machine None ≡ Some s → IsSoundTable u sp rows → ((address : ℕ) → is_named sp address ≡ false)
       → IsUnderWay u sp rows s (flow_of r) w → (n : ℕ) → InAges n w.ages → n + 1 ≤ (bounds_of sp s).1
-  pub begins : (u : Setup) (sp : Span) (rows : Context → Option Ages) (s : MachineSetup) (k : Context) → IsAt k (flow_of (first_registers s))
+  pub begins : (u : Setup) (sp : Span) (rows : Context → Option Ages) (s : MachineSetup) (k : Context) → IsContextOf k (flow_of (first_registers s))
       → IsInRow Empty (rows k) → IsUnderWay u sp rows s (flow_of (first_registers s)) (start k Empty)
   pub levels : (p : ℕ) (writes : List (ℕ × ℕ)) (old : ℕ) → level_after p writes (old == 1) ≡ (last_of p old writes == 1)
   -- of span_bounds: each entry is that of a row

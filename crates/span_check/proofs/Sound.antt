@@ -25,7 +25,7 @@ use Rattle.span_bounds.specs.declared.row.Row.{Row}
 use Rattle.span_bounds.specs.Numbers.{number_of}
 use Rattle.span_bounds.specs.Tables.{entry_at, LiesAt, IsTable, known_of, started, start_context, AllLieIn, EachRow, IsClosed, IsGood, ages_of}
 use Rattle.span_ticks.specs.Rows.{IsInRow, HasRow, IsSoundTable}
-use Rattle.span_ticks.specs.UnderWay.{Covers, IsAt, flow_of}
+use Rattle.span_ticks.specs.UnderWay.{Covers, IsContextOf, flow_of}
 use Rattle.span_verdict.specs.Sharing.{holds, writes_pin, writes_span, may_write, shares, IsUnshared}
 use Rattle.span_check.proofs.Premises.{Laws}
 use Rattle.span_check.proofs.Steps.{IsAfter}
@@ -137,7 +137,7 @@ both : (a b : Bool) → a ≡ true → b ≡ true → (a && b) ≡ true
 both true b p q = q
 both false b p q = p
 
-start-agrees : (u : Setup) (sp : Span) (s : MachineSetup) → IsAt (started (Some s) u sp) (flow_of (first_registers s))
+start-agrees : (u : Setup) (sp : Span) (s : MachineSetup) → IsContextOf (started (Some s) u sp) (flow_of (first_registers s))
 start-agrees u sp s = record {
   placed = both _ _ below (both _ _ (known_small s.x) (known_small s.y));
   address = refl;

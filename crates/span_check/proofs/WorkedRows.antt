@@ -16,7 +16,7 @@ use Rattle.block_core.specs.Block.{stepped, next}
 use Rattle.block_core.specs.Hosted.{hosted_at, hosted_next}
 use Rattle.block_core.specs.Slots.{acted, settled_slot}
 use Rattle.span_check.specs.Marks.{Mark, mark_of}
-use Rattle.span_check.specs.Holding.{counted, measured, IsQuiet, Ends, IsSpokenOf, HoldsFrom}
+use Rattle.span_check.specs.Holding.{counted, measured, IsQuiet, IsFirstToEdge, IsSpokenOf, HoldsFrom}
 use Rattle.span_check.specs.Runs.{marks_in}
 use Rattle.span_check.proofs.WorkedSetups.{plain_machine, side_one, side_one_opt, pin_0, block_of, span_of}
 
@@ -97,7 +97,7 @@ two_clocks m h k (suc (suc (suc zero))) after before = h
 two_clocks m h k (suc (suc (suc (suc zero)))) after before = k
 two_clocks m h k (suc (suc (suc (suc (suc c))))) after before = absurd (omega (arith, before))
 
-high_until_5 : (Ends disabled 2 5) × (counted disabled 2 6 ≡ 1)
+high_until_5 : (IsFirstToEdge disabled 2 5) × (counted disabled 2 6 ≡ 1)
 unfolding fast disabled mark_of counted hosted_at hosted_next next stepped acted settled_slot is_tick settled merged reading_of act_of push_or_pull_at delay_of side_of set_at mov_at effect_of jmp_effect out_effect pull_effect set_effect mov_effect settled_ports tick_of tick_delay tick_word tick_by after_effect due_in transfers_after requests_of
 high_until_5 = (record { after = omega arith; first = two_clocks disabled refl refl; edge = refl }, refl)
 

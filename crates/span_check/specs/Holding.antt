@@ -2,7 +2,7 @@
 --   counted          the ticks between two clocks that count
 --   measured         what a span counts
 --   IsQuiet          no to-edge comes between two clocks
---   Ends             the first to-edge comes
+--   IsFirstToEdge    the first to-edge comes
 --   IsSpokenOf       what a span in clocks says nothing of
 --   HoldsFrom        what is asked from one from-edge on
 --   Holds            from each
@@ -26,7 +26,7 @@ abbrev pub IsQuiet : (ℕ → Mark) → (s end : ℕ) → Type 0
 IsQuiet m s end = (c : ℕ) → s < c → c < end → (m c).to ≡ false
 
 -- the first to-edge after clock s comes in clock e
-pub record Ends (m : ℕ → Mark) (s e : ℕ) : Type 0 where
+pub record IsFirstToEdge (m : ℕ → Mark) (s e : ℕ) : Type 0 where
   pub after : s < e
   pub first : IsQuiet m s e
   pub edge : (m e).to ≡ true
@@ -44,8 +44,8 @@ IsSpokenOf Clocks m s end = IsUnbroken m s end
 -- first one is within the bounds; where none comes, the count so far is no more than the most. Up to there no late tick comes at
 -- an address that the span doesn't name.
 pub record HoldsFrom (unit : SpanUnit) (min max : ℕ) (m : ℕ → Mark) (n s : ℕ) : Type 0 where
-  pub least : (e : ℕ) → Ends m s e → e < n → IsSpokenOf unit m s (suc e) → min ≤ measured unit m s (suc e)
-  pub most : (e : ℕ) → Ends m s e → e < n → IsSpokenOf unit m s (suc e) → measured unit m s (suc e) ≤ max
+  pub least : (e : ℕ) → IsFirstToEdge m s e → e < n → IsSpokenOf unit m s (suc e) → min ≤ measured unit m s (suc e)
+  pub most : (e : ℕ) → IsFirstToEdge m s e → e < n → IsSpokenOf unit m s (suc e) → measured unit m s (suc e) ≤ max
   pub unclosed : IsQuiet m s n → IsSpokenOf unit m s n → measured unit m s n ≤ max
   pub strays : (c : ℕ) → s < c → c < n → IsQuiet m s c → IsSpokenOf unit m s (suc c) → (m c).strays ≡ false
 

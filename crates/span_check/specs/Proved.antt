@@ -1,7 +1,7 @@
 -- What a proof of a span gives.
 --   HoldsOverAnyPads  a span holds in every run of its setup over any pads
 --   HoldsInEveryRun   and in every run of it beside a stimulus
---   IsKept            what a verdict says of runs
+--   VerdictHolds      what a verdict says of runs
 use Rattle.std.specs.Prelude.{◌≡◌, ℕ, List}
 use Rattle.pin_matrix.specs.declared.setup.Setup.{Setup}
 use Rattle.pin_matrix.specs.declared.span.Span.{Span}
@@ -25,7 +25,7 @@ pub record HoldsInEveryRun (u : Setup) (sp : Span) : Type 0 where
   pub over_any_pads : HoldsOverAnyPads u sp
 
 -- a span whose verdict is that it is proved holds in every run; the other verdicts say nothing of runs
-abbrev pub IsKept : Setup → Span → Verdict → Type 0
-IsKept u sp (Proved rows opens) = HoldsInEveryRun u sp
-IsKept u sp (Unproved k cause) = Unit {0}
-IsKept u sp (Shared m) = Unit {0}
+abbrev pub VerdictHolds : Setup → Span → Verdict → Type 0
+VerdictHolds u sp (Proved rows opens) = HoldsInEveryRun u sp
+VerdictHolds u sp (Unproved k cause) = Unit {0}
+VerdictHolds u sp (Shared m) = Unit {0}

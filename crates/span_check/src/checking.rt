@@ -1,7 +1,7 @@
 //! The verdict on a span, and what it promises of every run.
 ghost use Rattle.std.specs.Prelude.{◌↔◌, IfOk, IsSome, IsTrue, None, slice_index_or};
 ghost use Rattle.span_bounds.specs.Tables.{IsClosed, IsGood};
-ghost use Rattle.span_check.specs.Proved.{HoldsInEveryRun, IsKept};
+ghost use Rattle.span_check.specs.Proved.{HoldsInEveryRun, VerdictHolds};
 ghost use Rattle.span_verdict.specs.Sharing.{IsUnshared};
 ghost use Rattle.span_verdict.specs.Verdicts.{IsVerdict};
 
@@ -16,7 +16,7 @@ use std::alloc::{AllocError, Global};
 pub fn check(alloc: Global, setup: &Setup, span: &Span) -> Result<Verdict, AllocError>
     requires { IsSome (slice_index_or setup.now.machines span.now.machine None) }
     ensures verdict { IfOk result (λ verdict. IsVerdict setup.now span.now verdict) }
-    ensures holds { IfOk result (λ verdict. IsKept setup.now span.now verdict) }
+    ensures holds { IfOk result (λ verdict. VerdictHolds setup.now span.now verdict) }
 {
     a_provable_span_holds_in_every_run();
     judge(alloc, setup, span)

@@ -4,13 +4,13 @@ use Rattle.std.proofs.lemmas.List.{length-map, map-append}
 use Rattle.std.proofs.lemmas.Bool.Decides.{nat_tests}
 use Rattle.std.specs.Option.{option_map}
 use Rattle.span_meter.specs.declared.meter.Meter.{Meter}
-use Rattle.span_meter.specs.declared.seen.Seen.{Seen}
+use Rattle.span_meter.specs.declared.seen.SeenDistances.{SeenDistances}
 use Rattle.span_meter.specs.Measured.{greatest_of, least_of, least_with, with_distance}
-use Rattle.span_meter.specs.Meters.{Counts, closed_at, closing, ended, most, opened_at}
+use Rattle.span_meter.specs.Meters.{IsCountOf, closed_at, closing, ended, most, opened_at}
 use Rattle.span_meter.proofs.Distances.{greatest-append, least-append}
 
 -- the same, one clock later
-pub later : (ds starts : List ℕ) (n : ℕ) (m : Meter) → Counts ds starts n m → Counts ds starts (suc n) m
+pub later : (ds starts : List ℕ) (n : ℕ) (m : Meter) → IsCountOf ds starts n m → IsCountOf ds starts (suc n) m
 later ds starts n m h = record {
   seen = h.seen;
   begun = h.begun;
@@ -20,9 +20,9 @@ later ds starts n m h = record {
   least = h.least;
 }
 
-same_seen : (a b : Seen) → a.pairs ≡ b.pairs → a.least ≡ b.least → a.most ≡ b.most → a ≡ b
+same_seen : (a b : SeenDistances) → a.pairs ≡ b.pairs → a.least ≡ b.least → a.most ≡ b.most → a ≡ b
 same_seen a b p l m =
-    let mk : ℕ → ℕ → ℕ → Seen = λ x y z. record { pairs = x; least = y; most = z } in
+    let mk : ℕ → ℕ → ℕ → SeenDistances = λ x y z. record { pairs = x; least = y; most = z } in
     ap (λ x. mk x a.least a.most) p ∙ ap (λ x. mk b.pairs x a.most) l ∙ ap (λ x. mk b.pairs b.least x) m
 
 not_zero : (o : ℕ) → 0 < o → eqb o 0 ≡ false
@@ -46,16 +46,16 @@ all_of : (ds starts : List ℕ) (f : ℕ → ℕ) → length (ds ++ map f starts
 all_of ds starts f = length-append ds (map f starts) ∙ ap (λ k. length ds + k) (length-map starts f)
 
 -- a to-edge in clock n ends the pairs that are open
-closes_some : (ds : List ℕ) (s : ℕ) (ss : List ℕ) (n : ℕ) (m : Meter) → Counts ds (s ∷ ss) n m → length (ds ++ map (λ x. n + 0 - x) (s ∷ ss)) ≤ most → Counts (ds ++ map (λ x. n + 0 - x) (s ∷ ss)) [] n (closing n m)
+closes_some : (ds : List ℕ) (s : ℕ) (ss : List ℕ) (n : ℕ) (m : Meter) → IsCountOf ds (s ∷ ss) n m → length (ds ++ map (λ x. n + 0 - x) (s ∷ ss)) ≤ most → IsCountOf (ds ++ map (λ x. n + 0 - x) (s ∷ ss)) [] n (closing n m)
 closes_some ds s ss n m h few =
     let f : ℕ → ℕ = λ x. n + 0 - x in
     let flat : n + 0 ≡ n = omega arith in
     let some : 0 < length (s ∷ ss) = omega arith in
     let least : n - m.last ≡ least_of (map f (s ∷ ss)) = ap (λ k. k - m.last) (sym flat) ∙ sym (h.least (n + 0) some) in
     let greatest : n - m.first ≡ greatest_of (map f (s ∷ ss)) = ap (λ k. k - m.first) (sym flat) ∙ sym (h.greatest (n + 0) some) in
-    let pairs : m.pairs ≡ length ds = ap (λ (x : Seen). x.pairs) h.seen in
-    let low : m.least ≡ least_of ds = ap (λ (x : Seen). x.least) h.seen in
-    let high : m.most ≡ greatest_of ds = ap (λ (x : Seen). x.most) h.seen in
+    let pairs : m.pairs ≡ length ds = ap (λ (x : SeenDistances). x.pairs) h.seen in
+    let low : m.least ≡ least_of ds = ap (λ (x : SeenDistances). x.least) h.seen in
+    let high : m.most ≡ greatest_of ds = ap (λ (x : SeenDistances). x.most) h.seen in
     record {
       seen = same_seen _ _ (sum_of m.pairs m.begun (length ds) (length (s ∷ ss)) (length (ds ++ map f (s ∷ ss))) most pairs h.begun (all_of ds (s ∷ ss) f) few)
           (least_after ds m.pairs m.least (n - m.last) (f s) (map f ss) pairs low least)
@@ -70,14 +70,14 @@ closes_some ds s ss n m h few =
 positive : (o a m : ℕ) → o ≡ min (suc a) m → 0 < m → 0 < o
 positive o a m e h = omega arith
 
-pub closes : (ds starts : List ℕ) (n : ℕ) (m : Meter) → Counts ds starts n m → length (ds ++ map (λ s. n + 0 - s) starts) ≤ most → Counts (ds ++ map (λ s. n + 0 - s) starts) [] n (closed_at n m)
+pub closes : (ds starts : List ℕ) (n : ℕ) (m : Meter) → IsCountOf ds starts n m → length (ds ++ map (λ s. n + 0 - s) starts) ≤ most → IsCountOf (ds ++ map (λ s. n + 0 - s) starts) [] n (closed_at n m)
 unfolding closed_at
 closes ds [] n m h few =
     let same = none_open m.begun m (closing n m) (let o = h.begun in omega arith) in
-    subst (λ (x : Meter). Counts (ds ++ []) [] n x) same (subst (λ (xs : List ℕ). Counts xs [] n m) (sym (append-nil ds)) h)
+    subst (λ (x : Meter). IsCountOf (ds ++ []) [] n x) same (subst (λ (xs : List ℕ). IsCountOf xs [] n m) (sym (append-nil ds)) h)
 closes ds (s ∷ ss) n m h few =
     let same = some_open m.begun m (closing n m) (positive m.begun (length ss) most h.begun (omega arith)) in
-    subst (λ (x : Meter). Counts (ds ++ map (λ x. n + 0 - x) (s ∷ ss)) [] n x) same (closes_some ds s ss n m h few)
+    subst (λ (x : Meter). IsCountOf (ds ++ map (λ x. n + 0 - x) (s ∷ ss)) [] n x) same (closes_some ds s ss n m h few)
 
 map_push : (f : ℕ → ℕ) (xs : List ℕ) (x : ℕ) → map f (xs ++ x ∷ []) ≡ map f xs ++ f x ∷ []
 map_push f xs x = map-append f xs (x ∷ [])
@@ -127,7 +127,7 @@ one_more : (o a b m : ℕ) → o ≡ min a m → b ≡ a + 1 → min (o + 1) m �
 one_more o a b m e f = omega arith
 
 -- a from-edge in clock n opens a pair
-pub opens : (ds starts : List ℕ) (n : ℕ) (m : Meter) → Counts ds starts n m → Counts ds (starts ++ n ∷ []) (suc n) (opened_at n m)
+pub opens : (ds starts : List ℕ) (n : ℕ) (m : Meter) → IsCountOf ds starts n m → IsCountOf ds (starts ++ n ∷ []) (suc n) (opened_at n m)
 unfolding opened_at
 opens ds starts n m h = record {
   seen = h.seen;

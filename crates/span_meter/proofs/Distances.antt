@@ -1,7 +1,7 @@
 -- The least and the greatest of distances, and how many there are.
 use Rattle.std.proofs.Common.{◌≡◌, ℕ, suc, ◌≤◌, Bool, true, false, cond, List, [], ◌∷◌, ◌++◌, Option, Some, None, length, min, max, refl, arith}
 use Rattle.block_core.specs.declared.sample.Sample.{Sample}
-use Rattle.span_meter.specs.Measured.{Ends, clocks_to, greatest_of, is_from, least_with, measured, with_distance}
+use Rattle.span_meter.specs.Measured.{SpanEdges, clocks_to, greatest_of, is_from, least_with, measured, with_distance}
 
 -- the greatest of two rows
 pub greatest-append : (xs ys : List ℕ) → greatest_of (xs ++ ys) ≡ max (greatest_of xs) (greatest_of ys)
@@ -26,7 +26,7 @@ some_more true between ds n h = one_more between ds n h
 some_more false between ds n h = omega arith
 
 -- the last clock ends a pair, but begins none: there are fewer pairs than clocks
-pub fewer : (e : Ends) (before : ℕ) (s : Sample) (rest : List Sample) → length (measured e before (s ∷ rest)) ≤ length rest
+pub fewer : (e : SpanEdges) (before : ℕ) (s : Sample) (rest : List Sample) → length (measured e before (s ∷ rest)) ≤ length rest
 unfolding measured clocks_to
 fewer e before s [] = none_more (is_from e before s.level)
 fewer e before s (r ∷ rest) =

@@ -1,7 +1,7 @@
 -- The lines of what was measured, from the pieces that are put.
 use Rattle.std.proofs.Common.{◌≡◌, ◌∙◌, ap, ℕ, List, [], ◌∷◌, ◌++◌, codes, decimal, append_assoc, append-nil}
 use Rattle.std.specs.List.{concat}
-use Rattle.span_meter.specs.declared.seen.Seen.{Seen}
+use Rattle.span_meter.specs.declared.seen.SeenDistances.{SeenDistances}
 use Rattle.span_meter.specs.SeenText.{pairs_line}
 
 -- the pieces of the line of a span with pairs, one after the other
@@ -18,6 +18,6 @@ nine : (a b c d e f g h i : List ℕ) → concat (a ∷ b ∷ c ∷ d ∷ e ∷ 
 nine a b c d e f g h i = simp (append_assoc, append-nil)
 
 -- they are its line
-pub pieces-line : (name : List ℕ) (s : Seen) → pieces name (decimal s.pairs) (decimal s.least) (decimal s.most) ≡ pairs_line name s
+pub pieces-line : (name : List ℕ) (s : SeenDistances) → pieces name (decimal s.pairs) (decimal s.least) (decimal s.most) ≡ pairs_line name s
 unfolding pieces
 pieces-line name s = nine (codes "span ") name (codes " seen ") (decimal s.pairs) (codes " least ") (decimal s.least) (codes " most ") (decimal s.most) (codes "\n")

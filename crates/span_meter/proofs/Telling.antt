@@ -11,9 +11,9 @@ use Rattle.span_meter.specs.declared.edges.Edges.{Edges}
 use Rattle.span_meter.specs.declared.meter.Meter.{Meter}
 use Rattle.pin_matrix.specs.Pins.{is_high}
 use Rattle.block_core.specs.Edges.{changes, has_edge}
-use Rattle.span_meter.specs.Measured.{Ends, clocks_to, ends_in, is_from, is_to, measured, seen_of, with_distance}
+use Rattle.span_meter.specs.Measured.{SpanEdges, clocks_to, ends_in, is_from, is_to, measured, seen_of, with_distance}
 use Rattle.span_meter.specs.Kept.{ends_of}
-use Rattle.span_meter.specs.Meters.{Counts, HasMeasured, Measures, Meters, after_clock, closed_at, closing, direction, ended, ends_code, first_told, fresh, most, moved, opened_at, seen_by, watched}
+use Rattle.span_meter.specs.Meters.{IsCountOf, HasMeasured, Measures, Meters, after_clock, closed_at, closing, direction, ended, ends_code, first_told, fresh, most, moved, opened_at, seen_by, watched}
 use Rattle.span_meter.proofs.Distances.{fewer}
 use Rattle.span_meter.proofs.Counting.{closes, later, opens, starts_after, step}
 
@@ -28,19 +28,19 @@ same_edges true false n m = kept _ m (closing n m) refl
 same_edges false true n m = refl
 same_edges false false n m = refl
 
-counts_after : (to from : Bool) (n : ℕ) (ds starts : List ℕ) (m : Meter) → Counts ds starts n m → length (ds ++ ended n starts (cond to (Some 0) None)) ≤ most
-    → Counts (ds ++ ended n starts (cond to (Some 0) None)) (starts_after to from n starts) (suc n) (moved to from n m)
+counts_after : (to from : Bool) (n : ℕ) (ds starts : List ℕ) (m : Meter) → IsCountOf ds starts n m → length (ds ++ ended n starts (cond to (Some 0) None)) ≤ most
+    → IsCountOf (ds ++ ended n starts (cond to (Some 0) None)) (starts_after to from n starts) (suc n) (moved to from n m)
 counts_after true true n ds starts m h few = opens _ [] n (closed_at n m) (closes ds starts n m h few)
 counts_after true false n ds starts m h few = later _ [] n (closed_at n m) (closes ds starts n m h few)
-counts_after false true n ds starts m h few = subst (λ (xs : List ℕ). Counts xs (starts ++ n ∷ []) (suc n) (opened_at n m)) (sym (append-nil ds)) (opens ds starts n m h)
-counts_after false false n ds starts m h few = subst (λ (xs : List ℕ). Counts xs starts (suc n) m) (sym (append-nil ds)) (later ds starts n m h)
+counts_after false true n ds starts m h few = subst (λ (xs : List ℕ). IsCountOf xs (starts ++ n ∷ []) (suc n) (opened_at n m)) (sym (append-nil ds)) (opens ds starts n m h)
+counts_after false false n ds starts m h few = subst (λ (xs : List ℕ). IsCountOf xs starts (suc n) m) (sym (append-nil ds)) (later ds starts n m h)
 
 no_rest : (from : Bool) (c : Option ℕ) → cond from (with_distance None []) [] ≡ []
 no_rest true c = refl
 no_rest false c = refl
 
 -- what is measured with one sample more
-one_more : (e : Ends) (levels : ℕ) (told : List Sample) (m : Meter) (s : Sample) → (h : Measures e levels told m)
+one_more : (e : SpanEdges) (levels : ℕ) (told : List Sample) (m : Meter) (s : Sample) → (h : Measures e levels told m)
     → measured e levels (told ++ s ∷ []) ≡ measured e levels told ++ ended (length told) h.starts (cond (is_to e (levels_after levels told) s.level) (Some 0) None)
 unfolding measured clocks_to
 one_more e levels told m s h =
@@ -51,7 +51,7 @@ one_more e levels told m s h =
 length-more : (told : List Sample) (s : Sample) → length (told ++ s ∷ []) ≡ suc (length told)
 length-more told s = length-append told (s ∷ []) ∙ (let e : length told + 1 ≡ suc (length told) = omega arith in e)
 
-fewer_than : (e : Ends) (levels : ℕ) (told : List Sample) → length told ≤ 2 ^ 64 → length (measured e levels told) ≤ most
+fewer_than : (e : SpanEdges) (levels : ℕ) (told : List Sample) → length told ≤ 2 ^ 64 → length (measured e levels told) ≤ most
 unfolding measured
 fewer_than e levels [] h = omega arith
 fewer_than e levels (s ∷ rest) h = let f = fewer e levels s rest in omega arith
@@ -61,7 +61,7 @@ unfolding levels_after
 levels-more levels told s = levels-append levels told (s ∷ [])
 
 -- one clock more
-pub told_one : (e : Ends) (levels : ℕ) (told : List Sample) (m : Meter) (s : Sample) → length told < 2 ^ 64 → Measures e levels told m
+pub told_one : (e : SpanEdges) (levels : ℕ) (told : List Sample) (m : Meter) (s : Sample) → length told < 2 ^ 64 → Measures e levels told m
     → Measures e levels (told ++ s ∷ []) (moved (is_to e (levels_after levels told) s.level) (is_from e (levels_after levels told) s.level) (length told) m)
 unfolding measured clocks_to
 told_one e levels told m s few h =
@@ -77,8 +77,8 @@ told_one e levels told m s few h =
     record {
       starts = starts;
       counts =
-          subst (λ k. Counts (measured e levels (told ++ s ∷ [])) starts k (moved to from n m)) (sym long)
-          (subst (λ (xs : List ℕ). Counts xs starts (suc n) (moved to from n m)) (sym more) (counts_after to from n (measured e levels told) h.starts m h.counts short));
+          subst (λ k. IsCountOf (measured e levels (told ++ s ∷ [])) starts k (moved to from n m)) (sym long)
+          (subst (λ (xs : List ℕ). IsCountOf xs starts (suc n) (moved to from n m)) (sym more) (counts_after to from n (measured e levels told) h.starts m h.counts short));
       going = λ rest.
           ap (measured e levels) (append_assoc told (s ∷ []) rest)
           ∙ h.going (s ∷ rest)
@@ -99,7 +99,7 @@ no_edge : (pin : ℕ) (rise : Bool) (b v : ℕ) → v ≡ b → has_edge pin ris
 no_edge pin rise b v h = ap (λ (x : ℕ). changes rise (is_high b pin) (is_high x pin)) h ∙ no_change rise (is_high b pin)
 
 -- a sample that repeats the levels changes nothing
-told_same : (e : Ends) (levels : ℕ) (told : List Sample) (m : Meter) (s : Sample) → length told < 2 ^ 64 → s.level ≡ levels_after levels told
+told_same : (e : SpanEdges) (levels : ℕ) (told : List Sample) (m : Meter) (s : Sample) → length told < 2 ^ 64 → s.level ≡ levels_after levels told
     → Measures e levels told m → Measures e levels (told ++ s ∷ []) m
 told_same e levels told m s few same h =
     let b = levels_after levels told in
@@ -109,7 +109,7 @@ told_same e levels told m s few same h =
     subst (P false) (no_edge e.from_pin e.from_rise b s.level same) once
 
 -- nor do more of them
-told_many : (e : Ends) (levels : ℕ) (told : List Sample) (m : Meter) (s : Sample) (n : ℕ) → length told + n ≤ 2 ^ 64 → s.level ≡ levels_after levels told
+told_many : (e : SpanEdges) (levels : ℕ) (told : List Sample) (m : Meter) (s : Sample) (n : ℕ) → length told + n ≤ 2 ^ 64 → s.level ≡ levels_after levels told
     → Measures e levels told m → Measures e levels (told ++ replicate n s) m
 told_many e levels told m s zero few same h = subst (λ (xs : List Sample). Measures e levels xs m) (sym (append-nil told)) h
 told_many e levels told m s (suc n) few same h =
@@ -119,7 +119,7 @@ told_many e levels told m s (suc n) few same h =
     (told_many e levels (told ++ s ∷ []) m s n (omega arith) (sym (levels-more levels told s)) one)
 
 -- the clocks that were left out
-pub told_held : (e : Ends) (levels : ℕ) (told : List Sample) (m : Meter) (clock : ℕ) → clock ≤ 2 ^ 64 → IsNext told clock
+pub told_held : (e : SpanEdges) (levels : ℕ) (told : List Sample) (m : Meter) (clock : ℕ) → clock ≤ 2 ^ 64 → IsNext told clock
     → Measures e levels told m → Measures e levels (held_to clock told) m
 told_held e levels [] m clock few next h = h
 told_held e levels (s ∷ rest) m clock few next h =
@@ -134,7 +134,7 @@ length-held clock (s ∷ rest) next =
     omega (arith, length-append rest (replicate n (last_of s rest)), length-replicate n (last_of s rest))
 
 -- a meter that was told of nothing
-pub told_none : (e : Ends) (levels : ℕ) (edges : Edges) → Measures e levels [] (fresh edges)
+pub told_none : (e : SpanEdges) (levels : ℕ) (edges : Edges) → Measures e levels [] (fresh edges)
 unfolding measured clocks_to levels_after
 told_none e levels edges = record {
   starts = [];
@@ -160,7 +160,7 @@ seen_by_all levels told (m ∷ ms) h =
     ap (λ x. x ∷ map seen_by ms) h.0.counts.seen
     ∙ ap (λ xs. seen_of (measured (ends_of m.edges) levels told) ∷ xs) (seen_by_all levels told ms h.1)
 
-measured_by : (levels : ℕ) (ends : List Ends) (told : List Sample) (t : Meters) → t.first ≡ levels → t.last ≡ levels_after levels told → length told ≤ 2 ^ 64
+measured_by : (levels : ℕ) (ends : List SpanEdges) (told : List Sample) (t : Meters) → t.first ≡ levels → t.last ≡ levels_after levels told → length told ≤ 2 ^ 64
     → watched t.meters ≡ ends → AllByRecursion (λ m. Measures (ends_of m.edges) levels told m) t.meters → HasMeasured levels ends told t
 measured_by levels ends told t first last few w each = record {
   first = first;
@@ -180,7 +180,7 @@ watched-fresh [] = refl
 watched-fresh (m ∷ ms) = ap (λ xs. ends_of m.edges ∷ xs) (watched-fresh ms)
 
 -- fresh meters have measured what is in no sample
-pub begin_measured : (levels : ℕ) (ends : List Ends) (ms : List Meter) (t : Meters) → watched ms ≡ ends → t.first ≡ levels → t.last ≡ levels
+pub begin_measured : (levels : ℕ) (ends : List SpanEdges) (ms : List Meter) (t : Meters) → watched ms ≡ ends → t.first ≡ levels → t.last ≡ levels
     → t.meters ≡ map (λ m. fresh m.edges) ms → HasMeasured levels ends [] t
 unfolding levels_after
 begin_measured levels ends ms t w first last fresh_ones =
@@ -193,7 +193,7 @@ all_held levels told clock few next [] h = tt
 all_held levels told clock few next (m ∷ ms) h = (told_held (ends_of m.edges) levels told m clock few next h.0, all_held levels told clock few next ms h.1)
 
 -- the samples held to a clock
-pub held_measured : (levels : ℕ) (ends : List Ends) (told : List Sample) (t : Meters) (clock : ℕ) → clock ≤ 2 ^ 64 → IsNext told clock
+pub held_measured : (levels : ℕ) (ends : List SpanEdges) (told : List Sample) (t : Meters) (clock : ℕ) → clock ≤ 2 ^ 64 → IsNext told clock
     → HasMeasured levels ends told t → HasMeasured levels ends (held_to clock told) t
 held_measured levels ends told t clock few next h =
     let long = length-held clock told next in
@@ -223,7 +223,7 @@ watched-told clock before after (m ∷ ms) =
     ∙ ap (λ xs. e ∷ xs) (watched-told clock before after ms)
 
 -- one sample more
-pub sample_measured : (levels : ℕ) (ends : List Ends) (told : List Sample) (t u : Meters) (s : Sample) (clock : ℕ) → length told ≡ clock → clock < 2 ^ 64
+pub sample_measured : (levels : ℕ) (ends : List SpanEdges) (told : List Sample) (t u : Meters) (s : Sample) (clock : ℕ) → length told ≡ clock → clock < 2 ^ 64
     → HasMeasured levels ends told t → u.first ≡ t.first → u.last ≡ s.level → u.meters ≡ map (after_clock clock t.last s.level) t.meters
     → HasMeasured levels ends (told ++ s ∷ []) u
 sample_measured levels ends told t u s clock long few h first last meters =
@@ -235,7 +235,7 @@ sample_measured levels ends told t u s clock long few h first last meters =
     (subst (AllByRecursion (λ m. Measures (ends_of m.edges) levels (told ++ s ∷ []) m)) (sym same) (all_told levels told s (omega arith) t.meters h.each))
 
 -- a sample at a clock, after those that were told
-pub told_measured : (levels : ℕ) (ends : List Ends) (told : List Sample) (t u : Meters) (s : Sample) (clock : ℕ) → clock < 2 ^ 64 → IsNext told clock
+pub told_measured : (levels : ℕ) (ends : List SpanEdges) (told : List Sample) (t u : Meters) (s : Sample) (clock : ℕ) → clock < 2 ^ 64 → IsNext told clock
     → HasMeasured levels ends told t → u.first ≡ t.first → u.last ≡ s.level → u.meters ≡ map (after_clock clock t.last s.level) t.meters
     → HasMeasured levels ends (held_to clock told ++ s ∷ []) u
 told_measured levels ends told t u s clock few next h first last meters =
@@ -249,13 +249,13 @@ same_direction false false h = refl
 same_direction true false h = absurd (omega arith)
 same_direction false true h = absurd (omega arith)
 
-same_ends : (a b : Ends) → a.from_pin ≡ b.from_pin → a.from_rise ≡ b.from_rise → a.to_pin ≡ b.to_pin → a.to_rise ≡ b.to_rise → a ≡ b
+same_ends : (a b : SpanEdges) → a.from_pin ≡ b.from_pin → a.from_rise ≡ b.from_rise → a.to_pin ≡ b.to_pin → a.to_rise ≡ b.to_rise → a ≡ b
 same_ends a b p q r s =
-    let mk : ℕ → Bool → ℕ → Bool → Ends = λ w x y z. record { from_pin = w; from_rise = x; to_pin = y; to_rise = z } in
+    let mk : ℕ → Bool → ℕ → Bool → SpanEdges = λ w x y z. record { from_pin = w; from_rise = x; to_pin = y; to_rise = z } in
     ap (λ x. mk x a.from_rise a.to_pin a.to_rise) p ∙ ap (λ x. mk b.from_pin x a.to_pin a.to_rise) q
     ∙ ap (λ x. mk b.from_pin b.from_rise x a.to_rise) r ∙ ap (λ x. mk b.from_pin b.from_rise b.to_pin x) s
 
-code_tells : (xs ys : List Ends) → ends_code xs ≡ ends_code ys → xs ≡ ys
+code_tells : (xs ys : List SpanEdges) → ends_code xs ≡ ends_code ys → xs ≡ ys
 code_tells [] [] h = refl
 code_tells [] (y ∷ ys) h = cc
 code_tells (x ∷ xs) [] h = cc
@@ -269,7 +269,7 @@ code_tells (x ∷ xs) (y ∷ ys) h =
     let more = code_tells xs ys rest in
     cc
 
-pub tells : (levels l : ℕ) (ends es : List Ends) → first_told levels ends ≡ first_told l es → (levels ≡ l) × (ends ≡ es)
+pub tells : (levels l : ℕ) (ends es : List SpanEdges) → first_told levels ends ≡ first_told l es → (levels ≡ l) × (ends ≡ es)
 tells levels l ends es h =
     let p : levels ≡ l = cc in
     let q : ends_code ends ≡ ends_code es = cc in
@@ -287,7 +287,7 @@ more_fresh ms next e m h k all =
 pub more_watched : (ms next : List Meter) (e : Edges) (m : Meter) (spans : List Span) (i : ℕ) (sp : Span) → next ≡ ms ++ m ∷ [] → m ≡ fresh e → ends_of e ≡ ends_in sp → sp ≡ get_or spans i sp → i < length spans
     → watched ms ≡ map ends_in (take i spans) → watched next ≡ map ends_in (take (i + 1) spans)
 more_watched ms next e m spans i sp h k same at low all =
-    let g : Meter → Ends = λ x. ends_of x.edges in
+    let g : Meter → SpanEdges = λ x. ends_of x.edges in
     ap watched h ∙ map_push g ms m ∙ ap (λ x. x ++ g m ∷ []) all
     ∙ ap (λ x. map ends_in (take i spans) ++ x ∷ []) (ap g k ∙ same ∙ ap ends_in at) ∙ sym (map_more ends_in spans i sp low)
 

@@ -1,7 +1,7 @@
 -- Worked rows: what spans measure, worked out by hand.
 use Rattle.std.proofs.Common.{◌≡◌, ℕ, true, false, List, [], ◌∷◌, map, refl}
 use Rattle.block_core.specs.declared.sample.Sample.{Sample}
-use Rattle.span_meter.specs.Measured.{Ends, clocks_to, measured, seen_of}
+use Rattle.span_meter.specs.Measured.{SpanEdges, clocks_to, measured, seen_of}
 
 -- a sample with these output levels
 abbrev shown : ℕ → Sample
@@ -12,7 +12,7 @@ abbrev square : List Sample
 square = map shown (0 ∷ 1 ∷ 1 ∷ 0 ∷ 0 ∷ 1 ∷ 1 ∷ 0 ∷ 0 ∷ 1 ∷ 1 ∷ [])
 
 -- from a rise of pin 0 to its fall
-abbrev high : Ends
+abbrev high : SpanEdges
 high = record { from_pin = 0; from_rise = true; to_pin = 0; to_rise = false }
 
 -- Both falls that come are two clocks after their rises. The last rise has none.

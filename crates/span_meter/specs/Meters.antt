@@ -9,9 +9,9 @@ use Rattle.block_core.specs.declared.sample.Sample.{Sample}
 use Rattle.vcd_trace.specs.Edges.{levels_after}
 use Rattle.span_meter.specs.declared.edges.Edges.{Edges}
 use Rattle.span_meter.specs.declared.meter.Meter.{Meter}
-use Rattle.span_meter.specs.declared.seen.Seen.{Seen}
+use Rattle.span_meter.specs.declared.seen.SeenDistances.{SeenDistances}
 use Rattle.span_meter.specs.Kept.{ends_of}
-use Rattle.span_meter.specs.Measured.{Ends, clocks_to, greatest_of, is_from, is_to, least_of, measured, seen_of}
+use Rattle.span_meter.specs.Measured.{SpanEdges, clocks_to, greatest_of, is_from, is_to, least_of, measured, seen_of}
 
 -- the output levels before the first sample and after the last, and a meter for each span
 pub record Meters : Type 0 where
@@ -20,15 +20,15 @@ pub record Meters : Type 0 where
   pub meters : List Meter
 
 -- the edges that its meters look for
-abbrev pub watched : List Meter → List Ends
+abbrev pub watched : List Meter → List SpanEdges
 watched meters = map (λ m. ends_of m.edges) meters
 
 -- what one meter says
-abbrev pub seen_by : Meter → Seen
+abbrev pub seen_by : Meter → SeenDistances
 seen_by m = record { pairs = m.pairs; least = m.least; most = m.most }
 
 -- what all say
-abbrev pub seen_so_far : Meters → List Seen
+abbrev pub seen_so_far : Meters → List SeenDistances
 seen_so_far t = map seen_by t.meters
 
 -- a direction as a number
@@ -37,13 +37,13 @@ direction true = 1
 direction false = 0
 
 -- the edges of spans as numbers, four a span
-abbrev pub ends_code : List Ends → List ℕ
+abbrev pub ends_code : List SpanEdges → List ℕ
 ends_code [] = []
 ends_code (e ∷ es) = e.from_pin ∷ direction e.from_rise ∷ e.to_pin ∷ direction e.to_rise ∷ ends_code es
 
 -- A meter has no sink. In the place of what a sink had taken it names the levels before the first sample and the edges that it
 -- looks for.
-abbrev pub first_told : (levels : ℕ) → List Ends → Option (List ℕ)
+abbrev pub first_told : (levels : ℕ) → List SpanEdges → Option (List ℕ)
 first_told levels ends = Some (levels ∷ ends_code ends)
 
 -- the most that a count may be
@@ -93,7 +93,7 @@ ended clock starts None = []
 ended clock starts (Some later) = map (λ s. clock + later - s) starts
 
 -- What one meter counts before clock n: these distances, and pairs that are open since these clocks.
-pub record Counts (distances starts : List ℕ) (n : ℕ) (m : Meter) : Type 0 where
+pub record IsCountOf (distances starts : List ℕ) (n : ℕ) (m : Meter) : Type 0 where
   pub seen : seen_by m ≡ seen_of distances
   pub begun : m.begun ≡ min (length starts) most
   pub first : 0 < length starts → m.first ≤ m.last
@@ -103,15 +103,15 @@ pub record Counts (distances starts : List ℕ) (n : ℕ) (m : Meter) : Type 0 w
 
 -- What one meter has measured. `starts` are the clocks of the from-edges after which no to-edge came yet: the distances in more
 -- samples are those so far, those that end in them, and those that begin in them.
-pub record Measures (e : Ends) (levels : ℕ) (told : List Sample) (m : Meter) : Type 0 where
+pub record Measures (e : SpanEdges) (levels : ℕ) (told : List Sample) (m : Meter) : Type 0 where
   pub starts : List ℕ
-  pub counts : Counts (measured e levels told) starts (length told) m
+  pub counts : IsCountOf (measured e levels told) starts (length told) m
   pub going : (rest : List Sample) → measured e levels (told ++ rest)
       ≡ measured e levels told
       ++ (ended (length told) starts (clocks_to e (levels_after levels told) rest) ++ measured e (levels_after levels told) rest)
 
 -- What a meter says of the samples that it was told, with these levels before them: of each span exactly what it measures in them.
-pub record HasMeasured (levels : ℕ) (ends : List Ends) (told : List Sample) (t : Meters) : Type 0 where
+pub record HasMeasured (levels : ℕ) (ends : List SpanEdges) (told : List Sample) (t : Meters) : Type 0 where
   pub first : t.first ≡ levels
   pub last : t.last ≡ levels_after levels told
   pub few : length told ≤ 2 ^ 64

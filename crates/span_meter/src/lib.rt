@@ -9,5 +9,5 @@ mod seen;
 mod trace;
 
 pub use line::put_seen;
-pub use seen::Seen;
+pub use seen::SeenDistances;
 pub use trace::SpanMeter;

@@ -3,14 +3,14 @@ ghost use Rattle.std.specs.Prelude.{◌≡◌};
 ghost use Rattle.pio_edge.specs.Edge.{Takes, PutCounts};
 ghost use Rattle.span_meter.specs.SeenText as spec;
 
-use crate::seen::Seen;
+use crate::seen::SeenDistances;
 use itoa::Buffer;
 use pio_edge::{Sink, SinkFailed, put_all};
 use pio_encode::Name;
 
 /// Puts the line of what was measured of the span with this name. It takes no memory.
 #[tactic(auto, unfolding(crate::specs::SeenText::seen_line))]
-pub fn put_seen<S: Sink>(sink: &mut S, name: &Name, seen: Seen) -> Result<(), SinkFailed>
+pub fn put_seen<S: Sink>(sink: &mut S, name: &Name, seen: SeenDistances) -> Result<(), SinkFailed>
     ensures bytes { Takes (S.taken sink.old) (spec.seen_line name.now seen) (S.taken sink.new) result }
     ensures cause { PutCounts (S.faults sink.old) (S.faults sink.new) result }
 {
@@ -22,7 +22,7 @@ pub fn put_seen<S: Sink>(sink: &mut S, name: &Name, seen: Seen) -> Result<(), Si
 }
 
 /// Puts the pieces of the line of a span with pairs.
-fn put_pairs<S: Sink>(sink: &mut S, name: &[u8], seen: Seen) -> Result<(), SinkFailed>
+fn put_pairs<S: Sink>(sink: &mut S, name: &[u8], seen: SeenDistances) -> Result<(), SinkFailed>
     ensures bytes { Takes (S.taken sink.old) (spec.pairs_line name.now seen) (S.taken sink.new) result }
     ensures cause { PutCounts (S.faults sink.old) (S.faults sink.new) result }
 {

@@ -3,7 +3,7 @@ ghost use Rattle.std.specs.Prelude.{◌≡◌};
 ghost use Rattle.span_meter.specs.Meters as spec;
 
 use crate::edges::Edges;
-use crate::seen::Seen;
+use crate::seen::SeenDistances;
 
 /// What is known of the pairs of one span.
 #[derive(Clone, Copy)]
@@ -38,10 +38,10 @@ impl Meter {
     }
 
     /// What was seen so far.
-    pub(crate) fn seen(&self) -> Seen
+    pub(crate) fn seen(&self) -> SeenDistances
         ensures { result ≡ spec.seen_by self.now }
     {
-        Seen {
+        SeenDistances {
             pairs: self.pairs,
             least: self.least,
             most: self.most,

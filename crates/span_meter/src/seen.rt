@@ -2,7 +2,7 @@
 
 /// The pairs of a from-edge and the first to-edge after it, and the clocks between the two. All are 0 where there is no pair.
 #[derive(Clone, Copy, Debug, PartialEq, Eq)]
-pub struct Seen {
+pub struct SeenDistances {
     /// How many pairs there are.
     pub pairs: u64,
     /// The least distance, in clocks.

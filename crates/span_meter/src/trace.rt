@@ -1,11 +1,11 @@
 //! The trace that measures spans.
 ghost use Rattle.std.specs.Prelude.{◌≡◌, ◌<◌, ℕ, Some, List, [], false, IfOk, length, map, slice_get};
-ghost use Rattle.span_meter.specs.Measured.{Ends, ends_in};
+ghost use Rattle.span_meter.specs.Measured.{SpanEdges, ends_in};
 ghost use Rattle.span_meter.specs.Meters.{HasMeasured, after_clock, first_told, fresh, seen_so_far, watched};
 
 use crate::edges::Edges;
 use crate::meter::Meter;
-use crate::seen::Seen;
+use crate::seen::SeenDistances;
 use block_core::Sample;
 use pin_matrix::Span;
 use std::alloc::{AllocError, Global};
@@ -43,7 +43,7 @@ impl SpanMeter {
     }
 
     /// What was measured of a span, by its place in the list that the meter was made for.
-    pub fn seen(&self, span: usize) -> Seen
+    pub fn seen(&self, span: usize) -> SeenDistances
         requires { span < length (seen_so_far self.now) }
         ensures { slice_get (seen_so_far self.now) span ≡ Some result }
     {
@@ -60,7 +60,7 @@ impl Trace for SpanMeter {
 
     ghost ready = { λ t b. b ≡ first_told t.first (watched t.meters) };
 
-    ghost holds = { λ t b l _. (levels : ℕ) (ends : List Ends) → b ≡ first_told levels ends
+    ghost holds = { λ t b l _. (levels : ℕ) (ends : List SpanEdges) → b ≡ first_told levels ends
         → HasMeasured levels ends l t };
 
     ghost broken = { λ _ _ _ _. ⊥ };

@@ -9,7 +9,7 @@ use Rattle.span_step.specs.declared.cause.Cause.{Cause}
 use Rattle.span_step.specs.declared.cause.Cause.TheVariants.{U1, U2}
 use Rattle.span_step.specs.declared.cause.Causes.{Causes}
 use Rattle.span_step.specs.Contexts.{Context}
-use Rattle.span_step.specs.Outcomes.{Outcome}
+use Rattle.span_step.specs.Outcomes.{ContextOutcome}
 use Rattle.span_step.specs.Courses.{Rules, watched, followed, start, delay_ticks, prompt}
 use Rattle.span_step.specs.Laws.{first_cause}
 use Rattle.span_step.specs.Steps.{context_steps, rules_of}
@@ -32,7 +32,7 @@ calm_delay : (r : Rules) (n : ℕ) (w : Watch) → IsCalm w.causes → IsCalm (f
 calm_delay r zero w h = h
 calm_delay r (suc n) w h = calm_delay r n _ (calm_tick r _ w refl h)
 
-calm_end : (s : MachineSetup) (sp : Span) (op : Op) (o : Outcome) (k : Context) (a : Ages) → IsCalm (end s sp op o k a).causes
+calm_end : (s : MachineSetup) (sp : Span) (op : Op) (o : ContextOutcome) (k : Context) (a : Ages) → IsCalm (end s sp op o k a).causes
 unfolding prompt
 calm_end s sp op o k a = calm_delay (rules_of s sp k.address) op.delay _ (calm_tick (rules_of s sp k.address) _ (start k a) refl (record { u3 = refl; u4 = refl }))
 

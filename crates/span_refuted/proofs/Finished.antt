@@ -15,11 +15,11 @@ use Rattle.sm_registers.specs.declared.view.View.{View}
 use Rattle.sm_registers.specs.Queues.{Queues}
 use Rattle.sm_registers.specs.Effects.{Effect, jmp_effect, in_effect, out_effect, push_effect, pulled, pull_effect, mov_effect, irq_effect, set_effect, effect_of}
 use Rattle.span_step.specs.Contexts.{Context}
-use Rattle.span_step.specs.Outcomes.{Outcome, level_at, outcomes, may_stall}
+use Rattle.span_step.specs.Outcomes.{ContextOutcome, level_at, outcomes, may_stall}
 use Rattle.span_refuted.specs.OneWay.{is_settled}
 
 -- the effect finishes, and is as this outcome says
-pub record Explains (sp : Span) (o : Outcome) (e : Effect) : Type 0 where
+pub record Explains (sp : Span) (o : ContextOutcome) (e : Effect) : Type 0 where
   pub stalled : e.stalled ≡ false
   pub jump : e.jump ≡ o.jump
   pub pending : e.pending ≡ None
@@ -60,10 +60,10 @@ silent_pull if_empty s q r = search (rules, silent_if, silent_by, silent_pulled)
 head_same : {A : Type 0} (x y : A) (xs ys : List A) → x ∷ xs ≡ y ∷ ys → x ≡ y
 head_same x y xs ys e = cc
 
-by_outcome : (sp : Span) (x o : Outcome) (e : Effect) → x ∷ [] ≡ o ∷ [] → Explains sp x e → Explains sp o e
+by_outcome : (sp : Span) (x o : ContextOutcome) (e : Effect) → x ∷ [] ≡ o ∷ [] → Explains sp x e → Explains sp o e
 by_outcome sp x o e h k = subst (λ y. Explains sp y e) (head_same x o [] [] h) k
 
-explains_silent : (sp : Span) (x o : Outcome) (e : Effect) → x ∷ [] ≡ o ∷ [] → x.jump ≡ None → x.from ≡ None → x.to ≡ None → IsSilent e → Explains sp o e
+explains_silent : (sp : Span) (x o : ContextOutcome) (e : Effect) → x ∷ [] ≡ o ∷ [] → x.jump ≡ None → x.from ≡ None → x.to ≡ None → IsSilent e → Explains sp o e
 explains_silent sp x o e h j f t s = by_outcome sp x o e h (record {
   stalled = s.stalled;
   jump = s.jump ∙ sym j;
@@ -72,7 +72,7 @@ explains_silent sp x o e h j f t s = by_outcome sp x o e h (record {
   to = ap (level_at sp.to_pin) s.level ∙ (level_none sp.to_pin ∙ sym t);
 })
 
-pub explained : (a : Act) (s : MachineSetup) (sp : Span) (k : Context) (v : View) (q : Queues) (r : Registers) (o : Outcome)
+pub explained : (a : Act) (s : MachineSetup) (sp : Span) (k : Context) (v : View) (q : Queues) (r : Registers) (o : ContextOutcome)
     → is_settled a ≡ true → may_stall a s ≡ false → outcomes a s sp k ≡ o ∷ [] → Explains sp o (effect_of a s v q r)
 unfolding is_settled may_stall outcomes effect_of jmp_effect in_effect out_effect mov_effect irq_effect set_effect
 explained (Jmp condition.Always address) s sp k v q r o h w e = by_outcome sp _ o _ e (record { stalled = refl; jump = refl; pending = refl; from = level_none sp.from_pin; to = level_none sp.to_pin })

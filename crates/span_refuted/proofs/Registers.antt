@@ -14,7 +14,7 @@ use Rattle.sm_registers.specs.Effects.{Effect, effect_of}
 use Rattle.sm_registers.specs.Tick.{tick_of, tick_delay, tick_word, tick_by, after_effect, refilled, osr_filled_from, side_writes, current_word, word_at, pc_after, delay_after}
 use Rattle.block_core.specs.Block.{two_writes}
 use Rattle.span_step.specs.Contexts.{Context}
-use Rattle.span_step.specs.Outcomes.{Outcome, level_at, outcomes, may_stall}
+use Rattle.span_step.specs.Outcomes.{ContextOutcome, level_at, outcomes, may_stall}
 use Rattle.span_step.specs.Courses.{over}
 use Rattle.span_step.specs.Steps.{address_after, next_address, side_of}
 use Rattle.span_ticks.specs.Following.{level_after}
@@ -70,7 +70,7 @@ side_to s sp side = on s.side_rule.pindirs refl side where
   on false e (Some value) = rw e refl
 
 -- the registers after an instruction that finished
-rest_after : (op : Op) (s : MachineSetup) (sp : Span) (r : Registers) (o : Outcome) (e : Effect) → r.pending ≡ None → Explains sp o e
+rest_after : (op : Op) (s : MachineSetup) (sp : Span) (r : Registers) (o : ContextOutcome) (e : Effect) → r.pending ≡ None → Explains sp o e
     → IsRest (after_effect op.delay s r e) (address_after o.jump (next_address s r.pc)) op.delay
 unfolding after_effect
 rest_after op s sp r o e none x = rw x.stalled (record {
@@ -84,7 +84,7 @@ rest_after op s sp r o e none x = rw x.stalled (record {
   goes (Some address) = refl
 
 -- a tick of an instruction with one way
-tick_finished : (op : Op) (s : MachineSetup) (sp : Span) (q : Queues) (r : Registers) (o : Outcome) (e : Effect) → r.pending ≡ None → r.begun ≡ false → Explains sp o e
+tick_finished : (op : Op) (s : MachineSetup) (sp : Span) (q : Queues) (r : Registers) (o : ContextOutcome) (e : Effect) → r.pending ≡ None → r.begun ≡ false → Explains sp o e
     → IsTick sp (over (side_of s sp op.side).from o.from) (over (side_of s sp op.side).to o.to) (address_after o.jump (next_address s r.pc)) op.delay (tick_by op s q r e)
 unfolding tick_by
 tick_finished op s sp q r o e none begun x = record {
@@ -96,7 +96,7 @@ tick_finished op s sp q r o e none begun x = record {
   same_over : (a b c d : Option Bool) (old : Bool) → a ≡ b → c ≡ d → unwrap_or (over a c) old ≡ unwrap_or (over b d) old
   same_over a b c d old e f = rw (e, f) refl
 
-pub first_tick : (u : Setup) (s : MachineSetup) (sp : Span) (k : Context) (v : View) (q : Queues) (r : Registers) (pc : ℕ) (o : Outcome) → v.memory ≡ u.memory → IsRest r pc 0
+pub first_tick : (u : Setup) (s : MachineSetup) (sp : Span) (k : Context) (v : View) (q : Queues) (r : Registers) (pc : ℕ) (o : ContextOutcome) → v.memory ≡ u.memory → IsRest r pc 0
     → is_settled (instruction_at u s pc).act ≡ true → may_stall (instruction_at u s pc).act s ≡ false → outcomes (instruction_at u s pc).act s sp k ≡ o ∷ []
     → IsTick sp (over (side_of s sp (instruction_at u s pc).side).from o.from) (over (side_of s sp (instruction_at u s pc).side).to o.to) (address_after o.jump (next_address s pc)) (instruction_at u s pc).delay (tick_of s v q r)
 unfolding tick_of tick_word

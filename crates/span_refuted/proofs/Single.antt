@@ -8,7 +8,7 @@ use Rattle.span_step.specs.declared.ages.Ages.{Ages}
 use Rattle.span_step.specs.declared.ages.Ages.TheVariants.{Empty}
 use Rattle.span_step.specs.declared.stepped.Stepped.{Stepped}
 use Rattle.span_step.specs.Contexts.{Context}
-use Rattle.span_step.specs.Outcomes.{Outcome, outcomes, may_stall}
+use Rattle.span_step.specs.Outcomes.{ContextOutcome, outcomes, may_stall}
 use Rattle.span_step.specs.Courses.{prompt, courses, delay_tick, no_causes, joined, start, followed}
 use Rattle.span_step.specs.Steps.{address_after, next_address, side_of, rules_of, visit_of, with_end, with_outcome, step_by, context_steps}
 use Rattle.span_refuted.specs.OneWay.{is_settled, has_one_way, instruction_at, goes_to}
@@ -28,7 +28,7 @@ abbrev pub Tick : Type 0
 Tick = TypeOf delay_tick
 
 -- what a step with one course finds
-abbrev pub ended : ℕ → Outcome → Watch → Stepped
+abbrev pub ended : ℕ → ContextOutcome → Watch → Stepped
 ended following o w = record {
   nexts = record {
     context = record { address = address_after o.jump following; x = o.x; y = o.y; from = w.from; to = w.to };
@@ -40,11 +40,11 @@ ended following o w = record {
 }
 
 -- the prompt course of an instruction
-abbrev pub course : MachineSetup → Span → Op → Outcome → List Tick
+abbrev pub course : MachineSetup → Span → Op → ContextOutcome → List Tick
 course s sp op o = prompt (side_of s sp op.side) o op.delay
 
 -- what is known at its end
-abbrev pub end : MachineSetup → Span → Op → Outcome → Context → Ages → Watch
+abbrev pub end : MachineSetup → Span → Op → ContextOutcome → Context → Ages → Watch
 end s sp op o k a = followed (rules_of s sp k.address) (course s sp op o) (start k a)
 
 step_ended : (s : MachineSetup) (sp : Span) (op : Op) (k : Context) (a : Ages) → is_settled op.act ≡ true → may_stall op.act s ≡ false
@@ -63,7 +63,7 @@ two false b h = absurd (bad h) where
 
 -- the step from a context at an instruction with one way: what it is for any ages
 pub record IsSingle (u : Setup) (sp : Span) (s : MachineSetup) (k : Context) : Type 0 where
-  pub outcome : Outcome
+  pub outcome : ContextOutcome
   pub settled : is_settled (instruction_at u s k.address).act ≡ true
   pub quick : may_stall (instruction_at u s k.address).act s ≡ false
   pub only : outcomes (instruction_at u s k.address).act s sp k ≡ outcome ∷ []

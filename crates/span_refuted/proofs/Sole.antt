@@ -9,13 +9,13 @@ use Rattle.pio_encode.specs.declared.act.SetDestination.TheVariants as set_desti
 use Rattle.pin_matrix.specs.declared.machine.MachineSetup.{MachineSetup}
 use Rattle.pin_matrix.specs.declared.span.Span.{Span}
 use Rattle.span_step.specs.Contexts.{Context}
-use Rattle.span_step.specs.Outcomes.{Outcome, outcomes, is_wild}
+use Rattle.span_step.specs.Outcomes.{ContextOutcome, outcomes, is_wild}
 use Rattle.span_step.specs.Steps.{address_after}
 use Rattle.span_refuted.specs.OneWay.{is_settled, goes_to}
 
 -- the one outcome of an instruction
 pub record HasOutcome (a : Act) (s : MachineSetup) (sp : Span) (k : Context) : Type 0 where
-  pub outcome : Outcome
+  pub outcome : ContextOutcome
   pub only : outcomes a s sp k ≡ outcome ∷ []
   pub goes : (following : ℕ) → address_after outcome.jump following ≡ goes_to a following
 

@@ -7,7 +7,7 @@ use Rattle.pin_matrix.specs.declared.span.Span.{Span}
 use Rattle.span_step.specs.declared.ages.Ages.{Ages}
 use Rattle.span_step.specs.declared.stepped.Next.{Next}
 use Rattle.span_step.specs.Contexts.{Context, is_placed, is_small}
-use Rattle.span_step.specs.Outcomes.{Outcome}
+use Rattle.span_step.specs.Outcomes.{ContextOutcome}
 use Rattle.span_step.specs.Courses.{start}
 use Rattle.span_step.specs.Steps.{address_after, next_address, bounds_of, rules_of, context_steps}
 use Rattle.span_step.specs.Laws.{AllPlaced}
@@ -22,7 +22,7 @@ abbrev pub StaysPlaced : Type 0
 StaysPlaced = (u : Setup) (sp : Span) (k : Context) (a : Ages) → is_placed k.address k.x k.y ≡ true → AllPlaced (context_steps u sp k a).nexts
 
 -- the one next of a step from a context at an instruction with one way
-abbrev pub landed : (u : Setup) (sp : Span) (s : MachineSetup) (k : Context) → Outcome → Ages → Next
+abbrev pub landed : (u : Setup) (sp : Span) (s : MachineSetup) (k : Context) → ContextOutcome → Ages → Next
 landed u sp s k o a = record {
   context = record {
     address = address_after o.jump (next_address s k.address);
@@ -65,7 +65,7 @@ next_visit u sp s i h = rw (h.step (visit u sp i).1) refl
 one_way_at : (u : Setup) (s : MachineSetup) (a b : ℕ) → a ≡ b → has_one_way (instruction_at u s b).act s ≡ true → has_one_way (instruction_at u s a).act s ≡ true
 one_way_at u s a b e h = rw e h
 
-small_end : (u : Setup) (sp : Span) (s : MachineSetup) (k : Context) (o : Outcome) (a : Ages) → AreSmall ((bounds_of sp s).1 + 1) a → AreSmall ((bounds_of sp s).1 + 1) (landed u sp s k o a).ages
+small_end : (u : Setup) (sp : Span) (s : MachineSetup) (k : Context) (o : ContextOutcome) (a : Ages) → AreSmall ((bounds_of sp s).1 + 1) a → AreSmall ((bounds_of sp s).1 + 1) (landed u sp s k o a).ages
 unfolding rules_of
 small_end u sp s k o a h = followed_small (rules_of s sp k.address) (course s sp (instruction_at u s k.address) o) (start k a) h
 

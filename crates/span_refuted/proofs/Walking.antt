@@ -14,7 +14,7 @@ use Rattle.dreq_pacing.specs.declared.due.Due.{Due}
 use Rattle.block_core.specs.Block.{BlockState}
 use Rattle.span_step.specs.declared.cause.Cause.{Cause}
 use Rattle.span_step.specs.declared.cause.Cause.TheVariants.{U1, U2}
-use Rattle.span_step.specs.Outcomes.{Outcome}
+use Rattle.span_step.specs.Outcomes.{ContextOutcome}
 use Rattle.span_step.specs.Courses.{Rules, delay_tick, delay_ticks, prompt, over, start, watched, followed, no_causes}
 use Rattle.span_step.specs.Steps.{bounds_of, rules_of, next_address, side_of, address_after}
 use Rattle.span_check.specs.Marks.{Mark}
@@ -97,7 +97,7 @@ module _ (levels : AreLevels) (tested : IsTested) (sp : Span) (s : MachineSetup)
   ]
 
   -- the whole course of an instruction with one way
-  passes : (r : Rules) (op : Op) (w : Watch) (o : Outcome) (address next : ℕ) → r.from_rise ≡ sp.from_rise → r.to_rise ≡ sp.to_rise
+  passes : (r : Rules) (op : Op) (w : Watch) (o : ContextOutcome) (address next : ℕ) → r.from_rise ≡ sp.from_rise → r.to_rise ≡ sp.to_rise
       → ((v : View) (q : _) (x : Registers) → v.memory ≡ memory → IsRest x address 0
       → IsTick sp (over (side_of s sp op.side).from o.from) (over (side_of s sp op.side).to o.to) next op.delay (tick_of s v q x))
       → IsPassed sp s r.max (marks_over sp memory seen host states) states w address 0

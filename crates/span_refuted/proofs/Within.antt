@@ -7,7 +7,7 @@ use Rattle.pin_matrix.specs.declared.span.Span.{Span}
 use Rattle.span_step.specs.declared.ages.Ages.{Ages}
 use Rattle.span_step.specs.declared.cause.Causes.{Causes}
 use Rattle.span_step.specs.Contexts.{Context, IsInside, is_placed}
-use Rattle.span_step.specs.Laws.{AreAlike, Follows, AreInside, AllImplied, IsWithin, first_cause}
+use Rattle.span_step.specs.Laws.{AreAlike, GoesLike, AreInside, AllImplied, IsNarrower, first_cause}
 use Rattle.span_step.specs.Steps.{context_steps}
 use Rattle.span_bounds.specs.declared.entry.Entry.{Entry}
 use Rattle.span_bounds.specs.declared.entry.Entry.TheVariants.{Absent, Present}
@@ -23,7 +23,7 @@ use Rattle.span_refuted.proofs.Ranks.{lies_trans}
 
 -- what a law of span_step says: a step is monotone
 abbrev pub IsMonotone : Type 0
-IsMonotone = (u : Setup) (sp : Span) (k : Context) (a b : Ages) → IsInside a b → IsWithin (context_steps u sp k a) (context_steps u sp k b)
+IsMonotone = (u : Setup) (sp : Span) (k : Context) (a b : Ages) → IsInside a b → IsNarrower (context_steps u sp k a) (context_steps u sp k b)
 
 -- what a law of span_bounds says: each entry is that of a row
 abbrev pub AreRows : Type 0
@@ -54,7 +54,7 @@ has_row entries u sp p k a placed h = on (entry_at p.rows (number_of k)) refl h 
 
 -- where a next lies, each that follows it does
 follows : (rows : List Row) (u : Setup) (sp : Span) (s : MachineSetup) (k : Context) (a b : Ages) → (h : IsSingle u sp s k)
-    → AreAlike (Follows AreInside) (landed u sp s k h.outcome a ∷ []) (landed u sp s k h.outcome b ∷ []) → AllLieIn rows (landed u sp s k h.outcome b ∷ [])
+    → AreAlike (GoesLike AreInside) (landed u sp s k h.outcome a ∷ []) (landed u sp s k h.outcome b ∷ []) → AllLieIn rows (landed u sp s k h.outcome b ∷ [])
     → LiesAt (landed u sp s k h.outcome a).ages (entry_at rows (number_of (landed u sp s k h.outcome a).context))
 follows rows u sp s k a b h f l = subst (λ c. LiesAt (landed u sp s k h.outcome a).ages (entry_at rows (number_of c))) (sym f.0.context) (lies_trans _ _ _ f.0.ages l.0)
 

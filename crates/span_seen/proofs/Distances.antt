@@ -14,7 +14,7 @@ use Rattle.block_core.specs.Hosted.{host_of, hosted_at, sample_at, samples}
 use Rattle.block_core.specs.Shown.{sample_of}
 use Rattle.span_check.specs.Marks as marks
 use Rattle.span_check.specs.Marks.{Mark, mark_of}
-use Rattle.span_check.specs.Holding.{Ends, Holds, HoldsFrom, IsQuiet, IsUnbroken}
+use Rattle.span_check.specs.Holding.{IsFirstToEdge, Holds, HoldsFrom, IsQuiet, IsUnbroken}
 use Rattle.span_check.specs.Runs.{marks_in, state_beside}
 use Rattle.span_check.specs.Proved.{HoldsInEveryRun}
 use Rattle.span_meter.specs.Measured as meter
@@ -46,10 +46,10 @@ FirstTo to k count None = Unit {0}
 FirstTo to k count (Some j) = (j < count) × (to (k + j) ≡ true) × ((c : ℕ) → k ≤ c → c < k + j → to c ≡ false)
 
 -- one edge of a run with these levels before each clock
-abbrev to_at : meter.Ends → (levels : ℕ → ℕ) → ℕ → Bool
+abbrev to_at : meter.SpanEdges → (levels : ℕ → ℕ) → ℕ → Bool
 to_at e levels c = meter.is_to e (levels c) (levels (suc c))
 
-abbrev from_at : meter.Ends → (levels : ℕ → ℕ) → ℕ → Bool
+abbrev from_at : meter.SpanEdges → (levels : ℕ → ℕ) → ℕ → Bool
 from_at e levels c = meter.is_from e (levels c) (levels (suc c))
 
 or_first : (to : ℕ → Bool) (k c : ℕ) → to k ≡ false → (suc k ≤ c → to c ≡ false) → k ≤ c → to c ≡ false
@@ -65,7 +65,7 @@ next_first to k count false (Some j) h f =
     let a = f.0 in
     (omega arith, ap to (let e : k + suc j ≡ suc k + j = omega arith in e) ∙ f.1, λ c low high. or_first to k c h (λ after. f.2 c after (omega arith)) low)
 
-first_to : (e : meter.Ends) (levels : ℕ → ℕ) (shown : ℕ → Sample) → ((c : ℕ) → (shown c).level ≡ levels (suc c)) → (k count : ℕ)
+first_to : (e : meter.SpanEdges) (levels : ℕ → ℕ) (shown : ℕ → Sample) → ((c : ℕ) → (shown c).level ≡ levels (suc c)) → (k count : ℕ)
     → FirstTo (to_at e levels) k count (clocks_to e (levels k) (samples_from shown k count))
 unfolding clocks_to samples_from
 first_to e levels shown same k zero = tt
@@ -91,7 +91,7 @@ where_from from to n Good asked k count within true start o f ds all = one_good 
 where_from from to n Good asked k count within false start o f ds all = all
 
 -- so each measured distance is
-all_good : (e : meter.Ends) (levels : ℕ → ℕ) (shown : ℕ → Sample) → ((c : ℕ) → (shown c).level ≡ levels (suc c)) → (n : ℕ) (Good : ℕ → Type 0) → Asked (from_at e levels) (to_at e levels) n Good
+all_good : (e : meter.SpanEdges) (levels : ℕ → ℕ) (shown : ℕ → Sample) → ((c : ℕ) → (shown c).level ≡ levels (suc c)) → (n : ℕ) (Good : ℕ → Type 0) → Asked (from_at e levels) (to_at e levels) n Good
     → (k count : ℕ) → k + count ≤ n → AllByRecursion Good (measured e (levels k) (samples_from shown k count))
 unfolding measured samples_from
 all_good e levels shown same n Good asked k zero within = tt
@@ -142,7 +142,7 @@ in_clocks : (unit : SpanUnit) (lo hi n : ℕ) (m : ℕ → Mark) → unit ≡ Cl
 in_clocks Ticks lo hi n m clocks holds calm s d start some within to first = cc
 in_clocks Clocks lo hi n m clocks holds calm s d start some within to first =
     let h = holds s (omega arith) start in
-    let ends : Ends m s (s + d) = record { after = omega arith; first = first; edge = to } in
+    let ends : IsFirstToEdge m s (s + d) = record { after = omega arith; first = first; edge = to } in
     let spoken : IsUnbroken m s (suc (s + d)) = λ c low high. calm c (omega arith) in
     let least = h.least (s + d) ends within spoken in
     let most = h.most (s + d) ends within spoken in

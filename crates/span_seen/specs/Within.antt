@@ -9,7 +9,7 @@ use Rattle.dreq_pacing.specs.declared.line.Line.{Line}
 use Rattle.block_core.specs.Block.{first_run}
 use Rattle.block_core.specs.Hosted.{host_of, samples}
 use Rattle.span_check.specs.Marks.{is_broken}
-use Rattle.span_meter.specs.declared.seen.Seen.{Seen}
+use Rattle.span_meter.specs.declared.seen.SeenDistances.{SeenDistances}
 use Rattle.span_meter.specs.Measured.{ends_in, measured, seen_of}
 
 -- no line of the first n clocks disables the span's machine, or restarts its divider
@@ -17,10 +17,10 @@ abbrev pub IsUndisturbed : Setup → Span → List Line → (n : ℕ) → Type 0
 IsUndisturbed u sp lines n = (c : ℕ) → c < n → is_broken (host_of (first_run u) lines c) sp.machine ≡ false
 
 -- what the span measures in the first n clocks of the setup's run beside a stimulus
-abbrev pub measured_in : Setup → Span → List Line → (n : ℕ) → Seen
+abbrev pub measured_in : Setup → Span → List Line → (n : ℕ) → SeenDistances
 measured_in u sp lines n = seen_of (measured (ends_in sp) (first_run u).state.levels (samples (first_run u) lines n))
 
 -- Where there are distances, the least and the greatest are within the bounds.
-pub record IsWithin (min max : ℕ) (s : Seen) : Type 0 where
+pub record IsWithin (min max : ℕ) (s : SeenDistances) : Type 0 where
   pub least : 0 < s.pairs → min ≤ s.least
   pub most : 0 < s.pairs → s.most ≤ max

@@ -13,7 +13,7 @@ use Rattle.span_check.specs.Proved.{HoldsInEveryRun}
 use Rattle.verdict_lines.specs.declared.refusal.Refusal.{Refusal}
 use Rattle.verdict_lines.specs.Refusals.{found_by}
 use Rattle.span_stage.specs.Configured.{AreConfigured}
-use Rattle.span_stage.specs.Spans.{IsProvableAlone, AreProvable, AllHold, IsRefused, IsFirstRefused, IsVerdictOn, AreVerdicts, first_refused, IsFirstOf, AreJudged, IsNext}
+use Rattle.span_stage.specs.Spans.{IsProvableAlone, AreProvable, AllHold, IsRefused, IsFirstRefused, IsVerdictOn, AreVerdicts, first_refused, IsFirstOf, AreJudged, IsNextVerdict}
 
 -- what holds of each holds of the one at a place
 pub all_at : {X : Type 0} (P : X → Type 0) (xs : List X) (i : ℕ) (d : X) → AllByRecursion P xs → i < length xs → P (get_or xs i d)
@@ -70,7 +70,7 @@ judged_more u spans place found refused sp f lt is h here =
 
 -- the same by what the next verdict gives
 pub judged_next : (u : Setup) (spans : List Span) (place : ℕ) (found after : List (Result Bool Refusal)) (earlier refused : Option (List ℕ × Refusal)) (sp : Span)
-    → place < length spans → sp ≡ get_or spans place sp → AreJudged u (take place spans) found earlier → IsNext u sp found after earlier refused → AreJudged u (take (place + 1) spans) after refused
+    → place < length spans → sp ≡ get_or spans place sp → AreJudged u (take place spans) found earlier → IsNextVerdict u sp found after earlier refused → AreJudged u (take (place + 1) spans) after refused
 judged_next u spans place found after earlier refused sp lt is h next =
     let whole = judged_more u spans place found earlier sp next.found lt is h next.verdict in
     subst (λ (fs : List (Result Bool Refusal)). AreJudged u (take (place + 1) spans) fs refused) (sym next.more)

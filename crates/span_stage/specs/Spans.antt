@@ -85,7 +85,7 @@ pub record AreJudged (u : Setup) (spans : List Span) (found : List (Result Bool 
   pub first : IsFirstOf u spans refused
 
 -- a verdict on this span came after the others
-pub record IsNext (u : Setup) (sp : Span) (before after : List (Result Bool Refusal)) (earlier refused : Option (List ℕ × Refusal)) : Type 0 where
+pub record IsNextVerdict (u : Setup) (sp : Span) (before after : List (Result Bool Refusal)) (earlier refused : Option (List ℕ × Refusal)) : Type 0 where
   pub found : Result Bool Refusal
   pub verdict : IsVerdictOn u sp found
   pub more : after ≡ before ++ found ∷ []

@@ -1,6 +1,6 @@
 //! The verdicts on the spans of a setup.
 ghost use Rattle.std.specs.Prelude.{◌≡◌, ◌≢◌, ◌++◌, ◌∷◌, [], IfOk, IsSome, None, Err, slice_index_or};
-ghost use Rattle.span_stage.specs.Spans.{AreAsked, AreJudged, IsFirstOf, IsNext, IsVerdictOn};
+ghost use Rattle.span_stage.specs.Spans.{AreAsked, AreJudged, IsFirstOf, IsNextVerdict, IsVerdictOn};
 ghost use Rattle.span_stage.specs.Configured.{AreConfigured};
 ghost use Rattle.span_stage.specs.Spans as spec;
 
@@ -67,7 +67,7 @@ fn judge_next(
     verdicts: &mut Verdicts,
 ) -> Result<(), AllocError>
     requires { IsSome (slice_index_or setup.now.machines span.now.machine None) }
-    ensures { IfOk result (λ _. IsNext setup.now span.now verdicts.old.found.items verdicts.new.found.items
+    ensures { IfOk result (λ _. IsNextVerdict setup.now span.now verdicts.old.found.items verdicts.new.found.items
         verdicts.old.refused verdicts.new.refused) }
 {
     let found = judge_span(alloc, setup, span)?;

@@ -9,7 +9,7 @@ use Rattle.span_step.specs.declared.stepped.Next.{Next}
 use Rattle.span_step.specs.Contexts.{Context}
 use Rattle.span_step.specs.Courses.{Rules, older, with_fresh}
 use Rattle.span_step.specs.Steps.{machine_steps, context_steps, rules_of}
-use Rattle.span_step.specs.Laws.{AreAlike, Follows, AreUpTo, ReachesAge, most_of, most_on, AllUpTo, AllReach}
+use Rattle.span_step.specs.Laws.{AreAlike, GoesLike, AreUpTo, ReachesAge, most_of, most_on, AllUpTo, AllReach}
 use Rattle.span_step.proofs.Kept.{Keeps, Together-step_by}
 use Rattle.span_step.proofs.Alike.{AnyCauses}
 
@@ -74,12 +74,12 @@ Keeps-reaches r n = record {
   wild = tt;
 }
 
-up_to_each : (n : ℕ) (ms ns : List Next) → AreAlike (Follows (UpTo n)) ms ns → AllUpTo n ms
+up_to_each : (n : ℕ) (ms ns : List Next) → AreAlike (GoesLike (UpTo n)) ms ns → AllUpTo n ms
 up_to_each n [] ns h = tt
 up_to_each n (m ∷ ms) [] h = absurd h
 up_to_each n (m ∷ ms) (x ∷ xs) h = (h.0.ages, up_to_each n ms xs h.1)
 
-reaches_each : (n : ℕ) (ms ns : List Next) → AreAlike (Follows (Reaches n)) ms ns → AllReach n ms
+reaches_each : (n : ℕ) (ms ns : List Next) → AreAlike (GoesLike (Reaches n)) ms ns → AllReach n ms
 reaches_each n [] ns h = tt
 reaches_each n (m ∷ ms) [] h = absurd h
 reaches_each n (m ∷ ms) (x ∷ xs) h = (h.0.ages, reaches_each n ms xs h.1)

@@ -10,7 +10,7 @@ use Rattle.span_step.specs.declared.stepped.Next.{Next}
 use Rattle.span_step.specs.Contexts.{Context, is_open}
 use Rattle.span_step.specs.Courses.{Rules, older, with_fresh}
 use Rattle.span_step.specs.Steps.{machine_steps, context_steps}
-use Rattle.span_step.specs.Laws.{aim_of, AreAlike, Follows, OpenAlike, SameAfterEdge}
+use Rattle.span_step.specs.Laws.{aim_of, AreAlike, GoesLike, OpenAlike, SameAfterEdge}
 use Rattle.span_step.proofs.Kept.{Keeps, Together, Together-step_by}
 
 -- nothing is said of the causes
@@ -72,16 +72,16 @@ Together-context_steps u sp k S R a b keeps h = on _ where
   on None = record { nexts = tt; causes = tt; from_edge = refl }
   on (Some s) = Together-step_by s sp _ k S R AnyCauses a b (keeps _) h
 
-pub OpenAlike-context_steps : (u : Setup) (sp : Span) (k : Context) (a b : Ages) → is_open a ≡ is_open b → AreAlike (Follows OpenAlike) (context_steps u sp k a).nexts (context_steps u sp k b).nexts
+pub OpenAlike-context_steps : (u : Setup) (sp : Span) (k : Context) (a b : Ages) → is_open a ≡ is_open b → AreAlike (GoesLike OpenAlike) (context_steps u sp k a).nexts (context_steps u sp k b).nexts
 OpenAlike-context_steps u sp k a b h = (Together-context_steps u sp k BothOpen OpenAlike a b Keeps-open h).nexts
 
-pub SameAfterEdge-context_steps : (u : Setup) (sp : Span) (k : Context) (a b : Ages) → AreAlike (Follows SameAfterEdge) (context_steps u sp k a).nexts (context_steps u sp k b).nexts
+pub SameAfterEdge-context_steps : (u : Setup) (sp : Span) (k : Context) (a b : Ages) → AreAlike (GoesLike SameAfterEdge) (context_steps u sp k a).nexts (context_steps u sp k b).nexts
 SameAfterEdge-context_steps u sp k a b = (Together-context_steps u sp k AnyAges SameAfterEdge a b Keeps-edge tt).nexts
 
 pub from_edge_alike : (u : Setup) (sp : Span) (k : Context) (a b : Ages) → (context_steps u sp k a).from_edge ≡ (context_steps u sp k b).from_edge
 from_edge_alike u sp k a b = (Together-context_steps u sp k AnyAges SameAfterEdge a b Keeps-edge tt).from_edge
 
-same_contexts : (ms ns : List Next) → AreAlike (Follows SameAfterEdge) ms ns → map aim_of ms ≡ map aim_of ns
+same_contexts : (ms ns : List Next) → AreAlike (GoesLike SameAfterEdge) ms ns → map aim_of ms ≡ map aim_of ns
 same_contexts [] [] h = refl
 same_contexts [] (n ∷ ns) h = absurd h
 same_contexts (m ∷ ms) [] h = absurd h

@@ -10,13 +10,13 @@ use Rattle.span_step.specs.declared.levels.Write.{Write}
 use Rattle.span_step.specs.declared.stepped.Next.{Next}
 use Rattle.span_step.specs.declared.stepped.Stepped.{Stepped}
 use Rattle.span_step.specs.Contexts.{Context}
-use Rattle.span_step.specs.Outcomes.{Outcome, outcomes, is_wild}
+use Rattle.span_step.specs.Outcomes.{ContextOutcome, outcomes, is_wild}
 use Rattle.span_step.specs.Courses.{Rules, watched, start, followed, prompt, delayed, courses, delay_ticks, older, with_fresh, after_edges, joined, no_causes, tick_causes}
 use Rattle.span_step.specs.Steps.{Visit, visit_of, rules_of, with_end, end_of, with_outcome, nothing_found, wild_step, step_by}
 use Rattle.pin_matrix.specs.declared.machine.MachineSetup.{MachineSetup}
 use Rattle.pin_matrix.specs.declared.span.Span.{Span}
 use Rattle.pio_encode.specs.declared.op.Op.{Op}
-use Rattle.span_step.specs.Laws.{AreAlike, Follows}
+use Rattle.span_step.specs.Laws.{AreAlike, GoesLike}
 
 -- the ages after a tick's count
 abbrev pub aged : ℕ → Bool → Ages → Ages
@@ -46,7 +46,7 @@ pub record Alike (R : Bool → Ages → Ages → Type 0) (C : Causes → Causes 
 
 -- two steps of one context
 pub record Together (R : Bool → Ages → Ages → Type 0) (C : Causes → Causes → Type 0) (s t : Stepped) : Type 0 where
-  pub nexts : AreAlike (Follows R) s.nexts t.nexts
+  pub nexts : AreAlike (GoesLike R) s.nexts t.nexts
   pub causes : C s.causes t.causes
   pub from_edge : s.from_edge ≡ t.from_edge
 
@@ -97,33 +97,33 @@ module _ (r : Rules) (S : Ages → Ages → Type 0) (R : Bool → Ages → Ages 
   }
 
   -- so do the courses
-  pub Alike-prompt : (c : Context) (side : Write) (o : Outcome) (d : ℕ) (a b : Ages) → S a b → Alike R C (followed r (prompt side o d) (start c a)) (followed r (prompt side o d) (start c b))
+  pub Alike-prompt : (c : Context) (side : Write) (o : ContextOutcome) (d : ℕ) (a b : Ages) → S a b → Alike R C (followed r (prompt side o d) (start c a)) (followed r (prompt side o d) (start c b))
   unfolding prompt
   Alike-prompt c side o d a b h =
       fold_along (watched r) (watched r) (Alike R C) Alike-watched _ _ (delay_ticks d) (Alike-first c _ _ a b h)
 
-  pub Alike-delayed : (c : Context) (side : Write) (o : Outcome) (d : ℕ) (a b : Ages) → S a b → Alike R C (followed r (delayed side o d) (start c a)) (followed r (delayed side o d) (start c b))
+  pub Alike-delayed : (c : Context) (side : Write) (o : ContextOutcome) (d : ℕ) (a b : Ages) → S a b → Alike R C (followed r (delayed side o d) (start c a)) (followed r (delayed side o d) (start c b))
   unfolding delayed
   Alike-delayed c side o d a b h =
       fold_along (watched r) (watched r) (Alike R C) Alike-watched _ _ (delay_ticks d) (Alike-watched _ _ _ (Alike-first c _ _ a b h))
 
   -- one more end
-  pub Together-with_end : (v : Visit) (a b : Ages) (o : Outcome) (s t : Stepped) (x y : Watch) → Together R C s t → Alike R C x y → Together R C (with_end (record v { ages = a }) o s x) (with_end (record v { ages = b }) o t y)
+  pub Together-with_end : (v : Visit) (a b : Ages) (o : ContextOutcome) (s t : Stepped) (x y : Watch) → Together R C s t → Alike R C x y → Together R C (with_end (record v { ages = a }) o s x) (with_end (record v { ages = b }) o t y)
   unfolding with_end
   Together-with_end v a b o s t x y h l = record {
-    nexts = AreAlike-append (Follows R) s.nexts t.nexts _ _ h.nexts (record { context = rw (l.from, l.to) refl; passes = l.passes; ages = l.ages });
+    nexts = AreAlike-append (GoesLike R) s.nexts t.nexts _ _ h.nexts (record { context = rw (l.from, l.to) refl; passes = l.passes; ages = l.ages });
     causes = k.joins _ _ _ _ h.causes l.causes;
     from_edge = rw (h.from_edge, l.from_edge) refl;
   }
 
   -- one more outcome
-  pub Together-courses : (stalls : Bool) (v : Visit) (a b : Ages) (o : Outcome) (s t : Stepped) → v.rules ≡ r → S a b → Together R C s t →
+  pub Together-courses : (stalls : Bool) (v : Visit) (a b : Ages) (o : ContextOutcome) (s t : Stepped) → v.rules ≡ r → S a b → Together R C s t →
       Together R C (fold (λ u ticks. with_end (record v { ages = a }) o u (end_of (record v { ages = a }) ticks)) s (courses stalls v.side o v.delay)) (fold (λ u ticks. with_end (record v { ages = b }) o u (end_of (record v { ages = b }) ticks)) t (courses stalls v.side o v.delay))
   unfolding courses with_end
   Together-courses true v a b o s t e h l = rw e (Together-with_end v a b o _ _ _ _ (Together-with_end v a b o s t _ _ l (Alike-prompt v.context v.side o v.delay a b h)) (Alike-delayed v.context v.side o v.delay a b h))
   Together-courses false v a b o s t e h l = rw e (Together-with_end v a b o s t _ _ l (Alike-prompt v.context v.side o v.delay a b h))
 
-  pub Together-with_outcome : (v : Visit) (a b : Ages) → v.rules ≡ r → S a b → (s t : Stepped) (o : Outcome) → Together R C s t → Together R C (with_outcome (record v { ages = a }) s o) (with_outcome (record v { ages = b }) t o)
+  pub Together-with_outcome : (v : Visit) (a b : Ages) → v.rules ≡ r → S a b → (s t : Stepped) (o : ContextOutcome) → Together R C s t → Together R C (with_outcome (record v { ages = a }) s o) (with_outcome (record v { ages = b }) t o)
   unfolding with_outcome
   Together-with_outcome v a b e h s t o l = Together-courses v.stalls v a b o s t e h l
 

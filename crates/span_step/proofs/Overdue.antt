@@ -24,7 +24,7 @@ use Rattle.span_step.specs.declared.course.Watch.{Watch}
 use Rattle.span_step.specs.declared.levels.Write.{Write}
 use Rattle.span_step.specs.declared.stepped.Stepped.{Stepped}
 use Rattle.span_step.specs.Contexts.{Context}
-use Rattle.span_step.specs.Outcomes.{Outcome, outcomes, ways, either_level, unknown_levels, holds, is_wild, taken, after_count}
+use Rattle.span_step.specs.Outcomes.{ContextOutcome, outcomes, ways, either_level, unknown_levels, holds, is_wild, taken, after_count}
 use Rattle.span_step.specs.Courses.{Rules, older, watched, start, followed, prompt, courses, delay_ticks, is_above}
 use Rattle.span_step.specs.Steps.{Visit, visit_of, with_end, end_of, with_outcome, nothing_found, machine_steps, context_steps, rules_of, step_by}
 use Rattle.span_step.specs.Laws.{ReachesAge, most_of, most_on, first_cause}
@@ -55,7 +55,7 @@ levels_filled m sp = both _ where
   both true = map_filled _ _ (either_filled m sp.from_pin)
   both false = flat_map_filled _ _ (either_filled m sp.from_pin) (λ f. map_filled _ _ (either_filled m sp.to_pin))
 
-ways_filled : (t : Option Bool) (address : ℕ) (o : Outcome) → IsFilled (ways t address o)
+ways_filled : (t : Option Bool) (address : ℕ) (o : ContextOutcome) → IsFilled (ways t address o)
 ways_filled (Some true) address o = tt
 ways_filled (Some false) address o = tt
 ways_filled None address o = tt
@@ -117,12 +117,12 @@ first_u1 : (r : Rules) (k : Context) (a : Ages) (f g : Option Bool) → ReachesA
 unfolding watched
 first_u1 r k a f g h = above_older r.max a h
 
-prompt_u1 : (r : Rules) (k : Context) (a : Ages) (side : Write) (o : Outcome) (d : ℕ) → ReachesAge r.max a → (followed r (prompt side o d) (start k a)).causes.u1 ≡ true
+prompt_u1 : (r : Rules) (k : Context) (a : Ages) (side : Write) (o : ContextOutcome) (d : ℕ) → ReachesAge r.max a → (followed r (prompt side o d) (start k a)).causes.u1 ≡ true
 unfolding prompt
 prompt_u1 r k a side o d h =
     fold_along (watched r) (watched r) (λ w v. w.causes.u1 ≡ true) (λ w v t e. watched_u1 r w t e) _ (start k a) (delay_ticks d) (first_u1 r k a _ _ h)
 
-outcome_u1 : (v : Visit) (found : Stepped) (o : Outcome) → ReachesAge v.rules.max v.ages → (with_outcome v found o).causes.u1 ≡ true
+outcome_u1 : (v : Visit) (found : Stepped) (o : ContextOutcome) → ReachesAge v.rules.max v.ages → (with_outcome v found o).causes.u1 ≡ true
 unfolding with_outcome courses with_end
 outcome_u1 v found o h = by v.stalls where
   by : (z : Bool) → (fold (λ t ticks. with_end v o t (end_of v ticks)) found (courses z v.side o v.delay)).causes.u1 ≡ true

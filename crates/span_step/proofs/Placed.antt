@@ -27,7 +27,7 @@ use Rattle.span_step.specs.declared.course.Watch.{Watch}
 use Rattle.span_step.specs.declared.stepped.Next.{Next}
 use Rattle.span_step.specs.declared.stepped.Stepped.{Stepped}
 use Rattle.span_step.specs.Contexts.{Context, is_small, is_placed}
-use Rattle.span_step.specs.Outcomes.{Outcome, outcomes, is_wild, ways, taken, after_count, counted_down, copied, nothing_done, unknown_levels}
+use Rattle.span_step.specs.Outcomes.{ContextOutcome, outcomes, is_wild, ways, taken, after_count, counted_down, copied, nothing_done, unknown_levels}
 use Rattle.span_step.specs.Courses.{courses}
 use Rattle.span_step.specs.Steps.{Visit, visit_of, next_address, address_after, with_end, end_of, with_outcome, nothing_found, wild_step, machine_steps, context_steps, step_by}
 use Rattle.span_step.specs.Laws.{AllPlaced}
@@ -117,10 +117,10 @@ unfolding act_of
 small_act w = search (rules, either, jmp_small, small_wait, small_in, out_small, small_push, small_mov, small_irq, small_set)
 
 -- where the program goes on at f, the outcome's context is in range
-abbrev IsFine : ℕ → Outcome → Type 0
+abbrev IsFine : ℕ → ContextOutcome → Type 0
 IsFine f o = is_placed (address_after o.jump f) o.x o.y ≡ true
 
-abbrev AllFine : ℕ → List Outcome → Type 0
+abbrev AllFine : ℕ → List ContextOutcome → Type 0
 AllFine f [] = Unit {0}
 AllFine f (o ∷ os) = IsFine f o × AllFine f os
 
@@ -152,7 +152,7 @@ module _ (s : MachineSetup) (sp : Span) (k : Context) (f : ℕ) (low : nat_lt f 
   count_small condition.Pin = (x, (y, refl))
   count_small condition.OsrNotEmpty = (x, (y, refl))
 
-  fine_ways : (t : Option Bool) (a : ℕ) (o : Outcome) → nat_lt a 32 ≡ true → is_small o.x ≡ true → is_small o.y ≡ true → IsFine f o → AllFine f (ways t a o)
+  fine_ways : (t : Option Bool) (a : ℕ) (o : ContextOutcome) → nat_lt a 32 ≡ true → is_small o.x ≡ true → is_small o.y ≡ true → IsFine f o → AllFine f (ways t a o)
   fine_ways (Some true) a o h p q r = (placed_by a o.x o.y h p q, tt)
   fine_ways (Some false) a o h p q r = (r, tt)
   fine_ways None a o h p q r = (placed_by a o.x o.y h p q, (r, tt))
@@ -205,18 +205,18 @@ placed_push : (ns : List Next) (n : Next) → AllPlaced ns → is_placed n.conte
 placed_push [] n h p = (p, tt)
 placed_push (m ∷ ms) n h p = (h.0, placed_push ms n h.1 p)
 
-placed_end : (v : Visit) (o : Outcome) (found : Stepped) (w : Watch) → IsFine v.following o → AllPlaced found.nexts → AllPlaced (with_end v o found w).nexts
+placed_end : (v : Visit) (o : ContextOutcome) (found : Stepped) (w : Watch) → IsFine v.following o → AllPlaced found.nexts → AllPlaced (with_end v o found w).nexts
 unfolding with_end
 placed_end v o found w p h = placed_push found.nexts _ h p
 
-placed_outcome : (v : Visit) (found : Stepped) (o : Outcome) → IsFine v.following o → AllPlaced found.nexts → AllPlaced (with_outcome v found o).nexts
+placed_outcome : (v : Visit) (found : Stepped) (o : ContextOutcome) → IsFine v.following o → AllPlaced found.nexts → AllPlaced (with_outcome v found o).nexts
 unfolding with_outcome courses
 placed_outcome v found o p h = by v.stalls where
   by : (z : Bool) → AllPlaced (fold (λ t ticks. with_end v o t (end_of v ticks)) found (courses z v.side o v.delay)).nexts
   by true = placed_end v o _ _ p (placed_end v o found _ p h)
   by false = placed_end v o found _ p h
 
-placed_all : (v : Visit) (found : Stepped) (os : List Outcome) → AllFine v.following os → AllPlaced found.nexts → AllPlaced (fold (with_outcome v) found os).nexts
+placed_all : (v : Visit) (found : Stepped) (os : List ContextOutcome) → AllFine v.following os → AllPlaced found.nexts → AllPlaced (fold (with_outcome v) found os).nexts
 placed_all v found [] f h = h
 placed_all v found (o ∷ os) f h = placed_all v (with_outcome v found o) os f.1 (placed_outcome v found o f.0 h)
 

@@ -10,7 +10,7 @@ use Rattle.span_step.specs.declared.stepped.Stepped.{Stepped}
 use Rattle.span_step.specs.Contexts.{Context, IsInside, is_open}
 use Rattle.span_step.specs.Courses.{Rules, older, with_fresh, is_above, is_below, tick_causes}
 use Rattle.span_step.specs.Steps.{machine_steps, context_steps}
-use Rattle.span_step.specs.Laws.{AreInside, AllImplied, IsWithin}
+use Rattle.span_step.specs.Laws.{AreInside, AllImplied, IsNarrower}
 use Rattle.span_step.proofs.Kept.{Keeps, aged, Together, Together-step_by}
 
 older_inside : (m : ℕ) (a b : Ages) → IsInside a b → IsInside (older m a) (older m b)
@@ -84,14 +84,14 @@ Keeps-inside r = record {
   wild = record { u1 = λ e. e; u2 = λ e. e; u3 = λ e. e; u4 = λ e. e };
 }
 
-within : (s t : Stepped) → Together AreInside AllImplied s t → IsWithin s t
+within : (s t : Stepped) → Together AreInside AllImplied s t → IsNarrower s t
 within s t h = record { nexts = h.nexts; causes = h.causes; from_edge = h.from_edge }
 
-on_machine : (m : Option MachineSetup) (memory : List ℕ) (sp : Span) (k : Context) (a b : Ages) → IsInside a b → IsWithin (machine_steps m memory sp k a) (machine_steps m memory sp k b)
+on_machine : (m : Option MachineSetup) (memory : List ℕ) (sp : Span) (k : Context) (a b : Ages) → IsInside a b → IsNarrower (machine_steps m memory sp k a) (machine_steps m memory sp k b)
 on_machine None memory sp k a b h = record { nexts = tt; causes = record { u1 = λ e. e; u2 = λ e. e; u3 = λ e. e; u4 = λ e. e }; from_edge = refl }
 on_machine (Some s) memory sp k a b h =
     within _ _ (Together-step_by s sp _ k IsInside AreInside AllImplied a b (Keeps-inside _) h)
 
-pub IsWithin-context_steps : (u : Setup) (sp : Span) (k : Context) (a b : Ages) → IsInside a b → IsWithin (context_steps u sp k a) (context_steps u sp k b)
+pub IsNarrower-context_steps : (u : Setup) (sp : Span) (k : Context) (a b : Ages) → IsInside a b → IsNarrower (context_steps u sp k a) (context_steps u sp k b)
 unfolding context_steps
-IsWithin-context_steps u sp k a b h = on_machine _ u.memory sp k a b h
+IsNarrower-context_steps u sp k a b h = on_machine _ u.memory sp k a b h

@@ -12,7 +12,7 @@ use Rattle.span_step.specs.declared.course.Tick.{Tick}
 use Rattle.span_step.specs.declared.course.Watch.{Watch}
 use Rattle.span_step.specs.declared.levels.Write.{Write}
 use Rattle.span_step.specs.Contexts.{Context, is_open}
-use Rattle.span_step.specs.Outcomes.{Outcome}
+use Rattle.span_step.specs.Outcomes.{ContextOutcome}
 
 -- a later write replaces an earlier one, and side-set's replaces the instruction's own (RP2040 Datasheet, section 3.5.6.1)
 abbrev pub over : Option Bool → Option Bool → Option Bool
@@ -28,20 +28,20 @@ abbrev pub delay_ticks : ℕ → List Tick
 delay_ticks delay = replicate delay delay_tick
 
 -- The prompt course: all effects in the first tick, then the delay.
-unfoldable pub prompt : Write → Outcome → ℕ → List Tick
+unfoldable pub prompt : Write → ContextOutcome → ℕ → List Tick
 prompt side o delay =
     record { late = false; from = over side.from o.from; to = over side.to o.to } ∷ delay_ticks delay
 
 -- The delayed course of an instruction that may stall: side-set in the first tick, the other effects in the last late tick,
 -- then the delay. One late tick counts for any number, since those before the last write nothing and don't count.
-unfoldable pub delayed : Write → Outcome → ℕ → List Tick
+unfoldable pub delayed : Write → ContextOutcome → ℕ → List Tick
 delayed side o delay =
     record { late = false; from = side.from; to = side.to }
     ∷ record { late = true; from = o.from; to = o.to }
     ∷ delay_ticks delay
 
 -- an instruction that may stall has both courses, any other one
-unfoldable pub courses : (stalls : Bool) → Write → Outcome → ℕ → List (List Tick)
+unfoldable pub courses : (stalls : Bool) → Write → ContextOutcome → ℕ → List (List Tick)
 courses stalls side o delay = prompt side o delay ∷ (if stalls then delayed side o delay ∷ [] else [])
 
 -- What the span asks of a row: which edges it goes between, its bounds in ticks, and whether stalls at the row's address

@@ -1,8 +1,8 @@
 -- Words of the laws of a step.
 --   AreAlike         two lists are as long, and a relation holds place by place
---   Follows          two nexts go to one context, by courses that pass alike, with related ages
+--   GoesLike         two nexts go to one context, by courses that pass alike, with related ages
 --   AllImplied       each cause of the first is one of the second
---   IsWithin         a step has the nexts of another with ages inside, and no more causes
+--   IsNarrower       a step has the nexts of another with ages inside, and no more causes
 --   most_of          the span's greatest age in ticks
 --   ReachesAge       some age is at least this
 --   first_cause      the first cause in the order U1 to U4
@@ -29,7 +29,7 @@ AreAlike R (x ∷ xs) [] = ⊥
 AreAlike R (x ∷ xs) (y ∷ ys) = R x y × AreAlike R xs ys
 
 -- two nexts go to one context by courses that both pass or both have a to-edge; their ages are related, which may look at that
-pub record Follows (R : Bool → Ages → Ages → Type 0) (m n : Next) : Type 0 where
+pub record GoesLike (R : Bool → Ages → Ages → Type 0) (m n : Next) : Type 0 where
   pub context : m.context ≡ n.context
   pub passes : m.passes ≡ n.passes
   pub ages : R m.passes m.ages n.ages
@@ -58,8 +58,8 @@ abbrev pub SameAfterEdge : Bool → Ages → Ages → Type 0
 SameAfterEdge p a b = p ≡ false → a ≡ b
 
 -- a step has the same next contexts with ages inside, no more causes, and the same from-edge
-pub record IsWithin (s t : Stepped) : Type 0 where
-  pub nexts : AreAlike (Follows AreInside) s.nexts t.nexts
+pub record IsNarrower (s t : Stepped) : Type 0 where
+  pub nexts : AreAlike (GoesLike AreInside) s.nexts t.nexts
   pub causes : AllImplied s.causes t.causes
   pub from_edge : s.from_edge ≡ t.from_edge
 

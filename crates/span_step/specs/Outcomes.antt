@@ -1,5 +1,5 @@
 -- What an instruction can do to a context when it finishes, apart from its side-set and from how long it takes.
---   Outcome          where it goes, what is known of X and Y after it, and what it writes to the two pins
+--   ContextOutcome   where it goes, what is known of X and Y after it, and what it writes to the two pins
 --   level_at         what a write of pins does to one pin
 --   is_wild          an instruction after which the checker knows no address
 --   may_stall        an instruction that may wait
@@ -29,7 +29,7 @@ use Rattle.span_step.specs.Contexts.{Context}
 
 -- What an instruction does when it finishes: the address that it goes to, if it isn't the next one; what is known of X and Y
 -- after it; and the levels that it writes to the span's from-pin and to-pin, where it writes them.
-pub record Outcome : Type 0 where
+pub record ContextOutcome : Type 0 where
   pub jump : Option ℕ
   pub x : Option ℕ
   pub y : Option ℕ
@@ -37,7 +37,7 @@ pub record Outcome : Type 0 where
   pub to : Option Bool
 
 -- it goes on, and changes nothing that the checker knows
-abbrev pub nothing_done : Context → Outcome
+abbrev pub nothing_done : Context → ContextOutcome
 nothing_done k = record { jump = None; x = k.x; y = k.y; from = None; to = None }
 
 -- the level that a write gives a pin, if it holds the pin
@@ -61,7 +61,7 @@ unknown_levels m sp =
     else flat_map (λ f. map (λ t. (f, t)) (either_level m sp.to_pin)) (either_level m sp.from_pin)
 
 -- OUT PINS and MOV PINS write the mapping of OUT, with a value that isn't known (RP2040 Datasheet, sections 3.4.5 and 3.4.8)
-abbrev pub unknown_pins : MachineSetup → Span → Context → List Outcome
+abbrev pub unknown_pins : MachineSetup → Span → Context → List ContextOutcome
 unknown_pins s sp k = map (λ l. record (nothing_done k) { from = l.0; to = l.1 }) (unknown_levels s.out sp)
 
 -- one less where that is known: nothing is known after a 0, which falls to 2^32 - 1
@@ -96,7 +96,7 @@ taken condition.Pin k = None
 taken condition.OsrNotEmpty k = None
 
 -- `x--` and `y--` count down, taken or not (section 3.4.2)
-abbrev pub after_count : Condition → Context → Outcome
+abbrev pub after_count : Condition → Context → ContextOutcome
 after_count condition.Always k = nothing_done k
 after_count condition.XZero k = nothing_done k
 after_count condition.XDecrement k = record (nothing_done k) { x = counted_down k.x }
@@ -107,13 +107,13 @@ after_count condition.Pin k = nothing_done k
 after_count condition.OsrNotEmpty k = nothing_done k
 
 -- a JMP that is known to be taken, or not, has one way; any other has both
-abbrev pub ways : Option Bool → ℕ → Outcome → List Outcome
+abbrev pub ways : Option Bool → ℕ → ContextOutcome → List ContextOutcome
 ways (Some true) address o = record o { jump = Some address } ∷ []
 ways (Some false) address o = o ∷ []
 ways None address o = record o { jump = Some address } ∷ o ∷ []
 
 -- OUT: the bits aren't known; after OUT PC and OUT EXEC no address is (section 3.4.5)
-abbrev pub out_outcomes : OutDestination → MachineSetup → Span → Context → List Outcome
+abbrev pub out_outcomes : OutDestination → MachineSetup → Span → Context → List ContextOutcome
 out_outcomes out_destination.Pins s sp k = unknown_pins s sp k
 out_outcomes out_destination.X s sp k = record (nothing_done k) { x = None } ∷ []
 out_outcomes out_destination.Y s sp k = record (nothing_done k) { y = None } ∷ []
@@ -131,7 +131,7 @@ copied mov_operation.Plain mov_source.Null k = Some 0
 copied _ _ k = None
 
 -- MOV; after MOV PC and MOV EXEC no address is known (section 3.4.8)
-abbrev pub mov_outcomes : MovDestination → Option ℕ → MachineSetup → Span → Context → List Outcome
+abbrev pub mov_outcomes : MovDestination → Option ℕ → MachineSetup → Span → Context → List ContextOutcome
 mov_outcomes mov_destination.Pins word s sp k = unknown_pins s sp k
 mov_outcomes mov_destination.X word s sp k = record (nothing_done k) { x = word } ∷ []
 mov_outcomes mov_destination.Y word s sp k = record (nothing_done k) { y = word } ∷ []
@@ -141,14 +141,14 @@ mov_outcomes mov_destination.Isr word s sp k = nothing_done k ∷ []
 mov_outcomes mov_destination.Osr word s sp k = nothing_done k ∷ []
 
 -- SET PINS writes the mapping of SET with a known value (section 3.4.10)
-abbrev pub set_pins : ℕ → MachineSetup → Span → Context → Outcome
+abbrev pub set_pins : ℕ → MachineSetup → Span → Context → ContextOutcome
 set_pins value s sp k = record (nothing_done k) {
   from = level_at sp.from_pin (writes_of s.set value);
   to = level_at sp.to_pin (writes_of s.set value);
 }
 
 -- SET: the value is known (section 3.4.10)
-abbrev pub set_outcomes : SetDestination → ℕ → MachineSetup → Span → Context → List Outcome
+abbrev pub set_outcomes : SetDestination → ℕ → MachineSetup → Span → Context → List ContextOutcome
 set_outcomes set_destination.Pins value s sp k = set_pins value s sp k ∷ []
 set_outcomes set_destination.X value s sp k = record (nothing_done k) { x = Some value } ∷ []
 set_outcomes set_destination.Y value s sp k = record (nothing_done k) { y = Some value } ∷ []
@@ -156,7 +156,7 @@ set_outcomes set_destination.Pindirs value s sp k = nothing_done k ∷ []
 
 -- All that an instruction can do to a context, by its act: none where no address is known after it. IN, PUSH, PULL, WAIT and
 -- IRQ change neither X, nor Y, nor a level.
-unfoldable pub outcomes : Act → MachineSetup → Span → Context → List Outcome
+unfoldable pub outcomes : Act → MachineSetup → Span → Context → List ContextOutcome
 outcomes (Jmp c address) s sp k = ways (taken c k) address (after_count c k)
 outcomes (Wait polarity source index) s sp k = nothing_done k ∷ []
 outcomes (In source count) s sp k = nothing_done k ∷ []

@@ -23,7 +23,7 @@ use Rattle.span_step.specs.declared.levels.Write.{Write}
 use Rattle.span_step.specs.declared.stepped.Next.{Next}
 use Rattle.span_step.specs.declared.stepped.Stepped.{Stepped}
 use Rattle.span_step.specs.Contexts.{Context}
-use Rattle.span_step.specs.Outcomes.{Outcome, level_at, outcomes, is_wild, may_stall}
+use Rattle.span_step.specs.Outcomes.{ContextOutcome, level_at, outcomes, is_wild, may_stall}
 use Rattle.span_step.specs.Courses.{Rules, courses, no_causes, joined, start, followed}
 
 -- the clocks of 256 ticks, at least 256; a divider of 0 means 65,536 (RP2040 Datasheet, section 3.5.5)
@@ -95,7 +95,7 @@ address_after (Some address) following = address
 address_after None following = following
 
 -- the next context with its ages, after a course
-abbrev pub next_of : Visit → Outcome → Watch → Next
+abbrev pub next_of : Visit → ContextOutcome → Watch → Next
 next_of v o w = record {
   context = record { address = address_after o.jump v.following; x = o.x; y = o.y; from = w.from; to = w.to };
   ages = w.ages;
@@ -103,7 +103,7 @@ next_of v o w = record {
 }
 
 -- what is found with the end of one more course
-unfoldable pub with_end : Visit → Outcome → Stepped → Watch → Stepped
+unfoldable pub with_end : Visit → ContextOutcome → Stepped → Watch → Stepped
 with_end v o found w = record {
   nexts = found.nexts ++ next_of v o w ∷ [];
   causes = joined found.causes w.causes;
@@ -115,7 +115,7 @@ abbrev pub end_of : Visit → List Tick → Watch
 end_of v ticks = followed v.rules ticks (start v.context v.ages)
 
 -- what is found with one more outcome, by each of its courses
-unfoldable pub with_outcome : Visit → Stepped → Outcome → Stepped
+unfoldable pub with_outcome : Visit → Stepped → ContextOutcome → Stepped
 with_outcome v found o = fold (λ t ticks. with_end v o t (end_of v ticks)) found (courses v.stalls v.side o v.delay)
 
 -- nothing is found yet

@@ -6,7 +6,7 @@ ghost use Rattle.span_step.specs.Outcomes as spec;
 
 use crate::context::Context;
 use crate::levels::known_levels;
-use crate::outcome::Outcome;
+use crate::outcome::ContextOutcome;
 use arrayvec::ArrayVec;
 use pin_matrix::{MachineSetup, Mapping, Span, writes_of};
 use pio_encode::{
@@ -14,7 +14,7 @@ use pio_encode::{
 };
 
 /// At most four: a value that isn't known may leave each of two pins at either level.
-pub(crate) type Outcomes = ArrayVec<Outcome, 4>;
+pub(crate) type Outcomes = ArrayVec<ContextOutcome, 4>;
 
 /// All that an instruction can do: nothing where no address is known after it.
 #[tactic(auto, unfolding(crate::specs::Outcomes::outcomes))]
@@ -37,12 +37,12 @@ pub(crate) fn outcomes(act: Act, machine: &MachineSetup, span: &Span, context: &
             context,
         ),
         Act::Set { destination, value } => set_outcomes(destination, value, machine, span, context),
-        _ => one(Outcome::nothing_done(context)),
+        _ => one(ContextOutcome::nothing_done(context)),
     }
 }
 
 /// This outcome alone.
-fn one(outcome: Outcome) -> Outcomes
+fn one(outcome: ContextOutcome) -> Outcomes
     ensures { result.items ≡ outcome ∷ [] }
 {
     let mut outcomes = Outcomes::new();
@@ -51,7 +51,7 @@ fn one(outcome: Outcome) -> Outcomes
 }
 
 /// These two outcomes.
-fn two(first: Outcome, second: Outcome) -> Outcomes
+fn two(first: ContextOutcome, second: ContextOutcome) -> Outcomes
     ensures { result.items ≡ first ∷ second ∷ [] }
 {
     let mut outcomes = Outcomes::new();
@@ -67,7 +67,7 @@ fn jmp_outcomes(condition: Condition, address: u8, context: &Context) -> Outcome
         ≡ spec.ways (spec.taken condition context.now) address (spec.after_count condition context.now) }
 {
     let falls = after_count(condition, context);
-    let jumps = Outcome {
+    let jumps = ContextOutcome {
         jump: Some(address),
         ..falls
     };
@@ -125,10 +125,10 @@ fn differ(x: Option<u8>, y: Option<u8>) -> Option<bool>
 }
 
 /// What a JMP does whether it is taken or not: `x--` and `y--` count down.
-fn after_count(condition: Condition, context: &Context) -> Outcome
+fn after_count(condition: Condition, context: &Context) -> ContextOutcome
     ensures { result ≡ spec.after_count condition context.now }
 {
-    let mut outcome = Outcome::nothing_done(context);
+    let mut outcome = ContextOutcome::nothing_done(context);
     match condition {
         Condition::XDecrement => outcome.x = counted_down(context.x),
         Condition::YDecrement => outcome.y = counted_down(context.y),
@@ -157,7 +157,7 @@ fn out_outcomes(
 ) -> Outcomes
     ensures { result.items ≡ spec.out_outcomes destination machine.now span.now context.now }
 {
-    let mut outcome = Outcome::nothing_done(context);
+    let mut outcome = ContextOutcome::nothing_done(context);
     match destination {
         OutDestination::Pins => return unknown_pins(machine, span, context),
         OutDestination::Pc => return Outcomes::new(),
@@ -193,7 +193,7 @@ fn mov_outcomes(
     requires { IsTrue (is_small word) }
     ensures { result.items ≡ spec.mov_outcomes destination word machine.now span.now context.now }
 {
-    let mut outcome = Outcome::nothing_done(context);
+    let mut outcome = ContextOutcome::nothing_done(context);
     match destination {
         MovDestination::Pins => return unknown_pins(machine, span, context),
         MovDestination::Pc => return Outcomes::new(),
@@ -216,7 +216,7 @@ fn set_outcomes(
     requires { value < 32 }
     ensures { result.items ≡ spec.set_outcomes destination value machine.now span.now context.now }
 {
-    let mut outcome = Outcome::nothing_done(context);
+    let mut outcome = ContextOutcome::nothing_done(context);
     match destination {
         SetDestination::Pins => {
             let write = known_levels(&machine.set, value, span);
@@ -237,10 +237,10 @@ fn unknown_pins(machine: &MachineSetup, span: &Span, context: &Context) -> Outco
 {
     let from_held = holds(&machine.out, span.from_pin);
     let to_held = holds(&machine.out, span.to_pin);
-    let writes = |from: Option<bool>, to: Option<bool>| Outcome {
+    let writes = |from: Option<bool>, to: Option<bool>| ContextOutcome {
         from,
         to,
-        ..Outcome::nothing_done(context)
+        ..ContextOutcome::nothing_done(context)
     };
     let low = Some(false);
     let high = Some(true);

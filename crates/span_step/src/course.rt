@@ -6,7 +6,7 @@ use crate::ages::Ages;
 use crate::cause::Causes;
 use crate::context::Context;
 use crate::levels::Write;
-use crate::outcome::Outcome;
+use crate::outcome::ContextOutcome;
 use crate::rules::Rules;
 
 /// A tick of a course.
@@ -53,7 +53,13 @@ impl Watch {
 
     /// At the end of the prompt course: all effects in the first tick.
     #[tactic(auto, unfolding(crate::specs::Courses::prompt))]
-    pub(crate) fn prompt(self, rules: &Rules, side: Write, outcome: &Outcome, delay: u8) -> Watch
+    pub(crate) fn prompt(
+        self,
+        rules: &Rules,
+        side: Write,
+        outcome: &ContextOutcome,
+        delay: u8,
+    ) -> Watch
         ensures { result ≡ spec.followed rules.now (spec.prompt side outcome.now delay) self }
     {
         let first = Tick {
@@ -66,7 +72,13 @@ impl Watch {
 
     /// At the end of the delayed course: side-set in the first tick, the other effects in the last late one.
     #[tactic(auto, unfolding(crate::specs::Courses::delayed))]
-    pub(crate) fn late(self, rules: &Rules, side: Write, outcome: &Outcome, delay: u8) -> Watch
+    pub(crate) fn late(
+        self,
+        rules: &Rules,
+        side: Write,
+        outcome: &ContextOutcome,
+        delay: u8,
+    ) -> Watch
         ensures { result ≡ spec.followed rules.now (spec.delayed side outcome.now delay) self }
     {
         let first = Tick {

@@ -6,12 +6,12 @@ ghost use Rattle.span_step.specs.Contexts as contexts;
 ghost use Rattle.span_step.specs.Contexts.{IsInside, is_open, is_placed};
 ghost use Rattle.span_step.specs.declared.ages.Ages as ages;
 ghost use Rattle.span_step.specs.Steps.{context_steps};
-ghost use Rattle.span_step.specs.Laws.{aim_of, IsWithin, AreAlike, Follows, OpenAlike, SameAfterEdge, AllUpTo, AllReach, ReachesAge, most_of, first_cause, AllPlaced};
+ghost use Rattle.span_step.specs.Laws.{aim_of, IsNarrower, AreAlike, GoesLike, OpenAlike, SameAfterEdge, AllUpTo, AllReach, ReachesAge, most_of, first_cause, AllPlaced};
 
 /// Ages inside others give the same next contexts with ages inside, no more causes and the same from-edge.
 pub fn a_step_is_monotone()
     ensures { (u : setup.Setup) (sp : span.Span) (k : contexts.Context) (a b : ages.Ages)
-        → IsInside a b → IsWithin (context_steps u sp k a) (context_steps u sp k b) }
+        → IsInside a b → IsNarrower (context_steps u sp k a) (context_steps u sp k b) }
 {}
 
 /// The next contexts, which of them are reached without a to-edge, and whether a from-edge comes don't depend on the ages.
@@ -23,10 +23,10 @@ pub fn next_contexts_do_not_depend_on_ages()
     ensures from_edge { (u : setup.Setup) (sp : span.Span) (k : contexts.Context) (a b : ages.Ages)
         → (context_steps u sp k a).from_edge ≡ (context_steps u sp k b).from_edge }
     ensures after_edge { (u : setup.Setup) (sp : span.Span) (k : contexts.Context) (a b : ages.Ages)
-        → AreAlike (Follows SameAfterEdge) (context_steps u sp k a).nexts (context_steps u sp k b).nexts }
+        → AreAlike (GoesLike SameAfterEdge) (context_steps u sp k a).nexts (context_steps u sp k b).nexts }
     ensures open_alike { (u : setup.Setup) (sp : span.Span) (k : contexts.Context) (a b : ages.Ages)
         → is_open a ≡ is_open b
-        → AreAlike (Follows OpenAlike) (context_steps u sp k a).nexts (context_steps u sp k b).nexts }
+        → AreAlike (GoesLike OpenAlike) (context_steps u sp k a).nexts (context_steps u sp k b).nexts }
 {}
 
 /// Ages grow by at least one tick along a course without a to-edge, up to one above the span's most, and no further.

@@ -7,7 +7,7 @@ use std::marker::Model;
 
 /// What an instruction does to a context, apart from side-set. The type keeps the address, X and Y below 32.
 #[derive(Clone, Copy, Debug, Default)]
-pub(crate) struct Outcome {
+pub(crate) struct ContextOutcome {
     /// The address that it goes to, if it isn't the next one.
     pub(crate) jump: Option<u8>,
     /// X after it, where it is known.
@@ -20,12 +20,12 @@ pub(crate) struct Outcome {
     pub(crate) to: Option<bool>,
 }
 
-impl Model for Outcome {
+impl Model for ContextOutcome {
     ghost use Rattle.std.specs.Prelude.{IsTrue, ◌&&◌};
     ghost use Rattle.span_step.specs.Contexts.{is_small};
     ghost use Rattle.span_step.specs.Outcomes as spec;
 
-    ghost Value = { spec.Outcome };
+    ghost Value = { spec.ContextOutcome };
 
     ghost view = { λ o. record {
       jump = o.jump;
@@ -46,12 +46,12 @@ impl Model for Outcome {
     } };
 }
 
-impl Outcome {
+impl ContextOutcome {
     /// It goes on, and changes nothing that the checker knows.
-    pub(crate) fn nothing_done(context: &Context) -> Outcome
+    pub(crate) fn nothing_done(context: &Context) -> ContextOutcome
         ensures { result ≡ spec.nothing_done context.now }
     {
-        Outcome {
+        ContextOutcome {
             jump: None,
             x: context.x,
             y: context.y,

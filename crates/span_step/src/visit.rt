@@ -7,7 +7,7 @@ use crate::ages::Ages;
 use crate::context::Context;
 use crate::course::Watch;
 use crate::levels::{Write, side_levels};
-use crate::outcome::Outcome;
+use crate::outcome::ContextOutcome;
 use crate::rules::Rules;
 use crate::stepped::{Next, Stepped};
 use pin_matrix::{MachineSetup, Span};
@@ -70,7 +70,7 @@ impl Visit {
 
     /// Adds what one more outcome gives, by each of its courses.
     #[tactic(auto, unfolding(crate::specs::Steps::with_outcome, crate::specs::Courses::courses))]
-    pub(crate) fn add_outcome(&self, outcome: &Outcome, found: &mut Stepped)
+    pub(crate) fn add_outcome(&self, outcome: &ContextOutcome, found: &mut Stepped)
         requires { length found.old.nexts ≤ 6 }
         ensures value { found.new ≡ spec.with_outcome self.now found.old outcome.now }
         ensures room { length found.new.nexts ≤ length found.old.nexts + 2 }
@@ -92,7 +92,7 @@ impl Visit {
 
     /// Adds the end of one course.
     #[tactic(auto, unfolding(crate::specs::Steps::with_end))]
-    fn add_end(&self, outcome: &Outcome, end: &Watch, found: &mut Stepped)
+    fn add_end(&self, outcome: &ContextOutcome, end: &Watch, found: &mut Stepped)
         requires { length found.old.nexts < 8 }
         ensures value { found.new ≡ spec.with_end self.now outcome.now found.old end.now }
         ensures room { length found.new.nexts ≡ length found.old.nexts + 1 }

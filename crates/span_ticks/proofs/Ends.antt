@@ -9,7 +9,7 @@ use Rattle.span_step.specs.declared.ages.Ages.{Ages}
 use Rattle.span_step.specs.declared.stepped.Next.{Next}
 use Rattle.span_step.specs.declared.stepped.Stepped.{Stepped}
 use Rattle.span_step.specs.Contexts.{Context, is_placed}
-use Rattle.span_step.specs.Outcomes.{Outcome, outcomes, is_wild}
+use Rattle.span_step.specs.Outcomes.{ContextOutcome, outcomes, is_wild}
 use Rattle.span_step.specs.Courses.{courses, prompt, delayed}
 use Rattle.span_step.specs.Laws.{AllPlaced, first_cause}
 use Rattle.span_step.specs.Steps.{Visit, visit_of, next_of, with_end, end_of, with_outcome, nothing_found, wild_step, step_by, machine_steps, context_steps}
@@ -18,13 +18,13 @@ use Rattle.span_ticks.specs.UnderWay.{Watch, op_at}
 use Rattle.span_ticks.proofs.Clean.{IsClean, clean_of, clean_left, clean_right}
 
 -- a course ends in a row, at a context in range, without cause
-pub record EndsWell (rows : Context → Option Ages) (v : Visit) (o : Outcome) (w : Watch) : Type 0 where
+pub record EndsWell (rows : Context → Option Ages) (v : Visit) (o : ContextOutcome) (w : Watch) : Type 0 where
   pub row : IsInRow w.ages (rows (next_of v o w).context)
   pub placed : is_placed (next_of v o w).context.address o.x o.y ≡ true
   pub clean : IsClean w.causes
 
 -- so do all courses of an outcome
-pub record AllEnds (rows : Context → Option Ages) (v : Visit) (o : Outcome) : Type 0 where
+pub record AllEnds (rows : Context → Option Ages) (v : Visit) (o : ContextOutcome) : Type 0 where
   pub at_once : EndsWell rows v o (end_of v (prompt v.side o v.delay))
   pub later : v.stalls ≡ true → EndsWell rows v o (end_of v (delayed v.side o v.delay))
 
@@ -42,7 +42,7 @@ placed_last : (xs : List Next) (y : Next) → AllPlaced (xs ++ y ∷ []) → All
 placed_last [] y h = (tt, h.0)
 placed_last (x ∷ xs) y h = let p = placed_last xs y h.1 in ((h.0, p.0), p.1)
 
-fine_end : (rows : Context → Option Ages) (v : Visit) (o : Outcome) (t : Stepped) (w : Watch) → IsFine rows (with_end v o t w) → IsFine rows t × EndsWell rows v o w
+fine_end : (rows : Context → Option Ages) (v : Visit) (o : ContextOutcome) (t : Stepped) (w : Watch) → IsFine rows (with_end v o t w) → IsFine rows t × EndsWell rows v o w
 unfolding with_end
 fine_end rows v o t w h =
     let p = all_last (HasRow rows) t.nexts (next_of v o w) h.nexts in
@@ -51,7 +51,7 @@ fine_end rows v o t w h =
       record { row = p.1; placed = q.1; clean = clean_right t.causes w.causes h.clean },
     )
 
-fine_outcome : (rows : Context → Option Ages) (v : Visit) (t : Stepped) (o : Outcome) → IsFine rows (with_outcome v t o) → IsFine rows t × AllEnds rows v o
+fine_outcome : (rows : Context → Option Ages) (v : Visit) (t : Stepped) (o : ContextOutcome) → IsFine rows (with_outcome v t o) → IsFine rows t × AllEnds rows v o
 unfolding with_outcome courses
 fine_outcome rows v t o h = by v.stalls refl h where
   by : (z : Bool) → v.stalls ≡ z → IsFine rows (fold (λ t ticks. with_end v o t (end_of v ticks)) t (courses z v.side o v.delay)) → IsFine rows t × AllEnds rows v o
@@ -63,7 +63,7 @@ fine_outcome rows v t o h = by v.stalls refl h where
       let first = fine_end rows v o t (end_of v (prompt v.side o v.delay)) h in
       (first.0, record { at_once = first.1; later = λ s. absurd (let x : false ≡ true = sym e ∙ s in cc) })
 
-fine_outcomes : (rows : Context → Option Ages) (v : Visit) (t : Stepped) (os : List Outcome) → IsFine rows (fold (with_outcome v) t os) → IsFine rows t × AllByRecursion (AllEnds rows v) os
+fine_outcomes : (rows : Context → Option Ages) (v : Visit) (t : Stepped) (os : List ContextOutcome) → IsFine rows (fold (with_outcome v) t os) → IsFine rows t × AllByRecursion (AllEnds rows v) os
 fine_outcomes rows v t [] h = (h, tt)
 fine_outcomes rows v t (o ∷ os) h =
     let rest = fine_outcomes rows v (with_outcome v t o) os h in

@@ -27,12 +27,12 @@ use Rattle.sm_registers.specs.declared.view.View.{View}
 use Rattle.sm_registers.specs.Queues.{Queues}
 use Rattle.sm_registers.specs.Effects.{Effect, fallen, counted_down, jumps, jmp_effect, wait_effect, in_effect, autopushed, out_to, out_effect, push_effect, pulled, pull_effect, mov_word, operated, mov_to, mov_effect, irq_effect, set_effect, effect_of}
 use Rattle.span_step.specs.Contexts.{Context, is_small}
-use Rattle.span_step.specs.Outcomes.{Outcome, nothing_done, level_at, holds, either_level, unknown_levels, unknown_pins, is_zero, is_nonzero, differ, taken, after_count, ways, out_outcomes, copied, mov_outcomes, set_outcomes, outcomes, is_wild, may_stall}
+use Rattle.span_step.specs.Outcomes.{ContextOutcome, nothing_done, level_at, holds, either_level, unknown_levels, unknown_pins, is_zero, is_nonzero, differ, taken, after_count, ways, out_outcomes, copied, mov_outcomes, set_outcomes, outcomes, is_wild, may_stall}
 use Rattle.span_step.specs.Outcomes as outcome
 use Rattle.span_ticks.specs.UnderWay.{Covers, flow_of}
 
 -- an effect that finishes is as this outcome says
-pub record Explains (sp : Span) (e : Effect) (o : Outcome) : Type 0 where
+pub record Explains (sp : Span) (e : Effect) (o : ContextOutcome) : Type 0 where
   pub jump : e.jump ≡ o.jump
   pub pending : e.pending ≡ None
   pub x : Covers o.x e.registers.x
@@ -41,8 +41,8 @@ pub record Explains (sp : Span) (e : Effect) (o : Outcome) : Type 0 where
   pub to : level_at sp.to_pin e.level ≡ o.to
 
 -- what holds of all outcomes holds of one that explains the effect
-pub record Picked (P : Outcome → Type 0) (sp : Span) (e : Effect) : Type 0 where
-  pub outcome : Outcome
+pub record Picked (P : ContextOutcome → Type 0) (sp : Span) (e : Effect) : Type 0 where
+  pub outcome : ContextOutcome
   pub holds : P outcome
   pub explains : Explains sp e outcome
 
@@ -85,7 +85,7 @@ explains_silent sp k r e x y h = record {
   to = ap (level_at sp.to_pin) h.level ∙ level_none sp.to_pin;
 }
 
-picked_silent : (P : Outcome → Type 0) (sp : Span) (k : Context) (r : Registers) (e : Effect) → AllByRecursion P (nothing_done k ∷ []) → Covers k.x r.x → Covers k.y r.y
+picked_silent : (P : ContextOutcome → Type 0) (sp : Span) (k : Context) (r : Registers) (e : Effect) → AllByRecursion P (nothing_done k ∷ []) → Covers k.x r.x → Covers k.y r.y
     → IsSilent r e → Picked P sp e
 picked_silent P sp k r e all x y h = record { outcome = nothing_done k; holds = all.0; explains = explains_silent sp k r e x y h }
 
@@ -153,7 +153,7 @@ no_write condition.OsrNotEmpty k = (refl, refl, refl)
 abbrev jumped : Condition → ℕ → Bool → MachineSetup → View → Registers → Effect
 jumped c address taken s v r = record (jmp_effect c address s v r) { registers = counted_down c r; jump = if taken then Some address else None }
 
-module _ (P : Outcome → Type 0) (c : Condition) (address : ℕ) (s : MachineSetup) (sp : Span) (k : Context) (v : View) (r : Registers) (low : is_small k.x ≡ true) (lower : is_small k.y ≡ true) (x : Covers k.x r.x) (y : Covers k.y r.y) where
+module _ (P : ContextOutcome → Type 0) (c : Condition) (address : ℕ) (s : MachineSetup) (sp : Span) (k : Context) (v : View) (r : Registers) (low : is_small k.x ≡ true) (lower : is_small k.y ≡ true) (x : Covers k.x r.x) (y : Covers k.y r.y) where
   goes : P (record (after_count c k) { jump = Some address }) → Picked P sp (jumped c address true s v r)
   unfolding jmp_effect
   goes h = let p = explains_count c sp k r low lower x y in let n = no_write c k in record {
@@ -232,7 +232,7 @@ all_levels Q m sp value = by (sp.from_pin == sp.to_pin) refl where
   by false e h = two h
 
 -- OUT PINS and MOV PINS
-picked_pins : (P : Outcome → Type 0) (value : ℕ) (s : MachineSetup) (sp : Span) (k : Context) (e : Effect) → AllByRecursion P (unknown_pins s sp k)
+picked_pins : (P : ContextOutcome → Type 0) (value : ℕ) (s : MachineSetup) (sp : Span) (k : Context) (e : Effect) → AllByRecursion P (unknown_pins s sp k)
     → e.jump ≡ None → e.pending ≡ None → Covers k.x e.registers.x → Covers k.y e.registers.y → e.level ≡ writes_of s.out value → Picked P sp e
 picked_pins P value s sp k e all j p x y l = record {
   outcome = record (nothing_done k) { from = level_at sp.from_pin (writes_of s.out value); to = level_at sp.to_pin (writes_of s.out value) };
@@ -241,7 +241,7 @@ picked_pins P value s sp k e all j p x y l = record {
 }
 
 -- one that writes no levels and has one outcome
-picked_one : (P : Outcome → Type 0) (sp : Span) (o : Outcome) (e : Effect) → AllByRecursion P (o ∷ []) → e.jump ≡ o.jump → e.pending ≡ None → Covers o.x e.registers.x
+picked_one : (P : ContextOutcome → Type 0) (sp : Span) (o : ContextOutcome) (e : Effect) → AllByRecursion P (o ∷ []) → e.jump ≡ o.jump → e.pending ≡ None → Covers o.x e.registers.x
     → Covers o.y e.registers.y → e.level ≡ (0, 0) → o.from ≡ None → o.to ≡ None → Picked P sp e
 picked_one P sp o e all j p x y l f t = record {
   outcome = o;
@@ -256,7 +256,7 @@ picked_one P sp o e all j p x y l f t = record {
   };
 }
 
-picked_out : (P : Outcome → Type 0) (d : OutDestination) (value n : ℕ) (s : MachineSetup) (sp : Span) (k : Context) (r : Registers) → is_wild (Out d n) ≡ false → Covers k.x r.x → Covers k.y r.y
+picked_out : (P : ContextOutcome → Type 0) (d : OutDestination) (value n : ℕ) (s : MachineSetup) (sp : Span) (k : Context) (r : Registers) → is_wild (Out d n) ≡ false → Covers k.x r.x → Covers k.y r.y
     → AllByRecursion P (out_outcomes d s sp k) → Picked P sp (out_to d value n s r)
 unfolding is_wild
 picked_out P out_destination.Pins value n s sp k r w x y h = picked_pins P value s sp k _ h refl refl x y refl
@@ -280,7 +280,7 @@ copy_covers mov_operation.Plain mov_source.Osr s v q k r x y = tt
 copy_covers mov_operation.Invert source s v q k r x y = tt
 copy_covers mov_operation.Reverse source s v q k r x y = tt
 
-picked_mov : (P : Outcome → Type 0) (d : MovDestination) (o : MovOperation) (source : MovSource) (word : Option ℕ) (value : ℕ) (s : MachineSetup) (sp : Span) (k : Context) (r : Registers) → is_wild (Mov d o source) ≡ false
+picked_mov : (P : ContextOutcome → Type 0) (d : MovDestination) (o : MovOperation) (source : MovSource) (word : Option ℕ) (value : ℕ) (s : MachineSetup) (sp : Span) (k : Context) (r : Registers) → is_wild (Mov d o source) ≡ false
     → Covers word value → Covers k.x r.x → Covers k.y r.y → AllByRecursion P (mov_outcomes d word s sp k) → Picked P sp (mov_to d value s r)
 unfolding is_wild
 picked_mov P mov_destination.Pins o source word value s sp k r w c x y h = picked_pins P value s sp k _ h refl refl x y refl
@@ -291,7 +291,7 @@ picked_mov P mov_destination.Pc o source word value s sp k r w c x y h = cc
 picked_mov P mov_destination.Isr o source word value s sp k r w c x y h = picked_one P sp _ _ h refl refl x y refl refl refl
 picked_mov P mov_destination.Osr o source word value s sp k r w c x y h = picked_one P sp _ _ h refl refl x y refl refl refl
 
-picked_set : (P : Outcome → Type 0) (d : SetDestination) (value : ℕ) (s : MachineSetup) (sp : Span) (k : Context) (r : Registers) → Covers k.x r.x → Covers k.y r.y
+picked_set : (P : ContextOutcome → Type 0) (d : SetDestination) (value : ℕ) (s : MachineSetup) (sp : Span) (k : Context) (r : Registers) → Covers k.x r.x → Covers k.y r.y
     → AllByRecursion P (set_outcomes d value s sp k) → Picked P sp (set_effect d value s r)
 unfolding set_effect
 picked_set P set_destination.Pins value s sp k r x y h = record { outcome = outcome.set_pins value s sp k; holds = h.0; explains = record { jump = refl; pending = refl; x = x; y = y; from = refl; to = refl } }
@@ -305,7 +305,7 @@ out_done P true x y h k p = absurd (let e : true ≡ false = sym h ∙ k in cc)
 out_done P false x y h k p = p
 
 -- any instruction that finishes
-pub explained : (P : Outcome → Type 0) (a : Act) (s : MachineSetup) (sp : Span) (k : Context) (v : View) (q : Queues) (r : Registers)
+pub explained : (P : ContextOutcome → Type 0) (a : Act) (s : MachineSetup) (sp : Span) (k : Context) (v : View) (q : Queues) (r : Registers)
     → is_wild a ≡ false → is_small k.x ≡ true → is_small k.y ≡ true → Covers k.x r.x → Covers k.y r.y
     → (effect_of a s v q r).stalled ≡ false → AllByRecursion P (outcomes a s sp k) → Picked P sp (effect_of a s v q r)
 unfolding effect_of outcomes wait_effect in_effect out_effect push_effect pull_effect mov_effect irq_effect

@@ -13,12 +13,12 @@ use Rattle.sm_registers.specs.Effects.{Effect, effect_of}
 use Rattle.sm_registers.specs.Tick.{tick_by, tick_of}
 use Rattle.span_step.specs.declared.ages.Ages.{Ages}
 use Rattle.span_step.specs.Contexts.{Context, is_placed, is_small, IsInside}
-use Rattle.span_step.specs.Outcomes.{Outcome, level_at, may_stall}
+use Rattle.span_step.specs.Outcomes.{ContextOutcome, level_at, may_stall}
 use Rattle.span_step.specs.Courses.{watched, followed, start, prompt, delayed, delay_tick, delay_ticks, over}
 use Rattle.span_step.specs.Laws.{AllPlaced}
 use Rattle.span_step.specs.Steps.{visit_of, rules_of, side_of, bounds_of, is_named, context_steps}
 use Rattle.span_ticks.specs.Rows.{IsInRow, IsSoundTable}
-use Rattle.span_ticks.specs.UnderWay.{Watch, flow_of, IsAt, IsResting, IsBegun, IsUnderWay, op_at, rested, stalled_from}
+use Rattle.span_ticks.specs.UnderWay.{Watch, flow_of, IsContextOf, IsResting, IsBegun, IsUnderWay, op_at, rested, stalled_from}
 use Rattle.span_ticks.specs.Following.{InAges, IsFollowed, IsAged, is_late, opens}
 use Rattle.span_ticks.proofs.Clean.{IsClean, clean_followed, clean_watched}
 use Rattle.span_ticks.proofs.Aging.{inside_ages, tick_ages, tick_fresh, waiting_ages, no_fresh, widened_ages}
@@ -39,7 +39,7 @@ widened_opens sp w v x e h = rw e h
 record IsHere (u : Setup) (sp : Span) (rows : Context → Option Ages) (s : MachineSetup) (r : Registers) (k : Context) (a : Ages) : Type 0 where
   pending : r.pending ≡ None
   left : r.delay ≡ 0
-  agrees : IsAt k (flow_of r)
+  agrees : IsContextOf k (flow_of r)
   row : rows k ≡ Some a
   known : IsKnownRow u sp rows s k a
 
@@ -50,22 +50,22 @@ record IsWidened (k : Context) (a : Ages) (w : Watch) : Type 0 where
   inside : IsInside w.ages a
 
 -- one of its courses' first ticks
-abbrev prompt_from : Setup → Span → MachineSetup → Context → Ages → Outcome → Watch
+abbrev prompt_from : Setup → Span → MachineSetup → Context → Ages → ContextOutcome → Watch
 prompt_from u sp s k a o =
     let side = side_of s sp (op_at u s k.address).side in
     watched (rules_of s sp k.address) (start k a) (record { late = false; from = over side.from o.from; to = over side.to o.to })
 
 -- the late tick in which the rest of an outcome comes
-abbrev late_from : Setup → Span → MachineSetup → Context → Ages → Outcome → Watch
+abbrev late_from : Setup → Span → MachineSetup → Context → Ages → ContextOutcome → Watch
 late_from u sp s k a o = watched (rules_of s sp k.address) (stalled_from u sp s k a) (record { late = true; from = o.from; to = o.to })
 
 -- no cause comes with the ticks of a course that ends well
-late_clean : (u : Setup) (sp : Span) (rows : Context → Option Ages) (s : MachineSetup) (k : Context) (a : Ages) (o : Outcome) → may_stall (op_at u s k.address).act s ≡ true
+late_clean : (u : Setup) (sp : Span) (rows : Context → Option Ages) (s : MachineSetup) (k : Context) (a : Ages) (o : ContextOutcome) → may_stall (op_at u s k.address).act s ≡ true
     → AllEnds rows (visit_of s sp (op_at u s k.address) k a) o → IsClean (late_from u sp s k a o).causes
 unfolding visit_of delayed
 late_clean u sp rows s k a o may ends = clean_followed (rules_of s sp k.address) (delay_ticks (op_at u s k.address).delay) (late_from u sp s k a o) (ends.later may).clean
 
-prompt_clean : (u : Setup) (sp : Span) (rows : Context → Option Ages) (s : MachineSetup) (k : Context) (a : Ages) (o : Outcome)
+prompt_clean : (u : Setup) (sp : Span) (rows : Context → Option Ages) (s : MachineSetup) (k : Context) (a : Ages) (o : ContextOutcome)
     → AllEnds rows (visit_of s sp (op_at u s k.address) k a) o → IsClean (prompt_from u sp s k a o).causes
 unfolding visit_of prompt
 prompt_clean u sp rows s k a o ends = clean_followed (rules_of s sp k.address) (delay_ticks (op_at u s k.address).delay) (prompt_from u sp s k a o) ends.at_once.clean
@@ -104,7 +104,7 @@ first_stall u sp rows s q r k a w e here begun wide st stalled =
     }
 
 -- where its rest goes
-end_rests : (sp : Span) (rows : Context → Option Ages) (u : Setup) (s : MachineSetup) (q : Queues) (r : Registers) (k : Context) (a : Ages) (e : Effect) (o : Outcome) (w : Watch)
+end_rests : (sp : Span) (rows : Context → Option Ages) (u : Setup) (s : MachineSetup) (q : Queues) (r : Registers) (k : Context) (a : Ages) (e : Effect) (o : ContextOutcome) (w : Watch)
     → IsHere u sp rows s r k a → e.stalled ≡ false → Explains sp e o
     → EndsWell rows (visit_of s sp (op_at u s k.address) k a) o (followed (rules_of s sp k.address) (delay_ticks (op_at u s k.address).delay) w)
     → IsResting sp rows s (flow_of (tick_by (op_at u s k.address) s q r e).0) w
@@ -121,7 +121,7 @@ unfolding tick_by watched visit_of prompt
 first_finish u sp rows s q r k a w e here begun wide ends p =
     let op : Op = op_at u s k.address in
     let side = side_of s sp op.side in
-    let o : Outcome = p.outcome in
+    let o : ContextOutcome = p.outcome in
     record {
       after = prompt_from u sp s k a o;
       under_way = inl (end_rests sp rows u s q r k a e o (prompt_from u sp s k a o) here ends p.explains p.holds.at_once);
@@ -170,7 +170,7 @@ unfolding tick_by watched visit_of delayed
 late_finish u sp rows s q r k a e here begun may ends p =
     let op : Op = op_at u s k.address in
     let w : Watch = stalled_from u sp s k a in
-    let o : Outcome = p.outcome in
+    let o : ContextOutcome = p.outcome in
     record {
       after = late_from u sp s k a o;
       under_way = inl (end_rests sp rows u s q r k a e o (late_from u sp s k a o) here ends p.explains (p.holds.later may));

@@ -12,7 +12,7 @@ use Rattle.sm_registers.specs.declared.view.View.{View}
 use Rattle.sm_registers.specs.Queues.{Queues}
 use Rattle.sm_registers.specs.Effects.{Effect, effect_of}
 use Rattle.sm_registers.specs.Tick.{current_word, word_at, pc_after, delay_after, after_effect, refilled, osr_filled_from, side_writes, tick_delay, tick_by, tick_word, tick_of}
-use Rattle.span_step.specs.Outcomes.{Outcome, level_at}
+use Rattle.span_step.specs.Outcomes.{ContextOutcome, level_at}
 use Rattle.span_step.specs.Courses.{over}
 use Rattle.span_step.specs.Steps.{Visit, next_address, side_of, address_after}
 use Rattle.span_ticks.specs.Following.{level_after}
@@ -52,7 +52,7 @@ tick_here u s v q r address memory pending left here =
     ∙ ap (λ w. tick_word (reading_of w s.side_rule) s v q r) word
 
 -- where it finishes
-pub flow_done : (op : Op) (s : MachineSetup) (sp : Span) (q : Queues) (r : Registers) (e : Effect) (o : Outcome) (address : ℕ) → r.pending ≡ None → address ≡ r.pc → e.stalled ≡ false → Explains sp e o
+pub flow_done : (op : Op) (s : MachineSetup) (sp : Span) (q : Queues) (r : Registers) (e : Effect) (o : ContextOutcome) (address : ℕ) → r.pending ≡ None → address ≡ r.pc → e.stalled ≡ false → Explains sp e o
     → flow_of (tick_by op s q r e).0 ≡ record { pc = address_after o.jump (next_address s address); x = e.registers.x; y = e.registers.y; delay = op.delay; pending = None; begun = false }
 unfolding tick_by after_effect
 flow_done op s sp q r e o address pending here ends x =

@@ -16,7 +16,7 @@ use Rattle.sm_registers.specs.declared.view.View.{View}
 use Rattle.sm_registers.specs.Queues.{Queues}
 use Rattle.sm_registers.specs.Effects.{Effect, stall, quiet, jmp_effect, wait_effect, in_effect, autopushed, out_to, out_effect, push_effect, pulled, pull_effect, mov_to, mov_effect, irq_effect, set_effect, effect_of}
 use Rattle.span_step.specs.Contexts.{Context}
-use Rattle.span_step.specs.Outcomes.{Outcome, nothing_done, unknown_levels, unknown_pins, taken, after_count, ways, outcomes, is_wild, may_stall}
+use Rattle.span_step.specs.Outcomes.{ContextOutcome, nothing_done, unknown_levels, unknown_pins, taken, after_count, ways, outcomes, is_wild, may_stall}
 use Rattle.span_ticks.specs.UnderWay.{flow_of}
 use Rattle.span_ticks.proofs.Explained.{all_map, all_levels}
 
@@ -110,24 +110,24 @@ stalls (Set d value) s v q r = stall_set false d value s r
 stalls Nothing s v q r = stall_done false r _ refl
 
 -- one outcome, of which all that holds of each does
-pub record Found (P : Outcome → Type 0) : Type 0 where
-  pub outcome : Outcome
+pub record Found (P : ContextOutcome → Type 0) : Type 0 where
+  pub outcome : ContextOutcome
   pub holds : P outcome
 
-found_way : (P : Outcome → Type 0) (t : Option Bool) (address : ℕ) (o : Outcome) → AllByRecursion P (ways t address o) → Found P
+found_way : (P : ContextOutcome → Type 0) (t : Option Bool) (address : ℕ) (o : ContextOutcome) → AllByRecursion P (ways t address o) → Found P
 found_way P (Some true) address o h = record { outcome = _; holds = h.0 }
 found_way P (Some false) address o h = record { outcome = _; holds = h.0 }
 found_way P None address o h = record { outcome = _; holds = h.0 }
 
-found_pins : (P : Outcome → Type 0) (s : MachineSetup) (sp : Span) (k : Context) → AllByRecursion P (unknown_pins s sp k) → Found P
+found_pins : (P : ContextOutcome → Type 0) (s : MachineSetup) (sp : Span) (k : Context) → AllByRecursion P (unknown_pins s sp k) → Found P
 found_pins P s sp k h =
     record { outcome = _; holds = all_levels (λ l. P (record (nothing_done k) { from = l.0; to = l.1 })) s.out sp 0 (all_map P (λ l. record (nothing_done k) { from = l.0; to = l.1 }) (unknown_levels s.out sp) h) }
 
-found_first : (P : Outcome → Type 0) (o : Outcome) → AllByRecursion P (o ∷ []) → Found P
+found_first : (P : ContextOutcome → Type 0) (o : ContextOutcome) → AllByRecursion P (o ∷ []) → Found P
 found_first P o h = record { outcome = o; holds = h.0 }
 
 -- where an address is known after it, an instruction has an outcome
-pub found : (P : Outcome → Type 0) (a : Act) (s : MachineSetup) (sp : Span) (k : Context) → is_wild a ≡ false → AllByRecursion P (outcomes a s sp k) → Found P
+pub found : (P : ContextOutcome → Type 0) (a : Act) (s : MachineSetup) (sp : Span) (k : Context) → is_wild a ≡ false → AllByRecursion P (outcomes a s sp k) → Found P
 unfolding outcomes is_wild
 found P (Jmp c address) s sp k w h = found_way P (taken c k) address (after_count c k) h
 found P (Wait polarity source index) s sp k w h = found_first P _ h

@@ -2,7 +2,7 @@
 --   Watch            what is known in the middle of a course
 --   Flow             what of a machine's registers the checker follows
 --   Covers           what is known of X or Y agrees with it
---   IsAt             a context agrees with a machine
+--   IsContextOf      a context agrees with a machine
 --   IsResting        at an instruction, or in the delay before it
 --   IsBegun          at an instruction that has stalled
 --   IsUnderWay       either
@@ -52,7 +52,7 @@ Covers (Some known) n = n ≡ known
 
 -- A context is in range and agrees with a machine: its address is PC, and what it knows of X and Y is so. In a delay PC, X and
 -- Y are already those of the instruction after it.
-pub record IsAt (k : Context) (f : Flow) : Type 0 where
+pub record IsContextOf (k : Context) (f : Flow) : Type 0 where
   pub placed : is_placed k.address k.x k.y ≡ true
   pub address : k.address ≡ f.pc
   pub x : Covers k.x f.x
@@ -68,7 +68,7 @@ pub record IsResting (sp : Span) (rows : Context → Option Ages) (s : MachineSe
   pub pending : f.pending ≡ None
   pub begun : f.begun ≡ false
   pub context : Context
-  pub agrees : IsAt context f
+  pub agrees : IsContextOf context f
   pub from : context.from ≡ (rested s sp f w).from
   pub to : context.to ≡ (rested s sp f w).to
   pub good : first_cause (rested s sp f w).causes ≡ None
@@ -91,7 +91,7 @@ pub record IsBegun (u : Setup) (sp : Span) (rows : Context → Option Ages) (s :
   pub delay : f.delay ≡ 0
   pub context : Context
   pub ages : Ages
-  pub agrees : IsAt context f
+  pub agrees : IsContextOf context f
   pub row : rows context ≡ Some ages
   pub stalls : may_stall (op_at u s context.address).act s ≡ true
   pub watch : w ≡ stalled_from u sp s context ages

@@ -16,7 +16,7 @@ ghost use Rattle.span_step.specs.declared.ages.Ages.{Ages};
 ghost use Rattle.span_step.specs.declared.ages.Ages.TheVariants as variants;
 ghost use Rattle.span_ticks.specs.Following.{InAges, IsFollowed, level_after};
 ghost use Rattle.span_ticks.specs.Rows.{IsInRow, IsSoundTable};
-ghost use Rattle.span_ticks.specs.UnderWay.{IsAt, IsUnderWay, Watch, flow_of};
+ghost use Rattle.span_ticks.specs.UnderWay.{IsContextOf, IsUnderWay, Watch, flow_of};
 
 use span_step::next_contexts_are_in_range;
 
@@ -47,7 +47,7 @@ pub fn open_ages_have_room()
 /// At its start a machine is under way in any context that agrees with it and has a row. No age is open.
 pub fn a_start_is_under_way()
     ensures { (u : block.Setup) (sp : span.Span) (rows : Context → Option Ages) (s : setup.MachineSetup) (k : Context)
-        → IsAt k (flow_of (first_registers s)) → IsInRow variants.Empty (rows k)
+        → IsContextOf k (flow_of (first_registers s)) → IsInRow variants.Empty (rows k)
         → IsUnderWay u sp rows s (flow_of (first_registers s)) (start k variants.Empty) }
 {}
 

@@ -12,7 +12,7 @@ use Rattle.span_bounds.specs.Numbers.{number_of}
 use Rattle.span_bounds.specs.Tables.{EachRow}
 use Rattle.table_files.specs.declared.fault.TableKind.{TableKind}
 use Rattle.table_files.specs.declared.fault.TableKind.TheVariants.{BadLine}
-use Rattle.table_files.specs.Faults.{Refusal}
+use Rattle.table_files.specs.Faults.{TableRefusal}
 use Rattle.table_files.specs.Lines.{row_at}
 use Rattle.table_files.specs.Reading.{end_line, wrong_at, left_open, ended, with_row, rows_from}
 
@@ -37,23 +37,23 @@ ended_more number (b ∷ bs) l =
     ]
 
 -- a fault that is told
-pub refuses : (o : Option Refusal) (r : Refusal) (d : Result (List Row) Refusal) → o ≡ Some r → d ≡ Err r → Refuses o d
-refuses o r d e h = subst (λ (x : Option Refusal). Refuses x d) (sym e) h
+pub refuses : (o : Option TableRefusal) (r : TableRefusal) (d : Result (List Row) TableRefusal) → o ≡ Some r → d ≡ Err r → Refuses o d
+refuses o r d e h = subst (λ (x : Option TableRefusal). Refuses x d) (sym e) h
 
 -- rows before others, if they were read
-abbrev pub with_rows : List Row → Result (List Row) Refusal → Result (List Row) Refusal
+abbrev pub with_rows : List Row → Result (List Row) TableRefusal → Result (List Row) TableRefusal
 with_rows front (Ok rows) = Ok (front ++ rows)
 with_rows front (Err refusal) = Err refusal
 
 -- what the lines that are left add to the rows so far
-abbrev pub going_from : List Row → ℕ → ℕ → List (List ℕ) → Result (List Row) Refusal
+abbrev pub going_from : List Row → ℕ → ℕ → List (List ℕ) → Result (List Row) TableRefusal
 going_from front number least lines = with_rows front (rows_from number least lines)
 
-pub with_rows-nil : (front : List Row) (r : Result (List Row) Refusal) → front ≡ [] → with_rows front r ≡ r
+pub with_rows-nil : (front : List Row) (r : Result (List Row) TableRefusal) → front ≡ [] → with_rows front r ≡ r
 with_rows-nil front (Ok rows) e = rw e refl
 with_rows-nil front (Err refusal) e = refl
 
-with_rows-more : (front : List Row) (r : Row) (d : Result (List Row) Refusal) → with_rows (front ++ r ∷ []) d ≡ with_rows front (with_row r d)
+with_rows-more : (front : List Row) (r : Row) (d : Result (List Row) TableRefusal) → with_rows (front ++ r ∷ []) d ≡ with_rows front (with_row r d)
 with_rows-more front r (Ok rows) = ap (λ (rs : List Row). Ok rs) (append_assoc front (r ∷ []) rows)
 with_rows-more front r (Err refusal) = refl
 
@@ -62,13 +62,13 @@ open_same front number [] = refl
 open_same front number (b ∷ bs) = refl
 
 -- after the last newline
-pub last_line : (front : List Row) (number least : ℕ) (line : List ℕ) (all : Result (List Row) Refusal) (o : Option Refusal)
+pub last_line : (front : List Row) (number least : ℕ) (line : List ℕ) (all : Result (List Row) TableRefusal) (o : Option TableRefusal)
     → going_from front number least (line ∷ []) ≡ all → Refuses o (left_open number line) → Refuses o all
 last_line front number least line all o whole h =
-    subst (λ (d : Result (List Row) Refusal). Refuses o d) (sym (open_same front number line) ∙ whole) h
+    subst (λ (d : Result (List Row) TableRefusal). Refuses o d) (sym (open_same front number line) ∙ whole) h
 
 -- the line `end`
-pub end_line_in : (front : List Row) (number least : ℕ) (line text : List ℕ) (all : Result (List Row) Refusal) → bytes_eq line end_line ≡ true
+pub end_line_in : (front : List Row) (number least : ℕ) (line text : List ℕ) (all : Result (List Row) TableRefusal) → bytes_eq line end_line ≡ true
     → going_from front number least (line ∷ lines_of text) ≡ all → with_rows front (ended (number + 1) (lines_of text)) ≡ all
 end_line_in front number least line text all e whole =
     let p = lines_cons text in
@@ -76,16 +76,16 @@ end_line_in front number least line text all e whole =
     sym (ap (with_rows front) h) ∙ whole
 
 -- nothing comes after `end`
-pub ends_ok : (front : List Row) (d all : Result (List Row) Refusal) → with_rows front d ≡ all → d ≡ Ok [] → all ≡ Ok front
+pub ends_ok : (front : List Row) (d all : Result (List Row) TableRefusal) → with_rows front d ≡ all → d ≡ Ok [] → all ≡ Ok front
 ends_ok front d all whole h = sym whole ∙ ap (with_rows front) h ∙ ap (λ (rs : List Row). Ok rs) (append-nil front)
 
 -- something does
-pub ends_err : (front : List Row) (o : Option Refusal) (d all : Result (List Row) Refusal) → with_rows front d ≡ all → Refuses o d → Refuses o all
+pub ends_err : (front : List Row) (o : Option TableRefusal) (d all : Result (List Row) TableRefusal) → with_rows front d ≡ all → Refuses o d → Refuses o all
 ends_err front None d all whole h = tt
 ends_err front (Some r) d all whole h = sym whole ∙ ap (with_rows front) h
 
 -- a faulty line
-pub bad_line_in : (front : List Row) (number least : ℕ) (line text : List ℕ) (kind : TableKind) (all : Result (List Row) Refusal) → bytes_eq line end_line ≡ false
+pub bad_line_in : (front : List Row) (number least : ℕ) (line text : List ℕ) (kind : TableKind) (all : Result (List Row) TableRefusal) → bytes_eq line end_line ≡ false
     → row_at least line ≡ Err kind → going_from front number least (line ∷ lines_of text) ≡ all → all ≡ wrong_at number kind
 bad_line_in front number least line text kind all e f whole =
     let p = lines_cons text in
@@ -97,7 +97,7 @@ pub row_here : (number least : ℕ) (line text : List ℕ) (r : Row) → bytes_e
     → rows_from number least (line ∷ lines_of text) ≡ with_row r (rows_from (number + 1) (number_of r.context + 1) (lines_of text))
 row_here number least line text r e f = let p = lines_cons text in rw (p.2, e, f) refl
 
-pub row_line_in : (front : List Row) (number least : ℕ) (line text : List ℕ) (r : Row) (all : Result (List Row) Refusal) → bytes_eq line end_line ≡ false
+pub row_line_in : (front : List Row) (number least : ℕ) (line text : List ℕ) (r : Row) (all : Result (List Row) TableRefusal) → bytes_eq line end_line ≡ false
     → row_at least line ≡ Ok r → going_from front number least (line ∷ lines_of text) ≡ all
     → going_from (front ++ r ∷ []) (number + 1) (number_of r.context + 1) (lines_of text) ≡ all
 row_line_in front number least line text r all e f whole =
@@ -105,7 +105,7 @@ row_line_in front number least line text r all e f whole =
     ∙ (sym (ap (with_rows front) (row_here number least line text r e f)) ∙ whole)
 
 -- what is left, at its first line
-pub opened : (front : List Row) (number least : ℕ) (rest after : Option (Bor (List ℕ))) (text next : Bor (List ℕ)) (line : List ℕ) (all : Result (List Row) Refusal)
+pub opened : (front : List Row) (number least : ℕ) (rest after : Option (Bor (List ℕ))) (text next : Bor (List ℕ)) (line : List ℕ) (all : Result (List Row) TableRefusal)
     → rest ≡ Some text → lines_of text.now ≡ line ∷ lines_left (option_copied after) → after ≡ Some next
     → going_from front number least (lines_left (option_copied rest)) ≡ all → going_from front number least (line ∷ lines_of next.now) ≡ all
 opened front number least rest after text next line all is first more whole =
@@ -114,7 +114,7 @@ opened front number least rest after text next line all is first more whole =
     ∙ (ap (going_from front number least) (sym (ap (λ (r : Option (Bor (List ℕ))). lines_left (option_copied r)) is ∙ first)) ∙ whole)
 
 -- the rows after the line of a row, as the code has them
-pub kept : (front new : List Row) (number least above : ℕ) (rest after : Option (Bor (List ℕ))) (text next : Bor (List ℕ)) (line : List ℕ) (r : Row) (all : Result (List Row) Refusal)
+pub kept : (front new : List Row) (number least above : ℕ) (rest after : Option (Bor (List ℕ))) (text next : Bor (List ℕ)) (line : List ℕ) (r : Row) (all : Result (List Row) TableRefusal)
     → rest ≡ Some text → lines_of text.now ≡ line ∷ lines_left (option_copied after) → after ≡ Some next → bytes_eq line end_line ≡ false
     → row_at least line ≡ Ok r → above ≡ number_of r.context → new ≡ front ++ r ∷ []
     → going_from front number least (lines_left (option_copied rest)) ≡ all → going_from new (number + 1) (above + 1) (lines_left (option_copied after)) ≡ all

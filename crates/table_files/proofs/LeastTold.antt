@@ -13,14 +13,14 @@ use Rattle.span_step.specs.declared.ages.Ages.{Ages}
 use Rattle.span_step.specs.declared.ages.Ages.TheVariants.{Empty, Between}
 use Rattle.span_step.specs.declared.stepped.Next.{Next}
 use Rattle.span_step.specs.Contexts.{Context, IsInside}
-use Rattle.span_step.specs.Laws.{AreAlike, Follows, AreInside, AreUpTo, AllUpTo, IsWithin, most_on, most_of}
+use Rattle.span_step.specs.Laws.{AreAlike, GoesLike, AreInside, AreUpTo, AllUpTo, IsNarrower, most_on, most_of}
 use Rattle.span_step.specs.Steps.{bounds_in, bounds_of, period_of, context_steps}
 use Rattle.span_bounds.specs.declared.entry.Entry.{Entry}
 use Rattle.span_bounds.specs.declared.entry.Entry.TheVariants.{Absent, Present}
 use Rattle.span_bounds.specs.declared.row.Row.{Row}
 use Rattle.span_bounds.specs.Numbers.{number_of}
 use Rattle.span_bounds.specs.Tables.{entry_at, LiesAt, AllLieIn, EachRow, IsTableFrom, IsClosed, IsLeast, start_context}
-use Rattle.table_files.specs.Told.{IsTold, AreTold}
+use Rattle.table_files.specs.Told.{IsAgeRange, HaveAgeRanges}
 use Rattle.table_files.proofs.Rights.{IsRight, AllRight, step_right}
 
 -- ages of which those out of range are cut off
@@ -69,14 +69,14 @@ within_fixed m (Between l g) (Between lo hi) h k i =
       top g hi m p q = omega arith
 
 -- ages inside what is left of them are in range
-told_by : (b : Bool) (m lo hi : ℕ) → nat_le lo (min hi m) ≡ b → m ≤ 16777216 → IsInside (Between lo hi) (cond b (Between lo (min hi m)) Empty) → IsTold (Between lo hi)
+told_by : (b : Bool) (m lo hi : ℕ) → nat_le lo (min hi m) ≡ b → m ≤ 16777216 → IsInside (Between lo hi) (cond b (Between lo (min hi m)) Empty) → IsAgeRange (Between lo hi)
 told_by true m lo hi e l i =
     let p : lo ≤ min hi m = grind (arith, nat_tests) in
     let q : hi ≤ min hi m = i.1 in
     (omega (arith, p), omega (arith, q, l))
 told_by false m lo hi e l i = absurd i
 
-told : (m : ℕ) (a : Ages) → m ≤ 16777216 → IsInside a (fixed m a) → IsTold a
+told : (m : ℕ) (a : Ages) → m ≤ 16777216 → IsInside a (fixed m a) → IsAgeRange a
 told m Empty l i = tt
 told m (Between lo hi) l i = told_by (nat_le lo (min hi m)) m lo hi refl l i
 
@@ -107,7 +107,7 @@ lies_fixed : (m : ℕ) (a b : Ages) (e : Entry) → IsRight a → AreUpTo m a �
 lies_fixed m a b Absent h k i l = l
 lies_fixed m a b (Present c) h k i l = within_fixed m a c h k (inside-trans a b c i l)
 
-nexts_fixed : (m : ℕ) (rows : List Row) (ns os : List Next) → AreAlike (Follows AreInside) ns os → AllRight ns → AllUpTo m ns → AllLieIn rows os → AllLieIn (map (fixed_row m) rows) ns
+nexts_fixed : (m : ℕ) (rows : List Row) (ns os : List Next) → AreAlike (GoesLike AreInside) ns os → AllRight ns → AllUpTo m ns → AllLieIn rows os → AllLieIn (map (fixed_row m) rows) ns
 nexts_fixed m rows [] os h r c l = tt
 nexts_fixed m rows (n ∷ ns) [] h r c l = absurd h
 nexts_fixed m rows (n ∷ ns) (o ∷ os) h r c l =
@@ -117,7 +117,7 @@ nexts_fixed m rows (n ∷ ns) (o ∷ os) h r c l =
 
 -- what laws of a step say
 abbrev pub IsMonotone : Type 0
-IsMonotone = (u : Setup) (sp : Span) (k : Context) (a b : Ages) → IsInside a b → IsWithin (context_steps u sp k a) (context_steps u sp k b)
+IsMonotone = (u : Setup) (sp : Span) (k : Context) (a b : Ages) → IsInside a b → IsNarrower (context_steps u sp k a) (context_steps u sp k b)
 
 abbrev pub IsCapped : Type 0
 IsCapped = (u : Setup) (sp : Span) (k : Context) (a : Ages) → AllUpTo (most_of u sp + 1) (context_steps u sp k a).nexts
@@ -144,7 +144,7 @@ module _ (monotone : IsMonotone) (capped : IsCapped) (u : Setup) (sp : Span) whe
   }
 
   told_rows : (all rs : List Row) → most ≤ 16777216 → EachRow (λ r. LiesAt r.ages (entry_at (map (fixed_row most) all) (number_of r.context))) rs
-      → EachRow (λ r. entry_at all (number_of r.context) ≡ Present r.ages) rs → AreTold rs
+      → EachRow (λ r. entry_at all (number_of r.context) ≡ Present r.ages) rs → HaveAgeRanges rs
   told_rows all [] l h k = tt
   told_rows all (r ∷ rs) l h k =
       let e : entry_at (map (fixed_row most) all) (number_of r.context) ≡ Present (fixed most r.ages) = entry_at-fixed most all (number_of r.context) ∙ ap (fixed_entry most) k.0 in
@@ -206,7 +206,7 @@ unfolding most_of
 most_fits u sp = let l = most_small (slice_index_or u.machines sp.machine None) sp in omega (arith, l)
 
 -- the ages of a least closed table can be told
-pub least_told : IsMonotone → IsCapped → (u : Setup) (sp : Span) (rows : List Row) → IsLeast u sp rows → AreTold rows
+pub least_told : IsMonotone → IsCapped → (u : Setup) (sp : Span) (rows : List Row) → IsLeast u sp rows → HaveAgeRanges rows
 least_told monotone capped u sp rows h =
     let most = most_of u sp + 1 in
     told_rows monotone capped u sp rows rows (most_fits u sp)

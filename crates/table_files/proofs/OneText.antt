@@ -16,12 +16,12 @@ use Rattle.span_bounds.specs.Numbers.{number_of, level_number}
 use Rattle.span_bounds.specs.Tables.{IsTable, IsTableFrom}
 use Rattle.table_files.specs.declared.fault.TableKind.{TableKind}
 use Rattle.table_files.specs.declared.said.Said.{Said}
-use Rattle.table_files.specs.Faults.{Refusal}
+use Rattle.table_files.specs.Faults.{TableRefusal}
 use Rattle.table_files.specs.Lines.{known_in, ages_in, between, said_by, said_in, fields_of, placed, known_placed, level_of, ages_placed, row_by, row_of, in_order, row_from, row_at, most_age}
 use Rattle.table_files.specs.Numbers.{number_in}
 use Rattle.table_files.specs.Reading.{head_line, end_line, left_open, ended, with_row, rows_from, rows_after, rows_in, table_of}
 use Rattle.table_files.specs.Rows.{known_text, level_text, row_line, row_lines, table_text}
-use Rattle.table_files.specs.Told.{IsTold, AreTold}
+use Rattle.table_files.specs.Told.{IsAgeRange, HaveAgeRanges}
 use Rattle.table_files.proofs.Numerals.{none_some, some_same, false_true, decimal-number_in, bytes_same, known_text-known_in}
 use Rattle.table_files.proofs.Readback.{written}
 use Rattle.table_files.proofs.Texts.{ages_fields, row_fields, row_text, row_line-text, AreSmall}
@@ -124,13 +124,13 @@ and_both false b e = absurd (false_true e)
 at_most : (n m : ℕ) → nat_le n m ≡ true → n ≤ m
 at_most n m e = grind (arith, nat_tests)
 
-ages_by : (b : Bool) (lo hi : ℕ) (g : Ages) → (nat_le lo hi && nat_le hi most_age) ≡ b → cond b (Some (Between lo hi)) None ≡ Some g → (Between lo hi ≡ g) × IsTold (Between lo hi)
+ages_by : (b : Bool) (lo hi : ℕ) (g : Ages) → (nat_le lo hi && nat_le hi most_age) ≡ b → cond b (Some (Between lo hi)) None ≡ Some g → (Between lo hi ≡ g) × IsAgeRange (Between lo hi)
 ages_by true lo hi g p e =
     let q = and_both (nat_le lo hi) (nat_le hi most_age) p in
     (some_same (Between lo hi) g e, (at_most lo hi q.0, at_most hi most_age q.1))
 ages_by false lo hi g p e = absurd (none_some e)
 
-ages_are : (a g : Ages) → ages_placed a ≡ Some g → (a ≡ g) × IsTold a
+ages_are : (a g : Ages) → ages_placed a ≡ Some g → (a ≡ g) × IsAgeRange a
 ages_are Empty g e = (some_same Empty g e, tt)
 ages_are (Between lo hi) g e = ages_by (nat_le lo hi && nat_le hi most_age) lo hi g refl e
 
@@ -167,7 +167,7 @@ and_three a b c p q s = rw (p, q, s) refl
 record IsRead (r : Row) (fields : List (List ℕ)) : Type 0 where
   whole : row_fields r ≡ fields
   in_place : is_placed r.context.address r.context.x r.context.y ≡ true
-  told : IsTold r.ages
+  told : IsAgeRange r.ages
 
 -- a row's fields
 fields_there : (a x y f t : List ℕ) (g : List (List ℕ)) (s : Said) (r : Row) → said_in (a ∷ x ∷ y ∷ f ∷ t ∷ g) ≡ Some s → row_of s ≡ Some r → IsRead r (a ∷ x ∷ y ∷ f ∷ t ∷ g)
@@ -180,7 +180,7 @@ fields_there a x y f t g s r e h =
     let pf = level_is s.from r.context.from part.from_is in
     let pt = level_is s.to r.context.to part.to_is in
     let pg = ages_are s.ages r.ages part.ages_are in
-    let told : IsTold r.ages = rw (← pg.0) pg.1 in
+    let told : IsAgeRange r.ages = rw (← pg.0) pg.1 in
     let there : is_placed r.context.address r.context.x r.context.y ≡ true = and_three _ _ _ pa.1 px.1 py.1 in
     let w = written r there told in
     let ea : decimal r.context.address ≡ a = decimal-number_in r.context.address a w.address (said.address ∙ ap (λ (n : ℕ). Some n) pa.0) in
@@ -210,7 +210,7 @@ record IsRowLine (least : ℕ) (line : List ℕ) (r : Row) : Type 0 where
   text : row_text r ≡ line
   in_place : is_placed r.context.address r.context.x r.context.y ≡ true
   after : nat_lt least (number_of r.context + 1) ≡ true
-  told : IsTold r.ages
+  told : IsAgeRange r.ages
 
 ordered_by : (b : Bool) (q r : Row) (least : ℕ) (k : TableKind) → nat_le least (number_of q.context) ≡ b → cond b (Ok q) (Err k) ≡ Ok r → (q ≡ r) × (b ≡ true)
 ordered_by true q r least k p e = (ok_same q r e, refl)
@@ -249,7 +249,7 @@ row_least least line r h = at_most_after least (number_of r.context) (row_line_t
 record AreLines (least : ℕ) (lines : List (List ℕ)) (rows : List Row) : Type 0 where
   text : join_with_byte 10 lines ≡ row_lines rows ++ codes "end\n"
   table : IsTableFrom least rows
-  told : AreTold rows
+  told : HaveAgeRanges rows
 
 open_bad : (number : ℕ) (last : List ℕ) (rows : List Row) → left_open number last ≡ Ok rows → ⊥
 open_bad number [] rows e = err_ok e
@@ -266,7 +266,7 @@ at_end number least line next others rows p e =
     let l : line ≡ end_line = bytes_same line end_line p in
     rw (t.0, ← t.1, l) (record { text = refl; table = tt; told = tt })
 
-with_row_is : (r : Row) (d : Result (List Row) Refusal) (rows : List Row) → with_row r d ≡ Ok rows → (rs : List Row) × ((d ≡ Ok rs) × ((r ∷ rs) ≡ rows))
+with_row_is : (r : Row) (d : Result (List Row) TableRefusal) (rows : List Row) → with_row r d ≡ Ok rows → (rs : List Row) × ((d ≡ Ok rs) × ((r ∷ rs) ≡ rows))
 with_row_is r (Ok rs) rows e = (rs, (refl, ok_same (r ∷ rs) rows e))
 with_row_is r (Err refusal) rows e = absurd (err_ok e)
 
@@ -309,7 +309,7 @@ lines_there number least (line ∷ next ∷ others) rows e =
 record IsFile (lines : List (List ℕ)) (rows : List Row) : Type 0 where
   text : join_with_byte 10 lines ≡ codes "pio table 1\n" ++ row_lines rows ++ codes "end\n"
   table : IsTable rows
-  told : AreTold rows
+  told : HaveAgeRanges rows
 
 after_is : (line next : List ℕ) (others : List (List ℕ)) (rows : List Row) → rows_after line (next ∷ others) ≡ Ok rows → IsFile (line ∷ next ∷ others) rows
 after_is line next others rows e = elim (cases_Bool (bytes_eq line head_line)) [
@@ -339,5 +339,5 @@ one_text bytes rows e = sym ((whole_file bytes rows e).text) ∙ join_with_byte-
 pub read_table_is : (bytes : List ℕ) (rows : List Row) → table_of bytes ≡ Ok rows → IsTable rows
 read_table_is bytes rows e = (whole_file bytes rows e).table
 
-pub read_table_told : (bytes : List ℕ) (rows : List Row) → table_of bytes ≡ Ok rows → AreTold rows
+pub read_table_told : (bytes : List ℕ) (rows : List Row) → table_of bytes ≡ Ok rows → HaveAgeRanges rows
 read_table_told bytes rows e = (whole_file bytes rows e).told

@@ -20,7 +20,7 @@ use Rattle.table_files.specs.Lines.{known_in, ages_in, said_in, known_placed, le
 use Rattle.table_files.specs.Numbers.{number_in}
 use Rattle.table_files.specs.Reading.{head_line, end_line, with_row, rows_from, rows_after, rows_in, table_of}
 use Rattle.table_files.specs.Rows.{known_text, level_text, row_line, row_lines, table_text}
-use Rattle.table_files.specs.Told.{IsTold, AreTold}
+use Rattle.table_files.specs.Told.{IsAgeRange, HaveAgeRanges}
 use Rattle.table_files.proofs.Goings.{lines_cons, row_here}
 use Rattle.table_files.proofs.Texts.{ages_fields, row_fields, row_text, row_line-text, Without, AreSmall, IsSmall, IsWritten, without_fields, without_join, split_join, number_in-decimal}
 
@@ -78,7 +78,7 @@ level_back false = refl
 within : (n m : ℕ) → n ≤ m → nat_le n m ≡ true
 within n m l = grind (arith, nat_tests)
 
-ages_back : (a : Ages) → IsTold a → ages_placed a ≡ Some a
+ages_back : (a : Ages) → IsAgeRange a → ages_placed a ≡ Some a
 ages_back Empty h = refl
 ages_back (Between lo hi) h = rw (within lo hi h.0, within hi most_age h.1) refl
 
@@ -91,7 +91,7 @@ three false b c h = absurd (bad h) where
   bad : false ≡ true → ⊥
   bad e = cc
 
-row_back : (r : Row) → is_placed r.context.address r.context.x r.context.y ≡ true → IsTold r.ages → row_of (said_row r) ≡ Some r
+row_back : (r : Row) → is_placed r.context.address r.context.x r.context.y ≡ true → IsAgeRange r.ages → row_of (said_row r) ≡ Some r
 row_back r p h =
     let q = three (nat_lt r.context.address 32) (is_small r.context.x) (is_small r.context.y) p in
     rw (q.0, known_back r.context.x q.1.0, known_back r.context.y q.1.1, level_back r.context.from, level_back r.context.to, ages_back r.ages h) refl
@@ -105,17 +105,17 @@ small_known None h n e = absurd (bad e) where
   bad e = cc
 small_known (Some m) h n e = let s : m ≡ n = cc in below n (rw s at h)
 
-small_ages : (a : Ages) → IsTold a → AreSmall a
+small_ages : (a : Ages) → IsAgeRange a → AreSmall a
 small_ages Empty h = tt
 small_ages (Between lo hi) h = (omega (arith, h.0, h.1), omega (arith, h.1))
 
 -- the numbers of a row in range are written in few digits
-pub written : (r : Row) → is_placed r.context.address r.context.x r.context.y ≡ true → IsTold r.ages → IsWritten r
+pub written : (r : Row) → is_placed r.context.address r.context.x r.context.y ≡ true → IsAgeRange r.ages → IsWritten r
 written r p h =
     let q = three (nat_lt r.context.address 32) (is_small r.context.x) (is_small r.context.y) p in
     record { address = below r.context.address q.0; x = small_known r.context.x q.1.0; y = small_known r.context.y q.1.1; ages = small_ages r.ages h }
 
-row_at-text : (least : ℕ) (r : Row) → is_placed r.context.address r.context.x r.context.y ≡ true → IsTold r.ages → nat_le least (number_of r.context) ≡ true → row_at least (row_text r) ≡ Ok r
+row_at-text : (least : ℕ) (r : Row) → is_placed r.context.address r.context.x r.context.y ≡ true → IsAgeRange r.ages → nat_le least (number_of r.context) ≡ true → row_at least (row_text r) ≡ Ok r
 unfolding row_at
 row_at-text least r p h l =
     let w = written r p h in
@@ -144,7 +144,7 @@ first_row r after w =
     ap lines_of text
     ∙ slice_split_at (λ b. eqb b 10) (row_text r) 10 after (All-from_recursion (λ b. eqb b 10 ≡ false) (row_text r) (without_join (row_fields r) (without_fields 10 r (omega arith) w))) refl
 
-rows_back : (number least : ℕ) (rows : List Row) → IsTableFrom least rows → AreTold rows → rows_from number least (lines_of (row_lines rows ++ codes "end\n")) ≡ Ok rows
+rows_back : (number least : ℕ) (rows : List Row) → IsTableFrom least rows → HaveAgeRanges rows → rows_from number least (lines_of (row_lines rows ++ codes "end\n")) ≡ Ok rows
 rows_back number least [] h k = refl
 rows_back number least (r ∷ rs) h k =
     let w = written r h.0 k.0 in
@@ -167,7 +167,7 @@ after_file bytes line after text first more =
     ∙ ap rows_in (sym (first ∙ ap (λ (r : Option (Bor (List ℕ))). line ∷ lines_left (option_copied r)) more))
 
 -- a table is read back
-pub table_back : (rows : List Row) → IsTable rows → AreTold rows → table_of (table_text rows) ≡ Ok rows
+pub table_back : (rows : List Row) → IsTable rows → HaveAgeRanges rows → table_of (table_text rows) ≡ Ok rows
 unfolding table_of table_text
 table_back rows h k =
     let text = row_lines rows ++ codes "end\n" in

@@ -12,7 +12,7 @@ use Rattle.span_step.specs.declared.stepped.Next.{Next}
 use Rattle.span_step.specs.declared.stepped.Stepped.{Stepped}
 use Rattle.span_step.specs.Contexts.{Context}
 use Rattle.span_step.specs.Courses.{Rules, start, delay_tick, older, with_fresh, after_edges, watched, followed, courses}
-use Rattle.span_step.specs.Outcomes.{Outcome, outcomes, is_wild}
+use Rattle.span_step.specs.Outcomes.{ContextOutcome, outcomes, is_wild}
 use Rattle.span_step.specs.Steps.{Visit, visit_of, with_end, end_of, with_outcome, nothing_found, wild_step, step_by, machine_steps, context_steps}
 
 -- the type of a value
@@ -68,17 +68,17 @@ append_right : (ns : List Next) (n : Next) → AllRight ns → IsRight n.ages �
 append_right [] n h k = (k, tt)
 append_right (m ∷ ns) n h k = (h.0, append_right ns n h.1 k)
 
-end_right : (v : Visit) (o : Outcome) (found : Stepped) (w : Watch) → AllRight found.nexts → IsRight w.ages → AllRight (with_end v o found w).nexts
+end_right : (v : Visit) (o : ContextOutcome) (found : Stepped) (w : Watch) → AllRight found.nexts → IsRight w.ages → AllRight (with_end v o found w).nexts
 unfolding with_end
 end_right v o found w h k = append_right found.nexts _ h k
 
-outcome_right : (v : Visit) (found : Stepped) (o : Outcome) → IsRight v.ages → AllRight found.nexts → AllRight (with_outcome v found o).nexts
+outcome_right : (v : Visit) (found : Stepped) (o : ContextOutcome) → IsRight v.ages → AllRight found.nexts → AllRight (with_outcome v found o).nexts
 unfolding with_outcome
 outcome_right v found o k h =
     fold_keeps (λ (s : Stepped). AllRight s.nexts) (λ (s : Stepped) (ticks : List Tick). with_end v o s (end_of v ticks))
     (λ s ticks p. end_right v o s (end_of v ticks) p (course_right v.rules ticks _ k)) (courses v.stalls v.side o v.delay) found h
 
-outcomes_right : (v : Visit) (os : List Outcome) → IsRight v.ages → AllRight (fold (with_outcome v) nothing_found os).nexts
+outcomes_right : (v : Visit) (os : List ContextOutcome) → IsRight v.ages → AllRight (fold (with_outcome v) nothing_found os).nexts
 outcomes_right v os k = fold_keeps (λ (s : Stepped). AllRight s.nexts) (with_outcome v) (λ s o p. outcome_right v s o k p) os nothing_found tt
 
 visit_right : (s : MachineSetup) (sp : Span) (op : Op) (k : Context) (a : Ages) → IsRight a → IsRight (visit_of s sp op k a).ages

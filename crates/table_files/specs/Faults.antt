@@ -1,6 +1,6 @@
 -- Why bytes aren't the text of a table.
 --   code_of          the code of a kind
---   Refusal          a fault with its line
+--   TableRefusal     a fault with its line
 --   told             the fault that a call tells
 use Rattle.std.specs.Prelude.{ℕ, Option, Some, None, List, codes}
 use Rattle.table_files.specs.declared.fault.TableKind.{TableKind}
@@ -16,11 +16,11 @@ code_of Order = codes "B3"
 code_of NoEnd = codes "B4"
 
 -- where a file is faulty, and why
-pub record Refusal : Type 0 where
+pub record TableRefusal : Type 0 where
   pub line : ℕ
   pub kind : TableKind
 
 -- the fault that is told, nothing where memory ran out
-abbrev pub told : TableFault → Option Refusal
+abbrev pub told : TableFault → Option TableRefusal
 told Memory = None
 told (At line kind) = Some (record { line = line; kind = kind })

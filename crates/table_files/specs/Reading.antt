@@ -9,7 +9,7 @@ use Rattle.span_bounds.specs.declared.row.Row.{Row}
 use Rattle.span_bounds.specs.Numbers.{number_of}
 use Rattle.table_files.specs.declared.fault.TableKind.{TableKind}
 use Rattle.table_files.specs.declared.fault.TableKind.TheVariants.{BadLine, NoEnd}
-use Rattle.table_files.specs.Faults.{Refusal}
+use Rattle.table_files.specs.Faults.{TableRefusal}
 use Rattle.table_files.specs.Lines.{row_at}
 
 -- the first line of a table file
@@ -21,29 +21,29 @@ abbrev pub end_line : List ℕ
 end_line = codes "end"
 
 -- what is wrong with a line
-abbrev pub wrong_at : ℕ → TableKind → Result (List Row) Refusal
+abbrev pub wrong_at : ℕ → TableKind → Result (List Row) TableRefusal
 wrong_at number kind = Err (record { line = number; kind = kind })
 
 -- what is wrong where this comes after the last newline: a line without its newline is bad, and else the end is missing
-abbrev pub left_open : ℕ → List ℕ → Result (List Row) Refusal
+abbrev pub left_open : ℕ → List ℕ → Result (List Row) TableRefusal
 left_open number [] = wrong_at number NoEnd
 left_open number (b ∷ bs) = wrong_at number BadLine
 
 -- after `end` nothing may come
-abbrev pub ended : ℕ → List (List ℕ) → Result (List Row) Refusal
+abbrev pub ended : ℕ → List (List ℕ) → Result (List Row) TableRefusal
 ended number [] = Ok []
 ended number ([] ∷ []) = Ok []
 ended number ((b ∷ bs) ∷ others) = wrong_at number BadLine
 ended number ([] ∷ other ∷ others) = wrong_at number BadLine
 
 -- a row before others, if they were read
-abbrev pub with_row : Row → Result (List Row) Refusal → Result (List Row) Refusal
+abbrev pub with_row : Row → Result (List Row) TableRefusal → Result (List Row) TableRefusal
 with_row r (Ok rows) = Ok (r ∷ rows)
 with_row r (Err refusal) = Err refusal
 
 -- The rows of lines up to `end`, or the first fault. The last of these is what comes after the last newline. The first has
 -- this number, and each row's context has at least this place in the order and comes after the row before.
-abbrev pub rows_from : (number least : ℕ) → List (List ℕ) → Result (List Row) Refusal
+abbrev pub rows_from : (number least : ℕ) → List (List ℕ) → Result (List Row) TableRefusal
 rows_from number least [] = wrong_at number NoEnd
 rows_from number least (last ∷ []) = left_open number last
 rows_from number least (line ∷ next ∷ others) =
@@ -54,15 +54,15 @@ rows_from number least (line ∷ next ∷ others) =
     ]
 
 -- the rows of a file with this first line and these others
-abbrev pub rows_after : List ℕ → List (List ℕ) → Result (List Row) Refusal
+abbrev pub rows_after : List ℕ → List (List ℕ) → Result (List Row) TableRefusal
 rows_after line others = if bytes_eq line head_line then rows_from 2 0 others else wrong_at 1 BadLine
 
 -- the rows of a file of these lines
-abbrev pub rows_in : List (List ℕ) → Result (List Row) Refusal
+abbrev pub rows_in : List (List ℕ) → Result (List Row) TableRefusal
 rows_in [] = wrong_at 1 NoEnd
 rows_in (last ∷ []) = left_open 1 last
 rows_in (line ∷ next ∷ others) = rows_after line (next ∷ others)
 
 -- The rows of a file, or its first fault: the least faulty line, and what is wrong with it.
-unfoldable pub table_of : List ℕ → Result (List Row) Refusal
+unfoldable pub table_of : List ℕ → Result (List Row) TableRefusal
 table_of bytes = rows_in (lines_of bytes)

@@ -6,25 +6,25 @@ ghost use Rattle.span_bounds.specs.declared.row.Row as row;
 ghost use Rattle.span_bounds.specs.Tables.{IsTable, IsLeast};
 ghost use Rattle.table_files.specs.Reading.{table_of};
 ghost use Rattle.table_files.specs.Rows.{table_text};
-ghost use Rattle.table_files.specs.Told.{AreTold};
+ghost use Rattle.table_files.specs.Told.{HaveAgeRanges};
 
 use span_step::{a_step_is_monotone, ages_grow_up_to_the_cap};
 
 /// The text of a table is read back as that table, where its ages can be told.
 pub fn a_table_is_read_back()
-    ensures { (rows : List row.Row) → IsTable rows → AreTold rows → table_of (table_text rows) ≡ Ok rows }
+    ensures { (rows : List row.Row) → IsTable rows → HaveAgeRanges rows → table_of (table_text rows) ≡ Ok rows }
 {}
 
 /// A text that is read as a table is that table's text, so a table has one text; and its ages can be told.
 pub fn a_table_has_one_text()
     ensures text { (bytes : List ℕ) (rows : List row.Row) → table_of bytes ≡ Ok rows → table_text rows ≡ bytes }
     ensures table { (bytes : List ℕ) (rows : List row.Row) → table_of bytes ≡ Ok rows → IsTable rows }
-    ensures ages { (bytes : List ℕ) (rows : List row.Row) → table_of bytes ≡ Ok rows → AreTold rows }
+    ensures ages { (bytes : List ℕ) (rows : List row.Row) → table_of bytes ≡ Ok rows → HaveAgeRanges rows }
 {}
 
 /// The ages of a least closed table can be told.
 pub fn a_least_table_is_told()
-    ensures { (u : setup.Setup) (sp : span.Span) (rows : List row.Row) → IsLeast u sp rows → AreTold rows }
+    ensures { (u : setup.Setup) (sp : span.Span) (rows : List row.Row) → IsLeast u sp rows → HaveAgeRanges rows }
 {
     a_step_is_monotone();
     ages_grow_up_to_the_cap();

@@ -1,6 +1,6 @@
 use Rattle.std.proofs.Common.{◌∷◌, refl, inl, arith}
-use Rattle.span_bounds.specs.Take.{Takes}
-use Rattle.span_bounds.proofs.Takes.{Take-starts, Takes-pop, IsTaken-ends, AreReady-few}
+use Rattle.span_bounds.specs.Take.{IsTaking}
+use Rattle.span_bounds.proofs.Takes.{Take-starts, IsTaking-pop, IsTaken-ends, AreReady-few}
 use Rattle.span_bounds.proofs.take.take.Goals as goal
 
 pub loop-number-init : goal.loop-number-init
@@ -16,11 +16,11 @@ loop-number-init g c = record {
 
 pub take_number-requires-clause-number : goal.take_number-requires-clause-number
 take_number-requires-clause-number g c =
-    let t : Takes c.args.setup.now c.args.span.now c.loop-number.left c.loop-number.table c.loop-number.missing.items (c.in-Some.number ∷ c.pop.new.self) = Takes-pop _ _ _ _ _ _ _ _ c.in-Some.ensures.items c.loop-number.invariant.takes in
+    let t : IsTaking c.args.setup.now c.args.span.now c.loop-number.left c.loop-number.table c.loop-number.missing.items (c.in-Some.number ∷ c.pop.new.self) = IsTaking-pop _ _ _ _ _ _ _ _ c.in-Some.ensures.items c.loop-number.invariant.takes in
     t.take.near _ (inl refl)
 
 pub take_number-requires-clause-takes : goal.take_number-requires-clause-takes
-take_number-requires-clause-takes g c = Takes-pop _ _ _ _ _ _ _ _ c.in-Some.ensures.items c.loop-number.invariant.takes
+take_number-requires-clause-takes g c = IsTaking-pop _ _ _ _ _ _ _ _ c.in-Some.ensures.items c.loop-number.invariant.takes
 
 pub take_number-requires-clause-room : goal.take_number-requires-clause-room
 take_number-requires-clause-room g c = omega (arith, c.loop-number.invariant.work, c.in-Some.ensures.shorter)

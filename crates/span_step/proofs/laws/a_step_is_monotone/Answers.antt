@@ -1,5 +1,5 @@
-use Rattle.span_step.proofs.Wider.{IsWithin-context_steps}
+use Rattle.span_step.proofs.Wider.{IsNarrower-context_steps}
 use Rattle.span_step.proofs.laws.a_step_is_monotone.Goals as goal
 
 pub returns : goal.returns
-returns c = IsWithin-context_steps
+returns c = IsNarrower-context_steps
