@@ -12,7 +12,7 @@ use Rattle.pio_assemble.specs.Program.{Assembled}
 use Rattle.block_config.specs.declared.path.Section.TheVariants.{Pins}
 use Rattle.block_config.specs.declared.pins.BlockNumber.{BlockNumber}
 use Rattle.block_config.specs.declared.pins.BlockNumber.TheVariants.{First, Second}
-use Rattle.block_config.specs.Answer.{Refusal}
+use Rattle.block_config.specs.Answer.{ConfigRefusal}
 use Rattle.block_config.specs.Config.{said_of}
 use Rattle.block_config.specs.Owning.{OwningKeys}
 use Rattle.block_config.specs.Pins.{PinTable, mask_at, pin_table_at, pin_names, pins_in}
@@ -46,7 +46,7 @@ record Lists (t : Members) (p : PinTable) : Type 0 where
   high : mask_at t (codes "high") ≡ Ok p.high
   own : mask_at t (codes "own") ≡ Ok p.own
 
-lists_read : (t : Members) (p : PinTable) (high level out bypass own : Result ℕ Refusal) → mask_at t (codes "high") ≡ high → mask_at t (codes "own") ≡ own
+lists_read : (t : Members) (p : PinTable) (high level out bypass own : Result ℕ ConfigRefusal) → mask_at t (codes "high") ≡ high → mask_at t (codes "own") ≡ own
     → and_then high (λ high. and_then level (λ level. and_then out (λ out. and_then bypass (λ bypass. and_then own (λ own.
     Ok (record { high = high; level = level; out = out; bypass = bypass; own = own })))))) ≡ Ok p → Lists t p
 lists_read t p (Ok high) (Ok level) (Ok out) (Ok bypass) (Ok own) h o e =

@@ -7,7 +7,7 @@ use Rattle.toml.specs.Data.{Items, no_items, item, Members, as_table, get_member
 use Rattle.pio_assemble.specs.Program.{Assembled}
 use Rattle.block_config.specs.declared.path.Section.{Section}
 use Rattle.block_config.specs.declared.path.Section.TheVariants.{Load}
-use Rattle.block_config.specs.Answer.{Refusal}
+use Rattle.block_config.specs.Answer.{ConfigRefusal}
 use Rattle.block_config.specs.Apart.{AreApart}
 use Rattle.block_config.specs.Arrays.{gather}
 use Rattle.block_config.specs.Loads.{covers, is_covered, first_shared, unshared, keeps_origin, placed_at, at_key, load_names, program_at, load_at, load_of_table, load_in, all_loads}
@@ -53,7 +53,7 @@ lone_placed p front address found true fit e =
     lone_unshared front (record { program = p; address = address }) found _ refl (rw fit at e)
 lone_placed p front address found false fit e = let h = rw fit at e in cc
 
-lone_in_section : (section : Section) (r : Result Loaded Refusal) (found : Loaded) → in_section section r ≡ Ok found → r ≡ Ok found
+lone_in_section : (section : Section) (r : Result Loaded ConfigRefusal) (found : Loaded) → in_section section r ≡ Ok found → r ≡ Ok found
 lone_in_section section (Ok l) found e = e
 lone_in_section section (Err r) found e = cc
 

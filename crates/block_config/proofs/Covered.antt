@@ -8,7 +8,7 @@ use Rattle.pin_matrix.specs.Spans.{are_addresses}
 use Rattle.std.specs.Str.{bytes_eq}
 use Rattle.pio_assemble.specs.declared.program.Program.{Program}
 use Rattle.pio_assemble.specs.Program.{assembled_of}
-use Rattle.block_config.specs.declared.programs.Load.{Load}
+use Rattle.block_config.specs.declared.programs.LoadedProgram.{LoadedProgram}
 use Rattle.block_config.specs.Loads.{loaded_of, find_program, memory_of}
 use Rattle.block_config.specs.Memory.{loaded}
 use Rattle.block_config.proofs.Found.{find_map}
@@ -45,13 +45,13 @@ pub program_found : (r : Option (Bor Program)) (name : List ℕ) (ps : List Prog
 program_found r name ps found = through_reference assembled_of r ∙ ap (option_map assembled_of) found ∙ find_map assembled_of (λ p. bytes_eq p.name name) ps
 
 -- one load further on
-pub memory_more : (ls : List Load) (i : ℕ) (d l : Load) (words memory after all : List ℕ) → all ≡ memory_of memory (map loaded_of (drop i ls)) → i < length ls
+pub memory_more : (ls : List LoadedProgram) (i : ℕ) (d l : LoadedProgram) (words memory after all : List ℕ) → all ≡ memory_of memory (map loaded_of (drop i ls)) → i < length ls
     → l ≡ get_or ls i d → words ≡ l.program.now.words.items → after ≡ loaded memory l.address words → all ≡ memory_of after (map loaded_of (drop (i + 1) ls))
 unfolding memory_of
 memory_more ls i d l words memory after all so_far within is its more = so_far ∙ rw (drop_more ls i d within, ← is, more, its) refl
 
 -- no load is left
-pub memory_ends : (ls : List Load) (i : ℕ) (memory all : List ℕ) → all ≡ memory_of memory (map loaded_of (drop i ls)) → length ls ≤ i → all ≡ memory
+pub memory_ends : (ls : List LoadedProgram) (i : ℕ) (memory all : List ℕ) → all ≡ memory_of memory (map loaded_of (drop i ls)) → length ls ≤ i → all ≡ memory
 unfolding memory_of
 memory_ends ls i memory all so_far past = so_far ∙ rw (drop_all i ls past) refl
 

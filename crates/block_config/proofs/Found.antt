@@ -2,7 +2,7 @@
 use Rattle.std.proofs.Common.{◌≡◌, ℕ, ◌||◌, cond, Bool, true, false, Option, Some, None, is_some, option_map, List, [], ◌∷◌, map, refl, ap, ◌∙◌}
 use Rattle.std.specs.List.{find, list_any}
 use Rattle.std.specs.Str.{bytes_eq}
-use Rattle.block_config.specs.declared.programs.Load.{Load}
+use Rattle.block_config.specs.declared.programs.LoadedProgram.{LoadedProgram}
 use Rattle.block_config.specs.Loads.{loaded_of, covers, is_covered}
 use Rattle.block_config.specs.Programs.{Loaded, find_loaded}
 
@@ -14,7 +14,7 @@ pub find_map : {A B : Type 0} (f : A → B) (q : B → Bool) (xs : List A) → o
 find_map f q [] = refl
 find_map f q (x ∷ xs) = first_or f (q (f x)) x (find (λ x. q (f x)) xs) ∙ ap (cond (q (f x)) (Some (f x))) (find_map f q xs)
 
-pub loaded_found : (name : List ℕ) (ls : List Load) → option_map loaded_of (find (λ l. bytes_eq l.program.now.name name) ls) ≡ find_loaded name (map loaded_of ls)
+pub loaded_found : (name : List ℕ) (ls : List LoadedProgram) → option_map loaded_of (find (λ l. bytes_eq l.program.now.name name) ls) ≡ find_loaded name (map loaded_of ls)
 loaded_found name ls = find_map loaded_of (λ l. bytes_eq l.program.name name) ls
 
 -- one passes where the first that passes is found

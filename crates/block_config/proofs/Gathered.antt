@@ -2,7 +2,7 @@
 use Rattle.std.proofs.Common.{◌≡◌, ℕ, ◌+◌, ◌++◌, cond, Bool, true, false, Option, Some, None, Result, Ok, Err, List, [], ◌∷◌, subst}
 use Rattle.std.specs.List.{find, AllByRecursion}
 use Rattle.toml.specs.Data.{Data, Items, no_items, item, Members}
-use Rattle.block_config.specs.Answer.{Refusal}
+use Rattle.block_config.specs.Answer.{ConfigRefusal}
 use Rattle.block_config.specs.Arrays.{gather}
 use Rattle.block_config.specs.Tables.{in_section, section_at, element_of, are_known}
 use Rattle.block_config.specs.declared.fault.ConfigKind.TheVariants.{UnknownKey}
@@ -30,16 +30,16 @@ pub found_keeps : {X : Type 0} (P : X → Type 0) (q : X → Bool) (xs : List X)
 found_keeps P q [] x h e = cc
 found_keeps P q (y ∷ ys) x h e = found_first P (q y) x y (find q ys) h.0 (λ later. found_keeps P q ys x h.1 later) e
 
-pub off_section : {X : Type 0} (section : Section) (r : Result X Refusal) (x : X) → in_section section r ≡ Ok x → r ≡ Ok x
+pub off_section : {X : Type 0} (section : Section) (r : Result X ConfigRefusal) (x : X) → in_section section r ≡ Ok x → r ≡ Ok x
 off_section section (Ok y) x e = e
 off_section section (Err r) x e = cc
 
-known_read : {X : Type 0} (section : Section) (r : Result X Refusal) (x : X) (path : List ℕ) (known : Bool) → cond known (in_section section r) (Err (record { key = path; kind = UnknownKey })) ≡ Ok x → r ≡ Ok x
+known_read : {X : Type 0} (section : Section) (r : Result X ConfigRefusal) (x : X) (path : List ℕ) (known : Bool) → cond known (in_section section r) (Err (record { key = path; kind = UnknownKey })) ≡ Ok x → r ≡ Ok x
 known_read section r x path true e = off_section section r x e
 known_read section r x path false e = cc
 
 -- what a table gives, of an element that is read
-pub read_table : {X : Type 0} (name : List ℕ) (o : Option Members) (section : Section) (names : List (List ℕ)) (read : Members → Result X Refusal) (x : X)
+pub read_table : {X : Type 0} (name : List ℕ) (o : Option Members) (section : Section) (names : List (List ℕ)) (read : Members → Result X ConfigRefusal) (x : X)
     → element_of name o (λ t. section_at section names t (read t)) ≡ Ok x → (t : Members) × (read t ≡ Ok x)
 read_table name None section names read x e = cc
 read_table name (Some t) section names read x e = (t, known_read section (read t) x _ (are_known names t) e)

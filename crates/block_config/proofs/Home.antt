@@ -4,7 +4,7 @@ use Rattle.std.specs.List.{find, list_any}
 use Rattle.std.specs.Str.{bytes_eq}
 use Rattle.std.proofs.lemmas.Bool.{cases_Bool, false≢true, and_parts, ltb-true, lt-ltb, le-leb}
 use Rattle.toml.specs.Data.{Members, get_member}
-use Rattle.pio_assemble.specs.declared.symbols.Symbol.{Symbol}
+use Rattle.pio_assemble.specs.declared.symbols.ProgramSymbol.{ProgramSymbol}
 use Rattle.block_config.specs.Apart.{AreApart}
 use Rattle.block_config.specs.declared.fault.ConfigKind.TheVariants.{NoProgram}
 use Rattle.block_config.specs.Spans.{load_of_machine}
@@ -67,11 +67,11 @@ place_below : (words : List ℕ) (z : ℤ) (k : ℕ) → place_in words z ≡ So
 place_below words (pos n) k e = place_tested n (length words) k _ refl e
 place_below words (negsuc n) k e = cc
 
-symbol_tested : (words : List ℕ) (s : Symbol) (k : ℕ) (b : Bool) → cond b (place_in words s.value) None ≡ Some k → k < length words
+symbol_tested : (words : List ℕ) (s : ProgramSymbol) (k : ℕ) (b : Bool) → cond b (place_in words s.value) None ≡ Some k → k < length words
 symbol_tested words s k true e = place_below words s.value k e
 symbol_tested words s k false e = cc
 
-label_below : (words : List ℕ) (o : Option Symbol) (k : ℕ) → place_of words o ≡ Some k → k < length words
+label_below : (words : List ℕ) (o : Option ProgramSymbol) (k : ℕ) → place_of words o ≡ Some k → k < length words
 label_below words None k e = cc
 label_below words (Some s) k e = symbol_tested words s k s.is_label e
 

@@ -3,7 +3,7 @@ use Rattle.std.proofs.Common.{◌≡◌, ℕ, zero, suc, ◌+◌, ◌<◌, ◌�
 use Rattle.std.specs.List.{AllByRecursion}
 use Rattle.std.specs.Str.{bytes_eq}
 use Rattle.toml.specs.Data.{Items, no_items, item, Members, as_table, get_member}
-use Rattle.block_config.specs.Answer.{Refusal}
+use Rattle.block_config.specs.Answer.{ConfigRefusal}
 use Rattle.setup_keys.specs.Block.{MachineKeys}
 use Rattle.setup_keys.specs.InRange.{IsMachine, ArePlaced}
 use Rattle.block_config.specs.declared.path.Section.TheVariants.{Machine}
@@ -39,7 +39,7 @@ record ArePins (k : PinKeys) : Type 0 where
   out_count : k.out_count ≤ 32
   set_count : k.set_count ≤ 5
 
-same_id : (b : Bool) (id found : ℕ) (r : Refusal) → cond b (Err r) (Ok id) ≡ Ok found → id ≡ found
+same_id : (b : Bool) (id found : ℕ) (r : ConfigRefusal) → cond b (Err r) (Ok id) ≡ Ok found → id ≡ found
 same_id true id found r e = cc
 same_id false id found r e = ok_same id found e
 
@@ -68,7 +68,7 @@ runs machines loads t r fit e =
     let lies = load_fits loads t r.load fit parts.load_found in
     record { id = id_within machines t r.id parts.id_found; start = start_within r.load t r.start lies parts.start_found; load = lies }
 
-divided : (a b : Bool) (k found : ClockKeys) (r : Refusal) → cond (a && not b) (Err r) (Ok k) ≡ Ok found → ((not a || b) ≡ true) × (k ≡ found)
+divided : (a b : Bool) (k found : ClockKeys) (r : ConfigRefusal) → cond (a && not b) (Err r) (Ok k) ≡ Ok found → ((not a || b) ≡ true) × (k ≡ found)
 divided true false k found r e = cc
 divided true true k found r e = (refl, ok_same k found e)
 divided false b k found r e = (refl, ok_same k found e)
@@ -95,7 +95,7 @@ are_pins t k e =
     } in
     subst ArePins (ok_same (pin_keys_of read.value) k read.rest) out
 
-one_way : (a b : Bool) (values found : List Bool) (r : Refusal) → cond (a && b) (Err r) (Ok values) ≡ Ok found → (not (a && b) ≡ true) × (values ≡ found)
+one_way : (a b : Bool) (values found : List Bool) (r : ConfigRefusal) → cond (a && b) (Err r) (Ok values) ≡ Ok found → (not (a && b) ≡ true) × (values ≡ found)
 one_way true true values found r e = cc
 one_way true false values found r e = (refl, ok_same values found e)
 one_way false b values found r e = (refl, ok_same values found e)

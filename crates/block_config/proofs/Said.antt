@@ -3,7 +3,7 @@ use Rattle.std.proofs.Common.{◌≡◌, ℕ, Option, Result, Ok, Err, List, ref
 use Rattle.pio_assemble.specs.Program.{Assembled}
 use Rattle.setup_keys.specs.Block.{MachineKeys, SpanKeys}
 use Rattle.block_config.specs.declared.pins.BlockNumber.{BlockNumber}
-use Rattle.block_config.specs.Answer.{Refusal}
+use Rattle.block_config.specs.Answer.{ConfigRefusal}
 use Rattle.block_config.specs.Config.{Sections, document_of, parsed, sections_at, no_machines, owning_with, block_over, block_of_sections, block_of_table, said_of}
 use Rattle.block_config.specs.Loads.{all_loads, memory_of}
 use Rattle.block_config.specs.Machines.{machines_from}
@@ -25,20 +25,20 @@ pub record Over (block : BlockNumber) (s : Sections) (loads : List Loaded) (k : 
   pub spans_found : all_spans machines loads s.spans ≡ Ok spans
   pub whole : owning_with (memory_of no_words loads) machines pins spans ≡ k
 
-over_spans : (block : BlockNumber) (s : Sections) (loads : List Loaded) (k : OwningKeys) (machines : List (Option MachineKeys)) (pins : PinTable) (spans : Result (List SpanKeys) Refusal)
+over_spans : (block : BlockNumber) (s : Sections) (loads : List Loaded) (k : OwningKeys) (machines : List (Option MachineKeys)) (pins : PinTable) (spans : Result (List SpanKeys) ConfigRefusal)
     → machines_from 0 no_machines loads s.machines ≡ Ok machines → pins_in block s.pins ≡ Ok pins → all_spans machines loads s.spans ≡ spans
     → and_then spans (λ spans. Ok (owning_with (memory_of no_words loads) machines pins spans)) ≡ Ok k → Over block s loads k
 over_spans block s loads k machines pins (Ok spans) m p is e =
     record { machines = machines; pins = pins; spans = spans; machines_found = m; pins_found = p; spans_found = is; whole = ok_same (owning_with (memory_of no_words loads) machines pins spans) k e }
 over_spans block s loads k machines pins (Err r) m p is e = cc
 
-over_pins : (block : BlockNumber) (s : Sections) (loads : List Loaded) (k : OwningKeys) (machines : List (Option MachineKeys)) (pins : Result PinTable Refusal)
+over_pins : (block : BlockNumber) (s : Sections) (loads : List Loaded) (k : OwningKeys) (machines : List (Option MachineKeys)) (pins : Result PinTable ConfigRefusal)
     → machines_from 0 no_machines loads s.machines ≡ Ok machines → pins_in block s.pins ≡ pins
     → and_then pins (λ pins. and_then (all_spans machines loads s.spans) (λ spans. Ok (owning_with (memory_of no_words loads) machines pins spans))) ≡ Ok k → Over block s loads k
 over_pins block s loads k machines (Ok pins) m is e = over_spans block s loads k machines pins (all_spans machines loads s.spans) m is refl e
 over_pins block s loads k machines (Err r) m is e = cc
 
-over_machines : (block : BlockNumber) (s : Sections) (loads : List Loaded) (k : OwningKeys) (machines : Result (List (Option MachineKeys)) Refusal) → machines_from 0 no_machines loads s.machines ≡ machines
+over_machines : (block : BlockNumber) (s : Sections) (loads : List Loaded) (k : OwningKeys) (machines : Result (List (Option MachineKeys)) ConfigRefusal) → machines_from 0 no_machines loads s.machines ≡ machines
     → and_then machines (λ machines. and_then (pins_in block s.pins) (λ pins. and_then (all_spans machines loads s.spans) (λ spans. Ok (owning_with (memory_of no_words loads) machines pins spans)))) ≡ Ok k
     → Over block s loads k
 over_machines block s loads k (Ok machines) is e = over_pins block s loads k machines (pins_in block s.pins) is refl e

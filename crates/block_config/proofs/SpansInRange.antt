@@ -5,20 +5,20 @@ use Rattle.std.proofs.lemmas.Bool.{ltb-false, eqb-true}
 use Rattle.toml.specs.Data.{Data, Items, no_items, item, Members, as_array, as_str, as_table, get_member}
 use Rattle.pin_matrix.specs.declared.span.SpanUnit.{SpanUnit}
 use Rattle.pin_matrix.specs.Spans.{is_in_ticks, is_span_name}
-use Rattle.block_config.specs.Answer.{Refusal}
+use Rattle.block_config.specs.Answer.{ConfigRefusal}
 use Rattle.block_config.specs.Arrays.{count_items, all_items, gather}
 use Rattle.setup_keys.specs.Block.{MachineKeys, SpanKeys}
 use Rattle.block_config.specs.declared.fault.ConfigKind.TheVariants.{Many, WrongType, Range}
 use Rattle.block_config.specs.declared.path.Section.TheVariants.{Span}
 use Rattle.block_config.specs.Programs.{Loaded}
-use Rattle.block_config.specs.Spans.{span_names, required, name_of, name_at, configured, machine_at, span_pins, edge_at, Ends, ends_at, unit_at, bound_keys, Bounds, ordered, bounds_at, load_of_machine, stall_addresses, stalls_in, stalls_of, stalls_at, SpanValues, values_at, span_keys_of, span_of_table, span_in, all_spans}
+use Rattle.block_config.specs.Spans.{span_names, required, name_of, name_at, configured, machine_at, span_pins, edge_at, SpanEnds, ends_at, unit_at, bound_keys, Bounds, ordered, bounds_at, load_of_machine, stall_addresses, stalls_in, stalls_of, stalls_at, SpanValues, values_at, span_keys_of, span_of_table, span_in, all_spans}
 use Rattle.block_config.specs.Tables.{and_then, number_at, each_at}
 use Rattle.block_config.specs.Values.{text_of}
 use Rattle.setup_keys.specs.InRange.{IsSpan}
 use Rattle.block_config.proofs.Gathered.{gather_keeps, read_table}
 use Rattle.block_config.proofs.Ranges.{goes_on, off_key, ok_same, number_within, all_within, all_defaulted}
 
-record AreEnds (e : Ends) : Type 0 where
+record AreEnds (e : SpanEnds) : Type 0 where
   machine : e.machine < 4
   from_pin : e.from_pin < 32
   to_pin : e.to_pin < 32
@@ -40,7 +40,7 @@ named t name e =
     let read = goes_on (text_of (get_member (codes "name") t)) name_of name (off_key (codes "name") _ name e) in
     has_form read.value name read.rest
 
-same_machine : (b : Bool) (id found : ℕ) (r : Refusal) → cond b (Ok id) (Err r) ≡ Ok found → id ≡ found
+same_machine : (b : Bool) (id found : ℕ) (r : ConfigRefusal) → cond b (Ok id) (Err r) ≡ Ok found → id ≡ found
 same_machine true id found r e = ok_same id found e
 same_machine false id found r e = cc
 
@@ -52,7 +52,7 @@ machine_within machines t id e =
     let high : read.value ≤ 3 = within.1 in
     omega arith
 
-ends_read : (machines : List (Option MachineKeys)) (t : Members) (ends : Ends) (machine : Result ℕ Refusal) (pins : Result (List ℕ) Refusal) (from to : Result Bool Refusal)
+ends_read : (machines : List (Option MachineKeys)) (t : Members) (ends : SpanEnds) (machine : Result ℕ ConfigRefusal) (pins : Result (List ℕ) ConfigRefusal) (from to : Result Bool ConfigRefusal)
     → machine_at machines t ≡ machine → each_at (number_at t) span_pins ≡ pins
     → and_then machine (λ machine. and_then pins (λ pins. and_then from (λ from_rise. and_then to (λ to_rise.
     Ok (record { machine = machine; from_pin = slice_index pins 0; to_pin = slice_index pins 1; from_rise = from_rise; to_rise = to_rise }))))) ≡ Ok ends
@@ -66,10 +66,10 @@ ends_read machines t ends (Ok machine) (Err r) from to m p e = cc
 ends_read machines t ends (Ok machine) (Ok pins) (Err r) to m p e = cc
 ends_read machines t ends (Ok machine) (Ok pins) (Ok from) (Err r) m p e = cc
 
-are_ends : (machines : List (Option MachineKeys)) (t : Members) (ends : Ends) → ends_at machines t ≡ Ok ends → AreEnds ends
+are_ends : (machines : List (Option MachineKeys)) (t : Members) (ends : SpanEnds) → ends_at machines t ≡ Ok ends → AreEnds ends
 are_ends machines t ends e = ends_read machines t ends (machine_at machines t) (each_at (number_at t) span_pins) (edge_at t (codes "from_edge")) (edge_at t (codes "to_edge")) refl refl e
 
-ordered_tested : (k found : Bounds) (r : Refusal) (b : Bool) → nat_lt k.most k.least ≡ b → cond b (Err r) (Ok k) ≡ Ok found → k.most ≤ 16777215 → AreOrdered found
+ordered_tested : (k found : Bounds) (r : ConfigRefusal) (b : Bool) → nat_lt k.most k.least ≡ b → cond b (Err r) (Ok k) ≡ Ok found → k.most ≤ 16777215 → AreOrdered found
 ordered_tested k found r true is e high = cc
 ordered_tested k found r false is e high = subst AreOrdered (ok_same k found e) (record { ordered = ltb-false k.most k.least is; bounded = omega arith })
 
@@ -131,14 +131,14 @@ record AreValues (v : SpanValues) : Type 0 where
   bounds : AreOrdered v.bounds
   stalls : AreInTicks v.bounds.unit v.stalls
 
-values_read : (t : Members) (v : SpanValues) (load : Option Loaded) (ends : Ends) (bounds : Bounds) (stalls : Result (List ℕ) Refusal) → AreEnds ends → AreOrdered bounds
+values_read : (t : Members) (v : SpanValues) (load : Option Loaded) (ends : SpanEnds) (bounds : Bounds) (stalls : Result (List ℕ) ConfigRefusal) → AreEnds ends → AreOrdered bounds
     → stalls_at bounds.unit load t ≡ stalls → and_then stalls (λ stalls. Ok (record { ends = ends; bounds = bounds; stalls = stalls })) ≡ Ok v → AreValues v
 values_read t v load ends bounds (Ok stalls) a o is e =
     let told : AreInTicks bounds.unit stalls = value_in_ticks bounds.unit load (get_member (codes "stalls") t) stalls (off_key (codes "stalls") _ stalls is) in
     subst AreValues (ok_same (record { ends = ends; bounds = bounds; stalls = stalls }) v e) (record { ends = a; bounds = o; stalls = told })
 values_read t v load ends bounds (Err r) a o is e = cc
 
-values_bounded : (machines : List (Option MachineKeys)) (loads : List Loaded) (t : Members) (v : SpanValues) (ends : Result Ends Refusal) (bounds : Result Bounds Refusal)
+values_bounded : (machines : List (Option MachineKeys)) (loads : List Loaded) (t : Members) (v : SpanValues) (ends : Result SpanEnds ConfigRefusal) (bounds : Result Bounds ConfigRefusal)
     → ends_at machines t ≡ ends → bounds_at t ≡ bounds
     → and_then ends (λ ends. and_then bounds (λ bounds. and_then (stalls_at bounds.unit (load_of_machine loads (slice_index_or machines ends.machine None)) t) (λ stalls.
     Ok (record { ends = ends; bounds = bounds; stalls = stalls })))) ≡ Ok v

@@ -4,7 +4,7 @@ use Rattle.std.specs.List.{AllByRecursion}
 use Rattle.pio_assemble.specs.declared.program.Program.{Program}
 use Rattle.pio_assemble.specs.Program.{Assembled, assembled_of}
 use Rattle.answers.specs.Answers.{made}
-use Rattle.block_config.specs.Answer.{Refusal}
+use Rattle.block_config.specs.Answer.{ConfigRefusal}
 use Rattle.setup_keys.specs.Block.{BlockKeys, keys_of_block}
 use Rattle.block_config.specs.declared.pins.BlockNumber.{BlockNumber}
 use Rattle.block_config.specs.declared.pins.BlockNumber.TheVariants.{First, Second}
@@ -39,11 +39,11 @@ said_exact block bytes programs k fit e =
     let parts = said_parts block bytes programs k e in
     over_exact block parts.sections parts.loads k (loads_fit programs parts.sections.loads parts.loads fit parts.loads_found) parts.over
 
-first_read_back : (said : Result OwningKeys Refusal) → ((k : OwningKeys) → said ≡ Ok k → keys_of_block (setup_of k.block) ≡ k.block) → SaysExactly (made setup_of (made (λ k. k.block) said)) (made (λ k. k.block) said)
+first_read_back : (said : Result OwningKeys ConfigRefusal) → ((k : OwningKeys) → said ≡ Ok k → keys_of_block (setup_of k.block) ≡ k.block) → SaysExactly (made setup_of (made (λ k. k.block) said)) (made (λ k. k.block) said)
 first_read_back (Ok k) exact = ap Ok (exact k refl)
 first_read_back (Err e) exact = refl
 
-second_read_back : (said : Result OwningKeys Refusal) → ((k : OwningKeys) → said ≡ Ok k → keys_of_block (setup_of k.block) ≡ k.block) → OwnsExactly (made owning_setup_of said) said
+second_read_back : (said : Result OwningKeys ConfigRefusal) → ((k : OwningKeys) → said ≡ Ok k → keys_of_block (setup_of k.block) ≡ k.block) → OwnsExactly (made owning_setup_of said) said
 second_read_back (Ok k) exact = ap (λ (b : BlockKeys). Ok (record { block = b; own = k.own })) (exact k refl)
 second_read_back (Err e) exact = refl
 
@@ -82,7 +82,7 @@ default_machine p address is within =
       side_count_fits = omega (arith, p.side.fits);
     }
 
-default_fits : (p : Assembled) (address : ℕ) (k : BlockKeys) (fits : Bool) (r : Refusal) → fits_at address p.words ≡ fits → IsProgram p
+default_fits : (p : Assembled) (address : ℕ) (k : BlockKeys) (fits : Bool) (r : ConfigRefusal) → fits_at address p.words ≡ fits → IsProgram p
     → cond fits (Ok (quiet_block (loaded no_words address p.words) (Some (machine_keys 0 address p) ∷ None ∷ None ∷ None ∷ []))) (Err r) ≡ Ok k → keys_of_block (setup_of k) ≡ k
 default_fits p address k true r fit is e =
     let b = quiet_block (loaded no_words address p.words) (Some (machine_keys 0 address p) ∷ None ∷ None ∷ None ∷ []) in
@@ -96,7 +96,7 @@ default_exact (p ∷ ps) k e =
     let a = assembled_of p in
     default_fits a (unwrap_or a.origin 0) k (fits_at (unwrap_or a.origin 0) a.words) _ refl (are_programs (p ∷ ps)).0 e
 
-read_back : (said : Result BlockKeys Refusal) → ((k : BlockKeys) → said ≡ Ok k → keys_of_block (setup_of k) ≡ k) → SaysExactly (made setup_of said) said
+read_back : (said : Result BlockKeys ConfigRefusal) → ((k : BlockKeys) → said ≡ Ok k → keys_of_block (setup_of k) ≡ k) → SaysExactly (made setup_of said) said
 read_back (Ok k) exact = ap Ok (exact k refl)
 read_back (Err e) exact = refl
 

@@ -7,7 +7,7 @@ use Rattle.pio_assemble.specs.Program.{Assembled}
 use Rattle.block_config.specs.declared.fault.ConfigKind.TheVariants.{NoProgram, DoesNotFit}
 use Rattle.pin_matrix.specs.declared.setup.Setup.{Setup}
 use Rattle.answers.specs.Answers.{made}
-use Rattle.block_config.specs.Answer.{Refusal, refused}
+use Rattle.block_config.specs.Answer.{ConfigRefusal, refused}
 use Rattle.setup_keys.specs.Block.{MachineKeys, BlockKeys}
 use Rattle.block_config.specs.SetupOf.{setup_of}
 use Rattle.block_config.specs.Memory.{fits_at, loaded, no_words}
@@ -50,7 +50,7 @@ abbrev pub quiet_block : List ℕ → List (Option MachineKeys) → BlockKeys
 quiet_block memory machines = record { memory = memory; machines = machines; high = 0; level = 0; out = 0; bypass = 0; spans = [] }
 
 -- a program at its origin, or at 0, on machine 0; it has to fit there
-abbrev pub block_of : Assembled → Result BlockKeys Refusal
+abbrev pub block_of : Assembled → Result BlockKeys ConfigRefusal
 block_of p =
     let address : ℕ = unwrap_or p.origin 0 in
     if fits_at address p.words
@@ -58,10 +58,10 @@ block_of p =
     else refused (codes "default") DoesNotFit
 
 -- the first program of the source
-abbrev pub default_block : List Assembled → Result BlockKeys Refusal
+abbrev pub default_block : List Assembled → Result BlockKeys ConfigRefusal
 default_block [] = refused (codes "default") NoProgram
 default_block (p ∷ ps) = block_of p
 
 -- the setup that says it
-abbrev pub default_setup_of : List Assembled → Result Setup Refusal
+abbrev pub default_setup_of : List Assembled → Result Setup ConfigRefusal
 default_setup_of programs = made setup_of (default_block programs)

@@ -15,8 +15,8 @@ use Rattle.pio_assemble.specs.Program.{Assembled, assembled_of}
 use Rattle.block_config.specs.declared.fault.ConfigKind.{ConfigKind}
 use Rattle.block_config.specs.declared.fault.ConfigKind.TheVariants.{Missing, Range, NoProgram, DoesNotFit, Overlap}
 use Rattle.block_config.specs.declared.path.Section.TheVariants.{Load}
-use Rattle.block_config.specs.declared.programs.Load as code
-use Rattle.block_config.specs.Answer.{Refusal}
+use Rattle.block_config.specs.declared.programs.LoadedProgram as code
+use Rattle.block_config.specs.Answer.{ConfigRefusal}
 use Rattle.block_config.specs.Arrays.{gather}
 use Rattle.block_config.specs.Keys.{Numbered}
 use Rattle.block_config.specs.Memory.{fits_at, loaded}
@@ -38,7 +38,7 @@ named_program programs loads None = Err Missing
 named_program programs loads (Some name) = if is_some (find_loaded name loads) then Err Range else or_fault NoProgram (find_program name programs)
 
 -- the program of a table, after the loads of the tables before it
-abbrev pub program_at : List Assembled → List Loaded → Members → Result Assembled Refusal
+abbrev pub program_at : List Assembled → List Loaded → Members → Result Assembled ConfigRefusal
 program_at programs loads t = on_key (codes "program") (and_then (text_of (get_member (codes "program") t)) (named_program programs loads))
 
 -- an address from 0 to 31: where nothing is said, the program's origin or else 0
@@ -74,20 +74,20 @@ placed_at p loads address =
     if keeps_origin p.origin address && fits_at address p.words then unshared l (first_shared loads l) else Err DoesNotFit
 
 -- the load of a program by its table
-abbrev pub load_at : Assembled → List Loaded → Members → Result Loaded Refusal
+abbrev pub load_at : Assembled → List Loaded → Members → Result Loaded ConfigRefusal
 load_at p loads t = on_key (codes "at") (and_then (number_of (at_key p) (get_member (codes "at") t)) (placed_at p loads))
 
 -- the load of a table, after the loads of the tables before it
-abbrev pub load_of_table : List Assembled → List Loaded → Members → Result Loaded Refusal
+abbrev pub load_of_table : List Assembled → List Loaded → Members → Result Loaded ConfigRefusal
 load_of_table programs loads t = and_then (program_at programs loads t) (λ p. load_at p loads t)
 
 -- the load of the table at a place
-abbrev pub load_in : List Assembled → ℕ → List Loaded → Data → Result Loaded Refusal
+abbrev pub load_in : List Assembled → ℕ → List Loaded → Data → Result Loaded ConfigRefusal
 load_in programs place loads d =
     element_of (codes "load") (as_table d) (λ t. section_at (Load place) load_names t (load_of_table programs loads t))
 
 -- the loads of all tables
-abbrev pub all_loads : List Assembled → Items → Result (List Loaded) Refusal
+abbrev pub all_loads : List Assembled → Items → Result (List Loaded) ConfigRefusal
 all_loads programs tables = gather (load_in programs) 0 [] tables
 
 -- a memory with programs loaded into it one after the other
@@ -96,5 +96,5 @@ memory_of memory [] = memory
 memory_of memory (l ∷ ls) = memory_of (loaded memory l.address l.program.words) ls
 
 -- what the code's load says: a program and its address
-abbrev pub loaded_of : code.Load → Loaded
+abbrev pub loaded_of : code.LoadedProgram → Loaded
 loaded_of l = record { program = assembled_of l.program.now; address = l.address }

@@ -3,12 +3,12 @@ use Rattle.block_config.specs.declared.machines.PinValues.{PinValues}
 use Rattle.block_config.specs.declared.machines.ClockValues.{ClockValues}
 use Rattle.block_config.specs.declared.machines.FlagValues.{FlagValues}
 use Rattle.block_config.specs.declared.machines.CountValues.{CountValues}
-use Rattle.block_config.specs.declared.machines.Running.{Running}
+use Rattle.block_config.specs.declared.machines.MachineRun.{MachineRun}
 use Rattle.block_config.specs.Loads.{loaded_of}
 use Rattle.block_config.specs.Machines.{RunKeys, PinKeys, ClockKeys, FlagKeys, CountKeys}
 
 -- the machine's number, its load and its start
-abbrev pub run_view : Running → RunKeys
+abbrev pub run_view : MachineRun → RunKeys
 run_view r = record { id = r.id; load = loaded_of r.load; start = r.start }
 
 -- the pins

@@ -14,7 +14,7 @@ use Rattle.block_config.specs.Programs.{Loaded, find_loaded, label_of}
 use Rattle.block_config.specs.Values.{or_fault, text_of}
 use Rattle.block_config.specs.declared.fault.ConfigKind.TheVariants.{Divider, BothJoins, MachineTwice, Missing, NoProgram, NoLabel}
 use Rattle.block_config.specs.declared.path.Section.TheVariants.{Machine}
-use Rattle.block_config.specs.Answer.{Refusal, refused}
+use Rattle.block_config.specs.Answer.{ConfigRefusal, refused}
 use Rattle.block_config.specs.Keys.{Numbered, Flagged}
 use Rattle.block_config.specs.Tables.{and_then, on_key, number_at, flag_at, each_at, section_at, element_of}
 
@@ -76,11 +76,11 @@ abbrev pub clock_keys_of : List ℕ → ClockKeys
 clock_keys_of values = record { int = slice_index values 0; frac = slice_index values 1 }
 
 -- a divider of 0 means 65,536, and has no fraction
-abbrev pub divides : ClockKeys → Result ClockKeys Refusal
+abbrev pub divides : ClockKeys → Result ClockKeys ConfigRefusal
 divides k = if k.int == 0 && not (k.frac == 0) then refused (codes "fraction") Divider else Ok k
 
 -- the divider of a table
-abbrev pub clock_at : Members → Result ClockKeys Refusal
+abbrev pub clock_at : Members → Result ClockKeys ConfigRefusal
 clock_at t = and_then (each_at (number_at t) clock_keys) (λ values. divides (clock_keys_of values))
 
 -- the pins
@@ -106,7 +106,7 @@ pin_keys_of values = record {
 }
 
 -- the pins of a table
-abbrev pub pins_at : Members → Result PinKeys Refusal
+abbrev pub pins_at : Members → Result PinKeys ConfigRefusal
 pins_at t = and_then (each_at (number_at t) pin_keys) (λ values. Ok (pin_keys_of values))
 
 -- the flags
@@ -132,11 +132,11 @@ flag_keys_of values status = record {
 }
 
 -- FIFOs are joined one way or the other
-abbrev pub joins_one_way : List Bool → Result (List Bool) Refusal
+abbrev pub joins_one_way : List Bool → Result (List Bool) ConfigRefusal
 joins_one_way values = if slice_index_or values 4 false && slice_index_or values 5 false then refused (codes "join_rx") BothJoins else Ok values
 
 -- the flags of a table
-abbrev pub flags_at : Members → Result FlagKeys Refusal
+abbrev pub flags_at : Members → Result FlagKeys ConfigRefusal
 flags_at t =
     and_then (and_then (each_at (flag_at t) flag_keys) joins_one_way) (λ values.
     and_then (flag_at t status_key) (λ status. Ok (flag_keys_of values status)))
@@ -160,15 +160,15 @@ count_keys_of values = record {
 }
 
 -- the counts of a table
-abbrev pub counts_at : Members → Result CountKeys Refusal
+abbrev pub counts_at : Members → Result CountKeys ConfigRefusal
 counts_at t = and_then (each_at (number_at t) count_keys) (λ values. Ok (count_keys_of values))
 
 -- the machine's number, which no table before has
-abbrev pub free_at : List (Option MachineKeys) → ℕ → Result ℕ Refusal
+abbrev pub free_at : List (Option MachineKeys) → ℕ → Result ℕ ConfigRefusal
 free_at machines id = if is_some (slice_index_or machines id None) then refused (codes "id") MachineTwice else Ok id
 
 -- the number of a table
-abbrev pub id_at : List (Option MachineKeys) → Members → Result ℕ Refusal
+abbrev pub id_at : List (Option MachineKeys) → Members → Result ℕ ConfigRefusal
 id_at machines t = and_then (number_at t id_key) (free_at machines)
 
 -- the load of the program that it runs
@@ -177,7 +177,7 @@ named_load loads None = Err Missing
 named_load loads (Some name) = or_fault NoProgram (find_loaded name loads)
 
 -- the load of a table
-abbrev pub load_at : List Loaded → Members → Result Loaded Refusal
+abbrev pub load_at : List Loaded → Members → Result Loaded ConfigRefusal
 load_at loads t = on_key (codes "program") (and_then (text_of (get_member (codes "program") t)) (named_load loads))
 
 -- the address of its first instruction: that of a label, or else of the program's first word
@@ -191,7 +191,7 @@ start_of l None = Ok l.address
 start_of l (Some name) = moved_place l.address (label_of l.program name)
 
 -- the start of a table
-abbrev pub start_at : Loaded → Members → Result ℕ Refusal
+abbrev pub start_at : Loaded → Members → Result ℕ ConfigRefusal
 start_at l t = on_key (codes "start") (and_then (text_of (get_member (codes "start") t)) (start_of l))
 
 -- where a machine runs
@@ -201,7 +201,7 @@ pub record RunKeys : Type 0 where
   pub start : ℕ
 
 -- where the machine of a table runs
-abbrev pub run_at : List (Option MachineKeys) → List Loaded → Members → Result RunKeys Refusal
+abbrev pub run_at : List (Option MachineKeys) → List Loaded → Members → Result RunKeys ConfigRefusal
 run_at machines loads t =
     and_then (id_at machines t) (λ id. and_then (load_at loads t) (λ load. and_then (start_at load t) (λ start.
     Ok (record { id = id; load = load; start = start }))))
@@ -239,25 +239,25 @@ machine_keys_of run clock pins flags counts = record {
 }
 
 -- the machine of a table that runs there, with this divider and these pins
-abbrev pub machine_with_pins : Members → RunKeys → ClockKeys → PinKeys → Result MachineKeys Refusal
+abbrev pub machine_with_pins : Members → RunKeys → ClockKeys → PinKeys → Result MachineKeys ConfigRefusal
 machine_with_pins t run clock pins =
     and_then (flags_at t) (λ flags. and_then (counts_at t) (λ counts. Ok (machine_keys_of run clock pins flags counts)))
 
 -- the machine of a table that runs there
-abbrev pub machine_running : Members → RunKeys → Result MachineKeys Refusal
+abbrev pub machine_running : Members → RunKeys → Result MachineKeys ConfigRefusal
 machine_running t run = and_then (clock_at t) (λ clock. and_then (pins_at t) (λ pins. machine_with_pins t run clock pins))
 
 -- the machine of a table, after the machines of the tables before it
-abbrev pub machine_of_table : List (Option MachineKeys) → List Loaded → Members → Result MachineKeys Refusal
+abbrev pub machine_of_table : List (Option MachineKeys) → List Loaded → Members → Result MachineKeys ConfigRefusal
 machine_of_table machines loads t = and_then (run_at machines loads t) (λ run. machine_running t run)
 
 -- the machine of the table at a place
-abbrev pub machine_in : ℕ → List (Option MachineKeys) → List Loaded → Data → Result MachineKeys Refusal
+abbrev pub machine_in : ℕ → List (Option MachineKeys) → List Loaded → Data → Result MachineKeys ConfigRefusal
 machine_in place machines loads d =
     element_of (codes "machine") (as_table d) (λ t. section_at (Machine place) machine_names t (machine_of_table machines loads t))
 
 -- each machine comes to the place of its number
-unfoldable pub machines_from : ℕ → List (Option MachineKeys) → List Loaded → Items → Result (List (Option MachineKeys)) Refusal
+unfoldable pub machines_from : ℕ → List (Option MachineKeys) → List Loaded → Items → Result (List (Option MachineKeys)) ConfigRefusal
 machines_from place machines loads no_items = Ok machines
 machines_from place machines loads (item d rest) =
     and_then (machine_in place machines loads d) (λ m. machines_from (place + 1) (slice_set machines m.id (Some m)) loads rest)

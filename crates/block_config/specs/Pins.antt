@@ -14,7 +14,7 @@ use Rattle.block_config.specs.declared.path.Section.TheVariants.{Pins}
 use Rattle.block_config.specs.declared.pins.BlockNumber.{BlockNumber}
 use Rattle.block_config.specs.declared.pins.BlockNumber.TheVariants.{First, Second}
 use Rattle.block_config.specs.declared.pins.PinLists.{PinLists}
-use Rattle.block_config.specs.Answer.{Refusal}
+use Rattle.block_config.specs.Answer.{ConfigRefusal}
 use Rattle.block_config.specs.Arrays.{all_items}
 use Rattle.block_config.specs.Values.{number_in}
 use Rattle.block_config.specs.Tables.{and_then, on_key, section_at}
@@ -39,7 +39,7 @@ mask_of None = Ok 0
 mask_of (Some d) = mask_in (as_array d)
 
 -- the pins of a key
-abbrev pub mask_at : Members → List ℕ → Result ℕ Refusal
+abbrev pub mask_at : Members → List ℕ → Result ℕ ConfigRefusal
 mask_at t key = on_key key (mask_of (get_member key t))
 
 -- the five lists
@@ -51,7 +51,7 @@ pub record PinTable : Type 0 where
   pub own : ℕ
 
 -- The lists of a table, in this order. A block's table doesn't have all five keys, and a list that isn't there is empty.
-abbrev pub pin_table_at : Members → Result PinTable Refusal
+abbrev pub pin_table_at : Members → Result PinTable ConfigRefusal
 pin_table_at t =
     and_then (mask_at t (codes "high")) (λ high. and_then (mask_at t (codes "level")) (λ level.
     and_then (mask_at t (codes "out")) (λ out. and_then (mask_at t (codes "bypass")) (λ bypass.
@@ -65,7 +65,7 @@ pin_names First = codes "high" ∷ codes "level" ∷ codes "out" ∷ codes "bypa
 pin_names Second = codes "level" ∷ codes "out" ∷ codes "bypass" ∷ codes "own" ∷ []
 
 -- the pins of a block's table, none where it is absent
-abbrev pub pins_in : BlockNumber → Option Members → Result PinTable Refusal
+abbrev pub pins_in : BlockNumber → Option Members → Result PinTable ConfigRefusal
 pins_in block None = Ok (record { high = 0; level = 0; out = 0; bypass = 0; own = 0 })
 pins_in block (Some t) = section_at Pins (pin_names block) t (pin_table_at t)
 

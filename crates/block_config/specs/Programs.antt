@@ -5,7 +5,7 @@
 use Rattle.std.specs.Prelude.{ℕ, ℤ, pos, negsuc, nat_lt, if◌then◌else◌, Option, Some, None, List, length}
 use Rattle.std.specs.List.{find}
 use Rattle.std.specs.Str.{bytes_eq}
-use Rattle.pio_assemble.specs.declared.symbols.Symbol.{Symbol}
+use Rattle.pio_assemble.specs.declared.symbols.ProgramSymbol.{ProgramSymbol}
 use Rattle.pio_assemble.specs.Program.{Assembled}
 
 -- a program that is loaded at an address
@@ -23,11 +23,11 @@ place_in words (pos n) = if nat_lt n (length words) then Some n else None
 place_in words (negsuc n) = None
 
 -- a symbol that a label made, and that comes before a word
-abbrev pub symbol_place : List ℕ → Symbol → Option ℕ
+abbrev pub symbol_place : List ℕ → ProgramSymbol → Option ℕ
 symbol_place words s = if s.is_label then place_in words s.value else None
 
 -- the place of a symbol, if there is one
-abbrev pub place_of : List ℕ → Option Symbol → Option ℕ
+abbrev pub place_of : List ℕ → Option ProgramSymbol → Option ℕ
 place_of words None = None
 place_of words (Some s) = symbol_place words s
 

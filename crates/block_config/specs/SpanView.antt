@@ -2,10 +2,10 @@
 use Rattle.block_config.specs.declared.spans.EndValues.{EndValues}
 use Rattle.block_config.specs.declared.spans.BoundValues.{BoundValues}
 use Rattle.block_config.specs.declared.spans.SpanValues.{SpanValues as Code}
-use Rattle.block_config.specs.Spans.{Ends, Bounds, SpanValues}
+use Rattle.block_config.specs.Spans.{SpanEnds, Bounds, SpanValues}
 
 -- the machine, the pins and the edges
-abbrev pub ends_view : EndValues → Ends
+abbrev pub ends_view : EndValues → SpanEnds
 ends_view e = record { machine = e.machine; from_pin = e.from_pin; to_pin = e.to_pin; from_rise = e.from_rise; to_rise = e.to_rise }
 
 -- the unit and the bounds

@@ -15,7 +15,7 @@ use Rattle.pin_matrix.specs.Spans.{is_in_ticks, is_span_name}
 use Rattle.block_config.specs.declared.fault.ConfigKind.{ConfigKind}
 use Rattle.block_config.specs.declared.fault.ConfigKind.TheVariants.{Missing, Range, WrongType, NoProgram, NoLabel, Many}
 use Rattle.block_config.specs.declared.path.Section.TheVariants.{Span}
-use Rattle.block_config.specs.Answer.{Refusal, refused}
+use Rattle.block_config.specs.Answer.{ConfigRefusal, refused}
 use Rattle.block_config.specs.Arrays.{count_items, all_items, gather}
 use Rattle.setup_keys.specs.Block.{MachineKeys, SpanKeys}
 use Rattle.block_config.specs.Keys.{Numbered}
@@ -41,15 +41,15 @@ name_of None = Err Missing
 name_of (Some name) = if is_span_name name then Ok name else Err Range
 
 -- the name of a table
-abbrev pub name_at : Members → Result (List ℕ) Refusal
+abbrev pub name_at : Members → Result (List ℕ) ConfigRefusal
 name_at t = on_key (codes "name") (and_then (text_of (get_member (codes "name") t)) name_of)
 
 -- the machine whose ticks count, which has to be configured
-abbrev pub configured : List (Option MachineKeys) → ℕ → Result ℕ Refusal
+abbrev pub configured : List (Option MachineKeys) → ℕ → Result ℕ ConfigRefusal
 configured machines id = if is_some (slice_index_or machines id None) then Ok id else refused (codes "machine") NoProgram
 
 -- the machine of a table
-abbrev pub machine_at : List (Option MachineKeys) → Members → Result ℕ Refusal
+abbrev pub machine_at : List (Option MachineKeys) → Members → Result ℕ ConfigRefusal
 machine_at machines t = and_then (number_at t (required (codes "machine") 3)) (configured machines)
 
 -- the two pins
@@ -62,11 +62,11 @@ edge_of None = Err Missing
 edge_of (Some word) = if bytes_eq word (codes "rise") then Ok true else if bytes_eq word (codes "fall") then Ok false else Err Range
 
 -- the edge of a key
-abbrev pub edge_at : Members → List ℕ → Result Bool Refusal
+abbrev pub edge_at : Members → List ℕ → Result Bool ConfigRefusal
 edge_at t key = on_key key (and_then (text_of (get_member key t)) edge_of)
 
 -- from where to where a span goes
-pub record Ends : Type 0 where
+pub record SpanEnds : Type 0 where
   pub machine : ℕ
   pub from_pin : ℕ
   pub to_pin : ℕ
@@ -74,7 +74,7 @@ pub record Ends : Type 0 where
   pub to_rise : Bool
 
 -- the machine, the pins and the edges of a table
-abbrev pub ends_at : List (Option MachineKeys) → Members → Result Ends Refusal
+abbrev pub ends_at : List (Option MachineKeys) → Members → Result SpanEnds ConfigRefusal
 ends_at machines t =
     and_then (machine_at machines t) (λ machine. and_then (each_at (number_at t) span_pins) (λ pins.
     and_then (edge_at t (codes "from_edge")) (λ from_rise. and_then (edge_at t (codes "to_edge")) (λ to_rise.
@@ -86,7 +86,7 @@ unit_of None = Ok Ticks
 unit_of (Some word) = if bytes_eq word (codes "ticks") then Ok Ticks else if bytes_eq word (codes "clocks") then Ok Clocks else Err Range
 
 -- the unit of a table
-abbrev pub unit_at : Members → Result SpanUnit Refusal
+abbrev pub unit_at : Members → Result SpanUnit ConfigRefusal
 unit_at t = on_key (codes "unit") (and_then (text_of (get_member (codes "unit") t)) unit_of)
 
 -- the two bounds, each below 2 ^ 24
@@ -100,11 +100,11 @@ pub record Bounds : Type 0 where
   pub most : ℕ
 
 -- the least isn't above the most
-abbrev pub ordered : Bounds → Result Bounds Refusal
+abbrev pub ordered : Bounds → Result Bounds ConfigRefusal
 ordered b = if nat_lt b.most b.least then refused (codes "max") Range else Ok b
 
 -- the unit and the bounds of a table
-abbrev pub bounds_at : Members → Result Bounds Refusal
+abbrev pub bounds_at : Members → Result Bounds ConfigRefusal
 bounds_at t =
     and_then (unit_at t) (λ unit. and_then (each_at (number_at t) bound_keys) (λ bounds.
     ordered (record { unit = unit; least = slice_index bounds 0; most = slice_index bounds 1 })))
@@ -145,17 +145,17 @@ stalls_of unit load None = Ok []
 stalls_of unit load (Some d) = stalls_in unit load (as_array d)
 
 -- the stalls of a table
-abbrev pub stalls_at : SpanUnit → Option Loaded → Members → Result (List ℕ) Refusal
+abbrev pub stalls_at : SpanUnit → Option Loaded → Members → Result (List ℕ) ConfigRefusal
 stalls_at unit load t = on_key (codes "stalls") (stalls_of unit load (get_member (codes "stalls") t))
 
 -- what a span says after its name
 pub record SpanValues : Type 0 where
-  pub ends : Ends
+  pub ends : SpanEnds
   pub bounds : Bounds
   pub stalls : List ℕ
 
 -- the values of a table
-abbrev pub values_at : List (Option MachineKeys) → List Loaded → Members → Result SpanValues Refusal
+abbrev pub values_at : List (Option MachineKeys) → List Loaded → Members → Result SpanValues ConfigRefusal
 values_at machines loads t =
     and_then (ends_at machines t) (λ ends. and_then (bounds_at t) (λ bounds.
     and_then (stalls_at bounds.unit (load_of_machine loads (slice_index_or machines ends.machine None)) t) (λ stalls.
@@ -177,14 +177,14 @@ span_keys_of name v = record {
 }
 
 -- the span of a table
-abbrev pub span_of_table : List (Option MachineKeys) → List Loaded → Members → Result SpanKeys Refusal
+abbrev pub span_of_table : List (Option MachineKeys) → List Loaded → Members → Result SpanKeys ConfigRefusal
 span_of_table machines loads t = and_then (name_at t) (λ name. and_then (values_at machines loads t) (λ values. Ok (span_keys_of name values)))
 
 -- the span of the table at a place
-abbrev pub span_in : List (Option MachineKeys) → List Loaded → ℕ → List SpanKeys → Data → Result SpanKeys Refusal
+abbrev pub span_in : List (Option MachineKeys) → List Loaded → ℕ → List SpanKeys → Data → Result SpanKeys ConfigRefusal
 span_in machines loads place spans d =
     element_of (codes "span") (as_table d) (λ t. section_at (Span place) span_names t (span_of_table machines loads t))
 
 -- the spans of all tables
-abbrev pub all_spans : List (Option MachineKeys) → List Loaded → Items → Result (List SpanKeys) Refusal
+abbrev pub all_spans : List (Option MachineKeys) → List Loaded → Items → Result (List SpanKeys) ConfigRefusal
 all_spans machines loads tables = gather (span_in machines loads) 0 [] tables

@@ -15,7 +15,7 @@ use Rattle.block_config.specs.declared.fault.ConfigKind.{ConfigKind}
 use Rattle.block_config.specs.declared.fault.ConfigKind.TheVariants.{UnknownKey, WrongType}
 use Rattle.block_config.specs.declared.path.Section.{Section}
 use Rattle.block_config.specs.declared.table.Lack.{Lack}
-use Rattle.block_config.specs.Answer.{Refusal, refused}
+use Rattle.block_config.specs.Answer.{ConfigRefusal, refused}
 use Rattle.block_config.specs.Fault.{section_path, key_path}
 use Rattle.block_config.specs.Keys.{Numbered, Flagged}
 use Rattle.block_config.specs.Values.{number_of, flag_of}
@@ -26,29 +26,29 @@ and_then (Ok x) next = next x
 and_then (Err e) next = Err e
 
 -- what is wrong with a value is told of its key
-abbrev pub on_key : {X : Type 0} → List ℕ → Result X ConfigKind → Result X Refusal
+abbrev pub on_key : {X : Type 0} → List ℕ → Result X ConfigKind → Result X ConfigRefusal
 on_key name (Ok x) = Ok x
 on_key name (Err kind) = refused name kind
 
 -- what the code tells of a key
-abbrev pub refusal_of : Lack → Refusal
+abbrev pub refusal_of : Lack → ConfigRefusal
 refusal_of l = record { key = l.key.now; kind = l.kind }
 
 -- what was returned, with what it holds seen by a view
-abbrev pub seen : {X Y : Type 0} → (X → Y) → Result X Lack → Result Y Refusal
+abbrev pub seen : {X Y : Type 0} → (X → Y) → Result X Lack → Result Y ConfigRefusal
 seen f (Ok x) = Ok (f x)
 seen f (Err l) = Err (refusal_of l)
 
 -- the number of a key
-abbrev pub number_at : Members → Numbered → Result ℕ Refusal
+abbrev pub number_at : Members → Numbered → Result ℕ ConfigRefusal
 number_at t k = on_key k.name (number_of k (get_member k.name t))
 
 -- the flag of a key
-abbrev pub flag_at : Members → Flagged → Result Bool Refusal
+abbrev pub flag_at : Members → Flagged → Result Bool ConfigRefusal
 flag_at t k = on_key k.name (flag_of k (get_member k.name t))
 
 -- the values of keys in order, or the first fault
-unfoldable pub each_at : {K V : Type 0} → (K → Result V Refusal) → List K → Result (List V) Refusal
+unfoldable pub each_at : {K V : Type 0} → (K → Result V ConfigRefusal) → List K → Result (List V) ConfigRefusal
 each_at read [] = Ok []
 each_at read (k ∷ ks) = and_then (read k) (λ v. and_then (each_at read ks) (λ vs. Ok (v ∷ vs)))
 
@@ -63,15 +63,15 @@ are_known names no_members = true
 are_known names (member key d rest) = list_any (bytes_eq key) names && are_known names rest
 
 -- a fault of a key is told with its table
-abbrev pub in_section : {X : Type 0} → Section → Result X Refusal → Result X Refusal
+abbrev pub in_section : {X : Type 0} → Section → Result X ConfigRefusal → Result X ConfigRefusal
 in_section section (Ok x) = Ok x
 in_section section (Err r) = refused (key_path section r.key) r.kind
 
 -- an unknown key comes first, and is on the table
-abbrev pub section_at : {X : Type 0} → Section → List (List ℕ) → Members → Result X Refusal → Result X Refusal
+abbrev pub section_at : {X : Type 0} → Section → List (List ℕ) → Members → Result X ConfigRefusal → Result X ConfigRefusal
 section_at section names t inner = if are_known names t then in_section section inner else refused (section_path section) UnknownKey
 
 -- an element of an array of tables; that it is a table is looked at before any element is read
-abbrev pub element_of : {X : Type 0} → List ℕ → Option Members → (Members → Result X Refusal) → Result X Refusal
+abbrev pub element_of : {X : Type 0} → List ℕ → Option Members → (Members → Result X ConfigRefusal) → Result X ConfigRefusal
 element_of name None read = refused name WrongType
 element_of name (Some t) read = read t

@@ -22,7 +22,7 @@ use crate::machines::place_machines;
 use crate::owning::OwningSetup;
 use crate::path::fault_at;
 use crate::pins::{BlockNumber, PinLists, read_pins};
-use crate::programs::Load;
+use crate::programs::LoadedProgram;
 use crate::sections::{Sections, sections_at};
 use crate::spans::{few_spans, read_spans};
 use pin_matrix::{Setup, Spans};
@@ -117,7 +117,7 @@ fn block_over(
     alloc: Global,
     block: BlockNumber,
     sections: &Sections,
-    loads: &[Load],
+    loads: &[LoadedProgram],
 ) -> Result<OwningSetup, ConfigFault>
     requires { count_items (items_view sections.now.spans.now) ≤ 64 }
     ensures { Gives told keys_of_owning result
@@ -130,7 +130,11 @@ fn block_over(
 }
 
 /// The memory and the machines.
-fn bare_block(alloc: Global, loads: &[Load], values: &[Value]) -> Result<Setup, ConfigFault>
+fn bare_block(
+    alloc: Global,
+    loads: &[LoadedProgram],
+    values: &[Value],
+) -> Result<Setup, ConfigFault>
     ensures { Gives told keys_of_block result
         (made (quiet_block (memory_of no_words (map loaded_of loads.now)))
         (machines_from 0 spec.no_machines (map loaded_of loads.now) (items_view values.now))) }

@@ -17,7 +17,7 @@ use crate::keys;
 use crate::keys::NumberKey;
 use crate::memory::{fits_at, loaded};
 use crate::path::{Section, fault_at, fault_of_key, fault_of_section};
-use crate::programs::{Load, is_named};
+use crate::programs::{LoadedProgram, is_named};
 use crate::table::{Lack, are_known, number_at, value_at};
 use crate::value::text_of;
 use pio_assemble::Program;
@@ -29,7 +29,7 @@ pub fn read_loads<'a>(
     alloc: Global,
     programs: &'a [Program],
     values: &[Value],
-) -> Result<Vec<Load<'a>>, ConfigFault>
+) -> Result<Vec<LoadedProgram<'a>>, ConfigFault>
     ensures { Gives told (λ v. map loaded_of v.items) result
         (spec.all_loads (map assembled_of programs.entry.now) (items_view values.now)) }
 {
@@ -46,9 +46,9 @@ fn load_in<'a>(
     alloc: Global,
     place: usize,
     programs: &'a [Program],
-    loads: &[Load<'a>],
+    loads: &[LoadedProgram<'a>],
     value: &Value,
-) -> Result<Load<'a>, ConfigFault>
+) -> Result<LoadedProgram<'a>, ConfigFault>
     ensures { Gives told loaded_of result
         (spec.load_in (map assembled_of programs.entry.now) place (map loaded_of loads.now)
         (view value.now)) }
@@ -64,9 +64,9 @@ fn load_at<'a>(
     alloc: Global,
     section: Section,
     programs: &'a [Program],
-    loads: &[Load<'a>],
+    loads: &[LoadedProgram<'a>],
     table: &Table,
-) -> Result<Load<'a>, ConfigFault>
+) -> Result<LoadedProgram<'a>, ConfigFault>
     ensures { Gives told loaded_of result
         (section_at section spec.load_names (table_view table.now)
         (spec.load_of_table (map assembled_of programs.entry.now) (map loaded_of loads.now) (table_view table.now))) }
@@ -81,7 +81,11 @@ fn load_at<'a>(
 }
 
 /// The load of a table whose keys are known, after the loads of the tables before it.
-fn load_of<'a>(programs: &'a [Program], loads: &[Load<'a>], table: &Table) -> Result<Load<'a>, Lack>
+fn load_of<'a>(
+    programs: &'a [Program],
+    loads: &[LoadedProgram<'a>],
+    table: &Table,
+) -> Result<LoadedProgram<'a>, Lack>
     ensures { seen loaded_of result
         ≡ spec.load_of_table (map assembled_of programs.entry.now) (map loaded_of loads.now)
         (table_view table.now) }
@@ -93,7 +97,7 @@ fn load_of<'a>(programs: &'a [Program], loads: &[Load<'a>], table: &Table) -> Re
 /// The program of a table.
 fn program_at<'a>(
     programs: &'a [Program],
-    loads: &[Load<'a>],
+    loads: &[LoadedProgram<'a>],
     table: &Table,
 ) -> Result<&'a Program, Lack>
     ensures { seen (λ p. assembled_of p.now) result
@@ -110,7 +114,7 @@ fn program_at<'a>(
 /// The program that a value names, which no load has.
 fn named_program<'a>(
     programs: &'a [Program],
-    loads: &[Load<'a>],
+    loads: &[LoadedProgram<'a>],
     value: Option<&Value>,
 ) -> Result<&'a Program, ConfigKind>
     ensures { map_ok (λ p. assembled_of p.now) result
@@ -120,7 +124,7 @@ fn named_program<'a>(
     let Some(name) = text_of(value)? else {
         return Err(ConfigKind::Missing);
     };
-    if Load::find(loads, name.as_bytes()).is_some() {
+    if LoadedProgram::find(loads, name.as_bytes()).is_some() {
         return Err(ConfigKind::Range);
     }
     match find_program(programs, name.as_bytes()) {
@@ -145,7 +149,11 @@ fn first_named<'a>(programs: &'a [Program], name: &[u8]) -> Option<&'a Program>
 }
 
 /// The load of a program by its table.
-fn load_by<'a>(program: &'a Program, loads: &[Load<'a>], table: &Table) -> Result<Load<'a>, Lack>
+fn load_by<'a>(
+    program: &'a Program,
+    loads: &[LoadedProgram<'a>],
+    table: &Table,
+) -> Result<LoadedProgram<'a>, Lack>
     ensures { seen loaded_of result
         ≡ spec.load_at (assembled_of program.entry.now) (map loaded_of loads.now)
         (table_view table.now) }
@@ -170,9 +178,9 @@ fn load_by<'a>(program: &'a Program, loads: &[Load<'a>], table: &Table) -> Resul
 /// A program at an address, after other loads.
 fn placed_at<'a>(
     program: &'a Program,
-    loads: &[Load<'a>],
+    loads: &[LoadedProgram<'a>],
     address: u8,
-) -> Result<Load<'a>, ConfigKind>
+) -> Result<LoadedProgram<'a>, ConfigKind>
     requires { address ≤ 31 }
     ensures { map_ok loaded_of result
         ≡ spec.placed_at (assembled_of program.entry.now) (map loaded_of loads.now) address }
@@ -180,7 +188,7 @@ fn placed_at<'a>(
     if !keeps_origin(program.origin, address) || !fits_at(address, &program.words) {
         return Err(ConfigKind::DoesNotFit);
     }
-    let load = Load { program, address };
+    let load = LoadedProgram { program, address };
     match first_shared(loads, &load) {
         Some(shared) => Err(ConfigKind::Overlap(shared)),
         None => Ok(load),
@@ -198,7 +206,7 @@ fn keeps_origin(origin: Option<u8>, address: u8) -> bool
 }
 
 /// The least address that a load covers and an earlier one too.
-fn first_shared(loads: &[Load], load: &Load) -> Option<u8>
+fn first_shared(loads: &[LoadedProgram], load: &LoadedProgram) -> Option<u8>
     ensures { result ≡ spec.first_shared (map loaded_of loads.now) (loaded_of load.now) }
 {
     for address in 0..32 {
@@ -210,14 +218,14 @@ fn first_shared(loads: &[Load], load: &Load) -> Option<u8>
 }
 
 /// Whether one of the loads covers an address.
-fn is_covered(loads: &[Load], address: u8) -> bool
+fn is_covered(loads: &[LoadedProgram], address: u8) -> bool
     ensures { result ≡ spec.is_covered (map loaded_of loads.now) address }
 {
-    Load::at(loads, address).is_some()
+    LoadedProgram::at(loads, address).is_some()
 }
 
 /// The instruction memory with programs loaded into it.
-pub fn memory_of(loads: &[Load]) -> [u16; 32]
+pub fn memory_of(loads: &[LoadedProgram]) -> [u16; 32]
     ensures { result ≡ spec.memory_of no_words (map loaded_of loads.now) }
 {
     let mut memory = [0; 32];

@@ -13,7 +13,7 @@ ghost use Rattle.block_config.specs.Values.{map_ok, text_of};
 use crate::fault::{ConfigFault, ConfigKind};
 use crate::keys;
 use crate::path::{Section, fault_at, fault_of_key, fault_of_section};
-use crate::programs::{Load, label_of};
+use crate::programs::{LoadedProgram, label_of};
 use crate::table::{Lack, are_known, flag_at, flags_at, number_at, numbers_at, value_at};
 use crate::value::text_of;
 use pin_matrix::{MachineSetup, Mapping, Setup};
@@ -23,7 +23,7 @@ use toml::{Table, Value};
 /// Configures the machines of all tables.
 pub fn place_machines(
     alloc: Global,
-    loads: &[Load],
+    loads: &[LoadedProgram],
     values: &[Value],
     setup: &mut Setup,
 ) -> Result<(), ConfigFault>
@@ -44,7 +44,7 @@ fn machine_in(
     alloc: Global,
     place: usize,
     machines: &[Option<MachineSetup>; 4],
-    loads: &[Load],
+    loads: &[LoadedProgram],
     value: &Value,
 ) -> Result<MachineSetup, ConfigFault>
     ensures { Gives told keys_of_machine result
@@ -62,7 +62,7 @@ fn machine_at(
     alloc: Global,
     section: Section,
     machines: &[Option<MachineSetup>; 4],
-    loads: &[Load],
+    loads: &[LoadedProgram],
     table: &Table,
 ) -> Result<MachineSetup, ConfigFault>
     ensures { Gives told keys_of_machine result
@@ -81,34 +81,34 @@ fn machine_at(
 /// The machine of a table whose keys are known, after the machines of the tables before it.
 fn machine_of(
     table: &Table,
-    loads: &[Load],
+    loads: &[LoadedProgram],
     machines: &[Option<MachineSetup>; 4],
 ) -> Result<MachineSetup, Lack>
     ensures { seen keys_of_machine result
         ≡ spec.machine_of_table (map (option_map keys_of_machine) machines.now)
         (map loaded_of loads.now) (table_view table.now) }
 {
-    let run = Running::read(table, loads, machines)?;
+    let run = MachineRun::read(table, loads, machines)?;
     run.machine(table)
 }
 
 /// A machine's number, its program and the address of its first instruction.
 #[derive(Clone, Copy)]
-pub struct Running<'a> {
+pub struct MachineRun<'a> {
     pub id: u8,
-    pub load: Load<'a>,
+    pub load: LoadedProgram<'a>,
     pub start: u8,
     pub ghost id_in_block: { id < 4 },
     pub ghost start_in_memory: { start < 32 },
 }
 
-impl<'a> Running<'a> {
+impl<'a> MachineRun<'a> {
     ghost use Rattle.block_config.specs.MachineView.{clock_view, counts_view, flags_view, pins_view, run_view};
 
     /// The first keys of a machine's table.
     fn read(
         table: &Table,
-        loads: &[Load<'a>],
+        loads: &[LoadedProgram<'a>],
         machines: &[Option<MachineSetup>; 4],
     ) -> Result<Self, Lack>
         ensures { seen run_view result
@@ -118,7 +118,7 @@ impl<'a> Running<'a> {
         let id = Self::id(table, machines)?;
         let load = Self::load(table, loads)?;
         let start = Self::start(table, &load)?;
-        Ok(Running { id, load, start })
+        Ok(MachineRun { id, load, start })
     }
 
     /// The machine's number, which no table before has.
@@ -138,7 +138,7 @@ impl<'a> Running<'a> {
     }
 
     /// The load of the program that it runs.
-    fn load(table: &Table, loads: &[Load<'a>]) -> Result<Load<'a>, Lack>
+    fn load(table: &Table, loads: &[LoadedProgram<'a>]) -> Result<LoadedProgram<'a>, Lack>
         ensures { seen loaded_of result
             ≡ spec.load_at (map loaded_of loads.now) (table_view table.now) }
     {
@@ -150,7 +150,10 @@ impl<'a> Running<'a> {
     }
 
     /// The load that a value names.
-    fn named(loads: &[Load<'a>], value: Option<&Value>) -> Result<Load<'a>, ConfigKind>
+    fn named(
+        loads: &[LoadedProgram<'a>],
+        value: Option<&Value>,
+    ) -> Result<LoadedProgram<'a>, ConfigKind>
         ensures { map_ok loaded_of result
             ≡ and_then (text_of (option_map (λ v. view v.now) value.entry))
             (spec.named_load (map loaded_of loads.now)) }
@@ -158,14 +161,14 @@ impl<'a> Running<'a> {
         let Some(name) = text_of(value)? else {
             return Err(ConfigKind::Missing);
         };
-        match Load::find(loads, name.as_bytes()) {
+        match LoadedProgram::find(loads, name.as_bytes()) {
             Some(load) => Ok(load),
             None => Err(ConfigKind::NoProgram),
         }
     }
 
     /// The address of its first instruction.
-    fn start(table: &Table, load: &Load<'a>) -> Result<u8, Lack>
+    fn start(table: &Table, load: &LoadedProgram<'a>) -> Result<u8, Lack>
         ensures value { seen (λ n. n) result
             ≡ spec.start_at (loaded_of load.now) (table_view table.now) }
         ensures in_memory { IfOk result (λ n. n < 32) }

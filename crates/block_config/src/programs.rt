@@ -4,30 +4,30 @@ ghost use Rattle.std.specs.Str.{bytes_eq};
 ghost use Rattle.pio_assemble.specs.Program.{assembled_of};
 ghost use Rattle.block_config.specs.Programs as spec;
 
-use pio_assemble::{Program, Symbol};
+use pio_assemble::{Program, ProgramSymbol};
 
 /// A program that is loaded at an address.
 #[derive(Clone, Copy)]
-pub struct Load<'a> {
+pub struct LoadedProgram<'a> {
     pub program: &'a Program,
     pub address: u8,
     pub ghost fits: { address + length program.now.words.items ≤ 32 },
 }
 
-impl<'a> Load<'a> {
+impl<'a> LoadedProgram<'a> {
     ghost use Rattle.std.specs.Prelude.{map, option_copied, option_map};
     ghost use Rattle.std.specs.List.{find};
     ghost use Rattle.block_config.specs.Loads.{covers, loaded_of};
 
     /// The load of a program's name.
-    pub fn find(loads: &[Load<'a>], name: &[u8]) -> Option<Load<'a>>
+    pub fn find(loads: &[LoadedProgram<'a>], name: &[u8]) -> Option<LoadedProgram<'a>>
         ensures { option_map loaded_of result
             ≡ spec.find_loaded name.now (map loaded_of loads.now) }
     {
         Self::first(loads, name).copied()
     }
 
-    fn first<'b>(loads: &'b [Load<'a>], name: &[u8]) -> Option<&'b Load<'a>>
+    fn first<'b>(loads: &'b [LoadedProgram<'a>], name: &[u8]) -> Option<&'b LoadedProgram<'a>>
         ensures { option_copied result
             ≡ find (λ l. bytes_eq l.program.now.name name.now) loads.now }
     {
@@ -43,14 +43,14 @@ impl<'a> Load<'a> {
     }
 
     /// The load that covers an address.
-    pub fn at(loads: &[Load<'a>], address: u8) -> Option<Load<'a>>
+    pub fn at(loads: &[LoadedProgram<'a>], address: u8) -> Option<LoadedProgram<'a>>
         ensures { option_map loaded_of result
             ≡ find (λ l. covers l address) (map loaded_of loads.now) }
     {
         Self::first_at(loads, address).copied()
     }
 
-    fn first_at<'b>(loads: &'b [Load<'a>], address: u8) -> Option<&'b Load<'a>>
+    fn first_at<'b>(loads: &'b [LoadedProgram<'a>], address: u8) -> Option<&'b LoadedProgram<'a>>
         ensures { option_copied result ≡ find (λ l. covers (loaded_of l) address) loads.now }
     {
         loads.iter().find(|load| load.covers(address))
@@ -76,7 +76,7 @@ pub fn label_of(program: &Program, name: &[u8]) -> Option<u8>
 }
 
 /// The place of a symbol that a label made, and that comes before a word.
-fn place_of(words: &[u16], symbol: &Symbol) -> Option<u8>
+fn place_of(words: &[u16], symbol: &ProgramSymbol) -> Option<u8>
     requires { length words.now ≤ 32 }
     ensures place { result ≡ spec.symbol_place words.now symbol.now }
     ensures within { IfSome result (λ place. place < length words.now) }

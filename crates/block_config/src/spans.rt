@@ -13,7 +13,7 @@ ghost use Rattle.block_config.specs.Values.{map_ok, text_of};
 use crate::fault::{ConfigFault, ConfigKind};
 use crate::keys;
 use crate::path::{Section, fault_at, fault_of_key, fault_of_section};
-use crate::programs::Load;
+use crate::programs::LoadedProgram;
 use crate::stalls::stalls_at;
 use crate::table::{Lack, are_known, number_at, numbers_at, value_at};
 use crate::value::text_of;
@@ -27,7 +27,7 @@ use toml::{Table, Value};
 pub fn read_spans(
     alloc: Global,
     machines: &[Option<MachineSetup>; 4],
-    loads: &[Load],
+    loads: &[LoadedProgram],
     values: &[Value],
 ) -> Result<Vec<Span>, ConfigFault>
     ensures { Gives told (λ v. map keys_of_span v.items) result
@@ -58,7 +58,7 @@ fn span_in(
     alloc: Global,
     place: usize,
     machines: &[Option<MachineSetup>; 4],
-    loads: &[Load],
+    loads: &[LoadedProgram],
     value: &Value,
 ) -> Result<Span, ConfigFault>
     ensures { Gives told keys_of_span result
@@ -77,7 +77,7 @@ fn span_at(
     alloc: Global,
     section: Section,
     machines: &[Option<MachineSetup>; 4],
-    loads: &[Load],
+    loads: &[LoadedProgram],
     table: &Table,
 ) -> Result<Span, ConfigFault>
     ensures { Gives told keys_of_span result
@@ -136,13 +136,16 @@ impl SpanValues {
     ghost use Rattle.block_config.specs.SpanView.{values_view};
 
     /// The load of the program that a machine runs.
-    fn load_of<'a>(loads: &[Load<'a>], machine: &Option<MachineSetup>) -> Option<Load<'a>>
+    fn load_of<'a>(
+        loads: &[LoadedProgram<'a>],
+        machine: &Option<MachineSetup>,
+    ) -> Option<LoadedProgram<'a>>
         ensures { option_map loaded_of result
             ≡ spec.load_of_machine (map loaded_of loads.now)
             (option_map keys_of_machine machine.now) }
     {
         match machine {
-            Some(machine) => Load::at(loads, machine.start),
+            Some(machine) => LoadedProgram::at(loads, machine.start),
             None => None,
         }
     }
@@ -151,7 +154,7 @@ impl SpanValues {
     fn read(
         table: &Table,
         machines: &[Option<MachineSetup>; 4],
-        loads: &[Load],
+        loads: &[LoadedProgram],
     ) -> Result<Self, Lack>
         ensures { seen values_view result
             ≡ spec.values_at (map (option_map keys_of_machine) machines.now)

@@ -12,7 +12,7 @@ ghost use Rattle.block_config.specs.Values.{map_ok};
 use crate::arrays::{Element, are_all, count_of};
 use crate::fault::ConfigKind;
 use crate::keys;
-use crate::programs::{Load, label_of};
+use crate::programs::{LoadedProgram, label_of};
 use crate::table::{Lack, value_at};
 use arrayvec::ArrayVec;
 use pin_matrix::SpanUnit;
@@ -22,7 +22,7 @@ use toml::{Table, Value};
 pub fn stalls_at(
     table: &Table,
     unit: SpanUnit,
-    load: Option<Load>,
+    load: Option<LoadedProgram>,
 ) -> Result<ArrayVec<u8, 16>, Lack>
     ensures value { seen (λ v. v.items) result
         ≡ spec.stalls_at unit (option_map loaded_of load.entry) (table_view table.now) }
@@ -42,7 +42,7 @@ pub fn stalls_at(
 fn stalls_of(
     value: Option<&Value>,
     unit: SpanUnit,
-    load: Option<Load>,
+    load: Option<LoadedProgram>,
 ) -> Result<ArrayVec<u8, 16>, ConfigKind>
     ensures value { map_ok (λ v. v.items) result
         ≡ spec.stalls_of unit (option_map loaded_of load.entry)
@@ -63,7 +63,7 @@ fn stalls_of(
 fn stalls_in(
     values: &[Value],
     unit: SpanUnit,
-    load: Option<Load>,
+    load: Option<LoadedProgram>,
 ) -> Result<ArrayVec<u8, 16>, ConfigKind>
     ensures value { map_ok (λ v. v.items) result
         ≡ spec.stalls_in unit (option_map loaded_of load.entry) (Some (items_view values.now)) }
@@ -94,7 +94,10 @@ fn in_ticks(unit: SpanUnit) -> bool
 }
 
 /// The addresses of all elements.
-fn stall_addresses(values: &[Value], load: Option<Load>) -> Result<ArrayVec<u8, 16>, ConfigKind>
+fn stall_addresses(
+    values: &[Value],
+    load: Option<LoadedProgram>,
+) -> Result<ArrayVec<u8, 16>, ConfigKind>
     requires { count_items (items_view values.now) ≤ 16 }
     ensures value { map_ok (λ v. v.items) result
         ≡ spec.stall_addresses (option_map loaded_of load.entry) (items_view values.now) }
@@ -110,7 +113,7 @@ fn stall_addresses(values: &[Value], load: Option<Load>) -> Result<ArrayVec<u8, 
 }
 
 /// The address of an element.
-fn stall_of(load: Option<Load>, value: &Value) -> Result<u8, ConfigKind>
+fn stall_of(load: Option<LoadedProgram>, value: &Value) -> Result<u8, ConfigKind>
     ensures value { result
         ≡ spec.stall_of (option_map loaded_of load.entry) (as_str (view value.now)) }
     ensures in_memory { IfOk result (λ a. a < 32) }
@@ -122,7 +125,7 @@ fn stall_of(load: Option<Load>, value: &Value) -> Result<u8, ConfigKind>
 }
 
 /// The address of a label.
-fn label_in(load: Option<Load>, name: &[u8]) -> Result<u8, ConfigKind>
+fn label_in(load: Option<LoadedProgram>, name: &[u8]) -> Result<u8, ConfigKind>
     ensures value { result ≡ spec.label_in (option_map loaded_of load.entry) name.now }
     ensures in_memory { IfOk result (λ a. a < 32) }
 {

@@ -1,6 +1,6 @@
 //! Listings of programs worked by hand, and what is there where the output fails.
 use crate::listing_rows::{ProgramRow, ROWS, STOP_ROWS, SideRow};
-use pio_assemble::{Program, Symbol, Symbols};
+use pio_assemble::{Program, ProgramSymbol, ProgramSymbols};
 use pio_edge::{MemSink, SinkFailed};
 use pio_encode::{Name, SideRule};
 use program_listing::put_listing;
@@ -80,15 +80,15 @@ fn rule_of(side: &SideRow) -> Result<SideRule, Fail> {
     })
 }
 
-fn symbols_of(alloc: Global, rows: &[(&str, i32, bool, bool)]) -> Result<Symbols, Fail> {
+fn symbols_of(alloc: Global, rows: &[(&str, i32, bool, bool)]) -> Result<ProgramSymbols, Fail> {
     let mut symbols = Vec::new(alloc);
     for &(name, value, public, is_label) in rows {
-        symbols.push(Symbol {
+        symbols.push(ProgramSymbol {
             name: name_of(alloc, name)?,
             value,
             public,
             is_label,
         })?;
     }
-    Ok(Symbols::new(symbols))
+    Ok(ProgramSymbols::new(symbols))
 }

@@ -9,7 +9,7 @@ use Rattle.dreq_pacing.specs.Lines.{has_lines, has_line, lines_in}
 use Rattle.dreq_pacing.specs.Due.{quiet, with_lines}
 use Rattle.dreq_pacing.specs.Transfers.{Feeding, Paced, Transfers, feed_moves, fed_word, fed, drain_moves, drained, moved}
 use Rattle.dreq_pacing.specs.Ports.{Ports, acts_in, asked, due_at, due_in, first_ports, transfers_after, transfers_at, moves, moves_in, with_moves, done_in, begun_all, moved_all}
-use Rattle.dreq_pacing.specs.Runs.{Follows}
+use Rattle.dreq_pacing.specs.Runs.{LeavesTransfers}
 
 or_false : (a b : Bool) → (a || b) ≡ false → (a ≡ false) × (b ≡ false)
 or_false true b e = absurd (cc)
@@ -108,7 +108,7 @@ left_out lines requests from (suc n) h =
     ∙ quiet_transfers lines (from + n) (requests (from + n)) t (h (from + n) (omega arith) (omega arith)))
 
 -- the transfers at a clock before which nothing happened
-at_clock : (p : Ports) (requests : ℕ → Requests) (clock : ℕ) → Follows requests p → p.next ≤ clock → ((c : ℕ) → p.next ≤ c → c < clock → acts_in p.lines c (requests c) p.transfers ≡ false) → p.transfers ≡ transfers_at p.lines requests clock
+at_clock : (p : Ports) (requests : ℕ → Requests) (clock : ℕ) → LeavesTransfers requests p → p.next ≤ clock → ((c : ℕ) → p.next ≤ c → c < clock → acts_in p.lines c (requests c) p.transfers ≡ false) → p.transfers ≡ transfers_at p.lines requests clock
 at_clock p requests clock f le none =
     let n = clock - p.next in
     let whole : p.next + n ≡ clock = omega arith in
@@ -116,15 +116,15 @@ at_clock p requests clock f le none =
     let h : T (transfers_at p.lines requests p.next) = subst T f (λ c low below. none c low (omega arith)) in
     f ∙ (sym (left_out p.lines requests p.next n h) ∙ ap (transfers_at p.lines requests) whole)
 
-pub follows_first : (lines : List Line) (requests : ℕ → Requests) → Follows requests (first_ports lines)
+pub follows_first : (lines : List Line) (requests : ℕ → Requests) → LeavesTransfers requests (first_ports lines)
 unfolding transfers_at
 follows_first lines requests = refl
 
-pub follows_due : (p : Ports) (requests : ℕ → Requests) (clock : ℕ) → Follows requests p → p.next ≤ clock → ((c : ℕ) → p.next ≤ c → c < clock → acts_in p.lines c (requests c) p.transfers ≡ false) → due_in p.lines clock (requests clock) p.transfers ≡ due_at p.lines requests clock
+pub follows_due : (p : Ports) (requests : ℕ → Requests) (clock : ℕ) → LeavesTransfers requests p → p.next ≤ clock → ((c : ℕ) → p.next ≤ c → c < clock → acts_in p.lines c (requests c) p.transfers ≡ false) → due_in p.lines clock (requests clock) p.transfers ≡ due_at p.lines requests clock
 unfolding due_at
 follows_due p requests clock f le none = ap (due_in p.lines clock (requests clock)) (at_clock p requests clock f le none)
 
-pub follows_after : (p : Ports) (requests : ℕ → Requests) (clock : ℕ) → Follows requests p → p.next ≤ clock → ((c : ℕ) → p.next ≤ c → c < clock → acts_in p.lines c (requests c) p.transfers ≡ false) → Follows requests (asked clock (requests clock) p)
+pub follows_after : (p : Ports) (requests : ℕ → Requests) (clock : ℕ) → LeavesTransfers requests p → p.next ≤ clock → ((c : ℕ) → p.next ≤ c → c < clock → acts_in p.lines c (requests c) p.transfers ≡ false) → LeavesTransfers requests (asked clock (requests clock) p)
 unfolding transfers_at
 follows_after p requests clock f le none =
     ap (transfers_after p.lines clock (requests clock)) (at_clock p requests clock f le none)

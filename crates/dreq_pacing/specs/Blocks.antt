@@ -10,7 +10,7 @@ use Rattle.answers.specs.Answers.{made}
 use Rattle.dreq_pacing.specs.declared.line.Act.{Act}
 use Rattle.dreq_pacing.specs.declared.line.Act.TheVariants.{Pin, Tx, Rx, Feed, Drain, Enable, Disable, Restart}
 use Rattle.dreq_pacing.specs.declared.line.Line.{Line}
-use Rattle.dreq_pacing.specs.Reading.{Refusal, read_of}
+use Rattle.dreq_pacing.specs.Reading.{StimulusRefusal, read_of}
 
 -- the machine that a line names; a pin has none
 abbrev pub machine_of : Act → Option ℕ
@@ -56,5 +56,5 @@ abbrev pub pair_of : List Line → List Line × List Line
 pair_of lines = (block_lines 0 lines, block_lines 4 lines)
 
 -- The lines of a text for each block, or its first fault: the text is read as one for eight machines.
-unfoldable pub pair_stimulus_of : List ℕ → Result (List Line × List Line) Refusal
+unfoldable pub pair_stimulus_of : List ℕ → Result (List Line × List Line) StimulusRefusal
 pair_stimulus_of text = made pair_of (read_of 8 text)

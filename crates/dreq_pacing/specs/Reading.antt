@@ -1,9 +1,9 @@
 -- What a stimulus has: its lines, or its first fault (choice of this profile).
---   Refusal      a fault with its line
---   version_of   the version that a version line tells
---   after_line   a reader after one more line
---   read_of      the lines of a text whose machines are below so many, or its first fault
---   stimulus_of  the lines of a text for one block, or its first fault
+--   StimulusRefusal  a fault with its line
+--   version_of       the version that a version line tells
+--   after_line       a reader after one more line
+--   read_of          the lines of a text whose machines are below so many, or its first fault
+--   stimulus_of      the lines of a text for one block, or its first fault
 use Rattle.std.specs.Prelude.{ℕ, ◌+◌, ◌==◌, ◌&&◌, nat_lt, Bool, false, Option, Some, None, List, [], ◌∷◌, Result, Ok, Err, map, if◌then◌else◌, codes}
 use Rattle.std.specs.Str.{bytes_eq}
 use Rattle.byte_lines.specs.Lines.{lines_of}
@@ -19,7 +19,7 @@ use Rattle.dreq_pacing.specs.Form.{line_of}
 use Rattle.dreq_pacing.specs.Number.{is_number, in_range}
 
 -- where a stimulus is faulty, and why
-pub record Refusal : Type 0 where
+pub record StimulusRefusal : Type 0 where
   pub line : ℕ
   pub kind : StimKind
 
@@ -68,7 +68,7 @@ after_line r (field ∷ fields) =
     else Err Many
 
 -- the lines of a reader after lines with these fields, or the first fault; the first of them has this number
-abbrev pub lines_from : ℕ → Reader → List (List (List ℕ)) → Result (List Line) Refusal
+abbrev pub lines_from : ℕ → Reader → List (List (List ℕ)) → Result (List Line) StimulusRefusal
 lines_from number r [] = Ok r.draft.lines
 lines_from number r (fields ∷ rest) = elim (after_line r fields) [
   | Ok after ↦ lines_from (number + 1) after rest
@@ -76,14 +76,14 @@ lines_from number r (fields ∷ rest) = elim (after_line r fields) [
 ]
 
 -- The lines of a text whose machines are below so many, or its first fault.
-unfoldable pub read_of : ℕ → List ℕ → Result (List Line) Refusal
+unfoldable pub read_of : ℕ → List ℕ → Result (List Line) StimulusRefusal
 read_of machines text = lines_from 1 (first_reader machines) (map fields_of (lines_of text))
 
 -- the lines of a text for one block, whose machines are 0 to 3, or its first fault
-unfoldable pub stimulus_of : List ℕ → Result (List Line) Refusal
+unfoldable pub stimulus_of : List ℕ → Result (List Line) StimulusRefusal
 stimulus_of text = read_of 4 text
 
 -- the fault that is told, nothing where memory ran out
-abbrev pub told : StimFault → Option Refusal
+abbrev pub told : StimFault → Option StimulusRefusal
 told Memory = None
 told (At line kind) = Some (record { line = line; kind = kind })

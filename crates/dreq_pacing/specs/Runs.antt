@@ -53,5 +53,5 @@ fed_by [] f = f
 fed_by (c ∷ cs) f = fed_by cs (fed c.0 c.1 f)
 
 -- what is left of the transfers of ports is what the history of requests leaves of them
-abbrev pub Follows : (ℕ → Requests) → Ports → Type 0
-Follows requests p = p.transfers ≡ transfers_at p.lines requests p.next
+abbrev pub LeavesTransfers : (ℕ → Requests) → Ports → Type 0
+LeavesTransfers requests p = p.transfers ≡ transfers_at p.lines requests p.next

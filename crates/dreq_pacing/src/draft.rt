@@ -11,7 +11,7 @@ use std::marker::Model;
 
 /// The lines read so far, beside so many machines, 1 to 8, and the clock of the last of them.
 #[derive(Drop)]
-pub struct Draft {
+pub struct StimulusDraft {
     machines: u8,
     lines: Vec<Line>,
     clock: u64,
@@ -21,7 +21,7 @@ pub struct Draft {
     accesses: [bool; 32],
 }
 
-impl Model for Draft {
+impl Model for StimulusDraft {
     ghost use Rattle.dreq_pacing.specs.Drafts.{Lines, IsDraft};
 
     ghost Value = { Lines };
@@ -31,13 +31,13 @@ impl Model for Draft {
     ghost invariant = { λ d. IsDraft d.machines d.lines.items d.clock d.transfers d.accesses };
 }
 
-impl Draft {
+impl StimulusDraft {
     /// No line so far, beside so many machines, 1 to 8. It takes no memory.
-    pub fn new(alloc: Global, machines: u8) -> Draft
+    pub fn new(alloc: Global, machines: u8) -> StimulusDraft
         requires { (1 ≤ machines) × (machines ≤ 8) }
         ensures { result ≡ first_draft machines }
     {
-        Draft {
+        StimulusDraft {
             machines,
             lines: Vec::new(alloc),
             clock: 0,

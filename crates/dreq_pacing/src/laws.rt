@@ -9,7 +9,7 @@ ghost use Rattle.dreq_pacing.specs.Lines.{IsLine};
 ghost use Rattle.dreq_pacing.specs.Due.{quiet, with_lines};
 ghost use Rattle.dreq_pacing.specs.Transfers.{Transfers, Feeding};
 ghost use Rattle.dreq_pacing.specs.Ports.{Ports, acts_in, asked, due_at, due_in, first_ports, transfers_after, transfers_at};
-ghost use Rattle.dreq_pacing.specs.Runs.{FeedClock, Follows, fed_by, is_set, last_level, level_bit, words_moved};
+ghost use Rattle.dreq_pacing.specs.Runs.{FeedClock, LeavesTransfers, fed_by, is_set, last_level, level_bit, words_moved};
 
 /// In a clock without a line and without a move the system does nothing, and the transfers stay as they are.
 pub fn a_clock_without_acts_does_nothing()
@@ -30,15 +30,15 @@ pub fn quiet_clocks_may_be_left_out()
 /// Ports that are asked of each clock in which a line is or a transfer moves do what the history of requests says.
 pub fn ports_follow_the_history()
     ensures first { (lines : List Line) (requests : ℕ → Requests)
-        → Follows requests (first_ports lines) }
-    ensures due { (p : Ports) (requests : ℕ → Requests) (clock : ℕ) → Follows requests p
+        → LeavesTransfers requests (first_ports lines) }
+    ensures due { (p : Ports) (requests : ℕ → Requests) (clock : ℕ) → LeavesTransfers requests p
         → p.next ≤ clock
         → ((c : ℕ) → p.next ≤ c → c < clock → acts_in p.lines c (requests c) p.transfers ≡ false)
         → due_in p.lines clock (requests clock) p.transfers ≡ due_at p.lines requests clock }
-    ensures after { (p : Ports) (requests : ℕ → Requests) (clock : ℕ) → Follows requests p
+    ensures after { (p : Ports) (requests : ℕ → Requests) (clock : ℕ) → LeavesTransfers requests p
         → p.next ≤ clock
         → ((c : ℕ) → p.next ≤ c → c < clock → acts_in p.lines c (requests c) p.transfers ≡ false)
-        → Follows requests (asked clock (requests clock) p) }
+        → LeavesTransfers requests (asked clock (requests clock) p) }
 {}
 
 /// Of the lines of a pin in one clock the last counts; a pin without one isn't set, and has no level.

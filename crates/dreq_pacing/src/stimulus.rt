@@ -9,7 +9,7 @@ ghost use Rattle.dreq_pacing.specs.Reading.{after_line, stimulus_of, told};
 ghost use Rattle.dreq_pacing.specs.Blocks.{pair_stimulus_of};
 
 use crate::blocks::split;
-use crate::draft::Draft;
+use crate::draft::StimulusDraft;
 use crate::fault::{StimFault, StimKind};
 use crate::fields::Fields;
 use crate::form::read_line;
@@ -70,7 +70,7 @@ fn read_lines(alloc: Global, machines: u8, text: &[u8]) -> Result<Vec<Line>, Sti
 pub struct Reader {
     pub count: usize,
     pub two: bool,
-    pub draft: Draft,
+    pub draft: StimulusDraft,
 }
 
 impl Reader {
@@ -82,7 +82,7 @@ impl Reader {
         Reader {
             count: 0,
             two: false,
-            draft: Draft::new(alloc, machines),
+            draft: StimulusDraft::new(alloc, machines),
         }
     }
 

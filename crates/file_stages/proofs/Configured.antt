@@ -7,7 +7,7 @@ use Rattle.pio_assemble.specs.Program.{Assembled}
 use Rattle.pin_matrix.specs.declared.machine.MachineSetup.{MachineSetup}
 use Rattle.pin_matrix.specs.declared.setup.Setup.{Setup}
 use Rattle.pin_matrix.specs.declared.span.Span.{Span}
-use Rattle.block_config.specs.Answer.{Refusal}
+use Rattle.block_config.specs.Answer.{ConfigRefusal}
 use Rattle.block_config.specs.Arrays.{gather}
 use Rattle.setup_keys.specs.Block.{MachineKeys, SpanKeys, BlockKeys, keys_of_machine, keys_of_span, keys_of_block}
 use Rattle.block_config.specs.Config.{document_of, parsed, sections_at, Sections, no_machines, owning_with, block_over, block_of_sections, block_of_table, said_of, config_block, config_setup_of, second_setup_of}
@@ -20,7 +20,7 @@ use Rattle.block_config.specs.Owning.{OwningKeys, keys_of_owning}
 use Rattle.block_config.specs.declared.owning.OwningSetup.{OwningSetup}
 use Rattle.block_config.specs.Pins.{pins_in}
 use Rattle.block_config.specs.Programs.{Loaded}
-use Rattle.block_config.specs.Spans.{span_names, configured, machine_at, span_pins, edge_at, required, Ends, ends_at, bounds_at, stalls_at, load_of_machine, SpanValues, values_at, span_keys_of, name_at, span_of_table, span_in, all_spans}
+use Rattle.block_config.specs.Spans.{span_names, configured, machine_at, span_pins, edge_at, required, SpanEnds, ends_at, bounds_at, stalls_at, load_of_machine, SpanValues, values_at, span_keys_of, name_at, span_of_table, span_in, all_spans}
 use Rattle.block_config.specs.declared.pins.BlockNumber.{BlockNumber}
 use Rattle.block_config.specs.declared.pins.BlockNumber.TheVariants.{First, Second}
 use Rattle.block_config.specs.declared.path.Section.{Section}
@@ -46,7 +46,7 @@ ok_same x y e = cc
 IsPlaced : List (Option MachineKeys) → ℕ → Type 0
 IsPlaced machines id = is_some (slice_index_or machines id None) ≡ true
 
-tested : (machines : List (Option MachineKeys)) (b : Bool) (id found : ℕ) (r : Refusal) → is_some (slice_index_or machines id None) ≡ b → cond b (Ok id) (Err r) ≡ Ok found → IsPlaced machines found
+tested : (machines : List (Option MachineKeys)) (b : Bool) (id found : ℕ) (r : ConfigRefusal) → is_some (slice_index_or machines id None) ≡ b → cond b (Ok id) (Err r) ≡ Ok found → IsPlaced machines found
 unfolding IsPlaced
 tested machines true id found r is e = subst (λ (n : ℕ). is_some (slice_index_or machines n None) ≡ true) (ok_same id found e) is
 tested machines false id found r is e = cc
@@ -57,13 +57,13 @@ machine_placed machines t id e =
     tested machines _ read.value id _ refl read.rest
 
 -- the ends after a machine
-ends_after : Members → ℕ → Result Ends Refusal
+ends_after : Members → ℕ → Result SpanEnds ConfigRefusal
 ends_after t machine =
     and_then (each_at (number_at t) span_pins) (λ pins. and_then (edge_at t (codes "from_edge")) (λ from_rise. and_then (edge_at t (codes "to_edge")) (λ to_rise.
     Ok (record { machine = machine; from_pin = slice_index pins 0; to_pin = slice_index pins 1; from_rise = from_rise; to_rise = to_rise }))))
 
 -- what the rest keeps of the machine
-ends_keep : (t : Members) (machine : ℕ) (ends : Ends) → ends_after t machine ≡ Ok ends → ends.machine ≡ machine
+ends_keep : (t : Members) (machine : ℕ) (ends : SpanEnds) → ends_after t machine ≡ Ok ends → ends.machine ≡ machine
 unfolding ends_after
 ends_keep t machine ends e =
     let pins = goes_on (each_at (number_at t) span_pins) (λ pins. and_then (edge_at t (codes "from_edge")) (λ from_rise. and_then (edge_at t (codes "to_edge")) (λ to_rise.
@@ -72,9 +72,9 @@ ends_keep t machine ends e =
     Ok (record { machine = machine; from_pin = slice_index pins.value 0; to_pin = slice_index pins.value 1; from_rise = from_rise; to_rise = to_rise }))) ends pins.rest in
     let to = goes_on (edge_at t (codes "to_edge")) (λ to_rise.
     Ok (record { machine = machine; from_pin = slice_index pins.value 0; to_pin = slice_index pins.value 1; from_rise = from.value; to_rise = to_rise })) ends from.rest in
-    sym (ap (λ (x : Ends). x.machine) (ok_same _ ends to.rest))
+    sym (ap (λ (x : SpanEnds). x.machine) (ok_same _ ends to.rest))
 
-ends_placed : (machines : List (Option MachineKeys)) (t : Members) (ends : Ends) → ends_at machines t ≡ Ok ends → IsPlaced machines ends.machine
+ends_placed : (machines : List (Option MachineKeys)) (t : Members) (ends : SpanEnds) → ends_at machines t ≡ Ok ends → IsPlaced machines ends.machine
 unfolding ends_after
 ends_placed machines t ends e =
     let machine = goes_on (machine_at machines t) (ends_after t) ends e in
@@ -96,11 +96,11 @@ table_placed machines loads t s e =
 
 -- ---- all spans
 
-off_section : {X : Type 0} (section : Section) (r : Result X Refusal) (x : X) → in_section section r ≡ Ok x → r ≡ Ok x
+off_section : {X : Type 0} (section : Section) (r : Result X ConfigRefusal) (x : X) → in_section section r ≡ Ok x → r ≡ Ok x
 off_section section (Ok y) x e = e
 off_section section (Err r) x e = cc
 
-known_read : {X : Type 0} (section : Section) (r : Result X Refusal) (x : X) (known : Bool) (refusal : Refusal) → cond known (in_section section r) (Err refusal) ≡ Ok x → r ≡ Ok x
+known_read : {X : Type 0} (section : Section) (r : Result X ConfigRefusal) (x : X) (known : Bool) (refusal : ConfigRefusal) → cond known (in_section section r) (Err refusal) ≡ Ok x → r ≡ Ok x
 known_read section r x true refusal e = off_section section r x e
 known_read section r x false refusal e = cc
 
@@ -145,7 +145,7 @@ said_placed block bytes programs k e =
     let loads = goes_on (all_loads programs sections.value.loads) (block_over block sections.value) k sections.rest in
     over_placed block sections.value loads.value k loads.rest
 
-block_placed : (said : Result OwningKeys Refusal) (k : BlockKeys) → ((o : OwningKeys) → said ≡ Ok o → ArePlaced o.block.machines o.block.spans) → made (λ o. o.block) said ≡ Ok k → ArePlaced k.machines k.spans
+block_placed : (said : Result OwningKeys ConfigRefusal) (k : BlockKeys) → ((o : OwningKeys) → said ≡ Ok o → ArePlaced o.block.machines o.block.spans) → made (λ o. o.block) said ≡ Ok k → ArePlaced k.machines k.spans
 block_placed (Ok o) k placed e = subst (λ (b : BlockKeys). ArePlaced b.machines b.spans) (ok_same o.block k e) (placed o refl)
 block_placed (Err r) k placed e = cc
 
@@ -187,7 +187,7 @@ second_configured bytes programs u says e =
 pub default_configured : (programs : List Assembled) (u : Setup) → SaysExactly (default_setup_of programs) (default_block programs) → default_setup_of programs ≡ Ok u → AreConfigured u
 default_configured programs u says e = none u.spans (no_spans programs (keys_of_block u) (sym says ∙ ap (made keys_of_block) e))
   where
-    fits : (k found : BlockKeys) (r : Refusal) (b : Bool) → cond b (Ok found) (Err r) ≡ Ok k → found.spans ≡ [] → k.spans ≡ []
+    fits : (k found : BlockKeys) (r : ConfigRefusal) (b : Bool) → cond b (Ok found) (Err r) ≡ Ok k → found.spans ≡ [] → k.spans ≡ []
     fits k found r true e n = subst (λ (x : BlockKeys). x.spans ≡ []) (ok_same found k e) n
     fits k found r false e n = cc
 

@@ -4,7 +4,7 @@ use Rattle.std.specs.Prelude.{ℕ, nat_lt, Bool, true, false, if◌then◌else�
 use Rattle.std.specs.FinMap.{get}
 use Rattle.pio_edge.specs.Edge.{Files}
 use Rattle.pio_assemble.specs.Program.{Assembled}
-use Rattle.pio_assemble.specs.Answers.{Refusal}
+use Rattle.pio_assemble.specs.Answers.{SourceRefusal}
 use Rattle.pio_assemble.specs.Source.{reads_source}
 use Rattle.fault_lines.specs.declared.fault.File.{File}
 use Rattle.fault_lines.specs.declared.fault.File.TheVariants as file
@@ -64,7 +64,7 @@ read_at role None = wrong (fault.Shelf role)
 read_at role (Some bytes) = if nat_lt (limit role) (length bytes) then wrong (fault.TooLong role) else right bytes
 
 -- a reading of a source, or its fault
-abbrev pub judged_source : Result (List Assembled) Refusal → Judged (List Assembled)
+abbrev pub judged_source : Result (List Assembled) SourceRefusal → Judged (List Assembled)
 judged_source (Ok programs) = right programs
 judged_source (Err refusal) = wrong (fault.Source refusal.line refusal.kind)
 
@@ -82,7 +82,7 @@ unfoldable pub words_at : Files → List ℕ → Judged (List ℕ)
 words_at files name = and_then (read_at file.Words (get files name)) (λ bytes. judged_words (word_file bytes))
 
 -- a setup, or its fault
-abbrev pub judged_setup : Result Setup config.Refusal → Judged Setup
+abbrev pub judged_setup : Result Setup config.ConfigRefusal → Judged Setup
 judged_setup (Ok setup) = right setup
 judged_setup (Err refusal) = wrong (fault.Config refusal.key refusal.kind)
 
@@ -96,7 +96,7 @@ setup_at files None programs = judged_setup (default_setup_of programs)
 setup_at files (Some name) programs = config_at files name programs
 
 -- a second block's setup with the pins that it owns, or its fault
-abbrev pub judged_second : Result OwningSetup config.Refusal → Judged OwningSetup
+abbrev pub judged_second : Result OwningSetup config.ConfigRefusal → Judged OwningSetup
 judged_second (Ok second) = right second
 judged_second (Err refusal) = wrong (fault.Second refusal.key refusal.kind)
 
@@ -105,7 +105,7 @@ unfoldable pub second_at : Files → List ℕ → List Assembled → Judged Owni
 second_at files name programs = and_then (read_at file.Second (get files name)) (λ bytes. judged_second (second_setup_of bytes programs))
 
 -- a reading of a stimulus, or its fault
-abbrev pub judged_stimulus : Result (List Line) stimulus.Refusal → Judged (List Line)
+abbrev pub judged_stimulus : Result (List Line) stimulus.StimulusRefusal → Judged (List Line)
 judged_stimulus (Ok lines) = right lines
 judged_stimulus (Err refusal) = wrong (fault.Stim refusal.line refusal.kind)
 
@@ -125,7 +125,7 @@ prepared_at files source config stimulus =
     and_then (schedule_at files stimulus) (λ lines. right (setup, lines))))
 
 -- a reading of the stimulus of two blocks, or its fault
-abbrev pub judged_lines : Result (List Line × List Line) stimulus.Refusal → Judged (List Line × List Line)
+abbrev pub judged_lines : Result (List Line × List Line) stimulus.StimulusRefusal → Judged (List Line × List Line)
 judged_lines (Ok lines) = right lines
 judged_lines (Err refusal) = wrong (fault.Stim refusal.line refusal.kind)
 

@@ -5,7 +5,7 @@ use Rattle.std.proofs.lemmas.List.Folds.{list_any-append}
 use Rattle.std.proofs.lemmas.Slice.Eq.{bytes_eq-Decides}
 use Rattle.std.specs.List.{list_any}
 use Rattle.std.specs.Str.{bytes_eq}
-use Rattle.pio_lex.specs.Fault.{Refusal as LexRefusal}
+use Rattle.pio_lex.specs.Fault.{LexRefusal}
 use Rattle.pio_lex.specs.declared.token.Token.{Token}
 use Rattle.pio_lex.specs.Reading.{reading_of}
 use Rattle.pio_expr.specs.Values.{Scope}
@@ -15,10 +15,10 @@ use Rattle.pio_assemble.specs.declared.before.Before.{Before}
 use Rattle.pio_assemble.specs.declared.fault.SourceFault.{SourceFault}
 use Rattle.pio_assemble.specs.declared.fault.SourceKind.{SourceKind}
 use Rattle.pio_assemble.specs.declared.fault.SourceKind.TheVariants.{Duplicate}
-use Rattle.pio_assemble.specs.declared.line.Line.{Line}
+use Rattle.pio_assemble.specs.declared.line.SourceLine.{SourceLine}
 use Rattle.pio_assemble.specs.declared.program.Program.{Program}
 use Rattle.answers.specs.Answers.{◌>>=◌}
-use Rattle.pio_assemble.specs.Answers.{Refusal, Gives, at_line}
+use Rattle.pio_assemble.specs.Answers.{SourceRefusal, Gives, at_line}
 use Rattle.pio_assemble.specs.Checks.{first_fault, line_fault as fault_of_line, statement_fault, nothing_before, after, after_line, is_among, with_name, duplicate}
 use Rattle.pio_assemble.specs.Drafts.{Draft, begun, drafted, finished}
 use Rattle.pio_assemble.specs.Lines.{has_word, lines_of}
@@ -98,14 +98,14 @@ all_after names name programs new h = by h.kept refl where
       let whole : names_of programs ≡ h.rest = h.whole ∙ ap (λ k. own (Some name) k ++ h.rest) e in
       rw whole (others.0, h.distinct)
 
-with_programs_ok : (first : List Assembled) (r : Result (List Assembled) Refusal) (programs : List Assembled) → with_programs first r ≡ Ok programs → (others : List Assembled) × (r ≡ Ok others) × (first ++ others ≡ programs)
+with_programs_ok : (first : List Assembled) (r : Result (List Assembled) SourceRefusal) (programs : List Assembled) → with_programs first r ≡ Ok programs → (others : List Assembled) × (r ≡ Ok others) × (first ++ others ≡ programs)
 with_programs_ok first (Ok others) programs h = (others, refl, cc)
 with_programs_ok first (Err refusal) programs h = cc
 
-NamedAfter : List Line → Type 0
+NamedAfter : List SourceLine → Type 0
 NamedAfter lines = (b : Before) (scope : Scope) (d : Draft) (programs : List Assembled) → first_fault b lines ≡ None → programs_from lines scope d ≡ Ok programs → Named b.programs d.name programs
 
-module _ (l : Line) (lines : List Line) (rest : NamedAfter lines) (b : Before) (scope : Scope) (d : Draft) (programs : List Assembled) where
+module _ (l : SourceLine) (lines : List SourceLine) (rest : NamedAfter lines) (b : Before) (scope : Scope) (d : Draft) (programs : List Assembled) where
   -- a line that begins a program
   named_begins : (s : Statement) (name : List ℕ) → program_by s ≡ Some name → statement_fault b (has_word lines) s ≡ None → first_fault (after b s) lines ≡ None
       → with_programs (finished d) (programs_from lines (program_scope scope lines) (begun (Some name))) ≡ Ok programs → Named b.programs d.name programs
@@ -142,7 +142,7 @@ module _ (l : Line) (lines : List Line) (rest : NamedAfter lines) (b : Before) (
     by (Some name) h reads' = named_begins s name h fault passes reads'
     by None h reads' = named_adds s h passes (drafted scope d s) refl reads'
 
-named : (lines : List Line) → NamedAfter lines
+named : (lines : List SourceLine) → NamedAfter lines
 unfolding first_fault programs_from NamedAfter
 named [] b scope d programs passes reads =
     let same : finished d ≡ programs = cc in
@@ -156,7 +156,7 @@ named (l ∷ lines) b scope d programs passes reads =
 distinct_names : (source : List ℕ) (programs : List Assembled) → reads_source source ≡ Ok programs → AreDistinct (names_of programs)
 unfolding reads_source NamedAfter
 distinct_names source programs h = by (reading_of source) h where
-  checked : (lines : List Line) (fault : Option Refusal) → first_fault nothing_before lines ≡ fault → unless_fault fault lines ≡ Ok programs → AreDistinct (names_of programs)
+  checked : (lines : List SourceLine) (fault : Option SourceRefusal) → first_fault nothing_before lines ≡ fault → unless_fault fault lines ≡ Ok programs → AreDistinct (names_of programs)
   checked lines (Some refusal) e reads = cc
   checked lines None e reads =
       let all = named lines nothing_before (global_scope lines) (begun None) programs e reads in

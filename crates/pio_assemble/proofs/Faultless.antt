@@ -2,11 +2,11 @@
 use Rattle.std.proofs.Common.{◌≡◌, ℕ, Bool, true, false, Option, Some, None, Result, Ok, Err, IfOk, refl}
 use Rattle.pio_assemble.specs.declared.fault.SourceKind.{SourceKind}
 use Rattle.answers.specs.Answers.{◌>>=◌}
-use Rattle.pio_assemble.specs.Answers.{Refusal}
+use Rattle.pio_assemble.specs.Answers.{SourceRefusal}
 use Rattle.pio_assemble.specs.Checks.{fault_or, fault_if, ◌<|>◌}
 
 -- none on a line, and none after it
-pub no_fault : (number : ℕ) (fault : Option SourceKind) (rest : Option Refusal) → fault_or number fault rest ≡ None → (fault ≡ None) × (rest ≡ None)
+pub no_fault : (number : ℕ) (fault : Option SourceKind) (rest : Option SourceRefusal) → fault_or number fault rest ≡ None → (fault ≡ None) × (rest ≡ None)
 no_fault number (Some kind) rest h = cc
 no_fault number None rest h = (refl, h)
 

@@ -3,28 +3,28 @@ use Rattle.std.proofs.Common.{◌≡◌, ◌∷◌, [], List, map, None, Result,
 use Rattle.pio_statement.specs.declared.fault.StatementKind.{StatementKind}
 use Rattle.pio_statement.specs.declared.statement.Statement.{Statement}
 use Rattle.pio_assemble.specs.declared.before.Before.{Before}
-use Rattle.pio_assemble.specs.declared.line.Line.{Line}
+use Rattle.pio_assemble.specs.declared.line.SourceLine.{SourceLine}
 use Rattle.pio_assemble.specs.Checks.{first_fault, line_fault as fault_of_line, after, after_line}
 use Rattle.pio_assemble.specs.Lines.{has_word}
-use Rattle.pio_assemble.specs.Plain.{Numbered, statements_of}
+use Rattle.pio_assemble.specs.Plain.{NumberedStatement, statements_of}
 use Rattle.pio_assemble.proofs.Faultless.{no_fault}
 
 -- the line of a statement
-abbrev pub line_of : Numbered → Line
+abbrev pub line_of : NumberedStatement → SourceLine
 line_of s = record { number = s.line; reading = Ok s.says }
 
 -- the lines of statements
-abbrev pub lines_by : List Numbered → List Line
+abbrev pub lines_by : List NumberedStatement → List SourceLine
 lines_by statements = map line_of statements
 
 -- lines that are those of their statements
-pub record AreStatements (lines : List Line) : Type 0 where
-  pub statements : List Numbered
+pub record AreStatements (lines : List SourceLine) : Type 0 where
+  pub statements : List NumberedStatement
   pub read : statements_of lines ≡ Ok statements
   pub whole : lines ≡ lines_by statements
 
 -- a line without a fault, before lines without one
-say : (b : Before) (l : Line) (lines : List Line) → ((c : Before) → first_fault c lines ≡ None → AreStatements lines)
+say : (b : Before) (l : SourceLine) (lines : List SourceLine) → ((c : Before) → first_fault c lines ≡ None → AreStatements lines)
     → (r : Result Statement StatementKind) → fault_of_line b (has_word lines) r ≡ None → first_fault (after_line b r) lines ≡ None → AreStatements (record l { reading = r } ∷ lines)
 unfolding statements_of
 say b l lines more (Err kind) fault passes = cc
@@ -37,7 +37,7 @@ say b l lines more (Ok s) fault passes =
     }
 
 -- where no line has a fault, each has a statement
-pub all_say : (lines : List Line) (b : Before) → first_fault b lines ≡ None → AreStatements lines
+pub all_say : (lines : List SourceLine) (b : Before) → first_fault b lines ≡ None → AreStatements lines
 unfolding first_fault statements_of
 all_say [] b h = record { statements = []; read = refl; whole = refl }
 all_say (l ∷ lines) b h =

@@ -7,13 +7,13 @@ use Rattle.pio_statement.specs.declared.statement.Statement.TheVariants as state
 use Rattle.pio_assemble.specs.declared.before.Before.{Before}
 use Rattle.pio_assemble.specs.declared.fault.SourceKind.{SourceKind}
 use Rattle.pio_assemble.specs.declared.fault.SourceKind.TheVariants.{Many, EmptyProgram}
-use Rattle.pio_assemble.specs.declared.line.Line.{Line}
+use Rattle.pio_assemble.specs.declared.line.SourceLine.{SourceLine}
 use Rattle.answers.specs.Answers.{◌>>=◌}
 use Rattle.pio_assemble.specs.Answers.{at_line}
 use Rattle.pio_assemble.specs.Checks.{first_fault, statement_fault, nothing_before, duplicate, fault_if, program_after, after, ◌<|>◌}
 use Rattle.pio_assemble.specs.Drafts.{Draft, begun, drafted, finished}
 use Rattle.pio_assemble.specs.Lines.{has_word, word_by}
-use Rattle.pio_assemble.specs.Plain.{Numbered, plain_scope_from, plain_drafted, plain_finished, plain_programs_from, plain_programs_by, plain_programs_of}
+use Rattle.pio_assemble.specs.Plain.{NumberedStatement, plain_scope_from, plain_drafted, plain_finished, plain_programs_from, plain_programs_by, plain_programs_of}
 use Rattle.pio_assemble.specs.Program.{Assembled}
 use Rattle.pio_assemble.specs.Source.{program_by, programs_by, programs_from, programs_of, program_scope, global_scope, with_programs}
 use Rattle.pio_assemble.proofs.Faultless.{no_fault, no_second, no_cause}
@@ -22,11 +22,11 @@ use Rattle.pio_assemble.proofs.PlainScope.{scope_same}
 use Rattle.pio_assemble.proofs.PlainDrafts.{IsDraft, drafted_same, finished_same}
 
 -- the programs of these statements are the plain ones, whatever comes before them
-abbrev AreSame : List Numbered → Type 0
+abbrev AreSame : List NumberedStatement → Type 0
 AreSame statements = (b : Before) (scope : Scope) (d : Draft) → first_fault b (lines_by statements) ≡ None → IsDraft b (has_word (lines_by statements)) d
     → programs_from (lines_by statements) scope d ≡ plain_programs_from statements scope d
 
-module _ (n : ℕ) (statements : List Numbered) (rest : AreSame statements) (b : Before) (scope : Scope) (d : Draft) where
+module _ (n : ℕ) (statements : List NumberedStatement) (rest : AreSame statements) (b : Before) (scope : Scope) (d : Draft) where
   -- the statement begins a program
   begins : (name : List ℕ) → statement_fault b (has_word (lines_by statements)) (statement.Program name) ≡ None → first_fault (program_after b name) (lines_by statements) ≡ None → IsDraft b false d
       → with_programs (finished d) (programs_from (lines_by statements) (program_scope scope (lines_by statements)) (begun (Some name))) ≡ with_programs (plain_finished d) (plain_programs_from statements (plain_scope_from statements (with_program scope) 0) (begun (Some name)))
@@ -62,7 +62,7 @@ module _ (n : ℕ) (statements : List Numbered) (rest : AreSame statements) (b :
   line_same other fault passes k = adds other refl fault passes k
 
 -- the programs of statements without faults
-programs_same : (statements : List Numbered) → AreSame statements
+programs_same : (statements : List NumberedStatement) → AreSame statements
 unfolding first_fault has_word programs_from plain_programs_from
 programs_same [] b scope d h k = ap (λ (ps : List Assembled). Ok ps) (finished_same b d k)
 programs_same (s ∷ statements) b scope d h k =
@@ -70,7 +70,7 @@ programs_same (s ∷ statements) b scope d h k =
     line_same s.line statements (programs_same statements) b scope d s.says split.0 split.1 k
 
 -- the programs of lines whose statements have no fault
-pub none_clipped : (lines : List Line) → first_fault nothing_before lines ≡ None → programs_of lines ≡ plain_programs_of lines
+pub none_clipped : (lines : List SourceLine) → first_fault nothing_before lines ≡ None → programs_of lines ≡ plain_programs_of lines
 none_clipped lines h =
     let said = all_say lines nothing_before h in
     let passes : first_fault nothing_before (lines_by said.statements) ≡ None = ap (first_fault nothing_before) (sym said.whole) ∙ h in

@@ -14,7 +14,7 @@ use Rattle.pio_assemble.specs.declared.before.Before.{Before}
 use Rattle.pio_assemble.specs.declared.fault.SourceKind.TheVariants.{Duplicate, Many, TooLong}
 use Rattle.pio_assemble.specs.Checks.{first_fault, statement_fault, symbol_fault, code_fault, side_fault, room_fault, has_side, duplicate, fault_if, outside, after, is_among, with_name, ◌<|>◌}
 use Rattle.pio_assemble.specs.Lines.{has_word}
-use Rattle.pio_assemble.specs.Plain.{Numbered, plain_scope_by, plain_words_by, plain_scope_from}
+use Rattle.pio_assemble.specs.Plain.{NumberedStatement, plain_scope_by, plain_words_by, plain_scope_from}
 use Rattle.pio_assemble.specs.Source.{program_by, scope_by, words_by, scope_from, with_new}
 use Rattle.pio_assemble.proofs.Faultless.{no_fault, no_first, no_second, no_cause}
 use Rattle.pio_assemble.proofs.PlainLines.{lines_by}
@@ -99,11 +99,11 @@ passed b more scope words (statement.Code c) h fault k =
     record { scope_same = refl; words_same = omega (arith, room, k.count); leaves = record { names = k.names; count = ap (λ n. n + 1) k.count; most = omega (arith, room, k.count) } }
 
 -- the scope after these statements is the plain one, whatever comes before them
-abbrev AreSame : List Numbered → Type 0
+abbrev AreSame : List NumberedStatement → Type 0
 AreSame statements = (b : Before) (scope : Scope) (words : ℕ) → first_fault b (lines_by statements) ≡ None → IsScope b scope words → scope_from (lines_by statements) scope words ≡ plain_scope_from statements scope words
 
 -- one statement before such ones
-same_line : (s : Numbered) (statements : List Numbered) → AreSame statements → AreSame (s ∷ statements)
+same_line : (s : NumberedStatement) (statements : List NumberedStatement) → AreSame statements → AreSame (s ∷ statements)
 unfolding first_fault scope_from plain_scope_from
 same_line s statements rest b scope words h k = by (program_by s.says) refl where
   by : (o : Option (List ℕ)) → program_by s.says ≡ o → scope_from (lines_by (s ∷ statements)) scope words ≡ plain_scope_from (s ∷ statements) scope words
@@ -114,7 +114,7 @@ same_line s statements rest b scope words h k = by (program_by s.says) refl wher
       rw (e, p.scope_same, p.words_same) (rest (after b s.says) (plain_scope_by scope words s.says) (plain_words_by words s.says) split.1 p.leaves)
 
 -- the symbols of statements without faults, up to where the next program begins
-pub scope_same : (statements : List Numbered) → AreSame statements
+pub scope_same : (statements : List NumberedStatement) → AreSame statements
 unfolding scope_from plain_scope_from
 scope_same [] b scope words h k = refl
 scope_same (s ∷ statements) b scope words h k = same_line s statements (scope_same statements) b scope words h k

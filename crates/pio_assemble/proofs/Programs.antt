@@ -4,13 +4,13 @@ use Rattle.pio_lex.specs.declared.fault.LexFault.{LexFault}
 use Rattle.pio_lex.specs.declared.fault.LexFault.TheVariants as lex_fault
 use Rattle.pio_lex.specs.declared.token.Token.{Token}
 use Rattle.answers.specs.Answers as answers
-use Rattle.pio_lex.specs.Fault.{Refusal as LexRefusal, told as lex_told}
+use Rattle.pio_lex.specs.Fault.{LexRefusal, told as lex_told}
 use Rattle.pio_expr.specs.Values.{Scope}
 use Rattle.pio_assemble.specs.declared.fault.LineFault.{LineFault}
 use Rattle.pio_assemble.specs.declared.fault.LineFault.TheVariants as line_fault
-use Rattle.pio_assemble.specs.declared.line.Line.{Line}
+use Rattle.pio_assemble.specs.declared.line.SourceLine.{SourceLine}
 use Rattle.answers.specs.Answers.{◌>>=◌}
-use Rattle.pio_assemble.specs.Answers.{Refusal, line_told, told, located, at_line}
+use Rattle.pio_assemble.specs.Answers.{SourceRefusal, line_told, told, located, at_line}
 use Rattle.pio_assemble.specs.Drafts.{Draft, begun, finished}
 use Rattle.pio_assemble.specs.Program.{Assembled}
 use Rattle.pio_assemble.specs.Source.{program_on, program_scope, programs_from, programs_by, with_programs, drafted_on, after_program, told_of_lex, reads_tokens}
@@ -18,16 +18,16 @@ use Rattle.pio_assemble.proofs.Lining.{first_left}
 use Rattle.pio_assemble.proofs.Scoping.{program_begins, program_goes_on}
 
 -- no programs before others
-pub none_before : (others : Result (List Assembled) Refusal) → with_programs [] others ≡ others
+pub none_before : (others : Result (List Assembled) SourceRefusal) → with_programs [] others ≡ others
 none_before (Ok others) = refl
 none_before (Err refusal) = refl
 
 -- programs before programs before others
-pub joined : (first then : List Assembled) (others : Result (List Assembled) Refusal) → with_programs first (with_programs then others) ≡ with_programs (first ++ then) others
+pub joined : (first then : List Assembled) (others : Result (List Assembled) SourceRefusal) → with_programs first (with_programs then others) ≡ with_programs (first ++ then) others
 joined first then (Ok others) = ap Ok (sym (append_assoc first then others))
 joined first then (Err refusal) = refl
 
-module _ (lines : List Line) (i : ℕ) (l : Line) (within : i < length lines) (here : l ≡ get_or lines i l) where
+module _ (lines : List SourceLine) (i : ℕ) (l : SourceLine) (within : i < length lines) (here : l ≡ get_or lines i l) where
   -- the first of the lines that are left begins a program
   pub begins_left : (first : List Assembled) (scope : Scope) (d : Draft) (name : List ℕ) → program_on l.reading ≡ Some name
       → with_programs (first ++ finished d) (programs_from (drop (i + 1) lines) (program_scope scope (drop (i + 1) lines)) (begun (Some name)))

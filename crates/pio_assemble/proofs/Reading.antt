@@ -2,7 +2,7 @@
 use Rattle.std.proofs.Common.{◌≡◌, ℕ, zero, suc, ◌-◌, ◌<◌, ◌≤◌, ◌++◌, ◌∷◌, [], List, length, Some, None, slice_get, refl, ap, sym, ◌∙◌, arith, append_assoc, length-append}
 use Rattle.pio_lex.specs.declared.token.Token.{Token}
 use Rattle.pio_statement.specs.Lines.{line_end}
-use Rattle.pio_assemble.specs.declared.line.Line.{Line}
+use Rattle.pio_assemble.specs.declared.line.SourceLine.{SourceLine}
 use Rattle.pio_assemble.specs.Lines.{lines_from, line_at}
 
 -- where a token is left, a line begins
@@ -14,7 +14,7 @@ one_line (suc more) source tokens at first here some =
     rw (here, less) refl
 
 -- a line more is read
-pub line_read : (lines : List Line) (source : List ℕ) (tokens : List Token) (at : ℕ) (first : Token) (all : List Line) → slice_get tokens at ≡ Some first → at < length tokens → length lines ≤ at
+pub line_read : (lines : List SourceLine) (source : List ℕ) (tokens : List Token) (at : ℕ) (first : Token) (all : List SourceLine) → slice_get tokens at ≡ Some first → at < length tokens → length lines ≤ at
     → lines ++ lines_from (length tokens - length lines) source tokens at ≡ all
     → (lines ++ line_at source tokens at first ∷ []) ++ lines_from (length tokens - length (lines ++ line_at source tokens at first ∷ [])) source tokens (line_end tokens at) ≡ all
 line_read lines source tokens at first all here left count h =

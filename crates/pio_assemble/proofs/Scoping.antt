@@ -1,10 +1,10 @@
 -- The symbols of lines, one line at a time.
 use Rattle.std.proofs.Common.{◌≡◌, ℕ, ◌∷◌, List, true, false, is_some, refl}
 use Rattle.pio_expr.specs.Values.{Scope}
-use Rattle.pio_assemble.specs.declared.line.Line.{Line}
+use Rattle.pio_assemble.specs.declared.line.SourceLine.{SourceLine}
 use Rattle.pio_assemble.specs.Source.{program_on, scope_from, scope_on, words_on, after_program}
 
-module _ (l : Line) (lines : List Line) where
+module _ (l : SourceLine) (lines : List SourceLine) where
   -- where a program begins, they end
   pub symbols_end : (scope : Scope) (words : ℕ) → is_some (program_on l.reading) ≡ true → scope_from (l ∷ lines) scope words ≡ scope
   unfolding scope_from

@@ -42,7 +42,7 @@ use Rattle.pio_statement.specs.Forms.{jmp_at, wait_at, in_at, out_at, push_at, p
 use Rattle.pio_statement.specs.Instructions.{delay_at, side_first, delay_first, suffix_at, instruction_at, word_at, code_at}
 use Rattle.pio_statement.specs.Statements.{lone_word_at, lone_code_at, statement_from}
 use Rattle.pio_statement.specs.Lines.{line_end, has_unknown, known_at, statement_at}
-use Rattle.pio_assemble.specs.declared.line.Line.{Line}
+use Rattle.pio_assemble.specs.declared.line.SourceLine.{SourceLine}
 use Rattle.pio_assemble.specs.Lines.{lines_from, lines_of}
 use Rattle.pio_assemble.proofs.TextRows.{tokens_from}
 use Rattle.pio_assemble.proofs.TextNumbers.{number}
@@ -54,7 +54,7 @@ unfolding lines_from line_end has_unknown known_at statement_at statement_from l
 grammar = tt
 
 -- the first line, with this code
-abbrev pub line_of : Code → List Line
+abbrev pub line_of : Code → List SourceLine
 line_of c = record { number = 1; reading = Ok (statement.Code c) } ∷ []
 
 -- pieces with a tail after them are one line: an instruction of a form

@@ -19,8 +19,8 @@ use Rattle.pio_assemble.specs.declared.before.Before.{Before}
 use Rattle.pio_assemble.specs.declared.fault.LineFault.{LineFault}
 use Rattle.pio_assemble.specs.declared.fault.SourceKind.{SourceKind}
 use Rattle.pio_assemble.specs.declared.fault.SourceKind.TheVariants.{Syntax, Outside, Twice, Late, Duplicate, TooLong, SideMissing, SideUnasked, EmptyProgram, Directive, Many, WrapPlace, TooDeep, Ambiguous}
-use Rattle.pio_assemble.specs.declared.line.Line.{Line}
-use Rattle.pio_assemble.specs.Answers.{Refusal}
+use Rattle.pio_assemble.specs.declared.line.SourceLine.{SourceLine}
+use Rattle.pio_assemble.specs.Answers.{SourceRefusal}
 use Rattle.pio_assemble.specs.Lines.{has_word, word_count}
 
 -- the beginning of a source
@@ -159,12 +159,12 @@ after_line b (Ok s) = after b s
 after_line b (Err kind) = b
 
 -- a fault on a line, or what is found after it
-abbrev pub fault_or : ℕ → Option SourceKind → Option Refusal → Option Refusal
+abbrev pub fault_or : ℕ → Option SourceKind → Option SourceRefusal → Option SourceRefusal
 fault_or number (Some kind) rest = Some (record { line = number; kind = kind })
 fault_or number None rest = rest
 
 -- the first fault of lines, by the least line
-unfoldable pub first_fault : Before → List Line → Option Refusal
+unfoldable pub first_fault : Before → List SourceLine → Option SourceRefusal
 first_fault b [] = None
 first_fault b (l ∷ lines) =
     fault_or l.number (line_fault b (has_word lines) l.reading) (first_fault (after_line b l.reading) lines)

@@ -12,7 +12,7 @@ use Rattle.pio_statement.specs.declared.statement.Statement.TheVariants as state
 use Rattle.pio_assemble.specs.declared.fault.SourceKind.{SourceKind}
 use Rattle.pio_assemble.specs.declared.fault.SourceKind.TheVariants.{TooLong}
 use Rattle.pio_assemble.specs.declared.quantity.Quantity.TheVariants as quantity
-use Rattle.pio_assemble.specs.declared.symbols.Symbol.{Symbol}
+use Rattle.pio_assemble.specs.declared.symbols.ProgramSymbol.{ProgramSymbol}
 use Rattle.answers.specs.Answers.{◌>>=◌}
 use Rattle.pio_assemble.specs.Operands.{number_in, valued, word_of_code}
 use Rattle.pio_assemble.specs.declared.program.Program.{Program}
@@ -30,14 +30,14 @@ pub record Draft : Type 0 where
   pub wrap_bottom : ℕ
   -- none so far, which is the last word
   pub wrap_top : Option ℕ
-  pub symbols : List Symbol
+  pub symbols : List ProgramSymbol
 
 -- a program without lines; and what comes before the first one
 abbrev pub begun : Option (List ℕ) → Draft
 begun name = record { name = name; words = []; origin = None; side = no_side_set; wrap_bottom = 0; wrap_top = None; symbols = [] }
 
 -- one symbol more
-abbrev pub with_symbol : Draft → Symbol → Draft
+abbrev pub with_symbol : Draft → ProgramSymbol → Draft
 with_symbol d s = record d { symbols = d.symbols ++ s ∷ [] }
 
 -- a define: its value is that of its name

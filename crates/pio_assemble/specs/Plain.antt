@@ -19,10 +19,10 @@ use Rattle.pio_statement.specs.declared.statement.Statement.{Statement}
 use Rattle.pio_statement.specs.declared.statement.Statement.TheVariants as statement
 use Rattle.pio_assemble.specs.declared.fault.SourceKind.{SourceKind}
 use Rattle.pio_assemble.specs.declared.instruction.Extras.{Extras}
-use Rattle.pio_assemble.specs.declared.line.Line.{Line}
+use Rattle.pio_assemble.specs.declared.line.SourceLine.{SourceLine}
 use Rattle.pio_assemble.specs.declared.quantity.Quantity.TheVariants as quantity
 use Rattle.answers.specs.Answers.{◌>>=◌}
-use Rattle.pio_assemble.specs.Answers.{Refusal, at_line}
+use Rattle.pio_assemble.specs.Answers.{SourceRefusal, at_line}
 use Rattle.pio_assemble.specs.Checks.{kind_of}
 use Rattle.pio_assemble.specs.Drafts.{Draft, begun, defined, labelled, ruled}
 use Rattle.pio_assemble.specs.Lines.{word_count}
@@ -31,7 +31,7 @@ use Rattle.pio_assemble.specs.Program.{Assembled}
 use Rattle.pio_assemble.specs.Source.{program_by, with_programs}
 
 -- a statement with the number of its line (choice of this profile)
-pub record Numbered : Type 0 where
+pub record NumberedStatement : Type 0 where
   pub line : ℕ
   pub says : Statement
 
@@ -41,7 +41,7 @@ statement_on (Ok s) = Ok s
 statement_on (Err kind) = Err (kind_of kind)
 
 -- the statements of lines, in order (Pico SDK manual, section 3.3)
-unfoldable pub statements_of : List Line → Result (List Numbered) Refusal
+unfoldable pub statements_of : List SourceLine → Result (List NumberedStatement) SourceRefusal
 statements_of [] = Ok []
 statements_of (l ∷ lines) = do
   s ← at_line l.number (statement_on l.reading)
@@ -61,7 +61,7 @@ plain_words_by words (statement.Code code) = words + 1
 plain_words_by words _ = words
 
 -- a scope with the symbols of statements, up to where the next program begins, with so many words before them (Pico SDK manual, section 3.3)
-unfoldable pub plain_scope_from : List Numbered → Scope → ℕ → Scope
+unfoldable pub plain_scope_from : List NumberedStatement → Scope → ℕ → Scope
 plain_scope_from [] scope words = scope
 plain_scope_from (s ∷ statements) scope words =
     if is_some (program_by s.says) then scope else plain_scope_from statements (plain_scope_by scope words s.says) (plain_words_by words s.says)
@@ -131,18 +131,18 @@ abbrev pub plain_finished : Draft → List Assembled
 plain_finished d = plain_finished_by d.name d
 
 -- the programs of a statement and those after it: where one begins, the one before it ends (Pico SDK manual, section 3.3)
-abbrev pub plain_programs_by : (Scope → Draft → Result (List Assembled) Refusal) → Scope → Draft → Numbered → List Numbered → Option (List ℕ) → Result (List Assembled) Refusal
+abbrev pub plain_programs_by : (Scope → Draft → Result (List Assembled) SourceRefusal) → Scope → Draft → NumberedStatement → List NumberedStatement → Option (List ℕ) → Result (List Assembled) SourceRefusal
 plain_programs_by rest scope d s statements (Some name) =
     with_programs (plain_finished d) (rest (plain_scope_from statements (with_program scope) 0) (begun (Some name)))
 plain_programs_by rest scope d s statements None = at_line s.line (plain_drafted scope d s.says) >>= rest scope
 
 -- the programs of statements, after a program as far as it is read (Pico SDK manual, section 3.3)
-unfoldable pub plain_programs_from : List Numbered → Scope → Draft → Result (List Assembled) Refusal
+unfoldable pub plain_programs_from : List NumberedStatement → Scope → Draft → Result (List Assembled) SourceRefusal
 plain_programs_from [] scope d = Ok (plain_finished d)
 plain_programs_from (s ∷ statements) scope d = plain_programs_by (plain_programs_from statements) scope d s statements (program_by s.says)
 
 -- the programs of lines (Pico SDK manual, section 3.3)
-abbrev pub plain_programs_of : List Line → Result (List Assembled) Refusal
+abbrev pub plain_programs_of : List SourceLine → Result (List Assembled) SourceRefusal
 plain_programs_of lines = do
   statements ← statements_of lines
   plain_programs_from statements (plain_scope_from statements no_symbols 0) (begun None)

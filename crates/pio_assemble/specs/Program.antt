@@ -2,7 +2,7 @@
 use Rattle.std.specs.Prelude.{ℕ, List, Option}
 use Rattle.pio_encode.specs.declared.rule.SideRule.{SideRule}
 use Rattle.pio_assemble.specs.declared.program.Program.{Program}
-use Rattle.pio_assemble.specs.declared.symbols.Symbol.{Symbol}
+use Rattle.pio_assemble.specs.declared.symbols.ProgramSymbol.{ProgramSymbol}
 
 -- an assembled program (Raspberry Pi Pico C/C++ SDK, section 3.3)
 pub record Assembled : Type 0 where
@@ -12,7 +12,7 @@ pub record Assembled : Type 0 where
   pub side : SideRule
   pub wrap_bottom : ℕ
   pub wrap_top : ℕ
-  pub symbols : List Symbol
+  pub symbols : List ProgramSymbol
 
 -- a program as its names and numbers
 abbrev pub assembled_of : Program → Assembled

@@ -10,7 +10,7 @@ use Rattle.pio_lex.specs.declared.fault.LexKind.TheVariants as lex_kind
 use Rattle.pio_lex.specs.declared.fault.LexFault.{LexFault}
 use Rattle.pio_lex.specs.declared.fault.LexFault.TheVariants as lex_fault
 use Rattle.pio_lex.specs.declared.token.Token.{Token}
-use Rattle.pio_lex.specs.Fault.{Refusal as LexRefusal}
+use Rattle.pio_lex.specs.Fault.{LexRefusal}
 use Rattle.pio_lex.specs.Reading.{reading_of}
 use Rattle.pio_expr.specs.declared.symbol.Symbol.{Symbol}
 use Rattle.pio_expr.specs.declared.symbol.Symbol.TheVariants as symbol
@@ -22,9 +22,9 @@ use Rattle.pio_assemble.specs.declared.fault.SourceKind.{SourceKind}
 use Rattle.pio_assemble.specs.declared.fault.SourceKind.TheVariants.{BadByte, BadNumber, OpenComment, OpenBlock}
 use Rattle.pio_assemble.specs.declared.fault.SourceFault.{SourceFault}
 use Rattle.pio_assemble.specs.declared.fault.SourceFault.TheVariants as source_fault
-use Rattle.pio_assemble.specs.declared.line.Line.{Line}
+use Rattle.pio_assemble.specs.declared.line.SourceLine.{SourceLine}
 use Rattle.answers.specs.Answers.{◌>>=◌}
-use Rattle.pio_assemble.specs.Answers.{Refusal, at_line}
+use Rattle.pio_assemble.specs.Answers.{SourceRefusal, at_line}
 use Rattle.pio_assemble.specs.Checks.{nothing_before, first_fault}
 use Rattle.pio_assemble.specs.Drafts.{Draft, begun, drafted, finished}
 use Rattle.pio_assemble.specs.Lines.{lines_of, word_count}
@@ -89,26 +89,26 @@ words_on words (Ok s) = words_by words s
 words_on words (Err kind) = words
 
 -- a scope with the symbols of lines, up to where the next program begins, with so many words before them
-unfoldable pub scope_from : List Line → Scope → ℕ → Scope
+unfoldable pub scope_from : List SourceLine → Scope → ℕ → Scope
 scope_from [] scope words = scope
 scope_from (l ∷ lines) scope words =
     if is_some (program_on l.reading) then scope else scope_from lines (scope_on scope words l.reading) (words_on words l.reading)
 
 -- the lines after the one where the next program begins
-unfoldable pub after_program : List Line → List Line
+unfoldable pub after_program : List SourceLine → List SourceLine
 after_program [] = []
 after_program (l ∷ lines) = if is_some (program_on l.reading) then lines else after_program lines
 
 -- names are looked up among the globals, and in a program first among its own symbols, also those after
-abbrev pub global_scope : List Line → Scope
+abbrev pub global_scope : List SourceLine → Scope
 global_scope lines = scope_from lines no_symbols 0
 
 -- the scope of the program that begins before these lines
-abbrev pub program_scope : Scope → List Line → Scope
+abbrev pub program_scope : Scope → List SourceLine → Scope
 program_scope scope lines = scope_from lines (with_program scope) 0
 
 -- a program before those after it
-abbrev pub with_programs : List Assembled → Result (List Assembled) Refusal → Result (List Assembled) Refusal
+abbrev pub with_programs : List Assembled → Result (List Assembled) SourceRefusal → Result (List Assembled) SourceRefusal
 with_programs first (Ok others) = Ok (first ++ others)
 with_programs first (Err refusal) = Err refusal
 
@@ -118,26 +118,26 @@ drafted_on scope d (Ok s) = drafted scope d s
 drafted_on scope d (Err kind) = Ok d
 
 -- the programs of a line and those after it: where one begins, the one before it is finished
-abbrev pub programs_by : (Scope → Draft → Result (List Assembled) Refusal) → Scope → Draft → Line → List Line → Option (List ℕ) → Result (List Assembled) Refusal
+abbrev pub programs_by : (Scope → Draft → Result (List Assembled) SourceRefusal) → Scope → Draft → SourceLine → List SourceLine → Option (List ℕ) → Result (List Assembled) SourceRefusal
 programs_by rest scope d l lines (Some name) = with_programs (finished d) (rest (program_scope scope lines) (begun (Some name)))
 programs_by rest scope d l lines None = at_line l.number (drafted_on scope d l.reading) >>= rest scope
 
 -- the programs of lines, after a program as far as it is read
-unfoldable pub programs_from : List Line → Scope → Draft → Result (List Assembled) Refusal
+unfoldable pub programs_from : List SourceLine → Scope → Draft → Result (List Assembled) SourceRefusal
 programs_from [] scope d = Ok (finished d)
 programs_from (l ∷ lines) scope d = programs_by (programs_from lines) scope d l lines (program_on l.reading)
 
 -- the programs of lines whose statements have no fault
-abbrev pub programs_of : List Line → Result (List Assembled) Refusal
+abbrev pub programs_of : List SourceLine → Result (List Assembled) SourceRefusal
 programs_of lines = programs_from lines (global_scope lines) (begun None)
 
 -- the programs, unless a statement has a fault
-abbrev pub unless_fault : Option Refusal → List Line → Result (List Assembled) Refusal
+abbrev pub unless_fault : Option SourceRefusal → List SourceLine → Result (List Assembled) SourceRefusal
 unless_fault (Some refusal) lines = Err refusal
 unless_fault None lines = programs_of lines
 
 -- the programs of lines, or their first fault
-abbrev pub reads_lines : List Line → Result (List Assembled) Refusal
+abbrev pub reads_lines : List SourceLine → Result (List Assembled) SourceRefusal
 reads_lines lines = unless_fault (first_fault nothing_before lines) lines
 
 -- a fault of the tokens
@@ -153,12 +153,12 @@ told_of_lex (lex_fault.Found line kind) = source_fault.Found line (kind_of_lex k
 told_of_lex lex_fault.Memory = source_fault.Memory
 
 -- the programs of a source that is read as these tokens
-abbrev pub reads_tokens : List ℕ → Result (List Token) LexRefusal → Result (List Assembled) Refusal
+abbrev pub reads_tokens : List ℕ → Result (List Token) LexRefusal → Result (List Assembled) SourceRefusal
 reads_tokens source (Ok tokens) = reads_lines (lines_of source tokens)
 reads_tokens source (Err refusal) = Err (record { line = refusal.line; kind = kind_of_lex refusal.kind })
 
 -- the programs of a source, or its first fault
-unfoldable pub reads_source : List ℕ → Result (List Assembled) Refusal
+unfoldable pub reads_source : List ℕ → Result (List Assembled) SourceRefusal
 reads_source source = reads_tokens source (reading_of source)
 
 -- a name differs from each of these

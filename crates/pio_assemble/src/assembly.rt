@@ -7,7 +7,7 @@ ghost use Rattle.pio_assemble.specs.Source as spec;
 
 use crate::draft::Draft;
 use crate::fault::at_line;
-use crate::line::Line;
+use crate::line::SourceLine;
 use crate::name::copy;
 use crate::symbols_of::{add_symbols, program_on};
 use crate::{LineFault, Program, SourceFault};
@@ -23,7 +23,7 @@ pub struct Assembly<'a> {
     /// In which names are looked up.
     scope: Scope,
     /// The lines after the next `.program`, whose symbols are not in the scope yet.
-    symbols: &'a [Line],
+    symbols: &'a [SourceLine],
     /// The program whose lines are read.
     draft: Draft,
     /// Those before it.
@@ -32,7 +32,7 @@ pub struct Assembly<'a> {
 
 impl<'a> Assembly<'a> {
     /// Before the first of these lines.
-    pub fn begun(alloc: Global, lines: &'a [Line]) -> Result<Self, AllocError>
+    pub fn begun(alloc: Global, lines: &'a [SourceLine]) -> Result<Self, AllocError>
         ensures scope { IfOk result (λ a. a.scope ≡ spec.global_scope lines.now) }
         ensures symbols { IfOk result (λ a. a.symbols.now ≡ spec.after_program lines.now) }
         ensures draft { IfOk result (λ a. a.draft ≡ begun None) }
@@ -49,7 +49,7 @@ impl<'a> Assembly<'a> {
     }
 
     /// Reads these lines.
-    pub fn read(&mut self, alloc: Global, lines: &[Line]) -> Result<(), SourceFault>
+    pub fn read(&mut self, alloc: Global, lines: &[SourceLine]) -> Result<(), SourceFault>
         requires { self.old.symbols.now ≡ spec.after_program lines.now }
         ensures { Gives (λ _. map assembled_of self.new.programs.items ++ finished self.new.draft) result
             (spec.with_programs (map assembled_of self.old.programs.items)

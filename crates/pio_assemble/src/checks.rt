@@ -6,7 +6,7 @@ ghost use Rattle.pio_assemble.specs.Checks as spec;
 
 use crate::before::Before;
 use crate::fault::at_line;
-use crate::line::Line;
+use crate::line::SourceLine;
 use crate::name::copy;
 use crate::names::Names;
 use crate::{LineFault, SourceFault, SourceKind};
@@ -26,7 +26,7 @@ const MOST_WORDS: usize = 32;
 /// Tells the first line whose statement has a fault.
 ///
 /// It takes time in proportion to the lines, but for the look-ups of names.
-pub fn first_fault(alloc: Global, lines: &[Line]) -> Result<(), SourceFault>
+pub fn first_fault(alloc: Global, lines: &[SourceLine]) -> Result<(), SourceFault>
     ensures { Checks result (spec.first_fault spec.nothing_before lines.now) }
 {
     let mut before = Before::nothing(alloc);
@@ -36,7 +36,7 @@ pub fn first_fault(alloc: Global, lines: &[Line]) -> Result<(), SourceFault>
 }
 
 /// The same after what comes before the lines, which goes on to what comes after them.
-fn check_lines(alloc: Global, before: &mut Before, lines: &[Line]) -> Result<(), SourceFault>
+fn check_lines(alloc: Global, before: &mut Before, lines: &[SourceLine]) -> Result<(), SourceFault>
     requires symbols { before.old.symbols ≡ 0 }
     requires words { before.old.words ≡ 0 }
     ensures { Checks result (spec.first_fault before.old lines.now) }
@@ -54,7 +54,7 @@ fn check_lines(alloc: Global, before: &mut Before, lines: &[Line]) -> Result<(),
 fn line_fault<'a>(
     alloc: Global,
     before: &Before,
-    rest: &[Line],
+    rest: &[SourceLine],
     reading: &'a Result<Statement, StatementKind>,
 ) -> Result<&'a Statement, LineFault>
     ensures value { Finds result
@@ -87,7 +87,7 @@ fn kind_of(kind: StatementKind) -> SourceKind
 fn statement_fault(
     alloc: Global,
     before: &Before,
-    rest: &[Line],
+    rest: &[SourceLine],
     statement: &Statement,
 ) -> Result<(), LineFault>
     ensures { Finds result
@@ -132,7 +132,7 @@ fn statement_fault(
 fn program_fault(
     alloc: Global,
     before: &Before,
-    rest: &[Line],
+    rest: &[SourceLine],
     name: &Name,
 ) -> Result<(), LineFault>
     ensures { Finds result (spec.program_fault before.now (has_word rest.now) name.now) }
@@ -222,7 +222,7 @@ fn has_side(suffix: &Suffix) -> bool
 }
 
 /// A word is on these lines, before the next program begins.
-fn has_word(lines: &[Line]) -> bool
+fn has_word(lines: &[SourceLine]) -> bool
     ensures { result ≡ has_word lines.now }
 {
     for line in lines {

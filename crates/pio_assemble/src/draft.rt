@@ -7,7 +7,7 @@ use crate::instruction::word;
 use crate::name::copy;
 use crate::operands::byte_in;
 use crate::rule::{most_bits, no_side_set, rule};
-use crate::{LineFault, Program, Quantity, SourceKind, Symbol, Symbols};
+use crate::{LineFault, Program, ProgramSymbol, ProgramSymbols, Quantity, SourceKind};
 use arrayvec::ArrayVec;
 use pio_encode::{Name, SideRule};
 use pio_expr::{Expr, Scope};
@@ -25,7 +25,7 @@ pub struct Draft {
     wrap_bottom: u8,
     /// None so far, which is the last word.
     wrap_top: Option<u8>,
-    symbols: Vec<Symbol>,
+    symbols: Vec<ProgramSymbol>,
 }
 
 impl Model for Draft {
@@ -136,7 +136,7 @@ impl Draft {
         ensures same { scope.new ≡ scope.old }
     {
         let value = scope.value_of_name(name)?;
-        self.symbols.push(Symbol {
+        self.symbols.push(ProgramSymbol {
             name: copy(alloc, name)?,
             value,
             public,
@@ -149,7 +149,7 @@ impl Draft {
     fn label(&mut self, alloc: Global, public: bool, name: &Name) -> Result<(), AllocError>
         ensures { OnOk result (self.new ≡ spec.labelled self.old public name.now) }
     {
-        self.symbols.push(Symbol {
+        self.symbols.push(ProgramSymbol {
             name: copy(alloc, name)?,
             value: self.words.len() as i32,
             public,
@@ -197,7 +197,7 @@ impl Draft {
             side: self.side,
             wrap_bottom: self.wrap_bottom.min(top),
             wrap_top: self.wrap_top.unwrap_or(top),
-            symbols: Symbols::new(self.symbols),
+            symbols: ProgramSymbols::new(self.symbols),
         })
     }
 }

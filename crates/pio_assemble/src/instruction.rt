@@ -1,6 +1,6 @@
 //! The word of code: an instruction with its side-set and its delay, or a number.
 ghost use Rattle.std.specs.Prelude.{◌≡◌, ◌-◌, ◌^◌, ◌<◌, ◌≤◌, IfOk};
-ghost use Rattle.pio_encode.specs.Ranges.{Fits, SideFits, delay_bits};
+ghost use Rattle.pio_encode.specs.Ranges.{OpFits, SideFits, delay_bits};
 ghost use Rattle.pio_assemble.specs.Answers.{Answers};
 ghost use Rattle.pio_assemble.specs.Operands as spec;
 

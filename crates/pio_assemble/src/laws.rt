@@ -1,6 +1,6 @@
 //! Laws of the definitions.
 ghost use Rattle.std.specs.Prelude.{◌≡◌, ℕ, ◌<◌, ◌^◌, List, None};
-ghost use Rattle.pio_assemble.specs.declared.line.Line.{Line};
+ghost use Rattle.pio_assemble.specs.declared.line.SourceLine.{SourceLine};
 ghost use Rattle.pio_assemble.specs.Checks.{first_fault, nothing_before};
 ghost use Rattle.pio_assemble.specs.Plain.{plain_programs_of};
 ghost use Rattle.pio_assemble.specs.Source.{programs_of};
@@ -16,5 +16,5 @@ pub fn a_spelled_word_is_read_back()
 /// Where no statement has a fault, the programs are those of the plain reading: no word is one too many, no program is
 /// empty, no wrap comes after its program, no symbol is a second of its name, and no `side` that is asked for is missing.
 pub fn nothing_is_clipped()
-    ensures { (lines : List Line) → first_fault nothing_before lines ≡ None → programs_of lines ≡ plain_programs_of lines }
+    ensures { (lines : List SourceLine) → first_fault nothing_before lines ≡ None → programs_of lines ≡ plain_programs_of lines }
 {}

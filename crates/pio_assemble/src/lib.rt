@@ -26,4 +26,4 @@ pub use laws::{a_spelled_word_is_read_back, nothing_is_clipped};
 pub use program::Program;
 pub use quantity::Quantity;
 pub use source::assemble;
-pub use symbols::{Symbol, Symbols};
+pub use symbols::{ProgramSymbol, ProgramSymbols};

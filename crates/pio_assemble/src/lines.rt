@@ -5,13 +5,17 @@ ghost use Rattle.pio_lex.specs.Tokens.{IsTokenOf};
 ghost use Rattle.pio_assemble.specs.Lines.{lines_of, line_at};
 
 use crate::SourceFault;
-use crate::line::Line;
+use crate::line::SourceLine;
 use pio_lex::Token;
 use pio_statement::{StatementFault, line_end, read_statement};
 use std::alloc::Global;
 
 /// All lines of a source with these tokens.
-pub fn read_lines(alloc: Global, source: &[u8], tokens: &[Token]) -> Result<Vec<Line>, SourceFault>
+pub fn read_lines(
+    alloc: Global,
+    source: &[u8],
+    tokens: &[Token],
+) -> Result<Vec<SourceLine>, SourceFault>
     requires { All (IsTokenOf source.now) tokens.now }
     ensures lines { IfOk result (λ v. v.items ≡ lines_of source.now tokens.now) }
     ensures memory { IfErr result (λ fault. fault ≡ SourceFault.Memory) }
@@ -32,7 +36,7 @@ fn line(
     tokens: &[Token],
     from: usize,
     first: &Token,
-) -> Result<Line, SourceFault>
+) -> Result<SourceLine, SourceFault>
     requires tokens { All (IsTokenOf source.now) tokens.now }
     requires from { from < length tokens.now }
     ensures line { IfOk result (λ line. line ≡ line_at source.now tokens.now from first.now) }
@@ -43,7 +47,7 @@ fn line(
         Err(StatementFault::Found(kind)) => Err(kind),
         Err(StatementFault::Memory) => return Err(SourceFault::Memory),
     };
-    Ok(Line {
+    Ok(SourceLine {
         number: first.line,
         reading,
     })

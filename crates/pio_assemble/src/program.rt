@@ -1,7 +1,7 @@
 //! An assembled program: its words and what a loader must know of them.
 ghost use Rattle.std.specs.Prelude.{◌<◌, ◌≤◌, length, unwrap_or};
 
-use crate::Symbols;
+use crate::ProgramSymbols;
 use arrayvec::ArrayVec;
 use pio_encode::{Name, SideRule};
 
@@ -19,7 +19,7 @@ pub struct Program {
     pub wrap_bottom: u8,
     /// The word after which the program wraps.
     pub wrap_top: u8,
-    pub symbols: Symbols,
+    pub symbols: ProgramSymbols,
     pub ghost has_words: { 1 ≤ length words.items },
     pub ghost fits_memory: { length words.items ≤ 32 },
     pub ghost origin_in_memory: { unwrap_or origin 0 ≤ 31 },

@@ -10,7 +10,7 @@ ghost use Rattle.pio_assemble.specs.Source as spec;
 use crate::assembly::Assembly;
 use crate::checks::first_fault;
 use crate::fault::of_tokens;
-use crate::line::Line;
+use crate::line::SourceLine;
 use crate::lines::read_lines;
 use crate::{Program, SourceFault};
 use pio_lex::{Token, tokens};
@@ -44,7 +44,7 @@ fn read(alloc: Global, source: &[u8], tokens: &[Token]) -> Result<Vec<Program>, 
 }
 
 /// The programs of lines whose statements have no fault.
-fn programs(alloc: Global, lines: &[Line]) -> Result<Vec<Program>, SourceFault>
+fn programs(alloc: Global, lines: &[SourceLine]) -> Result<Vec<Program>, SourceFault>
     ensures { Gives (λ v. map assembled_of v.items) result (spec.programs_of lines.now) }
 {
     let mut assembly = Assembly::begun(alloc, lines)?;

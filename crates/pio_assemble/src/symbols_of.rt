@@ -3,7 +3,7 @@ ghost use Rattle.std.specs.Prelude.{◌≡◌, ◌≤◌, IfOk, OnOk, is_some, o
 ghost use Rattle.pio_assemble.specs.Source as spec;
 
 use crate::before::word_count;
-use crate::line::Line;
+use crate::line::SourceLine;
 use pio_encode::Name;
 use pio_expr::{Scope, Symbol};
 use pio_statement::{Statement, StatementKind};
@@ -13,8 +13,8 @@ use std::alloc::{AllocError, Global};
 pub fn add_symbols<'a>(
     alloc: Global,
     scope: &mut Scope,
-    lines: &'a [Line],
-) -> Result<&'a [Line], AllocError>
+    lines: &'a [SourceLine],
+) -> Result<&'a [SourceLine], AllocError>
     ensures symbols { OnOk result (scope.new ≡ spec.scope_from lines.now scope.old 0) }
     ensures rest { IfOk result (λ rest. rest.now ≡ spec.after_program lines.now) }
 {

@@ -43,7 +43,7 @@ abbrev pub after_call : {T : Type 0} → List ℕ → Result T Fetch → Stock �
 after_call name result s = record s { calls = one_more s.calls; faults = after_fetch name result s.faults }
 
 -- what a fetch answers besides want of memory: a file exactly where the fetch isn't to fail
-abbrev pub Answers : {T : Type 0} → Bool → Result T Fetch → Type 0
-Answers fails (Ok _) = fails ≡ false
-Answers fails (Err Failed) = fails ≡ true
-Answers fails (Err Memory) = Unit {0}
+abbrev pub FetchesUnless : {T : Type 0} → Bool → Result T Fetch → Type 0
+FetchesUnless fails (Ok _) = fails ≡ false
+FetchesUnless fails (Err Failed) = fails ≡ true
+FetchesUnless fails (Err Memory) = Unit {0}

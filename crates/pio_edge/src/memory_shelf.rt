@@ -3,7 +3,7 @@ ghost use Rattle.std.specs.Prelude.{◌≡◌, ◌≤◌, Some, None, IfOk, OnOk
 ghost use Rattle.std.specs.FinMap.{empty, insert};
 ghost use Rattle.pio_edge.specs.Edge.{IsFetched};
 ghost use Rattle.pio_edge.specs.Count.{after_fetch};
-ghost use Rattle.pio_edge.specs.Stock.{Answers, fetch_fails, after_call};
+ghost use Rattle.pio_edge.specs.Stock.{FetchesUnless, fetch_fails, after_call};
 
 use crate::failures::Failures;
 use crate::held::{Held, found};
@@ -90,7 +90,7 @@ impl Shelf for MemShelf {
         // One fault, at this name, exactly where it answers Failed.
         ensures cause { self.new.faults ≡ after_fetch name.now result self.old.faults }
         // Failed exactly at a listed fetch and at an absent name, unless memory ran out.
-        ensures failed { Answers (fetch_fails self.old name.now) result }
+        ensures failed { FetchesUnless (fetch_fails self.old name.now) result }
         ensures after { self.new ≡ after_call name.now result self.old }
     {
         self.calls = self.calls.saturating_add(1);

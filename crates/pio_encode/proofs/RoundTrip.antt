@@ -4,7 +4,7 @@ use Rattle.pio_encode.specs.declared.act.Act.{Act}
 use Rattle.pio_encode.specs.declared.act.Act.TheVariants.{Jmp, Wait, In, Out, Push, Pull, Mov, Irq, Set, Nothing}
 use Rattle.pio_encode.specs.declared.op.Op.{Op}
 use Rattle.pio_encode.specs.declared.rule.SideRule.{SideRule}
-use Rattle.pio_encode.specs.Ranges.{Fits, IsInRange}
+use Rattle.pio_encode.specs.Ranges.{OpFits, IsInRange}
 use Rattle.pio_encode.specs.Word.{bits, kind_of, operands_of, side_and_delay, word_of, reading_of}
 use Rattle.pio_encode.proofs.OperandNumbers.{bit_below, condition_below, wait_source_below, in_source_below, out_destination_below, mov_destination_below, mov_operation_below, mov_source_below, set_destination_below}
 use Rattle.pio_encode.proofs.ActBack.{act_back}
@@ -44,13 +44,13 @@ shared_at : (kind shared operands : ℕ) → shared < 32 → operands < 256 → 
 shared_at kind shared operands s o = omega arith
 
 -- a word has sixteen bits
-pub word_below : (op : Op) (rule : SideRule) → Fits op rule → word_of op rule < 2 ^ 16
+pub word_below : (op : Op) (rule : SideRule) → OpFits op rule → word_of op rule < 2 ^ 16
 unfolding word_of
 word_below op rule f =
     omega (arith, kind_below op.act, operands_below op.act f.operands, shares_below rule op.side op.delay f.side f.delay)
 
 -- an instruction's word means the instruction
-pub read_back : (op : Op) (rule : SideRule) → Fits op rule → reading_of (word_of op rule) rule ≡ op
+pub read_back : (op : Op) (rule : SideRule) → OpFits op rule → reading_of (word_of op rule) rule ≡ op
 unfolding word_of reading_of
 read_back op rule f =
     let few = shares_below rule op.side op.delay f.side f.delay in

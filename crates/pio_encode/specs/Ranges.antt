@@ -34,7 +34,7 @@ SideFits rule (Some value) = (value < 2 ^ rule.bits) × (1 ≤ rule.bits + (if r
 SideFits rule None = MatchBool rule.opt (Unit {0}) (rule.bits ≡ 0)
 
 -- an instruction has a word under a side-set rule
-pub record Fits (op : Op) (rule : SideRule) : Type 0 where
+pub record OpFits (op : Op) (rule : SideRule) : Type 0 where
   pub instruction : IsInstruction op.act
   pub operands : IsInRange op.act
   pub side : SideFits rule op.side

@@ -7,7 +7,7 @@ use Rattle.pio_encode.specs.declared.act.WaitSource.{WaitSource}
 use Rattle.pio_encode.specs.declared.act.WaitSource.TheVariants as wait_source
 use Rattle.pio_encode.specs.declared.op.Op.{Op}
 use Rattle.pio_encode.specs.declared.rule.SideRule.{SideRule}
-use Rattle.pio_encode.specs.Ranges.{Fits}
+use Rattle.pio_encode.specs.Ranges.{OpFits}
 use Rattle.pio_encode.specs.Text.{op_text}
 use Rattle.pio_encode.specs.Word.{bits, reading_of, word_of}
 
@@ -45,7 +45,7 @@ spelled w rule =
 
 -- an instruction is written to this word: it fits, pioasm can write it, and this is its word
 pub record IsWritten (op : Op) (word : ℕ) (rule : SideRule) : Type 0 where
-  pub fits : Fits op rule
+  pub fits : OpFits op rule
   pub writable : IsTrue (has_text op.act)
   pub is_its_word : word_of op rule ≡ word
 

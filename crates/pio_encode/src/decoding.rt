@@ -1,6 +1,6 @@
 //! The meaning of a word, field by field (RP2040 Datasheet, section 3.4).
 ghost use Rattle.std.specs.Prelude.{◌≡◌, ◌<◌, ◌^◌, IfSome};
-ghost use Rattle.pio_encode.specs.Ranges.{Fits, IsInRange, IsInstruction, SideFits, delay_bits};
+ghost use Rattle.pio_encode.specs.Ranges.{OpFits, IsInRange, IsInstruction, SideFits, delay_bits};
 ghost use Rattle.pio_encode.specs.Word as spec;
 
 use crate::act::{Act, InSource, SetDestination, WaitSource};
@@ -16,7 +16,7 @@ use crate::rule::SideRule;
 pub fn decode(word: u16, rule: &SideRule) -> Op
     ensures value { result ≡ spec.reading_of word rule.now }
     ensures act { IsInRange result.act }
-    ensures fits { IsInstruction result.act → Fits result rule.now }
+    ensures fits { IsInstruction result.act → OpFits result rule.now }
     ensures delay { result.delay < 32 }
     ensures delay_in_bits { result.delay < 2 ^ delay_bits rule.now }
     ensures side { IfSome result.side (λ v. v < 32) }

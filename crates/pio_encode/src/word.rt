@@ -1,6 +1,6 @@
 //! The word of an instruction, field by field (RP2040 Datasheet, section 3.4).
 ghost use Rattle.std.specs.Prelude.{◌≡◌, ◌+◌, ◌*◌, ◌<◌, ◌≤◌, ◌^◌, ◌↔◌, IsTrue};
-ghost use Rattle.pio_encode.specs.Ranges.{Fits, IsInRange, IsInstruction, SideFits, delay_bits};
+ghost use Rattle.pio_encode.specs.Ranges.{OpFits, IsInRange, IsInstruction, SideFits, delay_bits};
 ghost use Rattle.pio_encode.specs.Word as spec;
 
 use crate::act::Act;
@@ -9,7 +9,7 @@ use crate::rule::SideRule;
 
 /// Whether an instruction has a word under a side-set rule.
 pub fn op_fits(op: &Op, rule: &SideRule) -> bool
-    ensures { IsTrue result ↔ Fits op.now rule.now }
+    ensures { IsTrue result ↔ OpFits op.now rule.now }
 {
     is_in_range(op.act) && side_fits(rule, op.side) && op.delay < (1 << rule.delay_bits())
 }
@@ -17,7 +17,7 @@ pub fn op_fits(op: &Op, rule: &SideRule) -> bool
 /// The word of an instruction under a side-set rule.
 #[tactic(auto, unfolding(crate::specs::Word::word_of))]
 pub fn encode(op: &Op, rule: &SideRule) -> u16
-    requires { Fits op.now rule.now }
+    requires { OpFits op.now rule.now }
     ensures { result ≡ spec.word_of op.now rule.now }
 {
     let shared = side_and_delay(rule, op.side, op.delay);

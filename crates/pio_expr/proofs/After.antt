@@ -3,12 +3,12 @@ use Rattle.std.proofs.Common.{◌≡◌, ℕ, true, List, [], ◌∷◌, ◌++�
 use Rattle.pio_lex.specs.declared.token.Token.{Token}
 use Rattle.pio_expr.specs.declared.expr.Item.{Item}
 use Rattle.pio_expr.specs.declared.expr.Item.TheVariants as item
-use Rattle.pio_expr.specs.declared.mark.Mark.{Mark}
-use Rattle.pio_expr.specs.declared.mark.Mark.TheVariants as mark
+use Rattle.pio_expr.specs.declared.mark.TokenMark.{TokenMark}
+use Rattle.pio_expr.specs.declared.mark.TokenMark.TheVariants as mark
 use Rattle.pio_expr.specs.declared.waiting.Waiting.{Waiting}
 use Rattle.pio_expr.specs.declared.waiting.Waiting.TheVariants as waiting
 use Rattle.pio_expr.specs.Marks.{mark_at}
-use Rattle.pio_expr.specs.Grammar.{Progress, Reader, readers, then, written, alone_by, product_by, product_goes_on, sum_goes_on, product_operation, sum_operation}
+use Rattle.pio_expr.specs.Grammar.{Progress, Parser, readers, then, written, alone_by, product_by, product_goes_on, sum_goes_on, product_operation, sum_operation}
 use Rattle.pio_expr.specs.Waiting.{rest, left, begins_level, IsSound}
 use Rattle.pio_expr.specs.Turns.{item_before, unless_product, unless_operation, innermost, first_before, all_before, kept_before}
 use Rattle.pio_expr.proofs.Chains.{chain_ends}
@@ -34,12 +34,12 @@ pub sum_ends : (source : List ℕ) (tokens : List Token) (ws : List Waiting) (p 
 sum_ends source tokens ws p none begins =
     product_of_level source tokens ws p begins ∙ ap (λ read. then read (rest source tokens ws).level) (chain_ends tokens sum_operation (product_by tokens (readers source tokens (left ws)).unary) p none)
 
-no_product : (m : Mark) (i j : Item) → unless_product m i ≡ Some j → (product_operation m ≡ None) × (i ≡ j)
+no_product : (m : TokenMark) (i j : Item) → unless_product m i ≡ Some j → (product_operation m ≡ None) × (i ≡ j)
 no_product mark.Star i j e = cc
 no_product mark.Slash i j e = cc
 no_product _ i j e = (refl, search rules)
 
-no_operation : (m : Mark) (i j : Item) → unless_operation m i ≡ Some j → (product_operation m ≡ None) × (sum_operation m ≡ None) × (alone_by m ≡ alone_by mark.Other) × (i ≡ j)
+no_operation : (m : TokenMark) (i j : Item) → unless_operation m i ≡ Some j → (product_operation m ≡ None) × (sum_operation m ≡ None) × (alone_by m ≡ alone_by mark.Other) × (i ≡ j)
 no_operation mark.Star i j e = cc
 no_operation mark.Slash i j e = cc
 no_operation mark.Plus i j e = cc
@@ -67,19 +67,19 @@ one_before source tokens waiting.Subtract below i p e sound =
 one_before source tokens (waiting.Reverse at) below i p e sound =
     let h = no_operation (mark_at tokens p.at) item.Reverse i e in
     let q : Progress = written item.Reverse p in
-    (ap (λ (f : ℕ → Reader). then (f at q) (rest source tokens below).level) h.2 ∙ sym (sum_ends source tokens below q h.1 sound.0) ∙ sym (product_ends source tokens below q h.0 sound.0) ∙ ap (λ j. (rest source tokens below).unary (written j p)) h.3, sound.1)
+    (ap (λ (f : ℕ → Parser). then (f at q) (rest source tokens below).level) h.2 ∙ sym (sum_ends source tokens below q h.1 sound.0) ∙ sym (product_ends source tokens below q h.0 sound.0) ∙ ap (λ j. (rest source tokens below).unary (written j p)) h.3, sound.1)
 
 -- more items at a place
 abbrev pub onto : List Item → Progress → Progress
 onto more p = record { at = p.at; items = p.items ++ more }
 
 -- what is read on when all that is complete before a token is written
-pub record IsWritten (source : List ℕ) (tokens : List Token) (ws : List Waiting) (m : Mark) (p : Progress) : Type 0 where
+pub record IsWritten (source : List ℕ) (tokens : List Token) (ws : List Waiting) (m : TokenMark) (p : Progress) : Type 0 where
   pub same : (rest source tokens ws).unary p ≡ (rest source tokens (kept_before ws m)).unary (onto (all_before ws m) p)
   pub sound : IsSound (kept_before ws m)
   pub done : first_before (innermost (kept_before ws m)) m ≡ None
 
-all_none : (source : List ℕ) (tokens : List Token) (w : Waiting) (below : List Waiting) (m : Mark) (p : Progress) → IsSound (w ∷ below) → item_before w m ≡ None → IsWritten source tokens (w ∷ below) m p
+all_none : (source : List ℕ) (tokens : List Token) (w : Waiting) (below : List Waiting) (m : TokenMark) (p : Progress) → IsSound (w ∷ below) → item_before w m ≡ None → IsWritten source tokens (w ∷ below) m p
 unfolding all_before kept_before
 all_none source tokens w below m p sound e = record {
   same = rw e (ap (λ xs. (rest source tokens (w ∷ below)).unary (record { at = p.at; items = xs })) (sym (append-nil p.items)));
@@ -87,7 +87,7 @@ all_none source tokens w below m p sound e = record {
   done = rw e e;
 }
 
-all_some : (source : List ℕ) (tokens : List Token) (w : Waiting) (below : List Waiting) (m : Mark) (i : Item) (p : Progress) → item_before w m ≡ Some i → (rest source tokens (w ∷ below)).unary p ≡ (rest source tokens below).unary (written i p) → IsWritten source tokens below m (written i p) → IsWritten source tokens (w ∷ below) m p
+all_some : (source : List ℕ) (tokens : List Token) (w : Waiting) (below : List Waiting) (m : TokenMark) (i : Item) (p : Progress) → item_before w m ≡ Some i → (rest source tokens (w ∷ below)).unary p ≡ (rest source tokens below).unary (written i p) → IsWritten source tokens below m (written i p) → IsWritten source tokens (w ∷ below) m p
 unfolding all_before kept_before
 all_some source tokens w below m i p e same more = record {
   same = rw e (same ∙ more.same ∙ ap (λ xs. (rest source tokens (kept_before below m)).unary (record { at = p.at; items = xs })) (append_assoc p.items (i ∷ []) (all_before below m)));
@@ -95,7 +95,7 @@ all_some source tokens w below m i p e same more = record {
   done = rw e more.done;
 }
 
-pub all_written : (source : List ℕ) (tokens : List Token) (ws : List Waiting) (m : Mark) (p : Progress) → mark_at tokens p.at ≡ m → IsSound ws → IsWritten source tokens ws m p
+pub all_written : (source : List ℕ) (tokens : List Token) (ws : List Waiting) (m : TokenMark) (p : Progress) → mark_at tokens p.at ≡ m → IsSound ws → IsWritten source tokens ws m p
 unfolding all_before kept_before
 all_written source tokens [] m p is sound = record { same = ap (λ xs. (rest source tokens []).unary (record { at = p.at; items = xs })) (sym (append-nil p.items)); sound = tt; done = refl }
 all_written source tokens (w ∷ below) m p is sound = by_item (item_before w m) refl (λ i q. all_written source tokens below m q) where

@@ -6,12 +6,12 @@ use Rattle.pio_expr.specs.declared.expr.Item.{Item}
 use Rattle.pio_expr.specs.declared.symbol.Symbol.TheVariants.{Define, Label}
 use Rattle.pio_expr.specs.declared.fault.ValueKind.{ValueKind}
 use Rattle.pio_expr.specs.Values.{Scope, Found, found, is_among, by_symbol, name_value}
-use Rattle.pio_expr.specs.Frames.{Kept, kept_at, kept_value, by_kept, number, look_by, looked_up, Agrees, AgreesBy, IsKept, IsKeptAt}
+use Rattle.pio_expr.specs.Frames.{Kept, kept_at, kept_value, by_kept, number, look_by, looked_up, Agrees, AgreesBy, AreKept, IsKeptAt}
 use Rattle.pio_expr.proofs.Keeping.{Apart, at_none, at_label, at_cycle, all_exact}
 use Rattle.pio_expr.proofs.Lookups.{some_same}
 
 -- the values of the definition agree
-agree_by : (scope : Scope) (kept : Kept) (n : ℕ) (under : List ℕ) (local : Bool) (name : List ℕ) → IsKept scope kept → length kept ≤ n → Apart under kept → (f : Found) → found scope local name ≡ f
+agree_by : (scope : Scope) (kept : Kept) (n : ℕ) (under : List ℕ) (local : Bool) (name : List ℕ) → AreKept scope kept → length kept ≤ n → Apart under kept → (f : Found) → found scope local name ≡ f
     → AgreesBy (by_symbol number (λ place items. look_by (kept_at kept place) (is_among under place) name place items) name f) (name_value n scope under local name)
 agree_by scope kept n under local name is le apart None e = at_none scope under local name n e
 agree_by scope kept n under local name is le apart (Some (place, Label k)) e = at_label scope under local name n place k e
@@ -21,7 +21,7 @@ agree_by scope kept n under local name is le apart (Some (place, Define items)) 
   by None true k t = at_cycle scope under local name n place items e t
   by None false k t = tt
 
-pub agrees_value : (scope : Scope) (kept : Kept) (n : ℕ) (under : List ℕ) (local : Bool) → IsKept scope kept → length kept ≤ n → Apart under kept → Agrees (looked_up scope kept (is_among under) local) (name_value n scope under local)
+pub agrees_value : (scope : Scope) (kept : Kept) (n : ℕ) (under : List ℕ) (local : Bool) → AreKept scope kept → length kept ≤ n → Apart under kept → Agrees (looked_up scope kept (is_among under) local) (name_value n scope under local)
 agrees_value scope kept n under local is le apart name = agree_by scope kept n under local name is le apart (found scope local name) refl
 
 -- the kept values agree
@@ -78,7 +78,7 @@ pushed_at {X} (z ∷ xs) x (suc i) y h = by (pushed_at xs x i y h) where
   by (inl a) = inl (omega (arith, a.0), a.1)
   by (inr b) = inr (omega (arith, b.0), b.1)
 
-pub kept_pushed : (scope : Scope) (kept : Kept) (place : ℕ) (v : ℤ) → IsKept scope kept → IsKeptAt scope kept place v → IsKept scope (kept ++ (place, v) ∷ [])
+pub kept_pushed : (scope : Scope) (kept : Kept) (place : ℕ) (v : ℤ) → AreKept scope kept → IsKeptAt scope kept place v → AreKept scope (kept ++ (place, v) ∷ [])
 kept_pushed scope kept place v is new i q w h = by (pushed_at kept (place, v) i (q, w) h) where
   by : ((i < length kept) × (slice_get kept i ≡ Some (q, w))) ⊎ ((i ≡ length kept) × (◌≡◌ {A = ℕ × ℤ} (place, v) (q, w))) → IsKeptAt scope (take i (kept ++ (place, v) ∷ [])) q w
   by (inl a) = subst (λ es. IsKeptAt scope es q w) (sym (take-append-le i kept ((place, v) ∷ []) (omega (arith, a.0)))) (is i q w a.1)

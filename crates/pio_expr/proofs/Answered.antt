@@ -4,15 +4,15 @@ use Rattle.pio_lex.specs.declared.token.Token.{Token}
 use Rattle.pio_expr.specs.declared.expr.Item.{Item}
 use Rattle.pio_expr.specs.declared.fault.ExprFault.{ExprFault}
 use Rattle.pio_expr.specs.declared.fault.ExprFault.TheVariants.{Memory, At}
-use Rattle.pio_expr.specs.declared.fault.Refusal.{Refusal}
-use Rattle.pio_expr.specs.Grammar.{Read, then, read_items, readers, most_open, expression_at}
-use Rattle.pio_expr.specs.Waiting.{Answers, IsFaultOf, rest}
+use Rattle.pio_expr.specs.declared.fault.ExprRefusal.{ExprRefusal}
+use Rattle.pio_expr.specs.Grammar.{ParseResult, then, read_items, readers, most_open, expression_at}
+use Rattle.pio_expr.specs.Waiting.{Answers, HasExprFault, rest}
 
-pub answered_fault : (whole : Result (List Item × ℕ) Refusal) (read : Read) (fault : ExprFault) → whole ≡ read_items read → IsFaultOf read fault → Answers (Err fault) whole
+pub answered_fault : (whole : Result (List Item × ℕ) ExprRefusal) (read : ParseResult) (fault : ExprFault) → whole ≡ read_items read → HasExprFault read fault → Answers (Err fault) whole
 answered_fault whole read Memory e h = tt
 answered_fault whole read (At place kind) e h = e ∙ ap read_items h
 
-then_ok : (read : Read) → then read (λ place. Ok place) ≡ read
+then_ok : (read : ParseResult) → then read (λ place. Ok place) ≡ read
 then_ok (Ok place) = refl
 then_ok (Err fault) = refl
 

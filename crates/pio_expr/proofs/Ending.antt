@@ -12,11 +12,11 @@ use Rattle.pio_expr.specs.declared.expr.Item.{Item}
 use Rattle.pio_expr.specs.declared.symbol.Symbol.TheVariants.{Define}
 use Rattle.pio_expr.specs.declared.fault.ValueFault.{ValueFault}
 use Rattle.pio_expr.specs.declared.fault.ValueFault.TheVariants.{Memory}
-use Rattle.pio_expr.specs.declared.frame.Frame.{Frame}
+use Rattle.pio_expr.specs.declared.frame.StackFrame.{StackFrame}
 use Rattle.pio_expr.specs.declared.work.Work.{Work}
-use Rattle.pio_expr.specs.Values.{Scope, in_program, count_of, is_among, worked_out, name_value, value_at, HasFault, Gives}
-use Rattle.pio_expr.specs.Frames.{Kept, kept_at, kept_value, is_local, items_at, IsKept}
-use Rattle.pio_expr.specs.Work.{placed, places_of, items_of, IsOwn, IsFrame, AreFrames, IsLowest, seen_of, AreSeen, frames_of, Holds, left_to_do, Steps, Finished, IsNewlyKept, kept_of}
+use Rattle.pio_expr.specs.Values.{Scope, in_program, count_of, is_among, worked_out, name_value, value_at, IsValueFaultOf, Gives}
+use Rattle.pio_expr.specs.Frames.{Kept, kept_at, kept_value, is_local, items_at, AreKept}
+use Rattle.pio_expr.specs.Work.{placed, places_of, items_of, IsOwn, IsFrame, AreFrames, IsLowest, seen_of, AreSeen, frames_of, IsRightSoFar, left_to_do, StepsTo, Finished, IsNewlyKept, kept_of}
 use Rattle.pio_expr.proofs.Finding.{items_of_symbol, place_within}
 use Rattle.std.proofs.lemmas.Map.Steps.{length-le_from_distinct_below}
 use Rattle.pio_expr.proofs.Keeping.{kept_exact}
@@ -60,7 +60,7 @@ module _ (scope : Scope) (kept : Kept) (items : List Item) (p : ℕ) (v : ℤ) w
     other false e t = refl
     other true e t = absurd (true≢false (sym t ∙ ap (is_among under) (eqb-true q p e) ∙ out))
 
-  frame_kept : (under : List ℕ) (frame : Frame) → is_among under p ≡ false → IsFrame scope kept items under frame → IsFrame scope (kept ++ (p, v) ∷ []) items under frame
+  frame_kept : (under : List ℕ) (frame : StackFrame) → is_among under p ≡ false → IsFrame scope kept items under frame → IsFrame scope (kept ++ (p, v) ∷ []) items under frame
   frame_kept under frame out it = record {
     local = it.local;
     going = λ named agrees. it.going named (agrees_fewer scope kept (kept ++ (p, v) ∷ []) (is_among under) (is_among under) frame.local named (more_kept under out) agrees);
@@ -70,7 +70,7 @@ module _ (scope : Scope) (kept : Kept) (items : List Item) (p : ℕ) (v : ℤ) w
   out_below None places h = h
   out_below (Some q) places h = or_right (nat_eq p q) (is_among places p) h
 
-  frames_kept : (frames : List Frame) → is_among (places_of frames) p ≡ false → AreFrames scope kept items frames → AreFrames scope (kept ++ (p, v) ∷ []) items frames
+  frames_kept : (frames : List StackFrame) → is_among (places_of frames) p ≡ false → AreFrames scope kept items frames → AreFrames scope (kept ++ (p, v) ∷ []) items frames
   frames_kept [] out h = tt
   frames_kept (frame ∷ below) out h = (frame_kept (places_of (frame ∷ below)) frame out h.0, h.1, frames_kept below (out_below frame.place (places_of below) out) h.2)
 
@@ -92,14 +92,14 @@ seen_kept scope kept places p v seen = subst (AreSeen scope) (sym (seen_pushed k
   turned q false false h = h
 
 -- what holds of what is kept, once the top frame is left
-pub record IsLeft (scope : Scope) (kept kept' : Kept) (items : List Item) (o : Option ℕ) (below : List Frame) (begun : List ℕ) : Type 0 where
-  pub is_kept : IsKept scope kept'
+pub record IsLeft (scope : Scope) (kept kept' : Kept) (items : List Item) (o : Option ℕ) (below : List StackFrame) (begun : List ℕ) : Type 0 where
+  pub is_kept : AreKept scope kept'
   pub frames : AreFrames scope kept' items below
   pub seen : AreSeen scope (seen_of below kept')
   pub begun_on : (q : ℕ) → kept_at kept' q ≡ None → list_any (nat_eq q) begun ≡ is_among (places_of below) q
   pub as_many : length (seen_of below kept') ≡ length (placed o (places_of below) ++ keys_of kept)
 
-left_by_symbol : (scope : Scope) (kept : Kept) (items : List Item) (p : ℕ) (v : ℤ) (below : List Frame) (begun : List ℕ) → IsKept scope kept → AreFrames scope kept items below → AreSeen scope (p ∷ places_of below ++ keys_of kept) → ((q : ℕ) → kept_at kept q ≡ None → list_any (nat_eq q) begun ≡ is_among (p ∷ places_of below) q)
+left_by_symbol : (scope : Scope) (kept : Kept) (items : List Item) (p : ℕ) (v : ℤ) (below : List StackFrame) (begun : List ℕ) → AreKept scope kept → AreFrames scope kept items below → AreSeen scope (p ∷ places_of below ++ keys_of kept) → ((q : ℕ) → kept_at kept q ≡ None → list_any (nat_eq q) begun ≡ is_among (p ∷ places_of below) q)
     → worked_out (kept_value scope kept (in_program scope p)) (items_at scope p) [] ≡ Ok v → IsLeft scope kept (kept ++ (p, v) ∷ []) items (Some p) below begun
 left_by_symbol scope kept items p v below begun is frames seen same gives =
     let places = places_of below in
@@ -115,7 +115,7 @@ left_by_symbol scope kept items p v below begun is frames seen same gives =
       as_many = ap (λ xs. length xs) (seen_pushed kept places p v) ∙ length-append (places ++ keys_of kept) (p ∷ []) ∙ omega arith;
     }
 
-left_by : (scope : Scope) (kept kept' : Kept) (items : List Item) (o : Option ℕ) (v : ℤ) (below : List Frame) (begun : List ℕ) → IsKept scope kept → AreFrames scope kept items below → AreSeen scope (placed o (places_of below) ++ keys_of kept) → ((q : ℕ) → kept_at kept q ≡ None → list_any (nat_eq q) begun ≡ is_among (placed o (places_of below)) q)
+left_by : (scope : Scope) (kept kept' : Kept) (items : List Item) (o : Option ℕ) (v : ℤ) (below : List StackFrame) (begun : List ℕ) → AreKept scope kept → AreFrames scope kept items below → AreSeen scope (placed o (places_of below) ++ keys_of kept) → ((q : ℕ) → kept_at kept q ≡ None → list_any (nat_eq q) begun ≡ is_among (placed o (places_of below)) q)
     → worked_out (kept_value scope kept (is_local scope o)) (items_of scope items o) [] ≡ Ok v → IsNewlyKept kept o v kept' → IsLeft scope kept kept' items o below begun
 left_by scope kept kept' items None v below begun is frames seen same gives new =
     subst (λ es. IsLeft scope kept es items None below begun) (sym new) (record { is_kept = is; frames = frames; seen = seen; begun_on = same; as_many = refl })
@@ -125,17 +125,17 @@ left_by scope kept kept' items (Some p) v below begun is frames seen same gives 
     subst (λ es. IsLeft scope kept es items (Some p) below begun) (sym (new ∙ inserted kept p v none)) (left_by_symbol scope kept items p v below begun is frames seen same gives)
 
 -- the end of the top frame
-pub done_left : (scope : Scope) (kept kept' : Kept) (own : Option ℕ) (items : List Item) (old : Work) (v : ℤ) → Holds scope kept own items old → Shown scope kept items old (λ _. Ok v) → IsNewlyKept kept old.top.place v kept' → IsLeft scope kept kept' items old.top.place old.below.items old.begun.keys
+pub done_left : (scope : Scope) (kept kept' : Kept) (own : Option ℕ) (items : List Item) (old : Work) (v : ℤ) → IsRightSoFar scope kept own items old → Shown scope kept items old (λ _. Ok v) → IsNewlyKept kept old.top.place v kept' → IsLeft scope kept kept' items old.top.place old.below.items old.begun.keys
 done_left scope kept kept' own items old v st run new =
     left_by scope kept kept' items old.top.place v old.below.items old.begun.keys st.is_kept st.frames.2 st.seen st.begun
     (ap (λ l. worked_out (kept_value scope kept l) (items_of scope items old.top.place) []) (sym st.frames.0.local) ∙ run (kept_value scope kept old.top.local) (agrees_kept scope kept (is_among (places_of (frames_of old))) old.top.local)) new
 
-lowest_below : (own : Option ℕ) (top : Frame) (below : List Frame) (frame : Frame) (rest : List Frame) → below ≡ frame ∷ rest → IsLowest own (top ∷ below) → IsLowest own (frame ∷ rest)
+lowest_below : (own : Option ℕ) (top : StackFrame) (below : List StackFrame) (frame : StackFrame) (rest : List StackFrame) → below ≡ frame ∷ rest → IsLowest own (top ∷ below) → IsLowest own (frame ∷ rest)
 lowest_below own top below frame rest same h = let it : IsLowest own (top ∷ frame ∷ rest) = subst (λ fs. IsLowest own (top ∷ fs)) same h in it
 
 -- the frame below goes on
-pub done_on : (scope : Scope) (kept kept' : Kept) (own : Option ℕ) (items : List Item) (old new : Work) (v : ℤ) → Holds scope kept own items old → Shown scope kept items old (λ _. Ok v) → IsNewlyKept kept old.top.place v kept' → frames_of new ≡ old.below.items → new.begun.keys ≡ old.begun.keys
-    → Holds scope kept' own items new × (left_to_do scope kept' (frames_of new) < left_to_do scope kept (frames_of old))
+pub done_on : (scope : Scope) (kept kept' : Kept) (own : Option ℕ) (items : List Item) (old new : Work) (v : ℤ) → IsRightSoFar scope kept own items old → Shown scope kept items old (λ _. Ok v) → IsNewlyKept kept old.top.place v kept' → frames_of new ≡ old.below.items → new.begun.keys ≡ old.begun.keys
+    → IsRightSoFar scope kept' own items new × (left_to_do scope kept' (frames_of new) < left_to_do scope kept (frames_of old))
 done_on scope kept kept' own items old new v st run fresh below begun =
     let it = done_left scope kept kept' own items old v st run fresh in
     let as_many : length (seen_of (frames_of new) kept') ≡ length (seen_of (frames_of old) kept) = ap (λ fs. length (seen_of fs kept')) below ∙ it.as_many in
@@ -152,7 +152,7 @@ done_on scope kept kept' own items old new v st run fresh below begun =
     )
 
 -- the lowest frame is done
-pub done_last : (scope : Scope) (kept kept' : Kept) (own : Option ℕ) (items : List Item) (old : Work) (v : ℤ) → Holds scope kept own items old → Shown scope kept items old (λ _. Ok v) → IsNewlyKept kept old.top.place v kept' → old.below.items ≡ [] → (value_at scope own items ≡ Ok v) × IsKept scope kept'
+pub done_last : (scope : Scope) (kept kept' : Kept) (own : Option ℕ) (items : List Item) (old : Work) (v : ℤ) → IsRightSoFar scope kept own items old → Shown scope kept items old (λ _. Ok v) → IsNewlyKept kept old.top.place v kept' → old.below.items ≡ [] → (value_at scope own items ≡ Ok v) × AreKept scope kept'
 done_last scope kept kept' own items old v st run fresh below =
     let it = done_left scope kept kept' own items old v st run fresh in
     let lowest : old.top.place ≡ own = subst (λ fs. IsLowest own (old.top ∷ fs)) below st.lowest in
@@ -169,7 +169,7 @@ key_at (e ∷ es) q h = by (nat_eq q e.0) refl (key_at es q) where
   by true t rest = let p : e.0 ≡ q = sym (eqb-true q e.0 t) in (0, e.1, (λ j. Some (p j, e.1)))
   by false t rest = later (rest (rw t at h))
 
-kept_seen : (scope : Scope) (kept : Kept) → IsKept scope kept → IsDistinct nat_eq (keys_of kept) → AreSeen scope (keys_of kept)
+kept_seen : (scope : Scope) (kept : Kept) → AreKept scope kept → IsDistinct nat_eq (keys_of kept) → AreSeen scope (keys_of kept)
 kept_seen scope kept is distinct = record { distinct = distinct; within = λ q h. found_within q (key_at kept q h) } where
   found_within : (q : ℕ) → (i : ℕ) × (v : ℤ) × (slice_get kept i ≡ Some (q, v)) → q < count_of scope
   found_within q there = (is there.0 q there.1 there.2).within
@@ -183,8 +183,8 @@ own_items scope None items is_own = refl
 own_items scope (Some p) items is_own = items_of_symbol scope p items is_own
 
 -- the first frame
-pub new_holds : (scope : Scope) (kept : Kept) (own : Option ℕ) (items : List Item) (new : Work) → IsOwn scope own items → IsKept scope kept → IsDistinct nat_eq (keys_of kept) → kept_of kept own ≡ None
-    → new.top.place ≡ own → new.top.local ≡ is_local scope own → new.top.rest.now ≡ items → new.top.numbers.items ≡ [] → new.below.items ≡ [] → ((q : ℕ) → list_any (nat_eq q) new.begun.keys ≡ is_among (placed own []) q) → Holds scope kept own items new
+pub new_holds : (scope : Scope) (kept : Kept) (own : Option ℕ) (items : List Item) (new : Work) → IsOwn scope own items → AreKept scope kept → IsDistinct nat_eq (keys_of kept) → kept_of kept own ≡ None
+    → new.top.place ≡ own → new.top.local ≡ is_local scope own → new.top.rest.now ≡ items → new.top.numbers.items ≡ [] → new.below.items ≡ [] → ((q : ℕ) → list_any (nat_eq q) new.begun.keys ≡ is_among (placed own []) q) → IsRightSoFar scope kept own items new
 new_holds scope kept own items new is_own is distinct none place local rest numbers below begun =
     let alone : frames_of new ≡ new.top ∷ [] = ap (λ fs. new.top ∷ fs) below in
     let places : places_of (frames_of new) ≡ placed own [] = (λ i. placed (place i) (places_of (below i))) in
@@ -202,18 +202,18 @@ new_holds scope kept own items new is_own is distinct none place local rest numb
     }
 
 -- what a step of the end gives
-pub end_steps : (scope : Scope) (kept kept' : Kept) (own : Option ℕ) (items : List Item) (old new : Work) (top : Frame) (v : ℤ) (result : Result (Option ℤ) ValueFault) → Holds scope kept own items old → Shown scope kept items old (λ _. Ok v) → top.place ≡ old.top.place
-    → IfOk result (Finished v (record { top = top; below = old.below; begun = old.begun }) new) → new.begun ≡ old.begun → OnOk result (IsNewlyKept kept top.place v kept') → IfErr result (λ fault. (fault ≡ Memory) × (kept' ≡ kept)) → Steps scope own items kept old kept' new result
+pub end_steps : (scope : Scope) (kept kept' : Kept) (own : Option ℕ) (items : List Item) (old new : Work) (top : StackFrame) (v : ℤ) (result : Result (Option ℤ) ValueFault) → IsRightSoFar scope kept own items old → Shown scope kept items old (λ _. Ok v) → top.place ≡ old.top.place
+    → IfOk result (Finished v (record { top = top; below = old.below; begun = old.begun }) new) → new.begun ≡ old.begun → OnOk result (IsNewlyKept kept top.place v kept') → IfErr result (λ fault. (fault ≡ Memory) × (kept' ≡ kept)) → StepsTo scope own items kept old kept' new result
 end_steps scope kept kept' own items old new top v (Ok None) st run of_symbol finished begun fresh memory =
     done_on scope kept kept' own items old new v st run (subst (λ o. IsNewlyKept kept o v kept') of_symbol fresh) finished (ap (λ s. s.keys) begun)
 end_steps scope kept kept' own items old new top v (Ok (Some n)) st run of_symbol finished begun fresh memory =
     let it = done_last scope kept kept' own items old v st run (subst (λ o. IsNewlyKept kept o v kept') of_symbol fresh) finished.1 in
     (it.0 ∙ ap Ok (sym finished.0), it.1)
 end_steps scope kept kept' own items old new top v (Err fault) st run of_symbol finished begun fresh memory =
-    (subst (λ f. HasFault f (value_at scope own items)) (sym memory.0) tt, subst (IsKept scope) (sym memory.1) st.is_kept)
+    (subst (λ f. IsValueFaultOf f (value_at scope own items)) (sym memory.0) tt, subst (AreKept scope) (sym memory.1) st.is_kept)
 
 -- a symbol whose value is kept
-pub kept_whole : (scope : Scope) (kept : Kept) (own : Option ℕ) (items : List Item) (v : ℤ) → IsOwn scope own items → IsKept scope kept → IsDistinct nat_eq (keys_of kept) → kept_of kept own ≡ Some v → value_at scope own items ≡ Ok v
+pub kept_whole : (scope : Scope) (kept : Kept) (own : Option ℕ) (items : List Item) (v : ℤ) → IsOwn scope own items → AreKept scope kept → IsDistinct nat_eq (keys_of kept) → kept_of kept own ≡ Some v → value_at scope own items ≡ Ok v
 kept_whole scope kept None items v is_own is distinct h = let no : None ≡ Some v = h in cc
 kept_whole scope kept (Some p) items v is_own is distinct h =
     let seen = kept_seen scope kept is distinct in
@@ -223,9 +223,9 @@ kept_whole scope kept (Some p) items v is_own is distinct h =
     ∙ kept_exact scope kept is (count_of scope - 1) p v (omega (arith, fit, keys)) h
 
 -- a step that doesn't go on ends with the value or the fault
-pub ended : (scope : Scope) (own : Option ℕ) (items : List Item) (kept : Kept) (old : Work) (kept' : Kept) (new : Work) (step : Result (Option ℤ) ValueFault) (answer : Result ℤ ValueFault) → Steps scope own items kept old kept' new step → Some answer ≡ result_transpose step → Gives answer (value_at scope own items) × IsKept scope kept'
+pub ended : (scope : Scope) (own : Option ℕ) (items : List Item) (kept : Kept) (old : Work) (kept' : Kept) (new : Work) (step : Result (Option ℤ) ValueFault) (answer : Result ℤ ValueFault) → StepsTo scope own items kept old kept' new step → Some answer ≡ result_transpose step → Gives answer (value_at scope own items) × AreKept scope kept'
 ended scope own items kept old kept' new (Ok None) answer steps e = absurd cc
 ended scope own items kept old kept' new (Ok (Some n)) (Ok m) steps e = let same : n ≡ m = cc in (steps.0 ∙ ap Ok same, steps.1)
 ended scope own items kept old kept' new (Ok (Some n)) (Err fault) steps e = absurd cc
 ended scope own items kept old kept' new (Err fault) (Ok m) steps e = absurd cc
-ended scope own items kept old kept' new (Err fault) (Err other) steps e = let same : fault ≡ other = cc in (subst (λ f. HasFault f (value_at scope own items)) same steps.0, steps.1)
+ended scope own items kept old kept' new (Err fault) (Err other) steps e = let same : fault ≡ other = cc in (subst (λ f. IsValueFaultOf f (value_at scope own items)) same steps.0, steps.1)

@@ -10,9 +10,9 @@ use Rattle.std.proofs.lemmas.Map.Steps.{length-le_from_distinct_below}
 use Rattle.pio_expr.specs.declared.expr.Item.{Item}
 use Rattle.pio_expr.specs.declared.expr.Item.TheVariants as item
 use Rattle.pio_expr.specs.declared.fault.ValueKind.{ValueKind}
-use Rattle.pio_expr.specs.declared.frame.Frame.{Frame}
+use Rattle.pio_expr.specs.declared.frame.StackFrame.{StackFrame}
 use Rattle.pio_expr.specs.Values.{Scope, in_program, count_of, is_among, worked_out, name_value, value_at}
-use Rattle.pio_expr.specs.Frames.{Kept, kept_at, is_local, items_at, IsKept}
+use Rattle.pio_expr.specs.Frames.{Kept, kept_at, is_local, items_at, AreKept}
 use Rattle.pio_expr.specs.Work.{placed, places_of, items_of, IsOwn, IsFrame, AwaitedAt, AreFrames, IsLowest, seen_of, AreSeen}
 use Rattle.pio_expr.proofs.Workings.{ends_in}
 use Rattle.pio_expr.proofs.Finding.{items_of_symbol}
@@ -94,7 +94,7 @@ lowest_by scope items None is = let all : count_of scope - 0 ≡ count_of scope 
 lowest_by scope items (Some p) is = ap (λ its. worked_out (name_value (count_of scope - 1) scope (p ∷ []) (in_program scope p)) its []) (items_of_symbol scope p items is)
 
 -- a frame goes on as the definition does
-pub as_defined : (scope : Scope) (kept : Kept) (items : List Item) (frame : Frame) (below : List Frame) → IsKept scope kept → AreSeen scope (seen_of (frame ∷ below) kept) → IsFrame scope kept items (places_of (frame ∷ below)) frame
+pub as_defined : (scope : Scope) (kept : Kept) (items : List Item) (frame : StackFrame) (below : List StackFrame) → AreKept scope kept → AreSeen scope (seen_of (frame ∷ below) kept) → IsFrame scope kept items (places_of (frame ∷ below)) frame
     → frame_value scope items frame.place (places_of below) ≡ worked_out (name_value (count_of scope - length (places_of (frame ∷ below))) scope (places_of (frame ∷ below)) frame.local) frame.rest.now frame.numbers.items
 as_defined scope kept items frame below is seen it =
     let places = places_of (frame ∷ below) in
@@ -118,7 +118,7 @@ fault_met scope kept items local places numbers fault (Some p) (i ∷ rest) awai
 fault_met scope kept items local places numbers fault None rest awaited seen h = absurd awaited
 
 -- so a fault of the top frame is that of the whole
-pub fault_of_whole : (scope : Scope) (kept : Kept) (own : Option ℕ) (items : List Item) (fault : ValueKind) → IsOwn scope own items → IsKept scope kept → (frame : Frame) (below : List Frame) → AreFrames scope kept items (frame ∷ below) → IsLowest own (frame ∷ below) → AreSeen scope (seen_of (frame ∷ below) kept)
+pub fault_of_whole : (scope : Scope) (kept : Kept) (own : Option ℕ) (items : List Item) (fault : ValueKind) → IsOwn scope own items → AreKept scope kept → (frame : StackFrame) (below : List StackFrame) → AreFrames scope kept items (frame ∷ below) → IsLowest own (frame ∷ below) → AreSeen scope (seen_of (frame ∷ below) kept)
     → frame_value scope items frame.place (places_of below) ≡ Err fault → value_at scope own items ≡ Err fault
 fault_of_whole scope kept own items fault is_own is frame [] frames lowest seen h =
     sym (ap (λ o. frame_value scope items o []) lowest ∙ lowest_by scope items own is_own) ∙ h
@@ -128,5 +128,5 @@ fault_of_whole scope kept own items fault is_own is frame (caller ∷ below) fra
     (as_defined scope kept items caller below is seen_on frames.2.0 ∙ fault_met scope kept items caller.local (places_of (caller ∷ below)) caller.numbers.items fault frame.place caller.rest.now frames.1 seen h)
 
 -- and the value of the lowest frame that of the whole
-pub value_of_whole : (scope : Scope) (own : Option ℕ) (items : List Item) (value : ℤ) → IsOwn scope own items → (frame : Frame) → frame.place ≡ own → frame_value scope items frame.place [] ≡ Ok value → value_at scope own items ≡ Ok value
+pub value_of_whole : (scope : Scope) (own : Option ℕ) (items : List Item) (value : ℤ) → IsOwn scope own items → (frame : StackFrame) → frame.place ≡ own → frame_value scope items frame.place [] ≡ Ok value → value_at scope own items ≡ Ok value
 value_of_whole scope own items value is_own frame lowest h = sym (ap (λ o. frame_value scope items o []) lowest ∙ lowest_by scope items own is_own) ∙ h

@@ -8,7 +8,7 @@ use Rattle.pio_expr.specs.declared.symbol.Symbol.TheVariants.{Define, Label}
 use Rattle.pio_expr.specs.declared.fault.ValueKind.{ValueKind}
 use Rattle.pio_expr.specs.declared.fault.ValueKind.TheVariants.{Unknown, Cycle}
 use Rattle.pio_expr.specs.Values.{Scope, Found, found, in_program, is_among, number_by, left_by, worked_out, by_symbol, name_value}
-use Rattle.pio_expr.specs.Frames.{Kept, kept_at, kept_value, by_kept, items_at, IsKept}
+use Rattle.pio_expr.specs.Frames.{Kept, kept_at, kept_value, by_kept, items_at, AreKept}
 use Rattle.pio_expr.proofs.Workings.{goes_on, ends_in}
 use Rattle.pio_expr.proofs.Lookups.{some_same}
 use Rattle.pio_expr.proofs.Finding.{items_of_found}
@@ -123,7 +123,7 @@ apart_more kept m place under none apart q h = by (nat_eq q place) refl where
   by false t = none_before kept m q (apart q (rw t at h))
 
 -- the newest of the kept
-module _ (scope : Scope) (kept : Kept) (is : IsKept scope kept) (m : ℕ) (older : Exact scope kept m) where
+module _ (scope : Scope) (kept : Kept) (is : AreKept scope kept) (m : ℕ) (older : Exact scope kept m) where
   newest_exact : (n place : ℕ) (items : List Item) (under : List ℕ) (v : ℤ) → m ≤ n → Apart under (take (suc m) kept) → items_at scope place ≡ items → kept_at (take m kept) place ≡ None → slice_get kept m ≡ Some (place, v)
       → worked_out (name_value n scope (place ∷ under) (in_program scope place)) items [] ≡ Ok v
   newest_exact n place items under v le apart same none at =
@@ -147,22 +147,22 @@ module _ (scope : Scope) (kept : Kept) (is : IsKept scope kept) (m : ℕ) (older
   exact_more n under local name v le apart h =
       exact_by scope (take (suc m) kept) n under local name v (found scope local name) refl (λ place items e k. exact_define n under local name v le apart place items e k (newest kept m place v k)) h
 
-pub exact : (scope : Scope) (kept : Kept) → IsKept scope kept → (m : ℕ) → Exact scope kept m
+pub exact : (scope : Scope) (kept : Kept) → AreKept scope kept → (m : ℕ) → Exact scope kept m
 exact scope kept is zero = exact_none scope kept
 exact scope kept is (suc m) = exact_more scope kept is m (exact scope kept is m)
 
 -- and the value of a define that is kept
-kept_from : (scope : Scope) (kept : Kept) → IsKept scope kept → (m n place : ℕ) (v : ℤ) → m ≤ suc n → kept_at (take m kept) place ≡ Some v → worked_out (name_value n scope (place ∷ []) (in_program scope place)) (items_at scope place) [] ≡ Ok v
+kept_from : (scope : Scope) (kept : Kept) → AreKept scope kept → (m n place : ℕ) (v : ℤ) → m ≤ suc n → kept_at (take m kept) place ≡ Some v → worked_out (name_value n scope (place ∷ []) (in_program scope place)) (items_at scope place) [] ≡ Ok v
 kept_from scope kept is zero n place v le h = let no : None ≡ Some v = h in cc
 kept_from scope kept is (suc m) n place v le h = by (newest kept m place v h) (kept_from scope kept is m n place v (omega (arith, le))) where
   by : Newest kept m place v → (kept_at (take m kept) place ≡ Some v → worked_out (name_value n scope (place ∷ []) (in_program scope place)) (items_at scope place) [] ≡ Ok v) → worked_out (name_value n scope (place ∷ []) (in_program scope place)) (items_at scope place) [] ≡ Ok v
   by (inl there) rest = rest there
   by (inr there) rest = newest_exact scope kept is m (exact scope kept is m) n place (items_at scope place) [] v (omega (arith, le)) (λ q e. absurd (true≢false (sym e))) refl there.0 there.1
 
-pub kept_exact : (scope : Scope) (kept : Kept) → IsKept scope kept → (n place : ℕ) (v : ℤ) → length kept ≤ suc n → kept_at kept place ≡ Some v → worked_out (name_value n scope (place ∷ []) (in_program scope place)) (items_at scope place) [] ≡ Ok v
+pub kept_exact : (scope : Scope) (kept : Kept) → AreKept scope kept → (n place : ℕ) (v : ℤ) → length kept ≤ suc n → kept_at kept place ≡ Some v → worked_out (name_value n scope (place ∷ []) (in_program scope place)) (items_at scope place) [] ≡ Ok v
 kept_exact scope kept is n place v le h = kept_from scope kept is (length kept) n place v le (ap (λ es. kept_at es place) (take-length kept) ∙ h)
 
 -- all that is kept is of names
-pub all_exact : (scope : Scope) (kept : Kept) → IsKept scope kept → (n : ℕ) (under : List ℕ) (local : Bool) (name : List ℕ) (v : ℤ) → length kept ≤ n → Apart under kept → kept_value scope kept local name ≡ Ok v → name_value n scope under local name ≡ Ok v
+pub all_exact : (scope : Scope) (kept : Kept) → AreKept scope kept → (n : ℕ) (under : List ℕ) (local : Bool) (name : List ℕ) (v : ℤ) → length kept ≤ n → Apart under kept → kept_value scope kept local name ≡ Ok v → name_value n scope under local name ≡ Ok v
 all_exact scope kept is n under local name v le apart h =
     exact scope kept is (length kept) n under local name v le (λ q e. ap (λ es. kept_at es q) (take-length kept) ∙ apart q e) (ap (λ es. kept_value scope es local name) (take-length kept) ∙ h)

@@ -13,7 +13,7 @@ use Rattle.pio_lex.specs.declared.token.TokenKind.TheVariants as kind
 use Rattle.pio_lex.specs.Bytes.{is_name_byte}
 use Rattle.pio_lex.specs.Tokens.{IsTokenOf}
 use Rattle.pio_lex.specs.Spellings.{IsSpelling}
-use Rattle.pio_expr.specs.declared.mark.Mark.TheVariants as mark
+use Rattle.pio_expr.specs.declared.mark.TokenMark.TheVariants as mark
 use Rattle.pio_expr.specs.Marks.{mark_of}
 
 small : (b : ℕ) → is_name_byte b ≡ true → b < 128

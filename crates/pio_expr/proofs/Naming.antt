@@ -6,16 +6,16 @@ use Rattle.pio_expr.specs.declared.fault.ValueKind.TheVariants.{Unknown}
 use Rattle.pio_expr.specs.declared.fault.ValueKind.{ValueKind}
 use Rattle.pio_expr.specs.declared.fault.ValueFault.{ValueFault}
 use Rattle.pio_expr.specs.declared.fault.ValueFault.TheVariants as fault
-use Rattle.pio_expr.specs.Values.{Scope, Found, found, symbol_of, name_value, count_of, value_at, value_of, value_of_name, Tells, HasFault}
+use Rattle.pio_expr.specs.Values.{Scope, Found, found, symbol_of, name_value, count_of, value_at, value_of, value_of_name, Tells, IsValueFaultOf}
 use Rattle.pio_expr.proofs.Finding.{found_is_there, place_within}
 use Rattle.pio_expr.proofs.Keeping.{at_none, at_label, at_define}
 
 -- a fault that tells the answer's
-told_on : (given : ValueFault) (kind : ValueKind) (answer : Result ℤ ValueKind) → answer ≡ Err kind → Tells given kind → HasFault given answer
+told_on : (given : ValueFault) (kind : ValueKind) (answer : Result ℤ ValueKind) → answer ≡ Err kind → Tells given kind → IsValueFaultOf given answer
 told_on fault.Memory kind answer e t = tt
 told_on (fault.Found told) kind answer e t = e ∙ ap Err (sym t)
 
-pub name_unknown : (scope : Scope) (name : List ℕ) (given : ValueFault) → found scope true name ≡ None → Tells given (Unknown name) → HasFault given (value_of_name scope name)
+pub name_unknown : (scope : Scope) (name : List ℕ) (given : ValueFault) → found scope true name ≡ None → Tells given (Unknown name) → IsValueFaultOf given (value_of_name scope name)
 name_unknown scope name given e t = told_on given (Unknown name) (value_of_name scope name) (at_none scope [] true name (count_of scope) e) t
 
 pub name_label : (scope : Scope) (name : List ℕ) (place words : ℕ) → found scope true name ≡ Some (place, Label words) → value_of_name scope name ≡ Ok (pos words)

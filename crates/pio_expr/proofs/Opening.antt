@@ -5,9 +5,9 @@ use Rattle.std.proofs.lemmas.Bool.{ltb-true, ltb-false}
 use Rattle.pio_lex.specs.declared.token.Token.{Token}
 use Rattle.pio_expr.specs.declared.expr.Item.TheVariants as item
 use Rattle.pio_expr.specs.declared.fault.ExprKind.TheVariants.{Syntax, TooDeep, Ambiguous}
-use Rattle.pio_expr.specs.declared.fault.Refusal.{Refusal}
-use Rattle.pio_expr.specs.declared.mark.Mark.{Mark}
-use Rattle.pio_expr.specs.declared.mark.Mark.TheVariants as mark
+use Rattle.pio_expr.specs.declared.fault.ExprRefusal.{ExprRefusal}
+use Rattle.pio_expr.specs.declared.mark.TokenMark.{TokenMark}
+use Rattle.pio_expr.specs.declared.mark.TokenMark.TheVariants as mark
 use Rattle.pio_expr.specs.declared.waiting.Waiting.{Waiting}
 use Rattle.pio_expr.specs.declared.waiting.Waiting.TheVariants as waiting
 use Rattle.pio_expr.specs.Marks.{mark_at}
@@ -17,7 +17,7 @@ use Rattle.pio_expr.specs.Turns.{innermost, is_level, is_reverse, opened, sign_a
 use Rattle.pio_expr.proofs.Steps.{then_assoc, deeper_of, value_at, unary_at, level_at, wants_unary, wants_value, wants_plain}
 
 -- what a token opens leaves the same to read
-abbrev pub Opens : List ℕ → List Token → List Waiting → Progress → Result (Option Waiting) Refusal → Type 0
+abbrev pub Opens : List ℕ → List Token → List Waiting → Progress → Result (Option Waiting) ExprRefusal → Type 0
 Opens source tokens ws p (Ok None) = (rest source tokens ws).wants p ≡ (rest source tokens ws).unary (value_read source tokens p)
 Opens source tokens ws p (Ok (Some w)) = ((rest source tokens ws).wants p ≡ (rest source tokens (w ∷ ws)).wants (next p)) × (IsSound ws → IsSound (w ∷ ws))
 Opens source tokens ws p (Err fault) = (rest source tokens ws).wants p ≡ Err fault
@@ -60,7 +60,7 @@ sign_is source tokens ws p is other = opened_is source tokens ws waiting.Negate 
       signed = wants_unary source tokens ws mark.Minus p is (λ e. cc) other ∙ ap (λ read. then read (rest source tokens ws).unary) (unary_at source tokens (left ws) mark.Minus p is)
 
 -- a sign or a `::` after a `::` is no value
-after_reverse : (source : List ℕ) (tokens : List Token) (ws : List Waiting) (m : Mark) (p : Progress) → mark_at tokens p.at ≡ m → value_by source tokens m (deeper_of source tokens (left ws)) p ≡ Err (misplaced p.at Syntax) → is_reverse (innermost ws) ≡ true → (rest source tokens ws).wants p ≡ Err (misplaced p.at Syntax)
+after_reverse : (source : List ℕ) (tokens : List Token) (ws : List Waiting) (m : TokenMark) (p : Progress) → mark_at tokens p.at ≡ m → value_by source tokens m (deeper_of source tokens (left ws)) p ≡ Err (misplaced p.at Syntax) → is_reverse (innermost ws) ≡ true → (rest source tokens ws).wants p ≡ Err (misplaced p.at Syntax)
 after_reverse source tokens ws m p is none top = wants_value source tokens ws p top ∙ ap (λ read. then read (rest source tokens ws).unary) (value_at source tokens (left ws) m p is ∙ none)
 
 minus_is : (source : List ℕ) (tokens : List Token) (ws : List Waiting) (p : Progress) → mark_at tokens p.at ≡ mark.Minus → Opens source tokens ws p (sign_at p.at ws)
@@ -122,7 +122,7 @@ reverse_is source tokens ws p is = by_top (is_reverse (innermost ws)) refl where
   by_top false e = by_level e (is_level (innermost ws)) refl
 
 -- every token, where an operand is wanted
-pub opening_is : (source : List ℕ) (tokens : List Token) (ws : List Waiting) (m : Mark) (p : Progress) → mark_at tokens p.at ≡ m → Opens source tokens ws p (opening m p.at ws)
+pub opening_is : (source : List ℕ) (tokens : List Token) (ws : List Waiting) (m : TokenMark) (p : Progress) → mark_at tokens p.at ≡ m → Opens source tokens ws p (opening m p.at ws)
 opening_is source tokens ws mark.Value p is = wants_plain source tokens ws mark.Value p is (λ e. cc) (λ e. cc)
 opening_is source tokens ws mark.Open p is = paren_is source tokens ws p is
 opening_is source tokens ws mark.Minus p is = minus_is source tokens ws p is

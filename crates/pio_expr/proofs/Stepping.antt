@@ -13,11 +13,11 @@ use Rattle.pio_expr.specs.declared.symbol.Symbol.TheVariants.{Define, Label}
 use Rattle.pio_expr.specs.declared.fault.ValueFault.{ValueFault}
 use Rattle.pio_expr.specs.declared.fault.ValueFault.TheVariants as value_fault
 use Rattle.pio_expr.specs.declared.fault.ValueKind.{ValueKind}
-use Rattle.pio_expr.specs.declared.frame.Frame.{Frame}
+use Rattle.pio_expr.specs.declared.frame.StackFrame.{StackFrame}
 use Rattle.pio_expr.specs.declared.work.Work.{Work}
-use Rattle.pio_expr.specs.Values.{Scope, Found, found, by_symbol, count_of, is_among, worked_out, name_value, value_at, HasFault}
+use Rattle.pio_expr.specs.Values.{Scope, Found, found, by_symbol, count_of, is_among, worked_out, name_value, value_at, IsValueFaultOf}
 use Rattle.pio_expr.specs.Frames.{Kept, kept_at, is_local, items_at, symbol_at, Look, number, wanted, look_by, looked_up, Agrees, RestsAt}
-use Rattle.pio_expr.specs.Work.{placed, places_of, items_of, IsFrame, AwaitedAt, IsAwaited, AreFrames, IsLowest, seen_of, AreSeen, frames_of, Holds, left_to_do, Waited}
+use Rattle.pio_expr.specs.Work.{placed, places_of, items_of, IsFrame, AwaitedAt, IsAwaited, AreFrames, IsLowest, seen_of, AreSeen, frames_of, IsRightSoFar, left_to_do, Waited}
 use Rattle.pio_expr.proofs.Finding.{items_of_symbol, found_is_there, place_within}
 use Rattle.pio_expr.proofs.Agreeing.{agrees_value, agrees_fewer, IsMore}
 use Rattle.pio_expr.proofs.Framing.{all_none, not_key, apart, seen_fit, keys_length, frame_value, fault_of_whole}
@@ -30,13 +30,13 @@ Shown scope kept items old gives = (named : List ℕ → Result ℤ ValueKind) �
 begun_more : (kept : Kept) (begun under : ℕ → Bool) → ((q : ℕ) → kept_at kept q ≡ None → begun q ≡ under q) → IsMore kept begun kept under
 begun_more kept begun under same q = ((λ v e. e), (λ none t. (none, sym (same q none) ∙ t)))
 
-pub shown : (scope : Scope) (kept : Kept) (own : Option ℕ) (items : List Item) (old : Work) → Holds scope kept own items old → (gives : (List ℕ → Result ℤ ValueKind) → Result ℤ ValueKind)
+pub shown : (scope : Scope) (kept : Kept) (own : Option ℕ) (items : List Item) (old : Work) → IsRightSoFar scope kept own items old → (gives : (List ℕ → Result ℤ ValueKind) → Result ℤ ValueKind)
     → ((named : List ℕ → Result ℤ ValueKind) → Agrees (looked_up scope kept (λ q. list_any (nat_eq q) old.begun.keys) old.top.local) named → worked_out named old.top.rest.now old.top.numbers.items ≡ gives named) → Shown scope kept items old gives
 shown scope kept own items old st gives run named agrees =
     st.frames.0.going named agrees ∙ run named (agrees_fewer scope kept kept (λ q. list_any (nat_eq q) old.begun.keys) (is_among (places_of (frames_of old))) old.top.local named (begun_more kept (λ q. list_any (nat_eq q) old.begun.keys) (is_among (places_of (frames_of old))) st.begun) agrees)
 
 -- so the definition gives it too
-pub defined : (scope : Scope) (kept : Kept) (own : Option ℕ) (items : List Item) (old : Work) (r : Result ℤ ValueKind) → Holds scope kept own items old → Shown scope kept items old (λ _. r) → frame_value scope items old.top.place (places_of old.below.items) ≡ r
+pub defined : (scope : Scope) (kept : Kept) (own : Option ℕ) (items : List Item) (old : Work) (r : Result ℤ ValueKind) → IsRightSoFar scope kept own items old → Shown scope kept items old (λ _. r) → frame_value scope items old.top.place (places_of old.below.items) ≡ r
 defined scope kept own items old r st run =
     let places = places_of (frames_of old) in
     let n = count_of scope - length places in
@@ -45,14 +45,14 @@ defined scope kept own items old r st run =
     ap (λ l. worked_out (name_value n scope places l) (items_of scope items old.top.place) []) (sym st.frames.0.local)
     ∙ run (name_value n scope places old.top.local) (agrees_value scope kept n places old.top.local st.is_kept (omega (arith, fit, keys)) (apart kept places st.seen.distinct))
 
-fault_is : (scope : Scope) (kept : Kept) (own : Option ℕ) (items : List Item) (old : Work) (fault : ValueKind) → Holds scope kept own items old
+fault_is : (scope : Scope) (kept : Kept) (own : Option ℕ) (items : List Item) (old : Work) (fault : ValueKind) → IsRightSoFar scope kept own items old
     → ((named : List ℕ → Result ℤ ValueKind) → Agrees (looked_up scope kept (λ q. list_any (nat_eq q) old.begun.keys) old.top.local) named → worked_out named old.top.rest.now old.top.numbers.items ≡ Err fault) → value_at scope own items ≡ Err fault
 fault_is scope kept own items old fault st run =
     fault_of_whole scope kept own items fault st.is_own st.is_kept old.top old.below.items st.frames st.lowest st.seen (defined scope kept own items old (Err fault) st (shown scope kept own items old st (λ _. Err fault) run))
 
 -- a fault of the top frame
-pub fault_step : (scope : Scope) (kept : Kept) (own : Option ℕ) (items : List Item) (old : Work) (fault : ValueFault) → Holds scope kept own items old
-    → ((named : List ℕ → Result ℤ ValueKind) → Agrees (looked_up scope kept (λ q. list_any (nat_eq q) old.begun.keys) old.top.local) named → HasFault fault (worked_out named old.top.rest.now old.top.numbers.items)) → HasFault fault (value_at scope own items)
+pub fault_step : (scope : Scope) (kept : Kept) (own : Option ℕ) (items : List Item) (old : Work) (fault : ValueFault) → IsRightSoFar scope kept own items old
+    → ((named : List ℕ → Result ℤ ValueKind) → Agrees (looked_up scope kept (λ q. list_any (nat_eq q) old.begun.keys) old.top.local) named → IsValueFaultOf fault (worked_out named old.top.rest.now old.top.numbers.items)) → IsValueFaultOf fault (value_at scope own items)
 fault_step scope kept own items old value_fault.Memory st run = tt
 fault_step scope kept own items old (value_fault.Found kind) st run = fault_is scope kept own items old kind st run
 
@@ -107,7 +107,7 @@ asked scope kept under local (item.Name name ∷ rest) place items h =
 asked scope kept under local (i ∷ rest) place items h = absurd h
 
 -- the frame that waits now, and the one that begins
-module _ (scope : Scope) (kept : Kept) (own : Option ℕ) (items : List Item) (old : Work) (top : Frame) (st : Holds scope kept own items old) (of_symbol : top.place ≡ old.top.place) (local : top.local ≡ old.top.local) where
+module _ (scope : Scope) (kept : Kept) (own : Option ℕ) (items : List Item) (old : Work) (top : StackFrame) (st : IsRightSoFar scope kept own items old) (of_symbol : top.place ≡ old.top.place) (local : top.local ≡ old.top.local) where
   rested : Shown scope kept items old (λ named. worked_out named top.rest.now top.numbers.items) → IsFrame scope kept items (places_of (top ∷ old.below.items)) top
   rested run = record {
     local = local ∙ st.frames.0.local ∙ ap (is_local scope) (sym of_symbol);
@@ -116,13 +116,13 @@ module _ (scope : Scope) (kept : Kept) (own : Option ℕ) (items : List Item) (o
 
   rested_all : Shown scope kept items old (λ named. worked_out named top.rest.now top.numbers.items) → AreFrames scope kept items (top ∷ old.below.items)
   rested_all run = (rested run, awaited old.below.items st.frames.1, st.frames.2) where
-    awaited : (below : List Frame) → IsAwaited scope old.top below → IsAwaited scope top below
+    awaited : (below : List StackFrame) → IsAwaited scope old.top below → IsAwaited scope top below
     awaited [] h = tt
     awaited (caller ∷ below) h = subst (λ o. AwaitedAt scope caller.local o caller.rest.now) (sym of_symbol) h
 
   rested_lowest : IsLowest own (top ∷ old.below.items)
   rested_lowest = by old.below.items st.lowest where
-    by : (below : List Frame) → IsLowest own (old.top ∷ below) → IsLowest own (top ∷ below)
+    by : (below : List StackFrame) → IsLowest own (old.top ∷ below) → IsLowest own (top ∷ below)
     by [] h = of_symbol ∙ h
     by (caller ∷ below) h = h
 
@@ -155,9 +155,9 @@ seen_new scope p seen new within are = record { distinct = IsDistinct-cons nat_e
 unseen : (kept : Kept) (p : ℕ) (places : List ℕ) → kept_at kept p ≡ None → is_among places p ≡ false → list_any (nat_eq p) (places ++ keys_of kept) ≡ false
 unseen kept p places none idle = list_any-append (nat_eq p) places (keys_of kept) ∙ (rw (idle, not_key kept p none) refl)
 
-pub wait_step : (scope : Scope) (kept : Kept) (own : Option ℕ) (items : List Item) (old new : Work) (top : Frame) (place : ℕ) (its : List Item) → Holds scope kept own items old → top.place ≡ old.top.place → top.local ≡ old.top.local
+pub wait_step : (scope : Scope) (kept : Kept) (own : Option ℕ) (items : List Item) (old new : Work) (top : StackFrame) (place : ℕ) (its : List Item) → IsRightSoFar scope kept own items old → top.place ≡ old.top.place → top.local ≡ old.top.local
     → Shown scope kept items old (λ named. worked_out named top.rest.now top.numbers.items) → RestsAt (looked_up scope kept (λ q. list_any (nat_eq q) old.begun.keys) old.top.local) top.rest.now place its
-    → Waited scope place its (record { top = top; below = old.below; begun = old.begun }) new → Holds scope kept own items new × (left_to_do scope kept (frames_of new) < left_to_do scope kept (frames_of old))
+    → Waited scope place its (record { top = top; below = old.below; begun = old.begun }) new → IsRightSoFar scope kept own items new × (left_to_do scope kept (frames_of new) < left_to_do scope kept (frames_of old))
 wait_step scope kept own items old new top place its st of_symbol local run rests w =
     let it = asked scope kept (λ q. list_any (nat_eq q) old.begun.keys) old.top.local top.rest.now place its rests in
     let same : places_of (top ∷ old.below.items) ≡ places_of (frames_of old) = rested_places scope kept own items old top st of_symbol local in

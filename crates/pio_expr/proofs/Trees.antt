@@ -6,13 +6,13 @@ use Rattle.pio_lex.specs.declared.token.TokenKind.TheVariants as kind
 use Rattle.pio_lex.specs.declared.token.Token.{Token}
 use Rattle.pio_expr.specs.declared.expr.Item.{Item}
 use Rattle.pio_expr.specs.declared.expr.Item.TheVariants as item
-use Rattle.pio_expr.specs.declared.fault.Refusal.{Refusal}
+use Rattle.pio_expr.specs.declared.fault.ExprRefusal.{ExprRefusal}
 use Rattle.pio_expr.specs.declared.fault.ValueKind.{ValueKind}
-use Rattle.pio_expr.specs.declared.mark.Mark.{Mark}
-use Rattle.pio_expr.specs.declared.mark.Mark.TheVariants as mark
+use Rattle.pio_expr.specs.declared.mark.TokenMark.{TokenMark}
+use Rattle.pio_expr.specs.declared.mark.TokenMark.TheVariants as mark
 use Rattle.pio_expr.specs.Marks.{mark_at, mark_by}
 use Rattle.pio_expr.specs.Arithmetic.{sum_of, difference_of, product_of, quotient_of, negated, reversed}
-use Rattle.pio_expr.specs.Grammar.{Progress, Read, Reader, Readers, then, next, written, item_by, items_by, value_read, chain, chain_by, product_operation, sum_operation, product_by, product_goes_on, sum_by, sum_goes_on, closed, closed_by, alone, alone_by, value_by, unary_by, level_by, readers_by, readers, read_items, most_open, expression_at}
+use Rattle.pio_expr.specs.Grammar.{Progress, ParseResult, Parser, Readers, then, next, written, item_by, items_by, value_read, chain, chain_by, product_operation, sum_operation, product_by, product_goes_on, sum_by, sum_goes_on, closed, closed_by, alone, alone_by, value_by, unary_by, level_by, readers_by, readers, read_items, most_open, expression_at}
 use Rattle.pio_expr.specs.Values.{worked_out}
 use Rattle.pio_expr.specs.Trees.{Tree, Number, Name, Add, Subtract, Multiply, Divide, Negate, Reverse, postfix, of_both, tree_value, HasTree}
 
@@ -76,16 +76,16 @@ value_of_tree named t = ap (λ items. worked_out named items []) (sym (append-ni
 -- ---- the grammar
 
 -- a tree was written after these items
-abbrev Wrote : List Item → Read → Type 0
+abbrev Wrote : List Item → ParseResult → Type 0
 Wrote before (Ok place) = (t : Tree) × (place.items ≡ before ++ postfix t)
 Wrote before (Err fault) = Unit {0}
 
 -- a rule writes a tree
-abbrev Writes : Reader → Type 0
+abbrev Writes : Parser → Type 0
 Writes reader = (place : Progress) → Wrote place.items (reader place)
 
 -- a rule after another
-wrote_then : (before : List Item) (read : Read) (reader : Reader) → Wrote before read → ((place : Progress) (t : Tree) → place.items ≡ before ++ postfix t → Wrote before (reader place)) → Wrote before (then read reader)
+wrote_then : (before : List Item) (read : ParseResult) (reader : Parser) → Wrote before read → ((place : Progress) (t : Tree) → place.items ≡ before ++ postfix t → Wrote before (reader place)) → Wrote before (then read reader)
 wrote_then before (Ok place) reader h on = on place h.0 h.1
 wrote_then before (Err fault) reader h on = tt
 
@@ -93,8 +93,8 @@ wrote_then before (Err fault) reader h on = tt
 abbrev Joins : Item → Type 0
 Joins op = (join : Tree → Tree → Tree) × ((a b : Tree) → postfix (join a b) ≡ postfix a ++ postfix b ++ op ∷ [])
 
-abbrev AllJoin : (Mark → Option Item) → Type 0
-AllJoin operation_of = (m : Mark) (op : Item) → operation_of m ≡ Some op → Joins op
+abbrev AllJoin : (TokenMark → Option Item) → Type 0
+AllJoin operation_of = (m : TokenMark) (op : Item) → operation_of m ≡ Some op → Joins op
 
 joins_is : (op other : Item) → Some op ≡ Some other → Joins op → Joins other
 joins_is op other e j = let same : op ≡ other = cc in subst Joins same j
@@ -128,33 +128,33 @@ joined : (before items : List Item) (t u : Tree) (op : Item) → (j : Joins op) 
 joined before items t u op j h =
     ap (λ xs. xs ++ op ∷ []) (h ∙ append_assoc before (postfix t) (postfix u)) ∙ append_assoc before (postfix t ++ postfix u) (op ∷ []) ∙ ap (λ xs. before ++ xs) (sym (j.1 t u))
 
-chain_step : (before : List Item) (t : Tree) (place : Progress) (operand : Reader) (goes_on : Item → Reader) → place.items ≡ before ++ postfix t → Writes operand
+chain_step : (before : List Item) (t : Tree) (place : Progress) (operand : Parser) (goes_on : Item → Parser) → place.items ≡ before ++ postfix t → Writes operand
     → ((op : Item) (v : Tree) (after : Progress) → after.items ++ op ∷ [] ≡ before ++ postfix v → Wrote before (goes_on op after))
     → (o : Option Item) → ((op : Item) → o ≡ Some op → Joins op) → Wrote before (chain_by operand goes_on o place)
 chain_step before t place operand goes_on e writes on None joins = (t, e)
 chain_step before t place operand goes_on e writes on (Some op) joins = by_operand (operand (next place)) (writes (next place)) (joins op refl) where
-  by_operand : (read : Read) → Wrote place.items read → Joins op → Wrote before (then read (goes_on op))
+  by_operand : (read : ParseResult) → Wrote place.items read → Joins op → Wrote before (then read (goes_on op))
   by_operand (Err fault) h j = tt
   by_operand (Ok after) h j = on op (j.0 t h.0) after (joined before after.items t h.0 op j (h.1 ∙ ap (λ xs. xs ++ postfix h.0) e))
 
 -- operations after a first operand
-chain_writes : (tokens : List Token) (operation_of : Mark → Option Item) (operand : Reader) → AllJoin operation_of → Writes operand → (n : ℕ) (before : List Item) (t : Tree) (place : Progress) → place.items ≡ before ++ postfix t → Wrote before (chain tokens operation_of operand n place)
+chain_writes : (tokens : List Token) (operation_of : TokenMark → Option Item) (operand : Parser) → AllJoin operation_of → Writes operand → (n : ℕ) (before : List Item) (t : Tree) (place : Progress) → place.items ≡ before ++ postfix t → Wrote before (chain tokens operation_of operand n place)
 unfolding chain
 chain_writes tokens operation_of operand joins writes zero before t place e = (t, e)
 chain_writes tokens operation_of operand joins writes (suc n) before t place e =
     chain_step before t place operand (λ op after. chain tokens operation_of operand n (written op after)) e writes
     (λ op v after h. chain_writes tokens operation_of operand joins writes n before v (written op after) h) (operation_of (mark_at tokens place.at)) (λ op h. joins (mark_at tokens place.at) op h)
 
-product_writes : (tokens : List Token) (operand : Reader) → Writes operand → Writes (product_by tokens operand)
+product_writes : (tokens : List Token) (operand : Parser) → Writes operand → Writes (product_by tokens operand)
 product_writes tokens operand writes place = wrote_then place.items (operand place) (product_goes_on tokens operand) (writes place) (λ after t e. chain_writes tokens product_operation operand product_joins writes (length tokens) place.items t after e)
 
-sum_writes : (tokens : List Token) (operand : Reader) → Writes operand → Writes (sum_by tokens operand)
+sum_writes : (tokens : List Token) (operand : Parser) → Writes operand → Writes (sum_by tokens operand)
 sum_writes tokens operand writes place = wrote_then place.items (product_by tokens operand place) (sum_goes_on tokens operand) (product_writes tokens operand writes place) (λ after t e. chain_writes tokens sum_operation (product_by tokens operand) sum_joins (product_writes tokens operand writes) (length tokens) place.items t after e)
 
 -- a `)` writes nothing
 closed_writes : (tokens : List Token) (before : List Item) (place : Progress) (t : Tree) → place.items ≡ before ++ postfix t → Wrote before (closed tokens place)
 closed_writes tokens before place t e = by (mark_at tokens place.at) where
-  by : (m : Mark) → Wrote before (closed_by m place)
+  by : (m : TokenMark) → Wrote before (closed_by m place)
   by mark.Close = (t, e)
   by _ = tt
 
@@ -165,7 +165,7 @@ one_more before t u op items is e = ap (λ xs. xs ++ op ∷ []) e ∙ append_ass
 alone_writes : (tokens : List Token) (at : ℕ) (before : List Item) (place : Progress) (t : Tree) → place.items ≡ before ++ postfix t → Wrote before (alone tokens at place)
 unfolding postfix
 alone_writes tokens at before place t e = by (mark_at tokens place.at) where
-  by : (m : Mark) → Wrote before (alone_by m at (written item.Reverse place))
+  by : (m : TokenMark) → Wrote before (alone_by m at (written item.Reverse place))
   by mark.Star = tt
   by mark.Slash = tt
   by mark.Plus = tt
@@ -195,7 +195,7 @@ abbrev DeeperWrite : Option Readers → Type 0
 DeeperWrite None = Unit {0}
 DeeperWrite (Some rules) = WriteAll rules
 
-value_by_writes : (source : List ℕ) (tokens : List Token) (deeper : Option Readers) → DeeperWrite deeper → (m : Mark) (place : Progress) → mark_at tokens place.at ≡ m → Wrote place.items (value_by source tokens m deeper place)
+value_by_writes : (source : List ℕ) (tokens : List Token) (deeper : Option Readers) → DeeperWrite deeper → (m : TokenMark) (place : Progress) → mark_at tokens place.at ≡ m → Wrote place.items (value_by source tokens m deeper place)
 value_by_writes source tokens deeper all mark.Value place is = value_writes source tokens place is
 value_by_writes source tokens None all mark.Open place is = tt
 value_by_writes source tokens (Some rules) all mark.Open place is = wrote_then place.items (rules.level (next place)) (closed tokens) (all.level (next place)) (λ after t e. closed_writes tokens place.items after t e)
@@ -207,7 +207,7 @@ value_by_writes source tokens deeper all mark.Slash place is = tt
 value_by_writes source tokens deeper all mark.Reverse place is = tt
 value_by_writes source tokens deeper all mark.Other place is = tt
 
-unary_by_writes : (source : List ℕ) (tokens : List Token) (deeper : Option Readers) → DeeperWrite deeper → (m : Mark) (place : Progress) → mark_at tokens place.at ≡ m → Wrote place.items (unary_by source tokens m deeper place)
+unary_by_writes : (source : List ℕ) (tokens : List Token) (deeper : Option Readers) → DeeperWrite deeper → (m : TokenMark) (place : Progress) → mark_at tokens place.at ≡ m → Wrote place.items (unary_by source tokens m deeper place)
 unfolding postfix
 unary_by_writes source tokens None all mark.Minus place is = tt
 unary_by_writes source tokens (Some rules) all mark.Minus place is =
@@ -222,7 +222,7 @@ unary_by_writes source tokens deeper all mark.Star place is = tt
 unary_by_writes source tokens deeper all mark.Slash place is = tt
 unary_by_writes source tokens deeper all mark.Other place is = tt
 
-level_by_writes : (source : List ℕ) (tokens : List Token) (deeper : Option Readers) → DeeperWrite deeper → (unary : Reader) → Writes unary → (m : Mark) (place : Progress) → Wrote place.items (level_by source tokens m deeper unary place)
+level_by_writes : (source : List ℕ) (tokens : List Token) (deeper : Option Readers) → DeeperWrite deeper → (unary : Parser) → Writes unary → (m : TokenMark) (place : Progress) → Wrote place.items (level_by source tokens m deeper unary place)
 level_by_writes source tokens None all unary writes mark.Reverse place = tt
 level_by_writes source tokens (Some rules) all unary writes mark.Reverse place = wrote_then place.items (rules.value (next place)) (alone tokens place.at) (all.value (next place)) (λ after t e. alone_writes tokens place.at place.items after t e)
 level_by_writes source tokens deeper all unary writes mark.Value place = sum_writes tokens unary writes place
@@ -248,7 +248,7 @@ unfolding readers
 all_write source tokens zero = by_writes source tokens None tt
 all_write source tokens (suc n) = by_writes source tokens (Some (readers source tokens n)) (all_write source tokens n)
 
-items_or : List Item → Result (List Item × ℕ) Refusal → List Item
+items_or : List Item → Result (List Item × ℕ) ExprRefusal → List Item
 items_or none (Ok read) = read.0
 items_or none (Err refusal) = none
 
@@ -256,6 +256,6 @@ items_or none (Err refusal) = none
 pub read_is_tree : (source : List ℕ) (tokens : List Token) (from after : ℕ) (items : List Item) → expression_at source tokens from ≡ Ok (items, after) → HasTree items
 unfolding expression_at items_or
 read_is_tree source tokens from after items h = by ((readers source tokens most_open).level (record { at = from; items = [] })) ((all_write source tokens most_open).level (record { at = from; items = [] })) h where
-  by : (read : Read) → Wrote [] read → read_items read ≡ Ok (items, after) → HasTree items
+  by : (read : ParseResult) → Wrote [] read → read_items read ≡ Ok (items, after) → HasTree items
   by (Err fault) wrote e = cc
   by (Ok place) wrote e = let same : place.items ≡ items = ap (items_or []) e in (wrote.0, sym same ∙ wrote.1)

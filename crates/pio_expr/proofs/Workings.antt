@@ -6,7 +6,7 @@ use Rattle.pio_expr.specs.declared.expr.Item.TheVariants as item
 use Rattle.pio_expr.specs.declared.fault.ValueFault.{ValueFault}
 use Rattle.pio_expr.specs.declared.fault.ValueFault.TheVariants.{Memory, Found}
 use Rattle.pio_expr.specs.declared.fault.ValueKind.{ValueKind}
-use Rattle.pio_expr.specs.Values.{number_by, left_by, first_of, worked_out, HasFault}
+use Rattle.pio_expr.specs.Values.{number_by, left_by, first_of, worked_out, IsValueFaultOf}
 use Rattle.pio_expr.specs.Frames.{Look, number, looked_at, Agrees}
 
 pub item_agrees : (look : List ℕ → Result Look ValueKind) (given : List ℕ → Result ℤ ValueKind) (i : Item) (n : ℤ) (ns : List ℤ) → Agrees look given → looked_at look i ≡ Ok (number n) → number_by given i ns ≡ number_by (λ _. Ok n) i ns
@@ -43,7 +43,7 @@ unfolding worked_out
 at_end given ns = refl
 
 -- a fault goes on to the whole
-pub fault_on : {T U : Type 0} (fault : ValueFault) (part : Result T ValueKind) (whole : Result U ValueKind) → ((kind : ValueKind) → part ≡ Err kind → whole ≡ Err kind) → HasFault fault part → HasFault fault whole
+pub fault_on : {T U : Type 0} (fault : ValueFault) (part : Result T ValueKind) (whole : Result U ValueKind) → ((kind : ValueKind) → part ≡ Err kind → whole ≡ Err kind) → IsValueFaultOf fault part → IsValueFaultOf fault whole
 fault_on Memory part whole on h = tt
 fault_on (Found kind) part whole on h = on kind h
 

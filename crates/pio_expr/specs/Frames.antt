@@ -2,7 +2,7 @@
 -- that is being worked out; it rests at a name whose symbol isn't worked out yet, while that symbol's frame is.
 --   Kept               the places whose values are known, the oldest first
 --   looked_up          what a name is then: a number, a fault, or a define whose value is wanted first
---   IsKept             each kept value comes from those kept before it
+--   AreKept            each kept value comes from those kept before it
 --   Agrees             values of names that are those which a frame uses
 use Rattle.std.specs.Prelude.{◌≡◌, ℕ, ◌<◌, ℤ, pos, Bool, true, false, List, [], ◌∷◌, ◌++◌, take, Option, Some, None, Result, Ok, Err, nat_eq, option_map, slice_get}
 use Rattle.std.specs.Map.{lookup}
@@ -13,12 +13,12 @@ use Rattle.pio_expr.specs.declared.symbol.Symbol.TheVariants.{Define}
 use Rattle.pio_expr.specs.declared.fault.ValueFault.{ValueFault}
 use Rattle.pio_expr.specs.declared.fault.ValueKind.{ValueKind}
 use Rattle.pio_expr.specs.declared.fault.ValueKind.TheVariants.{Cycle}
-use Rattle.pio_expr.specs.declared.frame.Frame.{Frame}
+use Rattle.pio_expr.specs.declared.frame.StackFrame.{StackFrame}
 use Rattle.pio_expr.specs.declared.frame.Named.{Named}
 use Rattle.pio_expr.specs.declared.frame.Named.TheVariants as named
 use Rattle.pio_expr.specs.declared.frame.Pause.{Pause}
 use Rattle.pio_expr.specs.declared.frame.Pause.TheVariants.{Waits, Done}
-use Rattle.pio_expr.specs.Values.{Scope, found, by_symbol, in_program, program_of, count_of, worked_out, HasFault}
+use Rattle.pio_expr.specs.Values.{Scope, found, by_symbol, in_program, program_of, count_of, worked_out, IsValueFaultOf}
 
 -- names are looked up in the program first: from the place of a symbol of the program, or where no symbol's expression is asked
 abbrev pub is_local : Scope → Option ℕ → Bool
@@ -60,7 +60,7 @@ look_of (named.Define place expr) = wanted place expr.now
 
 -- the answer of the code is this one, unless memory ran out
 abbrev pub Looks : Result Named ValueFault → Result Look ValueKind → Type 0
-Looks (Err fault) look = HasFault fault look
+Looks (Err fault) look = IsValueFaultOf fault look
 Looks (Ok named) look = look ≡ Ok (look_of named)
 
 -- a name's value is what a frame uses for it, where it uses one
@@ -74,10 +74,10 @@ abbrev pub Agrees : (List ℕ → Result Look ValueKind) → (List ℕ → Resul
 Agrees look named = (name : List ℕ) → AgreesBy (look name) (named name)
 
 -- what a frame's run shows of its expression's value, for such values of names: the value, the fault, or what is left to do
-abbrev pub Shows : (List ℕ → Result ℤ ValueKind) → Frame → Result Pause ValueFault → Result ℤ ValueKind → Type 0
+abbrev pub Shows : (List ℕ → Result ℤ ValueKind) → StackFrame → Result Pause ValueFault → Result ℤ ValueKind → Type 0
 Shows named frame (Ok (Done n)) value = value ≡ Ok n
 Shows named frame (Ok (Waits place expr)) value = value ≡ worked_out named frame.rest.now frame.numbers.items
-Shows named frame (Err fault) value = HasFault fault value
+Shows named frame (Err fault) value = IsValueFaultOf fault value
 
 -- a frame rests at a name that is this define
 abbrev pub RestsAt : (List ℕ → Result Look ValueKind) → List Item → ℕ → List Item → Type 0
@@ -85,9 +85,9 @@ RestsAt look (item.Name name ∷ rest) place items = look name ≡ Ok (wanted pl
 RestsAt look _ place items = ⊥
 
 -- a run that waits rests at such a name
-abbrev pub Rests : (List ℕ → Result Look ValueKind) → Frame → Result Pause ValueFault → Type 0
-Rests look frame (Ok (Waits place expr)) = RestsAt look frame.rest.now place expr.now
-Rests look frame _ = Unit {0}
+abbrev pub WaitsAtName : (List ℕ → Result Look ValueKind) → StackFrame → Result Pause ValueFault → Type 0
+WaitsAtName look frame (Ok (Waits place expr)) = RestsAt look frame.rest.now place expr.now
+WaitsAtName look frame _ = Unit {0}
 
 -- the symbol at a place, and its expression: no items, where it is no define
 abbrev pub symbol_at : Scope → ℕ → Option Symbol
@@ -117,5 +117,5 @@ pub record IsKeptAt (scope : Scope) (before : Kept) (place : ℕ) (value : ℤ) 
   pub gives : worked_out (kept_value scope before (in_program scope place)) (items_at scope place) [] ≡ Ok value
 
 -- this holds of each kept value
-abbrev pub IsKept : Scope → Kept → Type 0
-IsKept scope kept = (i : ℕ) (place : ℕ) (value : ℤ) → slice_get kept i ≡ Some (place, value) → IsKeptAt scope (take i kept) place value
+abbrev pub AreKept : Scope → Kept → Type 0
+AreKept scope kept = (i : ℕ) (place : ℕ) (value : ℤ) → slice_get kept i ≡ Some (place, value) → IsKeptAt scope (take i kept) place value

@@ -150,8 +150,8 @@ abbrev pub value_of_name : Scope → List ℕ → Result ℤ ValueKind
 value_of_name scope name = name_value (count_of scope) scope [] true name
 
 -- a returned fault is the answer, or memory ran out
-abbrev pub HasFault : {T : Type 0} → ValueFault → Result T ValueKind → Type 0
-HasFault fault answer = answers.Refuses (value_told fault) answer
+abbrev pub IsValueFaultOf : {T : Type 0} → ValueFault → Result T ValueKind → Type 0
+IsValueFaultOf fault answer = answers.Refuses (value_told fault) answer
 
 -- a fault tells this, or memory ran out
 abbrev pub Tells : ValueFault → ValueKind → Type 0

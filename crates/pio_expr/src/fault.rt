@@ -19,7 +19,7 @@ pub enum ExprKind {
 
 /// What is wrong with an expression first, at this token, counted from 0: their number, where they end too early.
 #[derive(Clone, Copy)]
-pub struct Refusal {
+pub struct ExprRefusal {
     pub place: usize,
     pub kind: ExprKind,
 }

@@ -5,11 +5,11 @@ ghost use Rattle.std.specs.Prelude.{nat_eq};
 ghost use Rattle.pio_expr.specs.declared.fault.ValueKind.{ValueKind};
 ghost use Rattle.pio_expr.specs.declared.fault.ValueKind.TheVariants.{Unknown, Cycle};
 ghost use Rattle.pio_expr.specs.Values.{number_by, left_by, first_of, after_first, worked_out, Tells};
-ghost use Rattle.pio_expr.specs.Frames.{is_local, looked_up, looked_at, Looks, Agrees, Shows, Rests};
+ghost use Rattle.pio_expr.specs.Frames.{is_local, looked_up, looked_at, Looks, Agrees, Shows, WaitsAtName};
 
 use crate::arithmetic::{add, divide, multiply, negate, reverse, subtract};
 use crate::name::copy;
-use crate::symbols::Symbols;
+use crate::symbols::ScopeSymbols;
 use crate::{Item, Symbol, ValueFault, ValueKind};
 use indexmap::IndexMap;
 use pio_encode::Name;
@@ -18,7 +18,7 @@ use std::collections::{HashSet, VecDeque};
 
 /// An expression that is being worked out.
 #[derive(Drop)]
-pub struct Frame<'a> {
+pub struct StackFrame<'a> {
     /// The place of the symbol whose expression it is, if it is one's.
     pub place: Option<usize>,
     /// Names are looked up in the program first.
@@ -47,15 +47,20 @@ pub enum Pause<'a> {
     Done(i32),
 }
 
-impl<'a> Frame<'a> {
+impl<'a> StackFrame<'a> {
     /// The expression of the symbol at this place, or of none; nothing is worked out yet.
-    pub fn new(alloc: Global, symbols: &Symbols, place: Option<usize>, items: &'a [Item]) -> Self
+    pub fn new(
+        alloc: Global,
+        symbols: &ScopeSymbols,
+        place: Option<usize>,
+        items: &'a [Item],
+    ) -> Self
         ensures place { result.place ≡ place }
         ensures local { result.local ≡ is_local symbols.now place }
         ensures rest { result.rest.now ≡ items.now }
         ensures numbers { result.numbers.items ≡ [] }
     {
-        Frame {
+        StackFrame {
             place,
             local: is_local(symbols, place),
             rest: items,
@@ -67,14 +72,14 @@ impl<'a> Frame<'a> {
     pub fn run(
         &mut self,
         alloc: Global,
-        symbols: &'a Symbols,
+        symbols: &'a ScopeSymbols,
         kept: &IndexMap<usize, i32>,
         under: &HashSet<usize>,
     ) -> Result<Pause<'a>, ValueFault>
         ensures shows { (named : List ℕ → Result ℤ ValueKind)
             → Agrees (looked_up symbols.now kept.now.entries (contains nat_eq under.now) self.old.local) named
             → Shows named self.new result (worked_out named self.old.rest.now self.old.numbers.items) }
-        ensures rests { Rests (looked_up symbols.now kept.now.entries (contains nat_eq under.now) self.old.local)
+        ensures rests { WaitsAtName (looked_up symbols.now kept.now.entries (contains nat_eq under.now) self.old.local)
             self.new result }
         ensures place { self.new.place ≡ self.old.place }
         ensures local { self.new.local ≡ self.old.local }
@@ -95,7 +100,7 @@ impl<'a> Frame<'a> {
 }
 
 /// The names of the expression at this place are looked up in the program first.
-fn is_local(symbols: &Symbols, place: Option<usize>) -> bool
+fn is_local(symbols: &ScopeSymbols, place: Option<usize>) -> bool
     ensures { result ≡ is_local symbols.now place }
 {
     match place {
@@ -107,7 +112,7 @@ fn is_local(symbols: &Symbols, place: Option<usize>) -> bool
 /// What an item asks for.
 fn look_at<'a>(
     alloc: Global,
-    symbols: &'a Symbols,
+    symbols: &'a ScopeSymbols,
     kept: &IndexMap<usize, i32>,
     under: &HashSet<usize>,
     local: bool,
@@ -125,7 +130,7 @@ fn look_at<'a>(
 /// What a name asks for.
 fn look_up<'a>(
     alloc: Global,
-    symbols: &'a Symbols,
+    symbols: &'a ScopeSymbols,
     kept: &IndexMap<usize, i32>,
     under: &HashSet<usize>,
     local: bool,

@@ -6,7 +6,7 @@ use pio_lex::{Token, TokenKind};
 
 /// What a token is to an expression.
 #[derive(Clone, Copy)]
-pub enum Mark {
+pub enum TokenMark {
     /// A number or a name.
     Value,
     Open,
@@ -22,27 +22,27 @@ pub enum Mark {
 
 /// What the token at a place is.
 #[tactic(auto, unfolding(crate::specs::Marks::mark_at))]
-pub fn mark_at(tokens: &[Token], at: usize) -> Mark
+pub fn mark_at(tokens: &[Token], at: usize) -> TokenMark
     ensures { result ≡ mark_at tokens.now at }
 {
     match tokens.get(at) {
         Some(token) => mark_of(token.kind),
-        None => Mark::Other,
+        None => TokenMark::Other,
     }
 }
 
-fn mark_of(kind: TokenKind) -> Mark
+fn mark_of(kind: TokenKind) -> TokenMark
     ensures { result ≡ mark_of kind }
 {
     match kind {
-        TokenKind::Number(_) | TokenKind::Name => Mark::Value,
-        TokenKind::OpenParen => Mark::Open,
-        TokenKind::CloseParen => Mark::Close,
-        TokenKind::Plus => Mark::Plus,
-        TokenKind::Minus => Mark::Minus,
-        TokenKind::Star => Mark::Star,
-        TokenKind::Slash => Mark::Slash,
-        TokenKind::DoubleColon => Mark::Reverse,
-        _ => Mark::Other,
+        TokenKind::Number(_) | TokenKind::Name => TokenMark::Value,
+        TokenKind::OpenParen => TokenMark::Open,
+        TokenKind::CloseParen => TokenMark::Close,
+        TokenKind::Plus => TokenMark::Plus,
+        TokenKind::Minus => TokenMark::Minus,
+        TokenKind::Star => TokenMark::Star,
+        TokenKind::Slash => TokenMark::Slash,
+        TokenKind::DoubleColon => TokenMark::Reverse,
+        _ => TokenMark::Other,
     }
 }

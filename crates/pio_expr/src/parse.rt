@@ -5,7 +5,7 @@ ghost use Rattle.pio_lex.specs.Tokens.{IsTokenOf};
 ghost use Rattle.pio_expr.specs.Grammar.{expression_at};
 ghost use Rattle.pio_expr.specs.Waiting.{Answers};
 
-use crate::postfix::Reading;
+use crate::postfix::ExprReading;
 use crate::{Expr, ExprFault};
 use pio_lex::Token;
 use std::alloc::Global;
@@ -27,7 +27,7 @@ pub fn parse_expr(
     ensures some { IfOk result (λ read. from < read.1) }
     ensures within { IfOk result (λ read. read.1 ≤ length tokens.now) }
 {
-    let mut reading = Reading::new(alloc);
+    let mut reading = ExprReading::new(alloc);
     let mut wanted = true;
     let mut at = from;
     loop {

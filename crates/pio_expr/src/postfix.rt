@@ -5,10 +5,10 @@ ghost use Rattle.pio_lex.specs.declared.token.Token.{Token};
 ghost use Rattle.pio_lex.specs.Tokens.{IsTokenOf};
 ghost use Rattle.pio_expr.specs.Marks.{mark_at};
 ghost use Rattle.pio_expr.specs.Turns.{innermost, is_reverse, is_level, first_before, all_before, kept_before, opened, sign_at, reverse_at, opening, turn_by, close_by, operation_of};
-ghost use Rattle.pio_expr.specs.Waiting.{openings, IsSound, GoesOn, answer_of, IsFaultOf};
+ghost use Rattle.pio_expr.specs.Waiting.{openings, IsSound, GoesOn, answer_of, HasExprFault};
 
-use crate::fault::Refusal;
-use crate::mark::{Mark, mark_at};
+use crate::fault::ExprRefusal;
+use crate::mark::{TokenMark, mark_at};
 use crate::token_item::token_item;
 use crate::turn::Turn;
 use crate::waiting::Waiting;
@@ -22,20 +22,20 @@ pub const MOST_OPEN: usize = 64;
 
 /// An expression that is read.
 #[derive(Drop)]
-pub struct Reading {
+pub struct ExprReading {
     /// What is written of it, in postfix order.
     pub items: Vec<Item>,
     /// What waits for what comes after it, the innermost in front.
     pub waiting: VecDeque<Waiting>,
 }
 
-impl Reading {
+impl ExprReading {
     /// Nothing is written, and nothing waits. It takes no memory.
     pub fn new(alloc: Global) -> Self
         ensures items { result.items.items ≡ [] }
         ensures waiting { result.waiting.items ≡ [] }
     {
-        Reading {
+        ExprReading {
             items: Vec::new(alloc),
             waiting: VecDeque::new(alloc),
         }
@@ -55,7 +55,7 @@ impl Reading {
         ensures ok { IfOk result (GoesOn source.now tokens.now self.old wanted at self.new) }
         ensures ends { IfOk result (λ next. next ≡ None → wanted ≡ false) }
         ensures fault { IfErr result
-            (λ fault. IsFaultOf (answer_of source.now tokens.now self.old wanted at) fault) }
+            (λ fault. HasExprFault (answer_of source.now tokens.now self.old wanted at) fault) }
     {
         let mark = mark_at(tokens, at);
         if !wanted {
@@ -71,7 +71,7 @@ impl Reading {
         source: &[u8],
         tokens: &[Token],
         at: usize,
-        mark: Mark,
+        mark: TokenMark,
     ) -> Result<bool, ExprFault>
         requires tokens { All (IsTokenOf source.now) tokens.now }
         requires mark { mark ≡ mark_at tokens.now at }
@@ -81,7 +81,7 @@ impl Reading {
         ensures sound { OnOk result (IsSound self.new.waiting.items) }
         ensures inside { OnOk result (at < length tokens.now) }
         ensures fault { IfErr result
-            (λ fault. IsFaultOf (answer_of source.now tokens.now self.old true at) fault) }
+            (λ fault. HasExprFault (answer_of source.now tokens.now self.old true at) fault) }
     {
         let Some(token) = token_at(tokens, at) else {
             return Err(told(refusal(at, ExprKind::Syntax)));
@@ -100,12 +100,12 @@ impl Reading {
     }
 
     /// Reads a token after an operand; whether an operand is wanted after it, or nothing where the expression ends before it.
-    fn after(&mut self, mark: Mark, at: usize) -> Result<Option<bool>, ExprFault>
+    fn after(&mut self, mark: TokenMark, at: usize) -> Result<Option<bool>, ExprFault>
         requires sound { IsSound self.old.waiting.items }
         ensures ok { (source : List ℕ) (tokens : List Token) → mark_at tokens at ≡ mark
             → IfOk result (GoesOn source tokens self.old false at self.new) }
         ensures fault { (source : List ℕ) (tokens : List Token) → mark_at tokens at ≡ mark
-            → IfErr result (λ fault. IsFaultOf (answer_of source tokens self.old false at) fault) }
+            → IfErr result (λ fault. HasExprFault (answer_of source tokens self.old false at) fault) }
     {
         self.write_before(mark)?;
         match self.turn(mark, at) {
@@ -123,19 +123,19 @@ impl Reading {
     }
 
     /// What a token opens where an operand is wanted: nothing, where it is a value.
-    fn opening(&self, mark: Mark, at: usize) -> Result<Option<Waiting>, Refusal>
+    fn opening(&self, mark: TokenMark, at: usize) -> Result<Option<Waiting>, ExprRefusal>
         ensures { result ≡ opening mark at self.now.waiting.items }
     {
         match mark {
-            Mark::Value => Ok(None),
-            Mark::Open => self.opened(at, Waiting::Paren),
-            Mark::Minus => self.sign(at),
-            Mark::Reverse => self.reverse(at),
+            TokenMark::Value => Ok(None),
+            TokenMark::Open => self.opened(at, Waiting::Paren),
+            TokenMark::Minus => self.sign(at),
+            TokenMark::Reverse => self.reverse(at),
             _ => Err(refusal(at, ExprKind::Syntax)),
         }
     }
 
-    fn sign(&self, at: usize) -> Result<Option<Waiting>, Refusal>
+    fn sign(&self, at: usize) -> Result<Option<Waiting>, ExprRefusal>
         ensures { result ≡ sign_at at self.now.waiting.items }
     {
         if is_reverse(self.innermost()) {
@@ -144,7 +144,7 @@ impl Reading {
         self.opened(at, Waiting::Negate)
     }
 
-    fn reverse(&self, at: usize) -> Result<Option<Waiting>, Refusal>
+    fn reverse(&self, at: usize) -> Result<Option<Waiting>, ExprRefusal>
         ensures { result ≡ reverse_at at self.now.waiting.items }
     {
         let innermost = self.innermost();
@@ -159,7 +159,7 @@ impl Reading {
         }
     }
 
-    fn opened(&self, at: usize, opening: Waiting) -> Result<Option<Waiting>, Refusal>
+    fn opened(&self, at: usize, opening: Waiting) -> Result<Option<Waiting>, ExprRefusal>
         ensures { result ≡ opened at self.now.waiting.items opening }
     {
         if self.openings() < MOST_OPEN {
@@ -185,7 +185,7 @@ impl Reading {
     }
 
     /// Writes what is complete before a token after an operand.
-    fn write_before(&mut self, mark: Mark) -> Result<(), ExprFault>
+    fn write_before(&mut self, mark: TokenMark) -> Result<(), ExprFault>
         ensures items { OnOk result
             (self.new.items.items ≡ self.old.items.items ++ all_before self.old.waiting.items mark) }
         ensures waiting { OnOk result (self.new.waiting.items ≡ kept_before self.old.waiting.items mark) }
@@ -199,7 +199,7 @@ impl Reading {
     }
 
     /// What a token does after an operand, where nothing is left to write before it.
-    fn turn(&self, mark: Mark, at: usize) -> Result<Turn, Refusal>
+    fn turn(&self, mark: TokenMark, at: usize) -> Result<Turn, ExprRefusal>
         ensures { result ≡ turn_by (operation_of mark) (innermost self.now.waiting.items) mark at }
     {
         match (Waiting::operation(mark), self.innermost()) {
@@ -217,16 +217,16 @@ fn token_at(tokens: &[Token], at: usize) -> Option<Token>
     tokens.get(at).copied()
 }
 
-fn close(mark: Mark, at: usize) -> Result<Turn, Refusal>
+fn close(mark: TokenMark, at: usize) -> Result<Turn, ExprRefusal>
     ensures { result ≡ close_by mark at }
 {
     match mark {
-        Mark::Close => Ok(Turn::Closed),
+        TokenMark::Close => Ok(Turn::Closed),
         _ => Err(refusal(at, ExprKind::Syntax)),
     }
 }
 
-fn first_before(innermost: Option<Waiting>, mark: Mark) -> Option<Item>
+fn first_before(innermost: Option<Waiting>, mark: TokenMark) -> Option<Item>
     ensures { result ≡ first_before innermost mark }
 {
     innermost?.item_before(mark)
@@ -244,13 +244,13 @@ fn is_level(innermost: Option<Waiting>) -> bool
     matches!(innermost, None | Some(Waiting::Paren))
 }
 
-fn refusal(place: usize, kind: ExprKind) -> Refusal
+fn refusal(place: usize, kind: ExprKind) -> ExprRefusal
     ensures { result ≡ record { place = place; kind = kind } }
 {
-    Refusal { place, kind }
+    ExprRefusal { place, kind }
 }
 
-fn told(refusal: Refusal) -> ExprFault
+fn told(refusal: ExprRefusal) -> ExprFault
     ensures { result ≡ ExprFault.At refusal.place refusal.kind }
 {
     ExprFault::At {

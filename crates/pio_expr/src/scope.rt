@@ -3,7 +3,7 @@ ghost use Rattle.std.specs.Prelude.{◌≡◌, option_copied, option_map, IsTrue
 ghost use Rattle.pio_expr.specs.Values.{no_symbols, begun, IsNew, with_symbol, symbol_of, own_place, IsOwnTo, value_of, value_of_name, Gives};
 
 use crate::frame::unknown;
-use crate::symbols::Symbols;
+use crate::symbols::ScopeSymbols;
 use crate::work::work_out;
 use crate::{Expr, Symbol, ValueFault};
 use indexmap::IndexMap;
@@ -16,7 +16,7 @@ use std::marker::Model;
 #[derive(Drop)]
 pub struct Scope {
     alloc: Global,
-    symbols: Symbols,
+    symbols: ScopeSymbols,
     /// The values that are known, by the places of their symbols.
     kept: IndexMap<usize, i32>,
 }
@@ -26,11 +26,11 @@ impl Model for Scope {
 
     ghost Value = { Scope };
 
-    ghost use Rattle.pio_expr.specs.Frames.{IsKept};
+    ghost use Rattle.pio_expr.specs.Frames.{AreKept};
 
     ghost view = { λ s. s.symbols };
 
-    ghost invariant = { λ s. IsKept s.symbols s.kept.entries };
+    ghost invariant = { λ s. AreKept s.symbols s.kept.entries };
 }
 
 impl Scope {
@@ -40,7 +40,7 @@ impl Scope {
     {
         Scope {
             alloc,
-            symbols: Symbols::new(alloc),
+            symbols: ScopeSymbols::new(alloc),
             kept: IndexMap::new(alloc),
         }
     }
@@ -110,7 +110,7 @@ impl Scope {
 }
 
 /// The place of a symbol whose own expression is asked.
-fn own_place(symbols: &Symbols, own: Option<&Name>) -> Option<usize>
+fn own_place(symbols: &ScopeSymbols, own: Option<&Name>) -> Option<usize>
     ensures { result ≡ own_place symbols.now (option_copied own.entry) }
 {
     match own {

@@ -14,12 +14,12 @@ type ByName = IndexMap<String, Symbol>;
 
 /// The symbols of a file, seen as those of its globals and those of the present program.
 #[derive(Drop)]
-pub struct Symbols {
+pub struct ScopeSymbols {
     globals: ByName,
     program: Option<ByName>,
 }
 
-impl Model for Symbols {
+impl Model for ScopeSymbols {
     ghost use Rattle.pio_expr.specs.Values.{Scope};
 
     ghost Value = { Scope };
@@ -33,12 +33,12 @@ impl Model for Symbols {
     } };
 }
 
-impl Symbols {
+impl ScopeSymbols {
     /// No symbols.
     pub fn new(alloc: Global) -> Self
         ensures { result ≡ no_symbols }
     {
-        Symbols {
+        ScopeSymbols {
             globals: IndexMap::new(alloc),
             program: None,
         }

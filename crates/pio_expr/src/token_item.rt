@@ -1,7 +1,7 @@
 //! The item of a token that is a value.
 ghost use Rattle.std.specs.Prelude.{◌≡◌, IfOk, IfErr};
 ghost use Rattle.pio_lex.specs.Tokens.{IsTokenOf};
-ghost use Rattle.pio_expr.specs.declared.mark.Mark.TheVariants as mark;
+ghost use Rattle.pio_expr.specs.declared.mark.TokenMark.TheVariants as mark;
 ghost use Rattle.pio_expr.specs.Marks.{mark_of};
 ghost use Rattle.pio_expr.specs.Grammar.{item_by};
 

@@ -4,7 +4,7 @@ ghost use Rattle.pio_expr.specs.Turns.{item_before, operation_of, unless_product
 ghost use Rattle.pio_expr.specs.Waiting.{opens};
 
 use crate::Item;
-use crate::mark::Mark;
+use crate::mark::TokenMark;
 
 /// An opening, or an operation whose right operand isn't read yet.
 #[derive(Clone, Copy, Drop)]
@@ -21,14 +21,14 @@ pub enum Waiting {
 
 impl Waiting {
     /// The operation that a token is.
-    pub fn operation(mark: Mark) -> Option<Self>
+    pub fn operation(mark: TokenMark) -> Option<Self>
         ensures { result ≡ operation_of mark }
     {
         match mark {
-            Mark::Star => Some(Waiting::Multiply),
-            Mark::Slash => Some(Waiting::Divide),
-            Mark::Plus => Some(Waiting::Add),
-            Mark::Minus => Some(Waiting::Subtract),
+            TokenMark::Star => Some(Waiting::Multiply),
+            TokenMark::Slash => Some(Waiting::Divide),
+            TokenMark::Plus => Some(Waiting::Add),
+            TokenMark::Minus => Some(Waiting::Subtract),
             _ => None,
         }
     }
@@ -41,14 +41,14 @@ impl Waiting {
     }
 
     /// What is written of it before a token after its operand.
-    pub fn item_before(self, mark: Mark) -> Option<Item>
+    pub fn item_before(self, mark: TokenMark) -> Option<Item>
         ensures { result ≡ item_before self mark }
     {
         match self {
             Waiting::Paren => None,
             Waiting::Negate => Some(Item::Negate),
             Waiting::Reverse(_) => match mark {
-                Mark::Star | Mark::Slash | Mark::Plus | Mark::Minus => None,
+                TokenMark::Star | TokenMark::Slash | TokenMark::Plus | TokenMark::Minus => None,
                 _ => Some(Item::Reverse),
             },
             Waiting::Multiply => Some(Item::Multiply),
@@ -60,11 +60,11 @@ impl Waiting {
 }
 
 /// An item, where the token isn't that of a product.
-fn unless_product(mark: Mark, item: Item) -> Option<Item>
+fn unless_product(mark: TokenMark, item: Item) -> Option<Item>
     ensures { result ≡ unless_product mark item }
 {
     match mark {
-        Mark::Star | Mark::Slash => None,
+        TokenMark::Star | TokenMark::Slash => None,
         _ => Some(item),
     }
 }

@@ -4,11 +4,11 @@ ghost use Rattle.std.specs.List.{list_any, IsDistinct};
 ghost use Rattle.std.specs.Map.{keys_of};
 ghost use Rattle.pio_expr.specs.declared.expr.Item.{Item};
 ghost use Rattle.pio_expr.specs.Values.{value_at, is_among, Gives};
-ghost use Rattle.pio_expr.specs.Frames.{IsKept};
-ghost use Rattle.pio_expr.specs.Work.{placed, IsOwn, Holds, Steps, Waited, Finished, IsNewlyKept, kept_of};
+ghost use Rattle.pio_expr.specs.Frames.{AreKept};
+ghost use Rattle.pio_expr.specs.Work.{placed, IsOwn, IsRightSoFar, StepsTo, Waited, Finished, IsNewlyKept, kept_of};
 
-use crate::frame::{Frame, Pause};
-use crate::symbols::Symbols;
+use crate::frame::{Pause, StackFrame};
+use crate::symbols::ScopeSymbols;
 use crate::{Item, ValueFault};
 use indexmap::IndexMap;
 use std::alloc::Global;
@@ -18,9 +18,9 @@ use std::mem::replace;
 /// The frames of an expression that is being worked out.
 #[derive(Drop)]
 pub struct Work<'a> {
-    pub top: Frame<'a>,
+    pub top: StackFrame<'a>,
     /// The frames that wait for the one above them.
-    pub below: VecDeque<Frame<'a>>,
+    pub below: VecDeque<StackFrame<'a>>,
     /// The places of the symbols whose frames have begun.
     pub begun: HashSet<usize>,
 }
@@ -30,15 +30,15 @@ pub struct Work<'a> {
 /// Each symbol is worked out once, and its value kept; nothing recurses.
 pub fn work_out(
     alloc: Global,
-    symbols: &Symbols,
+    symbols: &ScopeSymbols,
     kept: &mut IndexMap<usize, i32>,
     own: Option<usize>,
     items: &[Item],
 ) -> Result<i32, ValueFault>
     requires own { IsOwn symbols.now own items.now }
-    requires kept { IsKept symbols.now kept.old.entries }
+    requires kept { AreKept symbols.now kept.old.entries }
     ensures value { Gives result (value_at symbols.now own items.now) }
-    ensures kept { IsKept symbols.now kept.new.entries }
+    ensures kept { AreKept symbols.now kept.new.entries }
 {
     if let Some(value) = kept_value(kept, own) {
         return Ok(value);
@@ -83,21 +83,21 @@ impl<'a> Work<'a> {
     /// Nothing is worked out yet.
     fn new(
         alloc: Global,
-        symbols: &'a Symbols,
+        symbols: &'a ScopeSymbols,
         kept: &IndexMap<usize, i32>,
         own: Option<usize>,
         items: &'a [Item],
     ) -> Result<Self, ValueFault>
         requires own { IsOwn symbols.now own items.now }
-        requires kept { IsKept symbols.now kept.now.entries }
+        requires kept { AreKept symbols.now kept.now.entries }
         requires unique { IsDistinct nat_eq (keys_of kept.now.entries) }
         requires new { kept_of kept.now.entries own ≡ None }
-        ensures ok { IfOk result (Holds symbols.now kept.now.entries own items.now) }
+        ensures ok { IfOk result (IsRightSoFar symbols.now kept.now.entries own items.now) }
         ensures memory { IfErr result (λ fault. fault ≡ ValueFault.Memory) }
     {
         Ok(Work {
             begun: begun_with(alloc, own)?,
-            top: Frame::new(alloc, symbols, own, items),
+            top: StackFrame::new(alloc, symbols, own, items),
             below: VecDeque::new(alloc),
         })
     }
@@ -106,12 +106,12 @@ impl<'a> Work<'a> {
     fn step(
         &mut self,
         alloc: Global,
-        symbols: &'a Symbols,
+        symbols: &'a ScopeSymbols,
         kept: &mut IndexMap<usize, i32>,
     ) -> Result<Option<i32>, ValueFault>
         ensures { (own : Option ℕ) (items : List Item)
-            → Holds symbols.now kept.old.entries own items self.old
-            → Steps symbols.now own items kept.old.entries self.old kept.new.entries self.new result }
+            → IsRightSoFar symbols.now kept.old.entries own items self.old
+            → StepsTo symbols.now own items kept.old.entries self.old kept.new.entries self.new result }
     {
         match self.top.run(alloc, symbols, kept, &self.begun)? {
             Pause::Waits(place, items) => {
@@ -126,7 +126,7 @@ impl<'a> Work<'a> {
     fn wait(
         &mut self,
         alloc: Global,
-        symbols: &'a Symbols,
+        symbols: &'a ScopeSymbols,
         place: usize,
         items: &'a [Item],
     ) -> Result<(), ValueFault>
@@ -134,7 +134,7 @@ impl<'a> Work<'a> {
         ensures memory { IfErr result (λ fault. fault ≡ ValueFault.Memory) }
     {
         self.begun.insert(place)?;
-        let frame = Frame::new(alloc, symbols, Some(place), items);
+        let frame = StackFrame::new(alloc, symbols, Some(place), items);
         let waiting = replace(&mut self.top, frame);
         self.below.push_front(waiting)?;
         Ok(())

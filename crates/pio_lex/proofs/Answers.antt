@@ -7,7 +7,7 @@ use Rattle.pio_lex.specs.declared.fault.LexFault.{LexFault}
 use Rattle.pio_lex.specs.declared.fault.LexFault.TheVariants.{Memory, Found}
 use Rattle.pio_lex.specs.declared.token.Token.{Token}
 use Rattle.pio_lex.specs.Tokens.{IsTokens, IsTokenOf, IsFirstFault}
-use Rattle.pio_lex.specs.Fault.{Refusal}
+use Rattle.pio_lex.specs.Fault.{LexRefusal}
 use Rattle.pio_lex.specs.Answers.{IsFaultOf, Gives}
 use Rattle.pio_lex.proofs.Spelled.{all_spelled}
 use Rattle.pio_lex.proofs.Readings.{one_list, one_fault, apart}
@@ -18,7 +18,7 @@ gives view (Err Memory) source t ok fault is = tt
 gives view (Err (Found line kind)) source t ok fault is = absurd (apart source t line kind is fault)
 
 -- the same line and kind are the same refusal
-same_refusal : (line at : ℕ) (kind cause : LexKind) → (at ≡ line) × (cause ≡ kind) → ◌≡◌ {A = Result (List Token) Refusal} (Err (record { line = line; kind = kind })) (Err (record { line = at; kind = cause }))
+same_refusal : (line at : ℕ) (kind cause : LexKind) → (at ≡ line) × (cause ≡ kind) → ◌≡◌ {A = Result (List Token) LexRefusal} (Err (record { line = line; kind = kind })) (Err (record { line = at; kind = cause }))
 same_refusal line at kind cause e = rw (e.0, e.1) refl
 
 pub refuses : {X : Type 0} (view : X → List Token) (r : Result X LexFault) (source : List ℕ) (line : ℕ) (kind : LexKind) → IfOk r (λ v. IsTokens source (view v)) → IfErr r (λ f. IsFaultOf source f) → IsFirstFault source line kind → Gives view r (Err (record { line = line; kind = kind }))

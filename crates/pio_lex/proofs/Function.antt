@@ -11,12 +11,12 @@ use Rattle.pio_lex.specs.declared.piece.Piece.{Piece}
 use Rattle.pio_lex.specs.Pieces.{piece_at}
 use Rattle.pio_lex.specs.Tokens.{line_at, Place, start, last_kind, after, AreBetween, IsTokens, IsFirstFault}
 use Rattle.pio_lex.specs.Reading.{read_from, reading_of}
-use Rattle.pio_lex.specs.Fault.{Refusal}
+use Rattle.pio_lex.specs.Fault.{LexRefusal}
 use Rattle.pio_lex.specs.Answers.{IsFaultOf, Gives}
 use Rattle.pio_lex.proofs.Sizes.{piece_within}
 
 -- the reading at a place where so many pieces are allowed at least
-abbrev Comes : List ℕ → Place → Result (List Token) Refusal → Type 0
+abbrev Comes : List ℕ → Place → Result (List Token) LexRefusal → Type 0
 Comes source place r = (more : ℕ) → length source ≤ place.at + more → read_from more source place ≡ r
 
 -- the end is read as the tokens before it
@@ -32,7 +32,7 @@ at_fault source place kind lt e zero enough = absurd (omega arith)
 at_fault source place kind lt e (suc more) enough = rw (lt-ltb place.at (length source) lt) (rw e refl)
 
 -- a piece is read, and what comes after it
-at_piece : (source : List ℕ) (place : Place) (p : Piece) (r : Result (List Token) Refusal) → place.at < length source → piece_at (last_kind place.tokens) (drop place.at source) ≡ Ok p → Comes source (after source place p) r → Comes source place r
+at_piece : (source : List ℕ) (place : Place) (p : Piece) (r : Result (List Token) LexRefusal) → place.at < length source → piece_at (last_kind place.tokens) (drop place.at source) ≡ Ok p → Comes source (after source place p) r → Comes source place r
 unfolding read_from
 at_piece source place p r lt e rest zero enough = absurd (omega arith)
 at_piece source place p r lt e rest (suc more) enough =
@@ -42,7 +42,7 @@ at_piece source place p r lt e rest (suc more) enough =
     rw (lt-ltb place.at (length source) lt) (rw e onward)
 
 -- what is read at a place is read from each place before it
-from_before : (source : List ℕ) (from : Place) (pieces : List Piece) (to : Place) (r : Result (List Token) Refusal) → AreBetween source from pieces to → Comes source to r → Comes source from r
+from_before : (source : List ℕ) (from : Place) (pieces : List Piece) (to : Place) (r : Result (List Token) LexRefusal) → AreBetween source from pieces to → Comes source to r → Comes source from r
 from_before source from [] to r h comes = subst (λ (p : Place). Comes source p r) (sym h) comes
 from_before source from (p ∷ pieces) to r h comes = at_piece source from p r h.0.before_end h.0.is_there (from_before source (after source from p) pieces to r h.1 comes)
 

@@ -9,7 +9,7 @@ use Rattle.pio_lex.specs.declared.token.Token.{Token}
 use Rattle.pio_lex.specs.declared.piece.Piece.{Piece}
 use Rattle.pio_lex.specs.declared.piece.Piece.TheVariants as piece
 use Rattle.pio_lex.specs.Bytes.{is_newline}
-use Rattle.pio_lex.specs.Pieces.{piece_at, size, IsWithin}
+use Rattle.pio_lex.specs.Pieces.{piece_at, size, IsPieceLength}
 use Rattle.pio_lex.specs.Tokens.{line_at, Place, start, last_kind, IsAt, tokens_of, after, AreBetween, IsTokens, IsFirstFault, AreInOrder}
 
 -- one piece more
@@ -48,7 +48,7 @@ pub record Reading (source : List ℕ) (tokens : List Token) (at line : ℕ) : T
 pub reading_none : (source : List ℕ) → Reading source [] 0 1
 reading_none source = record { pieces = []; before = refl; within = omega arith; at_line = refl; in_order = omega arith }
 
-pub reading_more : (source : List ℕ) (tokens : List Token) (at line : ℕ) (p : Piece) (more : List Token) → Reading source tokens at line → at < length source → piece_at (last_kind tokens) (drop at source) ≡ Ok p → IsWithin (size p) (drop at source) → more ≡ tokens ++ tokens_of line at p → Reading source more (at + size p) (line + count_by is_newline (take (size p) (drop at source)))
+pub reading_more : (source : List ℕ) (tokens : List Token) (at line : ℕ) (p : Piece) (more : List Token) → Reading source tokens at line → at < length source → piece_at (last_kind tokens) (drop at source) ≡ Ok p → IsPieceLength (size p) (drop at source) → more ≡ tokens ++ tokens_of line at p → Reading source more (at + size p) (line + count_by is_newline (take (size p) (drop at source)))
 reading_more source tokens at line p more r lt e fits grown =
     let place : Place = record { at = at; tokens = tokens } in
     let left = length-drop at source in

@@ -5,7 +5,7 @@ use Rattle.std.proofs.lemmas.Bool.{cases_lt}
 use Rattle.pio_lex.specs.declared.fault.LexKind.{LexKind}
 use Rattle.pio_lex.specs.declared.token.Token.{Token}
 use Rattle.pio_lex.specs.declared.piece.Piece.{Piece}
-use Rattle.pio_lex.specs.Pieces.{piece_at, size, IsWithin}
+use Rattle.pio_lex.specs.Pieces.{piece_at, size, IsPieceLength}
 use Rattle.pio_lex.specs.Tokens.{line_at, Place, start, last_kind, IsAt, after, AreBetween, IsTokens, IsFirstFault, HasTokens, HasFault}
 use Rattle.pio_lex.proofs.Sizes.{piece_within}
 
@@ -69,7 +69,7 @@ reaches (suc fuel) source from le enough =
       | inr h ↦ ([], from, refl, inl (omega arith))
       | inl lt ↦ reached (piece_at (last_kind from.tokens) (drop from.at source)) refl lt (λ p s h. let left = length-drop from.at source in reaches fuel source (after source from p) (omega (arith, h.1)) (omega (arith, h.0)))
     ] where
-      reached : (r : Result Piece LexKind) → piece_at (last_kind from.tokens) (drop from.at source) ≡ r → from.at < length source → ((p : Piece) → IsAt source from p → IsWithin (size p) (drop from.at source) → Reaches source (after source from p)) → Reaches source from
+      reached : (r : Result Piece LexKind) → piece_at (last_kind from.tokens) (drop from.at source) ≡ r → from.at < length source → ((p : Piece) → IsAt source from p → IsPieceLength (size p) (drop from.at source) → Reaches source (after source from p)) → Reaches source from
       reached (Ok p) e lt next =
           let left = length-drop from.at source in
           let s : IsAt source from p = record { before_end = lt; is_there = e } in

@@ -18,7 +18,7 @@ use Rattle.pio_lex.specs.Numbers.{word_number}
 use Rattle.pio_lex.specs.Words.{directive_of}
 use Rattle.pio_lex.specs.Gaps.{is_lang_opt, begins_line, through_close, comment_length, opens_block, closes_block, block_length, ended, gap_at}
 use Rattle.pio_lex.specs.Spellings.{word_of, begins_name, directive_at, counted, byte_mark, mark_at, token_at}
-use Rattle.pio_lex.specs.Pieces.{token_piece, piece_by, piece_at, size, IsWithin}
+use Rattle.pio_lex.specs.Pieces.{token_piece, piece_by, piece_at, size, IsPieceLength}
 
 -- which way a test went
 pub chosen : {A : Type 0} (b : Bool) (x y z : A) → cond b x y ≡ z → ((b ≡ true) × (x ≡ z)) ⊎ ((b ≡ false) × (y ≡ z))
@@ -26,7 +26,7 @@ chosen true x y z e = inl (refl, e)
 chosen false x y z e = inr (refl, e)
 
 -- a run whose first byte passes
-run_within : (p : ℕ → Bool) (text : List ℕ) → 0 < length text → p (get_or text 0 0) ≡ true → IsWithin (prefix_len p text) text
+run_within : (p : ℕ → Bool) (text : List ℕ) → 0 < length text → p (get_or text 0 0) ≡ true → IsPieceLength (prefix_len p text) text
 run_within p [] lt e = absurd (omega arith)
 run_within p (b ∷ bs) lt e =
     let le = prefix_len-le-length p bs in
@@ -59,7 +59,7 @@ close_within (b ∷ bs) n e =
       | inr h ↦ let m = mapped 1 (through_close bs) n h.1 in let rest = close_within bs m.0 m.1 in let is = m.2 in (omega (arith, rest.0), omega (arith, rest.1))
     ]
 
-comment_within : (text : List ℕ) (n : ℕ) → comment_length text ≡ Some n → IsWithin n text
+comment_within : (text : List ℕ) (n : ℕ) → comment_length text ≡ Some n → IsPieceLength n text
 unfolding comment_length
 comment_within text n e =
     let m = mapped 2 (through_close (drop 2 text)) n e in
@@ -68,7 +68,7 @@ comment_within text n e =
     let left = length-drop 2 text in
     (omega (arith, rest.0), omega (arith, rest.0, rest.1))
 
-block_within : (text : List ℕ) (n : ℕ) → block_length text ≡ Some n → IsWithin n text
+block_within : (text : List ℕ) (n : ℕ) → block_length text ≡ Some n → IsPieceLength n text
 unfolding block_length
 block_within [] n e = absurd cc
 block_within (b ∷ bs) n e =
@@ -89,7 +89,7 @@ ok_some : (m n : ℕ) → ◌≡◌ {A = Result (Option ℕ) LexKind} (Ok (Some 
 ok_some m n e = cc
 
 -- a line that begins with no newline has some bytes
-line_within : (text : List ℕ) → 0 < length text → is_newline (get_or text 0 0) ≡ false → IsWithin (line_length text) text
+line_within : (text : List ℕ) → 0 < length text → is_newline (get_or text 0 0) ≡ false → IsPieceLength (line_length text) text
 line_within text lt e = run_within (λ b. not (is_newline b)) text lt (ap not e)
 
 pub first_is : (a : ℕ) (mark text : List ℕ) → begins_with (a ∷ mark) text ≡ true → get_or text 0 0 ≡ a
@@ -99,11 +99,11 @@ first_is a mark (x ∷ xs) e = sym (eqb-true a x (and_parts (eqb a x) _ e).0)
 no_newline : (b n : ℕ) → b ≡ n → is_newline n ≡ false → is_newline b ≡ false
 no_newline b n e h = ap is_newline e ∙ h
 
-gap_within : (last : Option TokenKind) (text : List ℕ) (n : ℕ) → 0 < length text → gap_at last text ≡ Ok (Some n) → IsWithin n text
+gap_within : (last : Option TokenKind) (text : List ℕ) (n : ℕ) → 0 < length text → gap_at last text ≡ Ok (Some n) → IsPieceLength n text
 unfolding gap_at
 gap_within last text n lt e =
     let b = get_or text 0 0 in
-    let P : ℕ → Type 0 = λ m. IsWithin m text in
+    let P : ℕ → Type 0 = λ m. IsPieceLength m text in
     elim (chosen (is_lang_opt last && not (is_newline b)) _ _ _ e) [
       | inl h ↦ subst P (ok_some (line_length text) n h.1) (run_within (λ b. not (is_newline b)) text lt (and_parts (is_lang_opt last) (not (is_newline b)) h.0).1)
       | inr h0 ↦ elim (chosen (is_blank b) _ _ _ h0.1) [
@@ -142,7 +142,7 @@ digit_is_name_byte b e = either (is_letter b) (is_ascii_digit b) e where
   either true t h = refl
   either false t h = h
 
-directive_within : (text : List ℕ) (k : TokenKind) (n : ℕ) → 0 < length text → directive_at text ≡ Ok (k, n) → IsWithin n text
+directive_within : (text : List ℕ) (k : TokenKind) (n : ℕ) → 0 < length text → directive_at text ≡ Ok (k, n) → IsPieceLength n text
 unfolding directive_at
 directive_within text k n lt e =
     let rest = drop 1 text in
@@ -172,7 +172,7 @@ pub one_byte : (o : Option TokenKind) (k : TokenKind) (n : ℕ) → ◌≡◌ {A
 one_byte (Some m) k n e = some_pair m k 1 n e
 one_byte None k n e = absurd cc
 
-mark_within : (text : List ℕ) (k : TokenKind) (n : ℕ) → 0 < length text → mark_at text ≡ Some (k, n) → IsWithin n text
+mark_within : (text : List ℕ) (k : TokenKind) (n : ℕ) → 0 < length text → mark_at text ≡ Some (k, n) → IsPieceLength n text
 unfolding mark_at
 mark_within text k n lt e =
     elim (chosen (begins_with (codes "::") text) _ _ _ e) [
@@ -186,11 +186,11 @@ mark_within text k n lt e =
       ]
     ]
 
-token_within : (text : List ℕ) (k : TokenKind) (n : ℕ) → 0 < length text → token_at text ≡ Ok (k, n) → IsWithin n text
+token_within : (text : List ℕ) (k : TokenKind) (n : ℕ) → 0 < length text → token_at text ≡ Ok (k, n) → IsPieceLength n text
 unfolding token_at
 token_within text k n lt e =
     let b = get_or text 0 0 in
-    let P : ℕ → Type 0 = λ m. IsWithin m text in
+    let P : ℕ → Type 0 = λ m. IsPieceLength m text in
     elim (chosen (is_newline b) _ _ _ e) [
       | inl h ↦ let is = ok_pair kind.Newline k 1 n h.1 in (omega arith, omega arith)
       | inr h0 ↦ elim (chosen (is_letter b) _ _ _ h0.1) [
@@ -205,11 +205,11 @@ token_within text k n lt e =
       ]
     ]
 
-pub piece_within : (last : Option TokenKind) (text : List ℕ) (p : Piece) → 0 < length text → piece_at last text ≡ Ok p → IsWithin (size p) text
+pub piece_within : (last : Option TokenKind) (text : List ℕ) (p : Piece) → 0 < length text → piece_at last text ≡ Ok p → IsPieceLength (size p) text
 unfolding piece_at
 piece_within last text p lt e = piece_within_by (gap_at last text) (token_at text) (λ n h. gap_within last text n lt h) (λ k n h. token_within text k n lt h) refl refl e where
-  piece_within_by : (g : Result (Option ℕ) LexKind) (t : Result (TokenKind × ℕ) LexKind) → ((n : ℕ) → g ≡ Ok (Some n) → IsWithin n text) → ((k : TokenKind) (n : ℕ) → t ≡ Ok (k, n) → IsWithin n text) → gap_at last text ≡ g → token_at text ≡ t → piece_by g text ≡ Ok p → IsWithin (size p) text
-  piece_within_by (Ok (Some n)) t gaps tokens hg ht q = subst (λ (r : Piece). IsWithin (size r) text) (ok_is (Gap n) p q) (gaps n refl)
-  piece_within_by (Ok None) (Ok token) gaps tokens hg ht q = subst (λ (r : Piece). IsWithin (size r) text) (ok_is (Token token.0 token.1) p (ap token_piece (sym ht) ∙ q)) (tokens token.0 token.1 refl)
+  piece_within_by : (g : Result (Option ℕ) LexKind) (t : Result (TokenKind × ℕ) LexKind) → ((n : ℕ) → g ≡ Ok (Some n) → IsPieceLength n text) → ((k : TokenKind) (n : ℕ) → t ≡ Ok (k, n) → IsPieceLength n text) → gap_at last text ≡ g → token_at text ≡ t → piece_by g text ≡ Ok p → IsPieceLength (size p) text
+  piece_within_by (Ok (Some n)) t gaps tokens hg ht q = subst (λ (r : Piece). IsPieceLength (size r) text) (ok_is (Gap n) p q) (gaps n refl)
+  piece_within_by (Ok None) (Ok token) gaps tokens hg ht q = subst (λ (r : Piece). IsPieceLength (size r) text) (ok_is (Token token.0 token.1) p (ap token_piece (sym ht) ∙ q)) (tokens token.0 token.1 refl)
   piece_within_by (Ok None) (Err f) gaps tokens hg ht q = absurd (err_is_not f p (ap token_piece (sym ht) ∙ q))
   piece_within_by (Err f) t gaps tokens hg ht q = absurd (err_is_not f p q)

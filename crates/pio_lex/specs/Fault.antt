@@ -6,12 +6,12 @@ use Rattle.pio_lex.specs.declared.fault.LexKind.{LexKind}
 use Rattle.pio_lex.specs.declared.fault.LexKind.TheVariants.{BadByte, BadNumber, OpenComment, OpenBlock}
 
 -- the line of the first fault, counted from 1, and what is wrong there
-pub record Refusal : Type 0 where
+pub record LexRefusal : Type 0 where
   pub line : ℕ
   pub kind : LexKind
 
 -- what a returned fault tells: nothing where memory ran out
-abbrev pub told : LexFault → Option Refusal
+abbrev pub told : LexFault → Option LexRefusal
 told Memory = None
 told (Found line kind) = Some (record { line = line; kind = kind })
 

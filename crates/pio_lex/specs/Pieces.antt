@@ -28,5 +28,5 @@ size (Gap n) = n
 size (Token kind n) = n
 
 -- a piece of at least one byte, and no longer than the text
-abbrev pub IsWithin : ℕ → List ℕ → Type 0
-IsWithin n text = (0 < n) × (n ≤ length text)
+abbrev pub IsPieceLength : ℕ → List ℕ → Type 0
+IsPieceLength n text = (0 < n) × (n ≤ length text)

@@ -1,7 +1,7 @@
 //! The pieces of a source, of which it is made one after the other.
 ghost use Rattle.std.specs.Prelude.{◌≡◌, ◌<◌, length, IfOk};
 ghost use Rattle.pio_lex.specs.Pieces as spec;
-ghost use Rattle.pio_lex.specs.Pieces.{IsWithin, size};
+ghost use Rattle.pio_lex.specs.Pieces.{IsPieceLength, size};
 
 use crate::gap::gap;
 use crate::spelling::token;
@@ -32,7 +32,7 @@ impl Piece {
 pub fn next_piece(text: &[u8], last: Option<TokenKind>) -> Result<Piece, LexKind>
     requires { 0 < length text.now }
     ensures value { result ≡ spec.piece_at last text.now }
-    ensures within { IfOk result (λ piece. IsWithin (size piece) text.now) }
+    ensures within { IfOk result (λ piece. IsPieceLength (size piece) text.now) }
 {
     if let Some(size) = gap(text, last)? {
         return Ok(Piece::Gap(size));

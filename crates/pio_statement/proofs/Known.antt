@@ -10,7 +10,7 @@ use Rattle.pio_lex.specs.declared.token.Token.{Token}
 use Rattle.pio_expr.specs.declared.expr.Item.{Item}
 use Rattle.pio_expr.specs.declared.fault.ExprKind.TheVariants as expr_kind
 use Rattle.pio_expr.specs.declared.fault.ExprKind.{ExprKind}
-use Rattle.pio_expr.specs.declared.fault.Refusal.{Refusal}
+use Rattle.pio_expr.specs.declared.fault.ExprRefusal.{ExprRefusal}
 use Rattle.pio_expr.specs.Grammar.{expression_at}
 use Rattle.pio_statement.specs.declared.fault.StatementKind.{StatementKind}
 use Rattle.pio_statement.specs.declared.fault.StatementKind.TheVariants as fault
@@ -51,7 +51,7 @@ kind_known X expr_kind.Syntax = tt
 kind_known X expr_kind.TooDeep = tt
 kind_known X expr_kind.Ambiguous = tt
 
-of_line_known : {X : Type 0} (read : Result X Refusal) → Known (of_line read)
+of_line_known : {X : Type 0} (read : Result X ExprRefusal) → Known (of_line read)
 of_line_known (Ok x) = tt
 of_line_known {X} (Err refusal) = kind_known X refusal.kind
 

@@ -3,7 +3,7 @@ use Rattle.std.proofs.Common.{◌≡◌, ℕ, zero, suc, ◌≤◌, List, [], le
 use Rattle.std.proofs.lemmas.Option.{slice_get_past}
 use Rattle.pio_lex.specs.declared.token.Token.{Token}
 use Rattle.pio_expr.specs.declared.fault.ExprKind.TheVariants.{Syntax}
-use Rattle.pio_expr.specs.declared.mark.Mark.TheVariants as mark
+use Rattle.pio_expr.specs.declared.mark.TokenMark.TheVariants as mark
 use Rattle.pio_expr.specs.Marks.{mark_at, mark_by}
 use Rattle.pio_expr.specs.Grammar.{misplaced, Progress, Readers, readers_by, readers, refused, read_items, most_open, expression_at}
 

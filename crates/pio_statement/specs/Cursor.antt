@@ -1,9 +1,9 @@
 -- A cursor among the tokens of a source, and what its methods do with it.
 --   Position       the source, its tokens, and the place of the next token
---   Reads          a value is read, and the cursor is after it
+--   ReadsValue     a value is read, and the cursor is after it
 --   ReadsOptional  the same of what may be left out
 --   ReadsWord      the same of a keyword, which has to be there
---   Passes         a token that has to be there is passed
+--   PassesToken    a token that has to be there is passed
 --   Enters         a token that may be left out is passed where it is there
 use Rattle.std.specs.Prelude.{◌≡◌, ℕ, List, Bool, true, false, Option, Some, None, Result, Ok, Err}
 use Rattle.answers.specs.Answers.{Refuses}
@@ -26,9 +26,9 @@ abbrev pub MovesTo : Position → Position → ℕ → Type 0
 MovesTo old new at = (new.at ≡ at) × (new.source ≡ old.source) × (new.tokens ≡ old.tokens)
 
 -- a value is what is read, and the cursor is after it; or a fault is the one that is met; want of memory is allowed
-abbrev pub Reads : {X : Type 0} → Result X StatementFault → Position → Position → Read X → Type 0
-Reads (Ok x) old new read = (read ≡ Ok (x, new.at)) × (new.source ≡ old.source) × (new.tokens ≡ old.tokens)
-Reads (Err fault) old new read = Refuses (told fault) read
+abbrev pub ReadsValue : {X : Type 0} → Result X StatementFault → Position → Position → Read X → Type 0
+ReadsValue (Ok x) old new read = (read ≡ Ok (x, new.at)) × (new.source ≡ old.source) × (new.tokens ≡ old.tokens)
+ReadsValue (Err fault) old new read = Refuses (told fault) read
 
 -- a value is what is read, and the cursor is after it, or where it was if nothing is there
 abbrev pub ReadsOptional : {X : Type 0} → X → Position → Position → X × ℕ → Type 0
@@ -40,9 +40,9 @@ ReadsWord (Ok word) old new found = (found ≡ Some (word, new.at)) × (new.sour
 ReadsWord (Err fault) old new found = (found ≡ None) × (fault ≡ Found Syntax)
 
 -- the cursor is after the token that has to be there; or the fault is told
-abbrev pub Passes : {X : Type 0} → Result X StatementFault → Position → Position → Result ℕ StatementKind → Type 0
-Passes (Ok x) old new place = (place ≡ Ok new.at) × (new.source ≡ old.source) × (new.tokens ≡ old.tokens)
-Passes (Err fault) old new place = Refuses (told fault) place
+abbrev pub PassesToken : {X : Type 0} → Result X StatementFault → Position → Position → Result ℕ StatementKind → Type 0
+PassesToken (Ok x) old new place = (place ≡ Ok new.at) × (new.source ≡ old.source) × (new.tokens ≡ old.tokens)
+PassesToken (Err fault) old new place = Refuses (told fault) place
 
 -- the cursor is after the token, if it is there, and else where it was
 abbrev pub Enters : Bool → Position → Position → Option ℕ → Type 0

@@ -14,7 +14,7 @@ use Rattle.pio_lex.specs.declared.token.Token.{Token}
 use Rattle.pio_expr.specs.declared.expr.Item.{Item}
 use Rattle.pio_expr.specs.declared.fault.ExprKind.{ExprKind}
 use Rattle.pio_expr.specs.declared.fault.ExprKind.TheVariants as expr_kind
-use Rattle.pio_expr.specs.declared.fault.Refusal.{Refusal}
+use Rattle.pio_expr.specs.declared.fault.ExprRefusal.{ExprRefusal}
 use Rattle.pio_expr.specs.Grammar.{expression_at}
 use Rattle.pio_statement.specs.declared.fault.StatementKind.{StatementKind}
 use Rattle.pio_statement.specs.declared.fault.StatementKind.TheVariants.{Syntax, TooDeep, Ambiguous}
@@ -119,7 +119,7 @@ kind_of expr_kind.TooDeep = TooDeep
 kind_of expr_kind.Ambiguous = Ambiguous
 
 -- an expression, or its line's fault
-abbrev pub of_line : {X : Type 0} → Result X Refusal → Result X StatementKind
+abbrev pub of_line : {X : Type 0} → Result X ExprRefusal → Result X StatementKind
 of_line (Ok read) = Ok read
 of_line (Err refusal) = Err (kind_of refusal.kind)
 

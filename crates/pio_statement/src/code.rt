@@ -1,5 +1,5 @@
 //! Instructions with their side-set and delay, and words of code. E is an expression.
-ghost use Rattle.pio_statement.specs.Cursor.{Reads};
+ghost use Rattle.pio_statement.specs.Cursor.{ReadsValue};
 ghost use Rattle.pio_statement.specs.Instructions as spec;
 
 use crate::cursor::Cursor;
@@ -11,7 +11,7 @@ impl<'a> Cursor<'a> {
     /// An instruction or a word.
     #[tactic(auto, unfolding(crate::specs::Instructions::code_at))]
     pub fn code(&mut self) -> Result<Code, StatementFault>
-        ensures { Reads result self.old self.new (spec.code_at self.old.source self.old.tokens self.old.at) }
+        ensures { ReadsValue result self.old self.new (spec.code_at self.old.source self.old.tokens self.old.at) }
     {
         match self.kind() {
             Some(TokenKind::Directive(Directive::Word)) => {
@@ -26,7 +26,7 @@ impl<'a> Cursor<'a> {
     /// `.word E`, after the directive.
     #[tactic(auto, unfolding(crate::specs::Instructions::word_at))]
     pub fn word(&mut self) -> Result<Code, StatementFault>
-        ensures { Reads result self.old self.new (spec.word_at self.old.source self.old.tokens self.old.at) }
+        ensures { ReadsValue result self.old self.new (spec.word_at self.old.source self.old.tokens self.old.at) }
     {
         Ok(Code::Word(self.expression()?))
     }
@@ -34,7 +34,7 @@ impl<'a> Cursor<'a> {
     /// An instruction.
     #[tactic(auto, unfolding(crate::specs::Instructions::instruction_at))]
     fn instruction(&mut self) -> Result<Instruction, StatementFault>
-        ensures { Reads result self.old self.new (spec.instruction_at self.old.source self.old.tokens self.old.at) }
+        ensures { ReadsValue result self.old self.new (spec.instruction_at self.old.source self.old.tokens self.old.at) }
     {
         let form = self.form()?;
         let suffix = self.suffix()?;
@@ -44,7 +44,7 @@ impl<'a> Cursor<'a> {
     /// At most one `side E` and one `[E]`, in either order.
     #[tactic(auto, unfolding(crate::specs::Instructions::suffix_at))]
     fn suffix(&mut self) -> Result<Suffix, StatementFault>
-        ensures { Reads result self.old self.new (spec.suffix_at self.old.source self.old.tokens self.old.at) }
+        ensures { ReadsValue result self.old self.new (spec.suffix_at self.old.source self.old.tokens self.old.at) }
     {
         if self.side() {
             self.side_first()
@@ -58,7 +58,7 @@ impl<'a> Cursor<'a> {
     /// `side E` or `side E [E]`, after the word.
     #[tactic(auto, unfolding(crate::specs::Instructions::side_first))]
     fn side_first(&mut self) -> Result<Suffix, StatementFault>
-        ensures { Reads result self.old self.new (spec.side_first self.old.source self.old.tokens self.old.at) }
+        ensures { ReadsValue result self.old self.new (spec.side_first self.old.source self.old.tokens self.old.at) }
     {
         let side = self.expression()?;
         if !self.open() {
@@ -71,7 +71,7 @@ impl<'a> Cursor<'a> {
     /// `[E]` or `[E] side E`, after the `[`.
     #[tactic(auto, unfolding(crate::specs::Instructions::delay_first))]
     fn delay_first(&mut self) -> Result<Suffix, StatementFault>
-        ensures { Reads result self.old self.new (spec.delay_first self.old.source self.old.tokens self.old.at) }
+        ensures { ReadsValue result self.old self.new (spec.delay_first self.old.source self.old.tokens self.old.at) }
     {
         let delay = self.delay()?;
         if !self.side() {
@@ -84,7 +84,7 @@ impl<'a> Cursor<'a> {
     /// A delay after its `[`: `E ]`.
     #[tactic(auto, unfolding(crate::specs::Instructions::delay_at))]
     fn delay(&mut self) -> Result<Expr, StatementFault>
-        ensures { Reads result self.old self.new (spec.delay_at self.old.source self.old.tokens self.old.at) }
+        ensures { ReadsValue result self.old self.new (spec.delay_at self.old.source self.old.tokens self.old.at) }
     {
         let delay = self.expression()?;
         self.close()?;

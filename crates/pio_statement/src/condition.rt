@@ -1,5 +1,5 @@
 //! The condition of a JMP: `!x  x--  !y  y--  x!=y  pin  !osre`, or none. `~` equals `!`.
-ghost use Rattle.pio_statement.specs.Cursor.{MovesTo, Reads};
+ghost use Rattle.pio_statement.specs.Cursor.{MovesTo, ReadsValue};
 ghost use Rattle.pio_statement.specs.Conditions as spec;
 
 use crate::StatementFault;
@@ -11,7 +11,7 @@ impl<'a> Cursor<'a> {
     /// A condition, or none.
     #[tactic(auto, unfolding(crate::specs::Conditions::condition_at))]
     pub fn condition(&mut self) -> Result<Condition, StatementFault>
-        ensures { Reads result self.old self.new (spec.condition_at self.old.tokens self.old.at) }
+        ensures { ReadsValue result self.old self.new (spec.condition_at self.old.tokens self.old.at) }
     {
         match self.kind() {
             Some(TokenKind::Bang | TokenKind::Tilde) => {
@@ -39,7 +39,7 @@ impl<'a> Cursor<'a> {
     /// A condition after its `!` or `~`.
     #[tactic(auto, unfolding(crate::specs::Conditions::inverted_at))]
     fn inverted(&mut self) -> Result<Condition, StatementFault>
-        ensures { Reads result self.old self.new (spec.inverted_at self.old.tokens self.old.at) }
+        ensures { ReadsValue result self.old self.new (spec.inverted_at self.old.tokens self.old.at) }
     {
         match self.keyword()? {
             Keyword::X => Ok(Condition::XZero),
@@ -51,7 +51,7 @@ impl<'a> Cursor<'a> {
 
     /// A condition after its first word; no expression begins with a word.
     fn after_word(&mut self, word: Keyword) -> Result<Condition, StatementFault>
-        ensures { Reads result self.old self.new (spec.after_word self.old.tokens word self.old.at) }
+        ensures { ReadsValue result self.old self.new (spec.after_word self.old.tokens word self.old.at) }
     {
         match word {
             Keyword::X => self.after_x(),
@@ -64,7 +64,7 @@ impl<'a> Cursor<'a> {
     /// After `x`: `--`, or `!=` and `y`.
     #[tactic(auto, unfolding(crate::specs::Conditions::after_x))]
     fn after_x(&mut self) -> Result<Condition, StatementFault>
-        ensures { Reads result self.old self.new (spec.after_x self.old.tokens self.old.at) }
+        ensures { ReadsValue result self.old self.new (spec.after_x self.old.tokens self.old.at) }
     {
         match self.kind() {
             Some(TokenKind::MinusMinus) => {
@@ -82,7 +82,7 @@ impl<'a> Cursor<'a> {
     /// After `x!=`: `y`.
     #[tactic(auto, unfolding(crate::specs::Conditions::differs_at))]
     fn differs(&mut self) -> Result<Condition, StatementFault>
-        ensures { Reads result self.old self.new (spec.differs_at self.old.tokens self.old.at) }
+        ensures { ReadsValue result self.old self.new (spec.differs_at self.old.tokens self.old.at) }
     {
         match self.keyword()? {
             Keyword::Y => Ok(Condition::XNotY),
@@ -93,7 +93,7 @@ impl<'a> Cursor<'a> {
     /// After `y`: `--`.
     #[tactic(auto, unfolding(crate::specs::Conditions::after_y))]
     fn after_y(&mut self) -> Result<Condition, StatementFault>
-        ensures { Reads result self.old self.new (spec.after_y self.old.tokens self.old.at) }
+        ensures { ReadsValue result self.old self.new (spec.after_y self.old.tokens self.old.at) }
     {
         match self.kind() {
             Some(TokenKind::MinusMinus) => {

@@ -2,7 +2,7 @@
 ghost use Rattle.std.specs.Prelude.{◌≡◌, ◌+◌, ◌<◌, length, slice_get, IfSome};
 ghost use Rattle.std.specs.List.{All};
 ghost use Rattle.pio_lex.specs.Tokens.{IsTokenOf};
-ghost use Rattle.pio_statement.specs.Cursor.{MovesTo, Reads, ReadsWord, Passes, Enters};
+ghost use Rattle.pio_statement.specs.Cursor.{MovesTo, ReadsValue, ReadsWord, PassesToken, Enters};
 ghost use Rattle.pio_statement.specs.Tokens as spec;
 
 use crate::StatementFault;
@@ -104,7 +104,7 @@ impl<'a> Cursor<'a> {
     /// `:`
     #[tactic(auto, unfolding(crate::specs::Tokens::past_colon))]
     pub fn colon(&mut self) -> Result<(), StatementFault>
-        ensures { Passes result self.old self.new (spec.past_colon self.old.tokens self.old.at) }
+        ensures { PassesToken result self.old self.new (spec.past_colon self.old.tokens self.old.at) }
     {
         match self.kind() {
             Some(TokenKind::Colon) => {
@@ -118,7 +118,7 @@ impl<'a> Cursor<'a> {
     /// `]`
     #[tactic(auto, unfolding(crate::specs::Tokens::past_close))]
     pub fn close(&mut self) -> Result<(), StatementFault>
-        ensures { Passes result self.old self.new (spec.past_close self.old.tokens self.old.at) }
+        ensures { PassesToken result self.old self.new (spec.past_close self.old.tokens self.old.at) }
     {
         match self.kind() {
             Some(TokenKind::CloseBracket) => {
@@ -160,7 +160,7 @@ impl<'a> Cursor<'a> {
     /// A name.
     #[tactic(auto, unfolding(crate::specs::Tokens::name_at))]
     pub fn name(&mut self) -> Result<Name, StatementFault>
-        ensures { Reads result self.old self.new (spec.name_at self.old.source self.old.tokens self.old.at) }
+        ensures { ReadsValue result self.old self.new (spec.name_at self.old.source self.old.tokens self.old.at) }
     {
         let Some(token) = self.token() else {
             return Err(StatementFault::SYNTAX);
@@ -184,7 +184,7 @@ impl<'a> Cursor<'a> {
     /// An expression.
     #[tactic(auto, using(crate::proofs::Outside::outside), unfolding(crate::specs::Tokens::expression))]
     pub fn expression(&mut self) -> Result<Expr, StatementFault>
-        ensures { Reads result self.old self.new (spec.expression self.old.source self.old.tokens self.old.at) }
+        ensures { ReadsValue result self.old self.new (spec.expression self.old.source self.old.tokens self.old.at) }
     {
         // An expression has a token at least.
         if self.at >= self.tokens.len() {

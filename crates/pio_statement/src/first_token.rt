@@ -1,5 +1,5 @@
 //! What is at a place, by the first token.
-ghost use Rattle.pio_statement.specs.Cursor.{Reads};
+ghost use Rattle.pio_statement.specs.Cursor.{ReadsValue};
 ghost use Rattle.pio_statement.specs.Statements as spec;
 
 use crate::cursor::Cursor;
@@ -10,7 +10,7 @@ impl<'a> Cursor<'a> {
     /// A statement, whatever comes after it.
     #[tactic(auto, unfolding(crate::specs::Statements::statement_from))]
     pub fn statement(&mut self) -> Result<Statement, StatementFault>
-        ensures { Reads result self.old self.new (spec.statement_from self.old.source self.old.tokens self.old.at) }
+        ensures { ReadsValue result self.old self.new (spec.statement_from self.old.source self.old.tokens self.old.at) }
     {
         match self.kind() {
             None | Some(TokenKind::Newline) => Ok(Statement::Nothing),
@@ -31,7 +31,7 @@ impl<'a> Cursor<'a> {
     /// `NAME :`, alone or with code after it.
     #[tactic(auto, unfolding(crate::specs::Statements::label_at))]
     fn label(&mut self, public: bool) -> Result<Statement, StatementFault>
-        ensures { Reads result self.old self.new (spec.label_at self.old.source self.old.tokens public self.old.at) }
+        ensures { ReadsValue result self.old self.new (spec.label_at self.old.source self.old.tokens public self.old.at) }
     {
         let name = self.name()?;
         self.colon()?;
@@ -42,7 +42,7 @@ impl<'a> Cursor<'a> {
     /// The code after a label, if the line goes on.
     #[tactic(auto, unfolding(crate::specs::Statements::labelled_at))]
     fn labelled(&mut self) -> Result<Option<Code>, StatementFault>
-        ensures { Reads result self.old self.new (spec.labelled_at self.old.source self.old.tokens self.old.at) }
+        ensures { ReadsValue result self.old self.new (spec.labelled_at self.old.source self.old.tokens self.old.at) }
     {
         if self.is_at_end() {
             Ok(None)
@@ -54,7 +54,7 @@ impl<'a> Cursor<'a> {
     /// Code without a label.
     #[tactic(auto, unfolding(crate::specs::Statements::lone_code_at))]
     fn lone_code(&mut self) -> Result<Statement, StatementFault>
-        ensures { Reads result self.old self.new (spec.lone_code_at self.old.source self.old.tokens self.old.at) }
+        ensures { ReadsValue result self.old self.new (spec.lone_code_at self.old.source self.old.tokens self.old.at) }
     {
         Ok(Statement::Code(self.code()?))
     }

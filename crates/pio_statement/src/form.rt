@@ -1,5 +1,5 @@
 //! The forms of the instructions, after their first word. E is an expression.
-ghost use Rattle.pio_statement.specs.Cursor.{Reads, ReadsOptional};
+ghost use Rattle.pio_statement.specs.Cursor.{ReadsValue, ReadsOptional};
 ghost use Rattle.pio_statement.specs.Forms as spec;
 
 use crate::cursor::Cursor;
@@ -11,7 +11,7 @@ impl<'a> Cursor<'a> {
     /// An instruction without its side-set and its delay.
     #[tactic(auto, unfolding(crate::specs::Forms::form_at))]
     pub fn form(&mut self) -> Result<Form, StatementFault>
-        ensures { Reads result self.old self.new (spec.form_at self.old.source self.old.tokens self.old.at) }
+        ensures { ReadsValue result self.old self.new (spec.form_at self.old.source self.old.tokens self.old.at) }
     {
         match self.keyword()? {
             Keyword::Nop => Ok(Form::Nop),
@@ -31,7 +31,7 @@ impl<'a> Cursor<'a> {
     /// `jmp [cond,] E`
     #[tactic(auto, unfolding(crate::specs::Forms::jmp_at))]
     fn jmp(&mut self) -> Result<Form, StatementFault>
-        ensures { Reads result self.old self.new (spec.jmp_at self.old.source self.old.tokens self.old.at) }
+        ensures { ReadsValue result self.old self.new (spec.jmp_at self.old.source self.old.tokens self.old.at) }
     {
         let condition = self.condition()?;
         self.condition_comma(condition);
@@ -42,7 +42,7 @@ impl<'a> Cursor<'a> {
     /// `wait E gpio, E`, `wait E pin, E`, `wait E irq, E [rel]`
     #[tactic(auto, unfolding(crate::specs::Forms::wait_at))]
     fn wait(&mut self) -> Result<Form, StatementFault>
-        ensures { Reads result self.old self.new (spec.wait_at self.old.source self.old.tokens self.old.at) }
+        ensures { ReadsValue result self.old self.new (spec.wait_at self.old.source self.old.tokens self.old.at) }
     {
         let polarity = self.expression()?;
         let source = self.wait_source()?;
@@ -70,7 +70,7 @@ impl<'a> Cursor<'a> {
     /// `in src, E`
     #[tactic(auto, unfolding(crate::specs::Forms::in_at))]
     fn in_bits(&mut self) -> Result<Form, StatementFault>
-        ensures { Reads result self.old self.new (spec.in_at self.old.source self.old.tokens self.old.at) }
+        ensures { ReadsValue result self.old self.new (spec.in_at self.old.source self.old.tokens self.old.at) }
     {
         let source = self.in_source()?;
         self.comma();
@@ -81,7 +81,7 @@ impl<'a> Cursor<'a> {
     /// `out dst, E`
     #[tactic(auto, unfolding(crate::specs::Forms::out_at))]
     fn out_bits(&mut self) -> Result<Form, StatementFault>
-        ensures { Reads result self.old self.new (spec.out_at self.old.source self.old.tokens self.old.at) }
+        ensures { ReadsValue result self.old self.new (spec.out_at self.old.source self.old.tokens self.old.at) }
     {
         let destination = self.out_destination()?;
         self.comma();
@@ -112,7 +112,7 @@ impl<'a> Cursor<'a> {
     /// `mov dst, [! or ~ or ::] src`
     #[tactic(auto, unfolding(crate::specs::Forms::mov_at))]
     fn mov(&mut self) -> Result<Form, StatementFault>
-        ensures { Reads result self.old self.new (spec.mov_at self.old.tokens self.old.at) }
+        ensures { ReadsValue result self.old self.new (spec.mov_at self.old.tokens self.old.at) }
     {
         let destination = self.mov_destination()?;
         self.comma();
@@ -128,7 +128,7 @@ impl<'a> Cursor<'a> {
     /// `irq [set or nowait or wait or clear] E [rel]`
     #[tactic(auto, unfolding(crate::specs::Forms::irq_at))]
     fn irq(&mut self) -> Result<Form, StatementFault>
-        ensures { Reads result self.old self.new (spec.irq_at self.old.source self.old.tokens self.old.at) }
+        ensures { ReadsValue result self.old self.new (spec.irq_at self.old.source self.old.tokens self.old.at) }
     {
         let mode = self.irq_mode();
         let index = self.expression()?;
@@ -143,7 +143,7 @@ impl<'a> Cursor<'a> {
     /// `set dst, E`
     #[tactic(auto, unfolding(crate::specs::Forms::set_at))]
     fn set(&mut self) -> Result<Form, StatementFault>
-        ensures { Reads result self.old self.new (spec.set_at self.old.source self.old.tokens self.old.at) }
+        ensures { ReadsValue result self.old self.new (spec.set_at self.old.source self.old.tokens self.old.at) }
     {
         let destination = self.set_destination()?;
         self.comma();

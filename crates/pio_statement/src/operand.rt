@@ -1,5 +1,5 @@
 //! The operands that are words.
-ghost use Rattle.pio_statement.specs.Cursor.{Reads};
+ghost use Rattle.pio_statement.specs.Cursor.{ReadsValue};
 ghost use Rattle.pio_statement.specs.Operands as spec;
 
 use crate::StatementFault;
@@ -11,7 +11,7 @@ impl<'a> Cursor<'a> {
     /// What a WAIT looks at: `gpio pin irq`.
     #[tactic(auto, unfolding(crate::specs::Operands::wait_source_at))]
     pub fn wait_source(&mut self) -> Result<WaitSource, StatementFault>
-        ensures { Reads result self.old self.new (spec.wait_source_at self.old.tokens self.old.at) }
+        ensures { ReadsValue result self.old self.new (spec.wait_source_at self.old.tokens self.old.at) }
     {
         match self.keyword()? {
             Keyword::Gpio => Ok(WaitSource::Gpio),
@@ -24,7 +24,7 @@ impl<'a> Cursor<'a> {
     /// What an IN reads: `pins x y null isr osr`.
     #[tactic(auto, unfolding(crate::specs::Operands::in_source_at))]
     pub fn in_source(&mut self) -> Result<InSource, StatementFault>
-        ensures { Reads result self.old self.new (spec.in_source_at self.old.tokens self.old.at) }
+        ensures { ReadsValue result self.old self.new (spec.in_source_at self.old.tokens self.old.at) }
     {
         match self.keyword()? {
             Keyword::Pins => Ok(InSource::Pins),
@@ -40,7 +40,7 @@ impl<'a> Cursor<'a> {
     /// Where an OUT writes: `pins x y null pindirs pc isr exec`.
     #[tactic(auto, unfolding(crate::specs::Operands::out_destination_at))]
     pub fn out_destination(&mut self) -> Result<OutDestination, StatementFault>
-        ensures { Reads result self.old self.new (spec.out_destination_at self.old.tokens self.old.at) }
+        ensures { ReadsValue result self.old self.new (spec.out_destination_at self.old.tokens self.old.at) }
     {
         match self.keyword()? {
             Keyword::Pins => Ok(OutDestination::Pins),
@@ -58,7 +58,7 @@ impl<'a> Cursor<'a> {
     /// Where a MOV writes: `pins x y exec pc isr osr`.
     #[tactic(auto, unfolding(crate::specs::Operands::mov_destination_at))]
     pub fn mov_destination(&mut self) -> Result<MovDestination, StatementFault>
-        ensures { Reads result self.old self.new (spec.mov_destination_at self.old.tokens self.old.at) }
+        ensures { ReadsValue result self.old self.new (spec.mov_destination_at self.old.tokens self.old.at) }
     {
         match self.keyword()? {
             Keyword::Pins => Ok(MovDestination::Pins),
@@ -75,7 +75,7 @@ impl<'a> Cursor<'a> {
     /// What a MOV reads: `pins x y null status isr osr`.
     #[tactic(auto, unfolding(crate::specs::Operands::mov_source_at))]
     pub fn mov_source(&mut self) -> Result<MovSource, StatementFault>
-        ensures { Reads result self.old self.new (spec.mov_source_at self.old.tokens self.old.at) }
+        ensures { ReadsValue result self.old self.new (spec.mov_source_at self.old.tokens self.old.at) }
     {
         match self.keyword()? {
             Keyword::Pins => Ok(MovSource::Pins),
@@ -92,7 +92,7 @@ impl<'a> Cursor<'a> {
     /// Where a SET writes: `pins x y pindirs`.
     #[tactic(auto, unfolding(crate::specs::Operands::set_destination_at))]
     pub fn set_destination(&mut self) -> Result<SetDestination, StatementFault>
-        ensures { Reads result self.old self.new (spec.set_destination_at self.old.tokens self.old.at) }
+        ensures { ReadsValue result self.old self.new (spec.set_destination_at self.old.tokens self.old.at) }
     {
         match self.keyword()? {
             Keyword::Pins => Ok(SetDestination::Pins),

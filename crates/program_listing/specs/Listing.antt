@@ -7,7 +7,7 @@ use Rattle.std.specs.Prelude.{ℕ, Bool, true, false, Option, Some, None, List, 
 use Rattle.std.specs.List.{filter}
 use Rattle.std.specs.Fmt.{signed_decimal}
 use Rattle.pio_encode.specs.declared.rule.SideRule.{SideRule}
-use Rattle.pio_assemble.specs.declared.symbols.Symbol.{Symbol}
+use Rattle.pio_assemble.specs.declared.symbols.ProgramSymbol.{ProgramSymbol}
 use Rattle.pio_assemble.specs.Program.{Assembled}
 use Rattle.word_file.specs.Listing.{word_lines}
 
@@ -37,11 +37,11 @@ program_line p =
     ++ codes " wrap " ++ decimal p.wrap_bottom ++ codes " " ++ decimal p.wrap_top ++ codes "\n"
 
 -- the line of a public symbol: its name, and its value in decimal digits with its sign (choice of this profile)
-unfoldable pub public_line : Symbol → List ℕ
+unfoldable pub public_line : ProgramSymbol → List ℕ
 public_line s = codes "public " ++ s.name ++ codes " " ++ signed_decimal s.value ++ codes "\n"
 
 -- the lines of the public symbols, in the order of the source (choice of this profile)
-abbrev pub public_lines : List Symbol → List ℕ
+abbrev pub public_lines : List ProgramSymbol → List ℕ
 public_lines symbols = flat_map public_line (filter (λ s. s.public) symbols)
 
 -- the text of a program: its line, its public symbols, its words under its own rule (choice of this profile)

@@ -4,11 +4,14 @@ ghost use Rattle.pio_edge.specs.Edge.{Takes, PutCounts};
 ghost use Rattle.program_listing.specs.Listing.{public_line, public_lines};
 
 use itoa::Buffer;
-use pio_assemble::Symbol;
+use pio_assemble::ProgramSymbol;
 use pio_edge::{Sink, SinkFailed, put_all};
 
 /// Puts the lines of the public ones among symbols, in their order.
-pub(crate) fn put_publics<S: Sink>(sink: &mut S, symbols: &[Symbol]) -> Result<(), SinkFailed>
+pub(crate) fn put_publics<S: Sink>(
+    sink: &mut S,
+    symbols: &[ProgramSymbol],
+) -> Result<(), SinkFailed>
     ensures bytes { Takes (S.taken sink.old) (public_lines symbols.now) (S.taken sink.new) result }
     ensures cause { PutCounts (S.faults sink.old) (S.faults sink.new) result }
 {
@@ -22,7 +25,7 @@ pub(crate) fn put_publics<S: Sink>(sink: &mut S, symbols: &[Symbol]) -> Result<(
 
 /// Puts the line of a public symbol.
 #[tactic(auto, unfolding(crate::specs::Listing::public_line))]
-fn put_public<S: Sink>(sink: &mut S, symbol: &Symbol) -> Result<(), SinkFailed>
+fn put_public<S: Sink>(sink: &mut S, symbol: &ProgramSymbol) -> Result<(), SinkFailed>
     ensures bytes { Takes (S.taken sink.old) (public_line symbol.now) (S.taken sink.new) result }
     ensures cause { PutCounts (S.faults sink.old) (S.faults sink.new) result }
 {

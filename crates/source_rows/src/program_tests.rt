@@ -3,7 +3,7 @@ use crate::program_faults::{FAULTS, LARGEST, LIMITS};
 use crate::program_rows::{SHAPES, WORDS};
 use crate::table::rows_hold;
 use crate::telling::Subject;
-use pio_assemble::{Program, SourceFault, Symbol, assemble};
+use pio_assemble::{Program, ProgramSymbol, SourceFault, assemble};
 use std::alloc::{AllocError, Global};
 use std::test::Fail;
 
@@ -96,7 +96,7 @@ fn tell_shape(program: &Program, text: &mut String) -> Result<(), AllocError> {
     )
 }
 
-fn tell_symbol(symbol: &Symbol, text: &mut String) -> Result<(), AllocError> {
+fn tell_symbol(symbol: &ProgramSymbol, text: &mut String) -> Result<(), AllocError> {
     let label = if symbol.is_label { ":" } else { "" };
     let public = if symbol.public { "+" } else { "" };
     write!(text, " {}={}{label}{public}", symbol.name, symbol.value)

@@ -4,8 +4,8 @@ use Rattle.std.specs.Prelude.{option_copied, nat_lt}
 use Rattle.byte_lines.specs.Lines.{lines_of, lines_left}
 use Rattle.word_file.specs.declared.fault.WordFault.{WordFault}
 use Rattle.word_file.specs.declared.fault.WordKind.TheVariants.{BadWord, TooMany}
-use Rattle.word_file.specs.declared.line.Line.{Line}
-use Rattle.word_file.specs.declared.line.Line.TheVariants.{Blank, Word, Bad}
+use Rattle.word_file.specs.declared.line.WordLine.{WordLine}
+use Rattle.word_file.specs.declared.line.WordLine.TheVariants.{Blank, Word, Bad}
 use Rattle.word_file.specs.Line.{line_says}
 use Rattle.word_file.specs.Reading.{with_front, words_from, most_words}
 
@@ -27,8 +27,8 @@ opened front number count rest text line left all is first whole =
     ap (going_from front number count) (sym (ap (λ (r : Option (Bor (List ℕ))). lines_left (option_copied r)) is ∙ first)) ∙ whole
 
 -- the line that says this
-says : (front : List ℕ) (number count : ℕ) (line : List ℕ) (left : List (List ℕ)) (said : Line) (all : Result (List ℕ) WordFault) → line_says line ≡ said → going_from front number count (line ∷ left) ≡ all → with_front front (words_from number count (said ∷ map line_says left)) ≡ all
-says front number count line left said all e whole = ap (λ (s : Line). with_front front (words_from number count (s ∷ map line_says left))) (sym e) ∙ whole
+says : (front : List ℕ) (number count : ℕ) (line : List ℕ) (left : List (List ℕ)) (said : WordLine) (all : Result (List ℕ) WordFault) → line_says line ≡ said → going_from front number count (line ∷ left) ≡ all → with_front front (words_from number count (said ∷ map line_says left)) ≡ all
+says front number count line left said all e whole = ap (λ (s : WordLine). with_front front (words_from number count (s ∷ map line_says left))) (sym e) ∙ whole
 
 pub blank_line : (front : List ℕ) (number count : ℕ) (line : List ℕ) (left : List (List ℕ)) (all : Result (List ℕ) WordFault) → line_says line ≡ Blank → going_from front number count (line ∷ left) ≡ all → going_from front (number + 1) count left ≡ all
 blank_line front number count line left all e whole = says front number count line left Blank all e whole

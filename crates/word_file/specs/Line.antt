@@ -3,8 +3,8 @@ use Rattle.std.specs.Prelude.{ℕ, ◌+◌, ◌*◌, Option, Some, None, List, [
 use Rattle.std.specs.List.{list_all}
 use Rattle.answers.specs.Steps.{◌>>=◌}
 use Rattle.byte_lines.specs.Bytes.{is_blank, digit_of}
-use Rattle.word_file.specs.declared.line.Line.{Line}
-use Rattle.word_file.specs.declared.line.Line.TheVariants.{Blank, Word, Bad}
+use Rattle.word_file.specs.declared.line.WordLine.{WordLine}
+use Rattle.word_file.specs.declared.line.WordLine.TheVariants.{Blank, Word, Bad}
 
 -- a line from its first byte on that is no blank
 abbrev pub after_blanks : List ℕ → List ℕ
@@ -25,16 +25,16 @@ word_of a b c d = do
   Some (4096 * high + 256 * second + 16 * third + low)
 
 -- a word, or a bad line
-abbrev pub word_or_bad : Option ℕ → Line
+abbrev pub word_or_bad : Option ℕ → WordLine
 word_or_bad None = Bad
 word_or_bad (Some w) = Word w
 
 -- what a line says that begins with no blank: nothing, or four digits with blanks alone after them
-abbrev pub said : List ℕ → Line
+abbrev pub said : List ℕ → WordLine
 said [] = Blank
 said (a ∷ b ∷ c ∷ d ∷ rest) = if list_all is_blank rest then word_or_bad (word_of a b c d) else Bad
 said _ = Bad
 
 -- what a line says
-abbrev pub line_says : List ℕ → Line
+abbrev pub line_says : List ℕ → WordLine
 line_says line = said (after_blanks line)

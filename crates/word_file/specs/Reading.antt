@@ -3,8 +3,8 @@ use Rattle.std.specs.Prelude.{ℕ, ◌+◌, nat_lt, List, [], ◌∷◌, ◌++�
 use Rattle.byte_lines.specs.Lines.{lines_of}
 use Rattle.word_file.specs.declared.fault.WordKind.TheVariants.{BadWord, TooMany}
 use Rattle.word_file.specs.declared.fault.WordFault.{WordFault}
-use Rattle.word_file.specs.declared.line.Line.{Line}
-use Rattle.word_file.specs.declared.line.Line.TheVariants.{Blank, Word, Bad}
+use Rattle.word_file.specs.declared.line.WordLine.{WordLine}
+use Rattle.word_file.specs.declared.line.WordLine.TheVariants.{Blank, Word, Bad}
 use Rattle.word_file.specs.Line.{line_says}
 
 -- the most words: those of the instruction memory
@@ -18,7 +18,7 @@ with_front front (Err fault) = Err fault
 
 -- The words of lines that say this, or the first fault. The first of them has this number, and so many words
 -- come before it.
-abbrev pub words_from : ℕ → ℕ → List Line → Result (List ℕ) WordFault
+abbrev pub words_from : ℕ → ℕ → List WordLine → Result (List ℕ) WordFault
 words_from number count [] = Ok []
 words_from number count (Blank ∷ rest) = words_from (number + 1) count rest
 words_from number count (Bad ∷ rest) = Err (record { line = number; kind = BadWord })

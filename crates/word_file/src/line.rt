@@ -8,7 +8,7 @@ use byte_lines::{digit_of, is_blank};
 
 /// What a line says.
 #[derive(Clone, Copy)]
-pub enum Line {
+pub enum WordLine {
     /// Nothing.
     Blank,
     /// A word.
@@ -18,7 +18,7 @@ pub enum Line {
 }
 
 /// What a line says.
-pub fn read_line(line: &[u8]) -> Line
+pub fn read_line(line: &[u8]) -> WordLine
     ensures { result ≡ spec.line_says line.now }
 {
     said(after_blanks(line))
@@ -39,16 +39,16 @@ fn after_blanks(line: &[u8]) -> &[u8]
 }
 
 /// What a line says that begins with no blank.
-fn said(line: &[u8]) -> Line
+fn said(line: &[u8]) -> WordLine
     ensures { result ≡ spec.said line.now }
 {
     match line {
-        [] => Line::Blank,
+        [] => WordLine::Blank,
         [a, b, c, d, rest @ ..] if are_blank(rest) => match word_of(*a, *b, *c, *d) {
-            Some(word) => Line::Word(word),
-            None => Line::Bad,
+            Some(word) => WordLine::Word(word),
+            None => WordLine::Bad,
         },
-        _ => Line::Bad,
+        _ => WordLine::Bad,
     }
 }
 

@@ -3,7 +3,7 @@ ghost use Rattle.std.specs.Prelude.{◌≡◌, ◌≤◌, length, MatchResult, O
 ghost use Rattle.word_file.specs.Reading.{word_file};
 
 use crate::fault::{WordFault, WordKind};
-use crate::line::{Line, read_line};
+use crate::line::{WordLine, read_line};
 use arrayvec::ArrayVec;
 use byte_lines::first_line;
 
@@ -19,9 +19,9 @@ pub fn read_words(bytes: &[u8]) -> Result<ArrayVec<u16, 32>, WordFault>
     while let Some(text) = rest {
         let (line, after) = first_line(text);
         match read_line(line) {
-            Line::Blank => {}
-            Line::Bad => return Err(fault(number, WordKind::BadWord)),
-            Line::Word(word) => {
+            WordLine::Blank => {}
+            WordLine::Bad => return Err(fault(number, WordKind::BadWord)),
+            WordLine::Word(word) => {
                 if words.is_full() {
                     return Err(fault(number, WordKind::TooMany));
                 }

@@ -2,7 +2,7 @@ use Rattle.std.proofs.Common.{◌≡◌, ◌∙◌, rules, Ok, Err}
 use Rattle.pio_expr.specs.declared.turn.Turn.TheVariants.{Operation, Closed, End}
 use Rattle.pio_expr.specs.Turns.{turn_by, operation_of, innermost}
 use Rattle.pio_expr.proofs.Operands.{after_same, after_turn, operation_inside, closed_inside, fault_is}
-use Rattle.pio_expr.proofs.postfix.Reading.after.Goals as goal
+use Rattle.pio_expr.proofs.postfix.ExprReading.after.Goals as goal
 
 pub returns-in_ok-push_front-in-Ok-Operation-clause-ok : goal.returns-in_ok-push_front-in-Ok-Operation-clause-ok
 returns-in_ok-push_front-in-Ok-Operation-clause-ok c source tokens is =

@@ -1,7 +1,7 @@
 use Rattle.std.proofs.Common.{◌≡◌, ◌++◌, ◌∷◌, [], ◌∙◌, ap, sym, rules, append_assoc, append-nil, Some, None}
 use Rattle.pio_expr.specs.Turns.{first_before, innermost}
 use Rattle.pio_expr.proofs.Unwound.{one_written, one_kept, none_written, none_kept}
-use Rattle.pio_expr.proofs.postfix.Reading.write_before.Goals as goal
+use Rattle.pio_expr.proofs.postfix.ExprReading.write_before.Goals as goal
 
 pub loop-item-preserved : goal.loop-item-preserved
 loop-item-preserved c =

@@ -1,7 +1,7 @@
 use Rattle.std.proofs.Common.{◌<◌, ◌≤◌, arith}
 use Rattle.dreq_pacing.specs.Lines.{access_of}
 use Rattle.dreq_pacing.proofs.Drafts.{access_none}
-use Rattle.dreq_pacing.proofs.draft.Draft.has_access.Goals as goal
+use Rattle.dreq_pacing.proofs.draft.StimulusDraft.has_access.Goals as goal
 
 pub returns-else-clock-self : goal.returns-else-clock-self
 returns-else-clock-self c =

@@ -3,7 +3,7 @@ use Rattle.std.specs.HashSet.{contains}
 use Rattle.pio_expr.specs.declared.fault.ValueKind.{ValueKind}
 use Rattle.pio_expr.specs.Values.{worked_out}
 use Rattle.pio_expr.specs.Frames.{looked_up, Agrees}
-use Rattle.pio_expr.proofs.frame.Frame.run.Given as goal
+use Rattle.pio_expr.proofs.frame.StackFrame.run.Given as goal
 
 abbrev pub invariant-loop-item : goal.invariant-loop-item
 invariant-loop-item l = record {

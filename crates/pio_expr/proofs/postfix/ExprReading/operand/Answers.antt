@@ -1,7 +1,7 @@
 use Rattle.std.proofs.Common.{◌≡◌, ◌∙◌, sym, rules, Ok, Err, Some, None, slice_get}
 use Rattle.pio_expr.specs.Turns.{opening}
 use Rattle.pio_expr.proofs.Operands.{opening_fault, opening_more, opening_value, opening_inside, opening_none, value_token, token_items, token_of_all, opening_outside}
-use Rattle.pio_expr.proofs.postfix.Reading.operand.Goals as goal
+use Rattle.pio_expr.proofs.postfix.ExprReading.operand.Goals as goal
 
 pub token_item-requires-clause-token : goal.token_item-requires-clause-token
 token_item-requires-clause-token c =

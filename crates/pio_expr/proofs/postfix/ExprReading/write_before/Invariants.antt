@@ -1,6 +1,6 @@
 use Rattle.std.proofs.Common.{◌≡◌, ◌++◌, length}
 use Rattle.pio_expr.specs.Turns.{all_before, kept_before}
-use Rattle.pio_expr.proofs.postfix.Reading.write_before.Given as goal
+use Rattle.pio_expr.proofs.postfix.ExprReading.write_before.Given as goal
 
 abbrev pub invariant-loop-item : goal.invariant-loop-item
 invariant-loop-item l = record {

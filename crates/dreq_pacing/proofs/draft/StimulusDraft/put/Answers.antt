@@ -1,7 +1,7 @@
 use Rattle.std.proofs.Common.{◌≡◌, ◌≤◌, false, arith}
 use Rattle.dreq_pacing.specs.Lines.{IsLineOf, is_crowded}
 use Rattle.dreq_pacing.proofs.Drafts.{draft_on, wider}
-use Rattle.dreq_pacing.proofs.draft.Draft.put.Goals as goal
+use Rattle.dreq_pacing.proofs.draft.StimulusDraft.put.Goals as goal
 
 pub transfer_of-transfer-requires : goal.transfer_of-transfer-requires
 transfer_of-transfer-requires c =

@@ -1,6 +1,6 @@
 use Rattle.dreq_pacing.specs.Lines.{IsActOf, transfer_of}
 use Rattle.dreq_pacing.proofs.Drafts.{transfer_taken, transfer_below, wider}
-use Rattle.dreq_pacing.proofs.draft.Draft.has_transfer.Goals as goal
+use Rattle.dreq_pacing.proofs.draft.StimulusDraft.has_transfer.Goals as goal
 
 pub returns : goal.returns
 returns c =

@@ -1,5 +1,5 @@
 use Rattle.std.proofs.Common.{◌≡◌, sym, rules, false}
-use Rattle.pio_expr.proofs.postfix.Reading.step.Goals as goal
+use Rattle.pio_expr.proofs.postfix.ExprReading.step.Goals as goal
 
 pub returns-then-not-wanted-clause-ok : goal.returns-then-not-wanted-clause-ok
 returns-then-not-wanted-clause-ok c =

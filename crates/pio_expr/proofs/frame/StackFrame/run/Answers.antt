@@ -4,7 +4,7 @@ use Rattle.std.specs.HashSet.{contains}
 use Rattle.pio_expr.specs.Values.{first_of, number_by, worked_out}
 use Rattle.pio_expr.specs.Frames.{looked_up, looked_at, number}
 use Rattle.pio_expr.proofs.Workings.{item_agrees, item_fault, goes_on, ends_in, at_end, none_left, fault_on}
-use Rattle.pio_expr.proofs.frame.Frame.run.Goals as goal
+use Rattle.pio_expr.proofs.frame.StackFrame.run.Goals as goal
 
 pub returns-in_err-number-clause-shows : goal.returns-in_err-number-clause-shows
 returns-in_err-number-clause-shows c named agrees =
