@@ -22,7 +22,7 @@ pub enum Body {
 }
 
 /// A program: what it begins with, its body, its wrap, and the start of X and Y.
-pub struct Load {
+pub struct TimedProgram {
     pub name: &'static str,
     words: &'static [u16],
     body: Body,
@@ -34,9 +34,9 @@ pub struct Load {
 }
 
 /// The programs in order. `set pins, 1` opens the span, unless OUT writes both pins.
-pub static LOADS: [Load; 9] = [
+pub static LOADS: [TimedProgram; 9] = [
     // `l: jmp l`
-    Load {
+    TimedProgram {
         name: "loop",
         words: &[0xe001, 0x0001],
         body: Body::Nothing,
@@ -46,7 +46,7 @@ pub static LOADS: [Load; 9] = [
         to_pin: 0,
     },
     // a loop of 31 words
-    Load {
+    TimedProgram {
         name: "long",
         words: &[0xe001],
         body: Body::Filled(0xa042),
@@ -56,7 +56,7 @@ pub static LOADS: [Load; 9] = [
         to_pin: 0,
     },
     // two loops, of 1 and of 30 words: `l: jmp pin l`
-    Load {
+    TimedProgram {
         name: "two",
         words: &[0xe001, 0x00c1],
         body: Body::Filled(0xa042),
@@ -66,7 +66,7 @@ pub static LOADS: [Load; 9] = [
         to_pin: 0,
     },
     // 30 words that may each go back
-    Load {
+    TimedProgram {
         name: "back",
         words: &[0xe001],
         body: Body::Filled(0x00c1),
@@ -76,7 +76,7 @@ pub static LOADS: [Load; 9] = [
         to_pin: 0,
     },
     // nearly all contexts: X and Y count down in any mixture, OUT writes both pins, and each word may go back
-    Load {
+    TimedProgram {
         name: "most",
         words: &[0x00c2, 0x0042, 0x00c4, 0x0084, 0x6002],
         body: Body::Filled(0x00c0),
@@ -86,7 +86,7 @@ pub static LOADS: [Load; 9] = [
         to_pin: 1,
     },
     // 32 by 32 turns of 24 words of delay 31: `nop [31]`
-    Load {
+    TimedProgram {
         name: "delays",
         words: &[0xe001],
         body: Body::Counted(31, 0xbf42),
@@ -96,7 +96,7 @@ pub static LOADS: [Load; 9] = [
         to_pin: 0,
     },
     // 8 by 8, 16 by 16 and 32 by 32 turns of 24 words that may each go to the body's end: `jmp pin, 27`
-    Load {
+    TimedProgram {
         name: "exits 8",
         words: &[0xe001],
         body: Body::Counted(7, 0x00db),
@@ -105,7 +105,7 @@ pub static LOADS: [Load; 9] = [
         start: 0,
         to_pin: 0,
     },
-    Load {
+    TimedProgram {
         name: "exits 16",
         words: &[0xe001],
         body: Body::Counted(15, 0x00db),
@@ -114,7 +114,7 @@ pub static LOADS: [Load; 9] = [
         start: 0,
         to_pin: 0,
     },
-    Load {
+    TimedProgram {
         name: "exits 32",
         words: &[0xe001],
         body: Body::Counted(31, 0x00db),
@@ -126,7 +126,7 @@ pub static LOADS: [Load; 9] = [
 ];
 
 /// The word at an address of a program.
-fn word_at(load: &Load, address: usize) -> u16 {
+fn word_at(load: &TimedProgram, address: usize) -> u16 {
     match load.words.get(address) {
         Some(word) => *word,
         None => body_word(load.body, address),
@@ -150,7 +150,7 @@ fn body_word(body: Body, address: usize) -> u16 {
 }
 
 /// The memory of a program.
-pub fn memory_of(load: &Load) -> [u16; 32] {
+pub fn memory_of(load: &TimedProgram) -> [u16; 32] {
     let mut memory = [0u16; 32];
     for (address, word) in memory.iter_mut().enumerate() {
         *word = word_at(load, address);
@@ -159,7 +159,7 @@ pub fn memory_of(load: &Load) -> [u16; 32] {
 }
 
 /// Machine 0 with a program's wrap and counters. SET holds pin 0, OUT pins 0 and 1.
-pub fn machine_of(load: &Load) -> MachineSetup
+pub fn machine_of(load: &TimedProgram) -> MachineSetup
     ensures { result.id ≡ 0 }
 {
     let mut machine = MachineSetup::of(0, NO_SIDE_SET);

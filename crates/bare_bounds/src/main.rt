@@ -4,7 +4,7 @@
 
 mod loads;
 
-use loads::{LOADS, Load, machine_of, memory_of};
+use loads::{LOADS, TimedProgram, machine_of, memory_of};
 use pin_matrix::{Setup, Span, SpanUnit, Spans, Stalls};
 use pio_encode::Name;
 use span_bounds::{Derived, Table, derive};
@@ -42,7 +42,7 @@ fn is_asked(words: &[String], name: &str) -> bool {
 }
 
 /// Prints what is found of one program.
-fn print_load(rt: &impl Print, alloc: Global, load: &Load) -> Option<()> {
+fn print_load(rt: &impl Print, alloc: Global, load: &TimedProgram) -> Option<()> {
     match found_of(alloc, load)? {
         Derived::Closed(table) => print_rows(rt, load.name, &table).ok(),
         Derived::Bad { context, cause } => print_bad(rt, load.name, &context, cause).ok(),
@@ -51,7 +51,7 @@ fn print_load(rt: &impl Print, alloc: Global, load: &Load) -> Option<()> {
 
 /// What is derived of a program on machine 0, and of a span from a rise of pin 0 to a fall in any number of ticks, where there
 /// is memory.
-fn found_of(alloc: Global, load: &Load) -> Option<Derived> {
+fn found_of(alloc: Global, load: &TimedProgram) -> Option<Derived> {
     let span = Span {
         name: Name::new(String::from_str(alloc, "s").ok()?),
         machine: 0,

@@ -15,7 +15,7 @@ use Rattle.call_ends.specs.Needs.{IsMet, AllRunsHold, IsRefusedBy, IsSecondRefus
 use Rattle.call_ends.specs.Tasks.{judge, ComesTo, HasText, need_of, AskedBefore, file_in, reaches}
 
 -- the output took exactly the text, and handed all of it on
-pub record Writes (c : Call) (a : Asked) : Type 0 where
+pub record WritesText (c : Call) (a : Asked) : Type 0 where
   pub text : ComesTo c a (λ task. HasText task (λ text. c.out_after.taken ≡ with_bytes c.out_before.taken text))
   pub handed : c.out_after.waiting ≡ []
   pub out : c.out_after.faults ≡ c.out_before.faults
@@ -23,7 +23,7 @@ pub record Writes (c : Call) (a : Asked) : Type 0 where
 -- all was done: the text was written, each span that was asked is provable or proved by a table, so it holds in every run; nothing
 -- failed
 pub record Passes (c : Call) (a : Asked) : Type 0 where
-  pub writes : Writes c a
+  pub writes : WritesText c a
   pub spans : ComesTo c a (λ task. IsMet (need_of task))
   pub holds : ComesTo c a (λ task. AllRunsHold (need_of task))
   pub shelf : SameShelf c
@@ -32,7 +32,7 @@ pub record Passes (c : Call) (a : Asked) : Type 0 where
 abbrev pub WritesRefused : Asked → Call → Type 0
 WritesRefused (asm name) c = ⊥
 WritesRefused (run source config stimulus clocks) c = SameOut c
-WritesRefused (check source config) c = Writes c (check source config)
+WritesRefused (check source config) c = WritesText c (check source config)
 WritesRefused (table source config name) c = SameOut c
 WritesRefused (recheck source config name file) c = SameOut c
 WritesRefused (shares source config) c = ⊥
@@ -44,7 +44,7 @@ WritesRefused (uart send divider clocks) c = ⊥
 WritesRefused (pair source config second stimulus clocks) c = SameOut c
 
 -- this is the first span that isn't provable, and why; nothing failed
-pub record Refuses (c : Call) (a : Asked) (name : List ℕ) (refusal : Refusal) : Type 0 where
+pub record RefusesSpan (c : Call) (a : Asked) (name : List ℕ) (refusal : Refusal) : Type 0 where
   pub first : ComesTo c a (λ task. IsRefusedBy (need_of task) name refusal)
   pub out : WritesRefused a c
   pub shelf : SameShelf c
@@ -83,7 +83,7 @@ Ends (Some a) c None = Passes c a
 Ends None c (Some fault.Usage) = Untouched c
 Ends asked c (Some fault.Memory) = Untouched c
 Ends (Some a) c (Some (fault.Shelf role)) = ShelfFails c a role
-Ends (Some a) c (Some (fault.Unproved name refusal)) = Refuses c a name refusal
+Ends (Some a) c (Some (fault.Unproved name refusal)) = RefusesSpan c a name refusal
 Ends (Some a) c (Some (fault.SecondUnproved name refusal)) = RefusesSecond c a name refusal
 Ends (Some a) c (Some (fault.Flaw name flaw)) = Flawed c a name flaw
 Ends (Some a) c (Some fault.Out) = OutFails c a

@@ -27,7 +27,7 @@ pub const QUIET: Failing<'static> = Failing {
 
 /// What a call leaves: its status, and what the output and the error output took.
 #[derive(Drop)]
-pub struct Outcome {
+pub struct CallOutcome {
     pub status: u8,
     pub out: MemSink,
     pub err: MemSink,
@@ -35,21 +35,21 @@ pub struct Outcome {
 
 /// The words of a call, and the files that are there.
 #[derive(Drop)]
-pub struct Call {
+pub struct RowCall {
     words: Vec<String>,
-    files: Vec<File>,
+    files: Vec<RowFile>,
 }
 
 #[derive(Drop)]
-struct File {
+struct RowFile {
     name: &'static str,
     bytes: Vec<u8>,
 }
 
-impl Call {
+impl RowCall {
     /// The call of a row's lines; none where memory runs out, or a line is not well written.
-    pub fn of(alloc: Global, lines: &str) -> Option<Call> {
-        let mut call = Call {
+    pub fn of(alloc: Global, lines: &str) -> Option<RowCall> {
+        let mut call = RowCall {
             words: words_of(alloc, only(lines, "$")?).ok()?,
             files: Vec::new(alloc),
         };
@@ -65,19 +65,19 @@ impl Call {
             return Some(());
         }
         let bytes = text_of(alloc, lines, name)?;
-        self.files.push(File { name, bytes }).ok()
+        self.files.push(RowFile { name, bytes }).ok()
     }
 }
 
 /// What a call leaves, with ample memory; none where memory runs out.
-pub fn seen(alloc: Global, call: &Call, failing: Failing) -> Option<Outcome> {
+pub fn seen(alloc: Global, call: &RowCall, failing: Failing) -> Option<CallOutcome> {
     let mut shelf = shelf_of(alloc, call, failing.fetches).ok()?;
     let outcome = seen_of::<Brand>(alloc, call, &mut shelf, failing, Blank::new(1));
     outcome.ok()
 }
 
 /// A shelf with the files of a call.
-fn shelf_of(alloc: Global, call: &Call, fails: &[u64]) -> Result<MemShelf, AllocError> {
+fn shelf_of(alloc: Global, call: &RowCall, fails: &[u64]) -> Result<MemShelf, AllocError> {
     let mut shelf = MemShelf::new(alloc, fails)?;
     for file in call.files.iter() {
         shelf.hold(file.name, &file.bytes)?;
@@ -87,11 +87,11 @@ fn shelf_of(alloc: Global, call: &Call, fails: &[u64]) -> Result<MemShelf, Alloc
 
 fn seen_of<L: Ledger>(
     alloc: Global,
-    call: &Call,
+    call: &RowCall,
     shelf: &mut MemShelf,
     failing: Failing,
     blank: Blank,
-) -> Result<Outcome, AllocError>
+) -> Result<CallOutcome, AllocError>
     requires name { blank.name ≡ L.name }
     requires parts { blank.parts ≡ L.parts }
     requires whole { blank.parts ≡ 1 }
@@ -101,7 +101,7 @@ fn seen_of<L: Ledger>(
     let mut steps = Steps::<L>::new(blank);
     let words = call.words.as_slice();
     let end = piotool(alloc, words, shelf, &mut out, &mut err, &mut steps);
-    Ok(Outcome {
+    Ok(CallOutcome {
         status: end.status,
         out,
         err,

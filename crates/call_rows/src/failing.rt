@@ -1,5 +1,5 @@
 //! Calls whose outside fails: each put, each finish and each fetch once, and the error output within its line.
-use crate::call::{Failing, Outcome, QUIET, seen};
+use crate::call::{CallOutcome, Failing, QUIET, seen};
 use crate::lines::{has, only};
 use crate::row::Row;
 use std::alloc::Global;
@@ -70,7 +70,7 @@ fn lines_in(text: &[u8]) -> u64 {
     count
 }
 
-fn failing_put(alloc: Global, row: &Row, call: u64, taken: usize) -> Option<Outcome> {
+fn failing_put(alloc: Global, row: &Row, call: u64, taken: usize) -> Option<CallOutcome> {
     let failing = Failing {
         out: &[(call, taken)],
         ..QUIET
@@ -79,7 +79,7 @@ fn failing_put(alloc: Global, row: &Row, call: u64, taken: usize) -> Option<Outc
 }
 
 /// The call ended since the output failed.
-fn is_stopped(found: &Outcome) -> bool {
+fn is_stopped(found: &CallOutcome) -> bool {
     found.status == 5 && found.err.bytes() == "piotool: out\n".as_bytes()
 }
 

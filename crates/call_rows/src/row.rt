@@ -1,5 +1,5 @@
 //! A call, and what it comes to.
-use crate::call::{Call, Failing, Outcome, seen};
+use crate::call::{CallOutcome, Failing, RowCall, seen};
 use crate::lines::{are_known, fails_of, only, text_of};
 use std::alloc::Global;
 
@@ -7,7 +7,7 @@ use std::alloc::Global;
 #[derive(Drop)]
 pub struct Row {
     pub lines: String,
-    pub call: Call,
+    pub call: RowCall,
     pub status: u8,
     pub out: Vec<u8>,
     pub err: Vec<u8>,
@@ -19,7 +19,7 @@ impl Row {
         if !are_known(lines.as_str()) {
             return None;
         }
-        let call = Call::of(alloc, lines.as_str())?;
+        let call = RowCall::of(alloc, lines.as_str())?;
         let status: u8 = only(lines.as_str(), "=")?.parse().ok()?;
         let out = text_of(alloc, lines.as_str(), ">")?;
         let err = text_of(alloc, lines.as_str(), "!")?;
@@ -46,7 +46,7 @@ impl Row {
     }
 
     /// Whether a call left what the row says.
-    pub fn is(&self, found: &Outcome) -> bool {
+    pub fn is(&self, found: &CallOutcome) -> bool {
         found.status == self.status
             && found.err.bytes() == self.err.as_slice()
             && self.is_out(found.out.bytes())

@@ -25,7 +25,7 @@ use std::test::Fail;
 
 /// What is asked of each row of a table.
 #[derive(Clone, Copy)]
-pub enum Asked {
+pub enum Question {
     /// Whether the call ends as the row says.
     Ends,
     /// Whether each call of the output fails as it should.
@@ -37,7 +37,7 @@ pub enum Asked {
 }
 
 /// Each row of a table holds, and there is one. The error has the row, and how its call ends where nothing fails.
-pub fn rows_hold(alloc: Global, table: &str, asked: Asked) -> Result<(), Fail> {
+pub fn rows_hold(alloc: Global, table: &str, asked: Question) -> Result<(), Fail> {
     let mut count = 0_u32;
     for block in table.split("\n\n") {
         if is_row(block) {
@@ -51,7 +51,7 @@ pub fn rows_hold(alloc: Global, table: &str, asked: Asked) -> Result<(), Fail> {
     Ok(())
 }
 
-fn row_holds(alloc: Global, table: &str, block: &str, asked: Asked) -> Result<(), Fail> {
+fn row_holds(alloc: Global, table: &str, block: &str, asked: Question) -> Result<(), Fail> {
     if holds(alloc, table, block, asked) == Some(true) {
         return Ok(());
     }
@@ -115,13 +115,13 @@ fn add_lines(text: &str, lines: &mut String) -> Option<()> {
 }
 
 /// Whether a row holds; none where memory runs out, or the row is not well written.
-fn holds(alloc: Global, table: &str, block: &str, asked: Asked) -> Option<bool> {
+fn holds(alloc: Global, table: &str, block: &str, asked: Question) -> Option<bool> {
     let row = Row::of(alloc, lines_of(alloc, table, block)?)?;
     match asked {
-        Asked::Ends => row.ends(alloc),
-        Asked::Puts => puts_fail(alloc, &row),
-        Asked::Fetches => fetches_fail(alloc, &row),
-        Asked::Line => line_fails(alloc, &row),
+        Question::Ends => row.ends(alloc),
+        Question::Puts => puts_fail(alloc, &row),
+        Question::Fetches => fetches_fail(alloc, &row),
+        Question::Line => line_fails(alloc, &row),
     }
 }
 

@@ -11,7 +11,7 @@ use Rattle.clap.specs.declared.error.Error.{Error}
 use Rattle.clap.specs.declared.error.kind.ErrorKind.TheVariants as kind
 use Rattle.clap.proofs.OnLiterals.{clap_on_literals}
 use Rattle.command_line.specs.Tool.{tool}
-use Rattle.command_line.specs.Words.{Asked, Asks, HasCause, asked_of, subcommand_asked}
+use Rattle.command_line.specs.Words.{Asked, Asks, IsFaultOfWords, asked_of, subcommand_asked}
 use Rattle.command_line.specs.declared.order.WordsFault.{WordsFault}
 use Rattle.command_line.specs.declared.order.WordsFault.TheVariants.{Usage, Memory}
 
@@ -43,7 +43,7 @@ some_kind (k ∷ ks) e has other = λ same. cc
 
 -- the cause of a fault that was made of clap's error
 pub cause_of_error : (words : List Text) (fault : WordsFault) (e : Error)
-    → (fault ≡ Usage) ↔ (kind_of e ≢ kind.OutOfMemory) → HasKind (fault_of tool words) e → HasCause words fault
+    → (fault ≡ Usage) ↔ (kind_of e ≢ kind.OutOfMemory) → HasKind (fault_of tool words) e → IsFaultOfWords words fault
 cause_of_error words Usage e made has = inl (some_kind _ e has (made.0 refl))
 cause_of_error words Memory e made has = tt
 

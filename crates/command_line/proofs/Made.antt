@@ -7,7 +7,7 @@ use Rattle.clap.specs.declared.builder.arg.Arg.{Arg}
 use Rattle.clap.specs.declared.builder.command.Command.{Command}
 use Rattle.clap.specs.declared.builder.command.Command.TheViews.{out-Command}
 use Rattle.command_line.specs.Tool.{offering, taking}
-use Rattle.command_line.specs.Making.{IsApp, IsRule, Offers, Takes}
+use Rattle.command_line.specs.Making.{IsApp, IsRule, Offers, TakesArgument}
 
 one_argument : (a : App) (r : Rule) (c : Command) (argument : Arg) (new : Command) → IsApp a c → IsRule r argument
     → AddsArg c argument new → IsApp (taking a r) new
@@ -30,7 +30,7 @@ made_of P made c same h = subst (λ r. IfOk r P) same h
 
 -- where the command was made, it takes one argument more
 pub takes_one : {E : Type 0} (old : Result Command E) (argument : Arg) (new : Result Command E) (c : Command) → old ≡ Ok c
-    → IfOk new (AddsArg c argument) → Takes old argument new
+    → IfOk new (AddsArg c argument) → TakesArgument old argument new
 takes_one old argument (Ok z) c same adds a r made is = one_argument a r c argument z (made_of (IsApp a) old c same made) is adds
 takes_one old argument (Err e) c same adds a r made is = tt
 

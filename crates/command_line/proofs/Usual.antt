@@ -13,7 +13,7 @@ use Rattle.clap.specs.declared.error.kind.ErrorKind.TheVariants as kind
 use Rattle.clap.proofs.OnLiterals.{clap_on_literals}
 use Rattle.clap.proofs.WalkLemmas.{both}
 use Rattle.command_line.specs.Tool.{bit_limit, clock_limit, divider_limit, least_bit, least_divider, pin_limit, seed_limit, side_limit, tool}
-use Rattle.command_line.specs.Words.{Asked, IsTaken, asm, run, check, table, recheck, shares, gen, dis, measure, receive, uart, pair, asked_of, number_in, has_no_room}
+use Rattle.command_line.specs.Words.{Asked, WordsAreTaken, asm, run, check, table, recheck, shares, gen, dis, measure, receive, uart, pair, asked_of, number_in, has_no_room}
 use Rattle.command_line.specs.Laws.{number_of, asm_words, run_words, check_words, table_words, recheck_words, shares_words, gen_words, dis_words, measure_words, receive_words, uart_words, pair_words, AskWhere, AsmWords, RunWords, CheckWords, TableWords, RecheckWords, SharesWords, GenWords, DisWords, MeasureWords, ReceiveWords, UartWords, PairWords}
 
 -- ---- a number in range
@@ -109,7 +109,7 @@ run_fault name source config stimulus clocks b e = run_computes name source conf
 not_empty : (kinds : Kinds) → kinds ≡ kind.ValueValidation ∷ [] → kinds ≢ []
 not_empty kinds one none = cc
 
-taken_by : (words : List Text) (a : Asked) → takes tool words ≡ true → asked_of words ≡ Some a → has_no_room a ≡ false → IsTaken words
+taken_by : (words : List Text) (a : Asked) → takes tool words ≡ true → asked_of words ≡ Some a → has_no_room a ≡ false → WordsAreTaken words
 taken_by words a taken asked room = record { takes = taken; room = λ b is. cc }
 
 pub run_words_law : RunWords

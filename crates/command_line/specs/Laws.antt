@@ -4,7 +4,7 @@ use Rattle.std.specs.Str.Parse.{digits_value, without_leading_plus}
 use Rattle.clap.specs.ValueTests.{is_unsigned_in}
 use Rattle.clap.specs.Walk.{Text}
 use Rattle.command_line.specs.Tool.{bit_limit, clock_limit, divider_limit, least_bit, least_divider, pin_limit, seed_limit, side_limit}
-use Rattle.command_line.specs.Words.{Asked, Asks, IsRefused, IsTaken, asm, check, dis, gen, measure, pair, receive, recheck, run, shares, table, uart}
+use Rattle.command_line.specs.Words.{Asked, Asks, WordsAreRefused, WordsAreTaken, asm, check, dis, gen, measure, pair, receive, recheck, run, shares, table, uart}
 
 -- the number of decimal digits, where a plus may come first
 abbrev pub number_of : Text → ℕ
@@ -12,8 +12,8 @@ number_of text = digits_value 10 (without_leading_plus text)
 
 -- the words are taken and ask for this where the test passes, and else they are refused
 abbrev pub AskWhere : Bool → List Text → Asked → Type 0
-AskWhere true words a = IsTaken words × Asks words a
-AskWhere false words a = IsRefused words
+AskWhere true words a = WordsAreTaken words × Asks words a
+AskWhere false words a = WordsAreRefused words
 
 -- `asm -- FILE`, of a program of any name
 abbrev pub asm_words : Text → Text → List Text

@@ -52,8 +52,8 @@ abbrev pub Gains : {E : Type 0} → Result Command E → Rule → Result Command
 Gains old r new = (a : App) → IfOk old (IsApp a) → IfOk new (IsApp (taking a r))
 
 -- the command, where it was made, has one argument more
-abbrev pub Takes : {E : Type 0} → Result Command E → Arg → Result Command E → Type 0
-Takes old argument new = (a : App) (r : Rule) → IfOk old (IsApp a) → IsRule r argument → IfOk new (IsApp (taking a r))
+abbrev pub TakesArgument : {E : Type 0} → Result Command E → Arg → Result Command E → Type 0
+TakesArgument old argument new = (a : App) (r : Rule) → IfOk old (IsApp a) → IsRule r argument → IfOk new (IsApp (taking a r))
 
 -- the command, where both were made, has one subcommand more
 abbrev pub Offers : {E : Type 0} → Result Command E → Result Command E → Result Command E → Type 0

@@ -175,18 +175,18 @@ pub record Asks (words : List Text) (a : Asked) : Type 0 where
   pub asked : asked_of words ≡ Some a
 
 -- clap gives no matches of `tool` for the words, or they ask for `dis` with `--opt` beside `--side 5`
-abbrev pub IsRefused : List Text → Type 0
-IsRefused words = (fault_of tool words ≢ []) ⊎ ((a : Asked) × Asks words a × (has_no_room a ≡ true))
+abbrev pub WordsAreRefused : List Text → Type 0
+WordsAreRefused words = (fault_of tool words ≢ []) ⊎ ((a : Asked) × Asks words a × (has_no_room a ≡ true))
 
 -- `tool` takes the words, and they don't ask for `dis` with `--opt` beside `--side 5`
-pub record IsTaken (words : List Text) : Type 0 where
+pub record WordsAreTaken (words : List Text) : Type 0 where
   pub takes : takes tool words ≡ true
   pub room : (a : Asked) → asked_of words ≡ Some a → has_no_room a ≡ false
 
 -- each fault has its cause; memory is free
-abbrev pub HasCause : List Text → WordsFault → Type 0
-HasCause words Usage = IsRefused words
-HasCause words Memory = ⊤
+abbrev pub IsFaultOfWords : List Text → WordsFault → Type 0
+IsFaultOfWords words Usage = WordsAreRefused words
+IsFaultOfWords words Memory = ⊤
 
 -- how many clocks a command works out at most
 abbrev pub clocks_asked : Asked → ℕ

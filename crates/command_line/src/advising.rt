@@ -2,7 +2,7 @@
 ghost use Rattle.std.specs.Prelude.{◌≡◌, IfOk, None, [], is_some, map, string_bytes, true};
 ghost use Rattle.clap.specs.Faults.{fault_of};
 ghost use Rattle.command_line.specs.Tool.{tool as tool_app};
-ghost use Rattle.command_line.specs.Words.{IsRefused, IsTaken};
+ghost use Rattle.command_line.specs.Words.{WordsAreRefused, WordsAreTaken};
 
 use crate::command::tool;
 use crate::order::WordsFault;
@@ -19,8 +19,8 @@ const NO_ROOM: &str =
 /// else clap's account of the mistake, with the usage and the nearest spelling. None where the words are an order. The error
 /// is want of memory.
 pub fn advice(alloc: Global, words: &[String]) -> Result<Option<String>, AllocError>
-    ensures refused { IfOk result (λ told. is_some told ≡ true → IsRefused (map string_bytes words.now)) }
-    ensures taken { IfOk result (λ told. IsTaken (map string_bytes words.now) → told ≡ None) }
+    ensures refused { IfOk result (λ told. is_some told ≡ true → WordsAreRefused (map string_bytes words.now)) }
+    ensures taken { IfOk result (λ told. WordsAreTaken (map string_bytes words.now) → told ≡ None) }
     ensures none { IfOk result (λ told. told ≡ None → fault_of tool_app (map string_bytes words.now) ≡ []) }
 {
     match read(alloc, words) {

@@ -1,7 +1,7 @@
 //! The command `piotool` for clap, one function for each subcommand. Where memory is wanted nothing is made.
 ghost use Rattle.std.specs.Prelude.{◌≡◌, IfOk, Ok};
 ghost use Rattle.clap.specs.Simple.{App, new_app};
-ghost use Rattle.command_line.specs.Making.{Gains, IsApp, Offers, Takes};
+ghost use Rattle.command_line.specs.Making.{Gains, IsApp, Offers, TakesArgument};
 ghost use Rattle.command_line.specs.Making.{number_rule, text_rule};
 ghost use Rattle.command_line.specs.Making.{paired_app, sourced_app, spanned_app, timed, traced_app};
 ghost use Rattle.command_line.specs.Tool.{asm_app, bare_app, check_app, clocks_rule, dis_app};
@@ -377,7 +377,7 @@ fn with_argument<'a>(
     command: Result<Command<'a>, AllocError>,
     argument: Arg<'a>,
 ) -> Result<Command<'a>, AllocError>
-    ensures { Takes command.entry argument.entry result }
+    ensures { TakesArgument command.entry argument.entry result }
 {
     command?.arg(argument)
 }

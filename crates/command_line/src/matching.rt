@@ -6,7 +6,7 @@ ghost use Rattle.clap.specs.Simple.{subcommand_of, subcommand_rows_of};
 ghost use Rattle.clap.specs.Takes.{takes};
 ghost use Rattle.clap.specs.Values.{kind_of};
 ghost use Rattle.command_line.specs.Tool.{tool as tool_app};
-ghost use Rattle.command_line.specs.Words.{HasCause};
+ghost use Rattle.command_line.specs.Words.{IsFaultOfWords};
 
 use crate::command::tool;
 use crate::order::WordsFault;
@@ -21,7 +21,7 @@ pub fn matched<'a>(alloc: Global, words: &'a [String]) -> Result<ArgMatches<'a>,
     ensures rows { IfOk result (λ m. subcommand_rows_of m
         ≡ subcommand_of tool_app (map string_bytes words.entry.now)) }
     ensures subcommand { IfOk result (λ m. has_subcommand m ≡ true) }
-    ensures cause { IfErr result (HasCause (map string_bytes words.entry.now)) }
+    ensures cause { IfErr result (IsFaultOfWords (map string_bytes words.entry.now)) }
     ensures taken { takes tool_app (map string_bytes words.entry.now) ≡ true
         → result ≢ Err WordsFault.Usage }
 {

@@ -5,7 +5,7 @@ ghost use Rattle.clap.specs.Simple.{subcommand_rows_of};
 ghost use Rattle.clap.specs.Walk.{rows_of};
 ghost use Rattle.std.specs.Option.{option_map};
 ghost use Rattle.command_line.specs.Asking.{checker_asked, observer_asked};
-ghost use Rattle.command_line.specs.Words.{Asks, HasCause, IsTaken, IsWithinRange, asked_by, asm_asked, check_asked, dis_asked, gen_asked, measure_asked, pair_asked};
+ghost use Rattle.command_line.specs.Words.{Asks, IsFaultOfWords, WordsAreTaken, IsWithinRange, asked_by, asm_asked, check_asked, dis_asked, gen_asked, measure_asked, pair_asked};
 ghost use Rattle.command_line.specs.Words.{has_no_room as has_no_room_of, receive_asked, recheck_asked, run_asked, shares_asked, subcommand_asked, table_asked, uart_asked};
 
 use crate::getters::{flag, number, option_text, text};
@@ -21,8 +21,8 @@ use std::alloc::Global;
 pub fn read<'a>(alloc: Global, words: &'a [String]) -> Result<Order<'a>, WordsFault>
     ensures ok { IfOk result (λ o. Asks (map string_bytes words.entry.now) (asked_by o)) }
     ensures range { IfOk result (λ o. IsWithinRange (asked_by o)) }
-    ensures cause { IfErr result (HasCause (map string_bytes words.entry.now)) }
-    ensures taken { IsTaken (map string_bytes words.entry.now) → result ≢ Err WordsFault.Usage }
+    ensures cause { IfErr result (IsFaultOfWords (map string_bytes words.entry.now)) }
+    ensures taken { WordsAreTaken (map string_bytes words.entry.now) → result ≢ Err WordsFault.Usage }
 {
     let matches = matched(alloc, words)?;
     let order = order_of(&matches);

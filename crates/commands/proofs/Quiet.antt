@@ -11,7 +11,7 @@ use Rattle.pio_edge.specs.Edge.{Files, Rose, with_bytes}
 use Rattle.fault_lines.specs.declared.fault.Fault.{Fault}
 use Rattle.fault_lines.specs.declared.fault.Fault.TheVariants as fault
 use Rattle.clap.specs.Walk.{Text}
-use Rattle.command_line.specs.Words.{Asked, IsTaken}
+use Rattle.command_line.specs.Words.{Asked, WordsAreTaken}
 use Rattle.file_stages.specs.Judged.{Judged, right, wrong, IfRight}
 use Rattle.file_stages.specs.Stages.{HasSuch}
 use Rattle.call_ends.specs.Tasks.{Task, need_of, judge, file_in, HasText}
@@ -179,5 +179,5 @@ ends_by_files None c f (Some (fault.Table line kind)) h told usage memory shelf 
 ends_by_files None c f (Some fault.NoSpan) h told usage memory shelf out = absurd h
 
 -- the files decide how a call ends that ends as promised, and not with Usage where its words are taken
-pub files_decide : (words : List Text) (c : Call) (found : Option Fault) → EndsAs words c found → (IsTaken words → found ≢ Some fault.Usage) → FilesDecide words c found
+pub files_decide : (words : List Text) (c : Call) (found : Option Fault) → EndsAs words c found → (WordsAreTaken words → found ≢ Some fault.Usage) → FilesDecide words c found
 files_decide words c found ends taken f q = ends_by_files (wanted words) c f found ends q.told (taken q.words_taken) q.memory q.shelf q.out

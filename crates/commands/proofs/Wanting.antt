@@ -4,7 +4,7 @@ use Rattle.std.proofs.lemmas.Bool.{and_left, and_right, ne_eqb}
 use Rattle.clap.specs.Walk.{Text}
 use Rattle.clap.specs.Faults.{fault_of}
 use Rattle.command_line.specs.Tool.{tool, side_limit}
-use Rattle.command_line.specs.Words.{Asked, Asks, IsRefused, IsWithinRange, asm, run, check, table, recheck, shares, gen, dis, measure, receive, uart, pair, asked_of, has_no_room}
+use Rattle.command_line.specs.Words.{Asked, Asks, WordsAreRefused, IsWithinRange, asm, run, check, table, recheck, shares, gen, dis, measure, receive, uart, pair, asked_of, has_no_room}
 use Rattle.fault_lines.specs.declared.fault.Fault.{Fault}
 use Rattle.fault_lines.specs.declared.fault.Fault.TheVariants.{Usage}
 use Rattle.call_ends.specs.Outside.{Call, Untouched}
@@ -55,7 +55,7 @@ none_of_faulty [] asked h = absurd (h refl)
 none_of_faulty (fault ∷ faults) asked h = refl
 
 -- words that are refused want nothing
-refused_wants_nothing : (words : List Text) → IsRefused words → wanted words ≡ None
+refused_wants_nothing : (words : List Text) → WordsAreRefused words → wanted words ≡ None
 unfolding wanted
 refused_wants_nothing words (inl faulty) = none_of_faulty (fault_of tool words) (asked_of words) faulty
 refused_wants_nothing words (inr full) = of_asked words full.0 full.1 ∙ with_room_by full.0 true full.2
@@ -66,5 +66,5 @@ work_ends words a c (Ok u) asks range h = subst (λ (asked : Option Asked). Ends
 work_ends words a c (Err e) asks range h = subst (λ (asked : Option Asked). Ends asked c (Some e)) (sym (wanted_as_read words a asks range)) h
 
 -- words that are refused end with usage, and nothing is done
-pub usage_ends : (words : List Text) (c : Call) → IsRefused words → Untouched c → EndsAs words c (Some Usage)
+pub usage_ends : (words : List Text) (c : Call) → WordsAreRefused words → Untouched c → EndsAs words c (Some Usage)
 usage_ends words c refused same = subst (λ (asked : Option Asked). Ends asked c (Some Usage)) (sym (refused_wants_nothing words refused)) same

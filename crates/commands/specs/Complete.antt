@@ -4,7 +4,7 @@ use Rattle.pio_edge.specs.Edge.{Files, Rose, with_bytes}
 use Rattle.fault_lines.specs.declared.fault.Fault.{Fault}
 use Rattle.fault_lines.specs.declared.fault.Fault.TheVariants as fault
 use Rattle.clap.specs.Walk.{Text}
-use Rattle.command_line.specs.Words.{IsTaken}
+use Rattle.command_line.specs.Words.{WordsAreTaken}
 use Rattle.verdict_lines.specs.declared.refusal.Refusal.{Refusal}
 use Rattle.verdict_lines.specs.declared.refusal.Refusal.TheVariants.{Shared}
 use Rattle.pin_matrix.specs.declared.setup.Setup.{Setup}
@@ -24,7 +24,7 @@ use Rattle.commands.specs.Wanted.{wanted}
 
 -- `tool` takes the words, the files are told, memory sufficed, and no count rose
 pub record Quiet (words : List Text) (c : Call) (f : Files) (found : Option Fault) : Type 0 where
-  pub words_taken : IsTaken words
+  pub words_taken : WordsAreTaken words
   pub told : c.files ≡ Some f
   pub memory : found ≢ Some fault.Memory
   pub shelf : Rose c.shelf_before.count c.shelf_after.count → ⊥

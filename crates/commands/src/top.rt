@@ -1,6 +1,6 @@
 //! The call: the words, then what they ask for, and its end told.
 ghost use Rattle.std.specs.Prelude.{◌≡◌, ◌≢◌, ◌+◌, ◌≤◌, map, Some, Err, string_bytes};
-ghost use Rattle.command_line.specs.Words.{IsTaken, IsWithinRange, asked_by, clocks_asked, most_clocks};
+ghost use Rattle.command_line.specs.Words.{WordsAreTaken, IsWithinRange, asked_by, clocks_asked, most_clocks};
 ghost use Rattle.call_ends.specs.Outside.{call_of};
 ghost use Rattle.call_ends.specs.Promise.{CommandEnds};
 ghost use Rattle.call_ends.specs.Worked.{most_worked};
@@ -48,7 +48,7 @@ pub fn piotool<F: Shelf, O: Sink, E: Sink, L: Ledger>(
         (output_of (O.taken out.old) (O.waiting out.old) (O.faults out.old))
         (output_of (O.taken out.new) (O.waiting out.new) (O.faults out.new)))
         result.fault }
-    ensures taken { IsTaken (map string_bytes words.now) → result.fault ≢ Some Fault.Usage }
+    ensures taken { WordsAreTaken (map string_bytes words.now) → result.fault ≢ Some Fault.Usage }
     ensures status { result.status ≡ told_spec.status_of result.fault }
     ensures told { TellsFault (output_of (E.taken err.old) (E.waiting err.old) (E.faults err.old))
         (output_of (E.taken err.new) (E.waiting err.new) (E.faults err.new))
@@ -74,7 +74,7 @@ fn work<F: Shelf, O: Sink, L: Ledger>(
         (output_of (O.taken out.old) (O.waiting out.old) (O.faults out.old))
         (output_of (O.taken out.new) (O.waiting out.new) (O.faults out.new)))
         result }
-    ensures taken { IsTaken (map string_bytes words.now) → result ≢ Err Fault.Usage }
+    ensures taken { WordsAreTaken (map string_bytes words.now) → result ≢ Err Fault.Usage }
     ensures same { F.holds shelf.new ≡ F.holds shelf.old }
     ensures steps { steps.new ≤ steps.old + most_clocks (map string_bytes words.now) }
     ensures worked { steps.new ≤ steps.old + worked_for (F.holds shelf.old) (map string_bytes words.now) }

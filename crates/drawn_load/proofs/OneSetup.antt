@@ -7,16 +7,16 @@ use Rattle.setup_keys.specs.Clipped.{clipped_block}
 use Rattle.setup_keys.specs.InRange.{IsBlock}
 use Rattle.setup_keys.proofs.Making.{a_setup_says}
 use Rattle.drawn_load.specs.Draws.{Letters, letters_of}
-use Rattle.drawn_load.specs.Machines.{Row}
+use Rattle.drawn_load.specs.Machines.{MachineRow}
 use Rattle.drawn_load.specs.Setups.{machine_keys, load_keys, setup_of}
-use Rattle.drawn_load.specs.Follows.{Follows, AllFollow, IsLoad, rows_of}
+use Rattle.drawn_load.specs.SettingUp.{SetsUp, EachSetsUp, IsLoad, rows_of}
 
-row_keys : (r : Row) (m : MachineSetup) → Follows r m → keys_of_machine m ≡ machine_keys r
+row_keys : (r : MachineRow) (m : MachineSetup) → SetsUp r m → keys_of_machine m ≡ machine_keys r
 row_keys r m h =
     cc (h.id, h.start, h.x, h.y, h.int, h.frac, h.side_rule, h.wrap_bottom, h.wrap_top, h.in_base, h.jmp_pin, h.out.0, h.out.1, h.set.0, h.set.1, h.side.0, h.side.1, h.in_right, h.out_right, h.autopush, h.autopull, h.push_threshold, h.pull_threshold, h.join_tx, h.join_rx, h.status_rx, h.status_n)
 
 -- the setups that follow some rows say what the rows do
-rows_keys : (rows : List Row) (ms : List (Option MachineSetup)) → AllFollow rows ms
+rows_keys : (rows : List MachineRow) (ms : List (Option MachineSetup)) → EachSetsUp rows ms
     → map (option_map keys_of_machine) ms ≡ map (λ r. Some (machine_keys r)) rows
 rows_keys [] [] h = refl
 rows_keys [] (m ∷ ms) h = absurd h
@@ -25,7 +25,7 @@ rows_keys (r ∷ rows) (None ∷ ms) h = absurd h
 rows_keys (r ∷ rows) (Some m ∷ ms) h = ap₂ (λ a as'. Some a ∷ as') (row_keys r m h.0) (rows_keys rows ms h.1)
 
 -- as many as there are rows
-rows_many : (rows : List Row) (ms : List (Option MachineSetup)) → AllFollow rows ms → length ms ≡ length rows
+rows_many : (rows : List MachineRow) (ms : List (Option MachineSetup)) → EachSetsUp rows ms → length ms ≡ length rows
 rows_many [] [] h = refl
 rows_many [] (m ∷ ms) h = absurd h
 rows_many (r ∷ rows) [] h = absurd h

@@ -3,4 +3,4 @@ pub mod Loads
 pub mod NoSide
 pub mod Machines
 pub mod Setups
-pub mod Follows
+pub mod SettingUp

@@ -38,7 +38,7 @@ memory_of l = words_from l ++ replicate 22 0
 
 -- What a row of the table of machines says: the machine's number, the first and the last address of its program, its divider,
 -- the pin that its inputs count from, the pins of its OUT and SET, and whether it pushes and pulls by itself.
-pub record Row : Type 0 where
+pub record MachineRow : Type 0 where
   pub id : ℕ
   pub first : ℕ
   pub last : ℕ
@@ -53,7 +53,7 @@ pub record Row : Type 0 where
   pub autopull : Bool
 
 -- a program from an address to another, in each clock a tick, without pins
-abbrev pub looped_row : ℕ → ℕ → ℕ → Row
+abbrev pub looped_row : ℕ → ℕ → ℕ → MachineRow
 looped_row id first last = record {
   id = id;
   first = first;
@@ -70,17 +70,17 @@ looped_row id first last = record {
 }
 
 -- machine 0: a pulse on pin 0, in which it raises flag 0
-abbrev pub pulse_row : Row
+abbrev pub pulse_row : MachineRow
 pulse_row = record (looped_row 0 0 2) { set_count = 1 }
 
 -- machine 1: bits shifted out to pin 1, by the divider i + f / 256
-abbrev pub bits_row : Letters → Row
+abbrev pub bits_row : Letters → MachineRow
 bits_row l = record (looped_row 1 3 3) { int = l.i; frac = l.f; out_base = 1; out_count = 1; autopull = true }
 
 -- machine 2: a reader of the pins from pin 2 on, at each pulse of pin 2
-abbrev pub reader_row : Row
+abbrev pub reader_row : MachineRow
 reader_row = record (looped_row 2 4 6) { in_base = 2; autopush = true }
 
 -- machine 3: an answer to the flag on pin 3
-abbrev pub answer_row : Row
+abbrev pub answer_row : MachineRow
 answer_row = record (looped_row 3 7 9) { set_base = 3; set_count = 1 }

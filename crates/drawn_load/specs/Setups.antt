@@ -8,11 +8,11 @@ use Rattle.setup_keys.specs.Block.{MachineKeys, BlockKeys}
 use Rattle.setup_keys.proofs.Making.{a_setup_says}
 use Rattle.drawn_load.specs.Draws.{Letters, letters_of}
 use Rattle.drawn_load.specs.NoSide.{no_side_set}
-use Rattle.drawn_load.specs.Machines.{Row, pulse_row, bits_row, reader_row, answer_row, memory_of}
+use Rattle.drawn_load.specs.Machines.{MachineRow, pulse_row, bits_row, reader_row, answer_row, memory_of}
 
 -- A machine's setup by its row: it starts at its program's first word and wraps from the last one to it, without side-set. All
 -- else is at its default.
-abbrev pub machine_keys : Row → MachineKeys
+abbrev pub machine_keys : MachineRow → MachineKeys
 machine_keys r = record {
   id = r.id;
   start = r.first;

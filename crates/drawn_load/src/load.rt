@@ -2,7 +2,7 @@
 ghost use Rattle.std.specs.Prelude.{◌≡◌, ℕ, IfOk};
 ghost use Rattle.drawn_load.specs.Draws.{letters_of, numbers_of, state_at};
 ghost use Rattle.drawn_load.specs.Loads.{lines_of, feed_line, drain_line};
-ghost use Rattle.drawn_load.specs.Follows.{IsLoad};
+ghost use Rattle.drawn_load.specs.SettingUp.{IsLoad};
 ghost use Rattle.drawn_load.specs.Setups.{setup_of};
 
 use crate::draws::Draws;

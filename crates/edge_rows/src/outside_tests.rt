@@ -113,33 +113,33 @@ fn fails<S: Shelf>(alloc: Global, shelf: &mut S, path: &str) -> bool {
 /// What a writer does: at which of its writes, numbered from 1, it breaks, and at which it takes nothing (0 is none), and
 /// whether its flush breaks.
 #[derive(Clone, Copy)]
-struct Turn {
+struct WriterTurn {
     breaks: u64,
     takes_nothing: u64,
     flush_breaks: bool,
 }
 
-const WORKS: Turn = Turn {
+const WORKS: WriterTurn = WriterTurn {
     breaks: 0,
     takes_nothing: 0,
     flush_breaks: false,
 };
 
-const BREAKS_FIRST: Turn = Turn { breaks: 1, ..WORKS };
+const BREAKS_FIRST: WriterTurn = WriterTurn { breaks: 1, ..WORKS };
 
-const BREAKS_SECOND: Turn = Turn { breaks: 2, ..WORKS };
+const BREAKS_SECOND: WriterTurn = WriterTurn { breaks: 2, ..WORKS };
 
-const TAKES_NOTHING_FIRST: Turn = Turn {
+const TAKES_NOTHING_FIRST: WriterTurn = WriterTurn {
     takes_nothing: 1,
     ..WORKS
 };
 
-const TAKES_NOTHING_SECOND: Turn = Turn {
+const TAKES_NOTHING_SECOND: WriterTurn = WriterTurn {
     takes_nothing: 2,
     ..WORKS
 };
 
-const FLUSH_BREAKS: Turn = Turn {
+const FLUSH_BREAKS: WriterTurn = WriterTurn {
     flush_breaks: true,
     ..WORKS
 };
@@ -147,13 +147,13 @@ const FLUSH_BREAKS: Turn = Turn {
 /// Notes how long each write was.
 #[derive(Drop)]
 struct Noted {
-    turn: Turn,
+    turn: WriterTurn,
     sizes: Vec<usize>,
     calls: u64,
 }
 
 impl Noted {
-    fn new(alloc: Global, turn: Turn) -> Self {
+    fn new(alloc: Global, turn: WriterTurn) -> Self {
         Noted {
             turn,
             sizes: Vec::new(alloc),
@@ -185,7 +185,7 @@ impl Write for Noted {
 
 struct WriterRow {
     shows: &'static str,
-    turn: Turn,
+    turn: WriterTurn,
     // Whether each of two puts, and then finish, passes.
     passes: [bool; 3],
     faults: u64,

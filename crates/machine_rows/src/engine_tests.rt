@@ -18,12 +18,12 @@ use vcd_trace::{Trace, TraceFailed};
 
 /// A trace that looks whether it is told of the clocks of a list. It keeps no samples, and never fails.
 #[derive(Drop)]
-struct Watch {
+struct ClockWatch {
     left: &'static [u64],
     other: bool,
 }
 
-impl Trace for Watch {
+impl Trace for ClockWatch {
     ghost name = { λ _. 0 };
 
     ghost faults = { λ _. 0 };
@@ -72,7 +72,7 @@ fn works_out<F: Fifo, L: Ledger>(
 {
     let setup = setup_of(row, Spans::empty(alloc));
     let mut block = Block::<F>::new(alloc, &setup)?;
-    let mut watch = Watch {
+    let mut watch = ClockWatch {
         left: worked,
         other: false,
     };

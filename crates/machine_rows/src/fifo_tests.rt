@@ -7,41 +7,41 @@ use std::process::Abort;
 use std::test::Fail;
 
 #[derive(Clone, Copy)]
-struct Events {
+struct ClockEvents {
     take: bool,
     machine_word: Option<u32>,
     system_word: Option<u32>,
     system_read: bool,
 }
 
-const NOTHING: Events = Events {
+const NOTHING: ClockEvents = ClockEvents {
     take: false,
     machine_word: None,
     system_word: None,
     system_read: false,
 };
 
-const TAKE: Events = Events {
+const TAKE: ClockEvents = ClockEvents {
     take: true,
     ..NOTHING
 };
 
-const READ: Events = Events {
+const READ: ClockEvents = ClockEvents {
     system_read: true,
     ..NOTHING
 };
 
 // The system writes a word.
-const fn writes(word: u32) -> Events {
-    Events {
+const fn writes(word: u32) -> ClockEvents {
+    ClockEvents {
         system_word: Some(word),
         ..NOTHING
     }
 }
 
 // The machine gives a word.
-const fn gives(word: u32) -> Events {
-    Events {
+const fn gives(word: u32) -> ClockEvents {
+    ClockEvents {
         machine_word: Some(word),
         ..NOTHING
     }
@@ -56,7 +56,7 @@ fn joined<F: Fifo>(alloc: Global, join: Join) -> Result<Pair<F>, AllocError> {
 }
 
 // One clock; None where the machine takes from an empty TX or gives to a full RX.
-fn clock<F: Fifo>(pair: &mut Pair<F>, events: Events) -> Option<Settled> {
+fn clock<F: Fifo>(pair: &mut Pair<F>, events: ClockEvents) -> Option<Settled> {
     if events.take && pair.tx_level() == 0 || events.machine_word.is_some() && pair.rx_full() {
         return None;
     }
@@ -111,7 +111,7 @@ fn words_of_rx<F: Fifo>(alloc: Global, mut pair: Pair<F>) -> Result<Vec<u32>, Al
 fn tx_row<F: Fifo>(rt: &impl Abort, alloc: Global, row: &TxRow) -> Result<(), Fail> {
     let mut pair = filled::<F>(alloc, row.join, row.before, &[])?;
     assert_eq!(rt; pair.tx_level(), row.before.len(), "{}", row.shows);
-    let events = Events {
+    let events = ClockEvents {
         take: row.take,
         system_word: row.word,
         ..NOTHING
@@ -135,7 +135,7 @@ fn tx_row<F: Fifo>(rt: &impl Abort, alloc: Global, row: &TxRow) -> Result<(), Fa
 fn rx_row<F: Fifo>(rt: &impl Abort, alloc: Global, row: &RxRow) -> Result<(), Fail> {
     let mut pair = filled::<F>(alloc, row.join, &[], row.before)?;
     assert_eq!(rt; pair.rx_level(), row.before.len(), "{}", row.shows);
-    let events = Events {
+    let events = ClockEvents {
         machine_word: row.word,
         system_read: row.read,
         ..NOTHING
@@ -174,7 +174,7 @@ fn settled_lists(
     tx: &mut Vec<u32>,
     rx: &mut Vec<u32>,
     room: usize,
-    events: Events,
+    events: ClockEvents,
 ) -> Result<Settled, AllocError> {
     let over = events.system_word.is_some() && tx.len() == room;
     let under = events.system_read && rx.is_empty();
@@ -193,9 +193,9 @@ fn settled_lists(
 }
 
 // What happens in a clock, by five bits of a fixed sequence; words are the number of the clock, or 64 more.
-fn events_at(clock: u32, takes: bool, gives: bool) -> Events {
+fn events_at(clock: u32, takes: bool, gives: bool) -> ClockEvents {
     let bits = clock.wrapping_mul(0x9e37_79b9) >> 27;
-    Events {
+    ClockEvents {
         take: takes && bits & 1 == 1,
         machine_word: if gives && bits & 2 == 2 {
             Some(clock | 64)

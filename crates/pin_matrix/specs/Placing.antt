@@ -3,7 +3,7 @@ use Rattle.std.specs.Prelude.{◌≡◌, None, [], ◌∷◌}
 use Rattle.pin_matrix.specs.declared.setup.Setup.{Setup}
 
 -- no machine is configured, and no pin is driven high, an output or without synchroniser
-pub record IsIdle (s : Setup) : Type 0 where
+pub record IsEmptySetup (s : Setup) : Type 0 where
   pub machines : s.machines ≡ None ∷ None ∷ None ∷ None ∷ []
   pub high : s.high ≡ 0
   pub level : s.level ≡ 0

@@ -26,11 +26,11 @@ pub struct Setup {
 
 impl Setup {
     ghost use Rattle.std.specs.Prelude.{◌≡◌, None, Some, replicate, slice_set};
-    ghost use Rattle.pin_matrix.specs.Placing.{IsIdle, HasRestOf};
+    ghost use Rattle.pin_matrix.specs.Placing.{IsEmptySetup, HasRestOf};
 
     /// A block without machines, all of whose pins are low, inputs and synchronised.
     pub fn of(memory: [u16; 32], spans: Spans) -> Setup
-        ensures idle { IsIdle result }
+        ensures idle { IsEmptySetup result }
         ensures memory { result.memory ≡ memory }
         ensures spans { result.spans ≡ spans }
     {

@@ -10,7 +10,7 @@ use Rattle.pio_uart.proofs.Rows.{row}
 use Rattle.pio_uart.proofs.Whole.{IsFrame, frame_of, stays_high, cut_off, given}
 use Rattle.pio_uart.specs.Transmitter.{uart_memory, IsUartMachine}
 use Rattle.pio_uart.specs.Sending.{IsSent}
-use Rattle.pio_uart.specs.Phases.{IsAt}
+use Rattle.pio_uart.specs.Phases.{IsAtInstruction}
 use Rattle.pio_uart.proofs.TickRuns.{IsStep, takes, takes-split, takes-none, Keeps}
 use Rattle.pio_uart.proofs.Transmitting.{IsReady, IsWaiting, pulls, rests, sends, pull, wait, wait_for, weaken, high}
 
@@ -41,7 +41,7 @@ cases_lt a b = grind arith
 module _ (int : ℕ) (s : MachineSetup) (h : IsUartMachine int s) (regs : ℕ → Registers) (levels : ℕ → ℕ) (taken : ℕ → Option ℕ)
     (run : (t : ℕ) → IsStep s uart_memory 0 (regs t) (levels t) (regs (t + 1)) (levels (t + 1)) (taken t)) where
   -- a PULL that begins
-  pub ready : (t : ℕ) → IsAt 0 0 (regs t) → IsReady (regs t) (levels t)
+  pub ready : (t : ℕ) → IsAtInstruction 0 0 (regs t) → IsReady (regs t) (levels t)
   ready t a = record { at = record { pc = a.pc; delay = a.delay; pending = a.pending }; level_is = λ b. absurd (never (sym a.begun ∙ b)) } where
     never : false ≡ true → ⊥
     never e = cc
@@ -54,7 +54,7 @@ module _ (int : ℕ) (s : MachineSetup) (h : IsUartMachine int s) (regs : ℕ �
         ∙ (bits ((j - 8) / 8) (omega (arith, l, later))).nothing ((j - 8) % 8) (omega arith)
   ]
 
-  pub whole : (t word : ℕ) → IsAt 1 0 (regs t) → (regs t).osr ≡ word → IsWhole regs levels taken t word
+  pub whole : (t word : ℕ) → IsAtInstruction 1 0 (regs t) → (regs t).osr ≡ word → IsWhole regs levels taken t word
   whole t word at osr = record {
     frame = record {
       fall = ap (λ n. n == 1) (ap levels (let e : t + 1 ≡ t + 0 + 1 = omega arith in e) ∙ sent.0.levels_are 0 (omega arith));
@@ -68,7 +68,7 @@ module _ (int : ℕ) (s : MachineSetup) (h : IsUartMachine int s) (regs : ℕ �
         ∙ ap (λ ws. ws ++ takes taken (t + 72) 5) (takes-none taken t 72 (nothing_before t word sent.0 sent.1))
         ∙ ap (λ k. option_to_list (taken (t + 72)) ++ takes taken k 4) (let e : t + 72 + 1 ≡ t + 73 = omega arith in e);
   } where
-    sent : Keeps levels taken t 8 0 × ((i : ℕ) → i < 8 → Keeps levels taken (t + 8 + 8 * i) 8 (word / 2 ^ i % 2)) × IsAt 0 0 (regs (t + 72))
+    sent : Keeps levels taken t 8 0 × ((i : ℕ) → i < 8 → Keeps levels taken (t + 8 + 8 * i) 8 (word / 2 ^ i % 2)) × IsAtInstruction 0 0 (regs (t + 72))
     sent = sends int s h regs levels taken run t word at osr
 
     begins : IsWaiting (regs (t + 73)) (levels (t + 73)) 7 (option_to_list (taken (t + 72)))

@@ -9,7 +9,7 @@ use Rattle.serial_receiver.specs.Frames.{frames_from}
 use Rattle.pio_uart.specs.Transmitter.{uart_memory, IsUartMachine}
 use Rattle.pio_uart.proofs.Rows.{row}
 use Rattle.pio_uart.proofs.Whole.{frame_of, stays_high, cut_off, given}
-use Rattle.pio_uart.specs.Phases.{IsAt, IsPulling}
+use Rattle.pio_uart.specs.Phases.{IsAtInstruction, IsPulling}
 use Rattle.pio_uart.proofs.Instructions.{pull_tick, stall_tick}
 use Rattle.pio_uart.proofs.TickRuns.{IsStep, Keeps}
 use Rattle.pio_uart.proofs.Transmitting.{IsThere, IsReady, pulls, side_one, rests_for, sends, wait_for}
@@ -64,7 +64,7 @@ module _ (int : ℕ) (s : MachineSetup) (h : IsUartMachine int s) (regs : ℕ �
       let took : taken t ≡ Some word = k.taken_is ∙ ap (λ b. cond b k.queues.front None) d.takes ∙ front in
       let all : word ∷ left (t + 1) ≡ word ∷ words = ap (λ o. option_to_list o ++ left (t + 1)) (sym took) ∙ goes t ∙ e in (
         record {
-          at = subst (IsAt 1 7) (sym k.registers) d.at;
+          at = subst (IsAtInstruction 1 7) (sym k.registers) d.at;
           x_is = ap (λ (r : Registers). r.x) k.registers ∙ d.x_is;
           osr_is = ap (λ (r : Registers). r.osr) k.registers ∙ d.osr_is;
           level_is = k.level_is ∙ d.level_is (levels t) ∙ side_one int s h regs levels taken run (regs t).begun (levels t) g.level_is;
@@ -112,11 +112,11 @@ module _ (int : ℕ) (s : MachineSetup) (h : IsUartMachine int s) (regs : ℕ �
   in_time (word ∷ words) t n some g e =
       let p = pulls_word t word words some g e in
       let r = rests_for int s h regs levels taken run 7 (t + 1) 1 0 (regs t).x word 1 p.0 in
-      let at : IsAt 1 0 (regs (t + 8)) = subst (λ k. IsAt 1 0 (regs k)) (let q : t + 1 + 7 ≡ t + 8 = omega arith in q) r.0.at in
+      let at : IsAtInstruction 1 0 (regs (t + 8)) = subst (λ k. IsAtInstruction 1 0 (regs k)) (let q : t + 1 + 7 ≡ t + 8 = omega arith in q) r.0.at in
       let osr : (regs (t + 8)).osr ≡ word = ap (λ k. (regs k).osr) (let q : t + 8 ≡ t + 1 + 7 = omega arith in q) ∙ r.0.osr_is in
       let sent = sends int s h regs levels taken run (t + 8) word at osr in
       let f = whole int s h regs levels taken run (t + 8) word at osr in
-      let next : IsReady (regs (t + 80)) (levels (t + 80)) = ready int s h regs levels taken run (t + 80) (subst (λ k. IsAt 0 0 (regs k)) (let q : t + 8 + 72 ≡ t + 80 = omega arith in q) sent.2) in
+      let next : IsReady (regs (t + 80)) (levels (t + 80)) = ready int s h regs levels taken run (t + 80) (subst (λ k. IsAtInstruction 0 0 (regs k)) (let q : t + 8 + 72 ≡ t + 80 = omega arith in q) sent.2) in
       let rest : left (t + 80) ≡ words = ap left (let q : t + 80 ≡ t + 1 + 79 = omega arith in q) ∙ left_for 79 (t + 1) (none_both t word r.1 sent.0 sent.1) ∙ p.1 in
       high_for 8 (t + 5) 3 n (is_up levels) (λ j l. ap (λ v. v == 1) (ap levels (let q : t + 5 + j + 1 ≡ t + 1 + (4 + j) + 1 = omega arith in q) ∙ r.1.levels_are (4 + j) (omega (arith, l))))
       ∙ ap (λ c. frames_from 8 0 c true (row (is_up levels) c (n - 3))) (let q : t + 5 + 3 ≡ t + 8 = omega arith in q)

@@ -20,12 +20,12 @@ use Rattle.sm_registers.specs.Queues.{Queues}
 use Rattle.sm_registers.specs.Effects.{Effect, quiet, stall, osr_filled, effect_of, jmp_effect, out_effect, pull_effect, set_effect}
 use Rattle.sm_registers.specs.Tick.{tick_of, tick_delay, tick_word, tick_by, after_effect, current_word, word_at}
 use Rattle.block_core.specs.Block.{two_writes}
-use Rattle.pio_uart.specs.Phases.{IsAt, IsPulling}
+use Rattle.pio_uart.specs.Phases.{IsAtInstruction, IsPulling}
 use Rattle.pio_uart.specs.Transmitter.{uart_memory, IsUartRule, IsUartMachine}
 
 -- what a tick leaves: an address and a delay, X and OSR; whether it takes a word; and pin 0's level after it
 pub record IsTicked (t : Registers × Intent) (address left x osr : ℕ) (take : Bool) (level : ℕ → ℕ) : Type 0 where
-  pub at : IsAt address left t.0
+  pub at : IsAtInstruction address left t.0
   pub x_is : t.0.x ≡ x
   pub osr_is : t.0.osr ≡ osr
   pub takes : t.1.take ≡ take
@@ -97,7 +97,7 @@ module _ (int : ℕ) (s : MachineSetup) (h : IsUartMachine int s) (v : View) (me
       ∙ ap (λ (o : Op). tick_word o s v q r) means ∙ ap (tick_by op s q r) does
 
   -- a tick of a delay
-  pub delay_tick : (r : Registers) (address left : ℕ) → IsAt address (suc left) r → IsTicked (tick_of s v q r) address left r.x r.osr false (λ old. old)
+  pub delay_tick : (r : Registers) (address left : ℕ) → IsAtInstruction address (suc left) r → IsTicked (tick_of s v q r) address left r.x r.osr false (λ old. old)
   unfolding tick_of tick_delay last_of
   delay_tick r address left a = rw (a.delay, positive left, h.autopull) (record {
     at = record { pc = a.pc; delay = less_one left; pending = a.pending; begun = a.begun };
@@ -111,7 +111,7 @@ module _ (int : ℕ) (s : MachineSetup) (h : IsUartMachine int s) (v : View) (me
   unfolding effect_of set_effect
   set_does r = refl
 
-  pub set_tick : (r : Registers) → IsAt 1 0 r → IsTicked (tick_of s v q r) 2 7 7 r.osr false (λ old. 0)
+  pub set_tick : (r : Registers) → IsAtInstruction 1 0 r → IsTicked (tick_of s v q r) 2 7 7 r.osr false (λ old. 0)
   unfolding tick_by after_effect last_of
   set_tick r a = rw (tick_is r _ _ a.delay (reads v r s.side_rule 1 0 0xf727 _ memory a.pending a.pc refl (set_word s.side_rule h.rule)) (set_does r), a.pc, a.pending, a.begun, h.autopull, h.wrap_top, h.rule.pindirs, h.side.0, h.side.1) (record {
     at = record { pc = refl; delay = refl; pending = refl; begun = refl };
@@ -125,7 +125,7 @@ module _ (int : ℕ) (s : MachineSetup) (h : IsUartMachine int s) (v : View) (me
   unfolding effect_of out_effect
   out_does r = rw (h.autopull, h.out_right, h.out.0, h.out.1) (ap (λ b. let e : Effect = record (quiet (record r { osr = r.osr / 2; out_count = min 32 (r.out_count + 1) })) { level = (1, b) } in e) (one_pin r.osr))
 
-  pub out_tick : (r : Registers) → IsAt 2 0 r → IsTicked (tick_of s v q r) 3 0 r.x (r.osr / 2) false (λ old. r.osr % 2)
+  pub out_tick : (r : Registers) → IsAtInstruction 2 0 r → IsTicked (tick_of s v q r) 3 0 r.x (r.osr / 2) false (λ old. r.osr % 2)
   unfolding tick_by after_effect last_of
   out_tick r a = rw (tick_is r _ _ a.delay (reads v r s.side_rule 2 0 0x6001 _ memory a.pending a.pc refl (out_word s.side_rule h.rule)) (out_does r), a.pc, a.pending, a.begun, h.autopull, h.wrap_top, h.rule.pindirs) (record {
     at = record { pc = refl; delay = refl; pending = refl; begun = refl };
@@ -139,7 +139,7 @@ module _ (int : ℕ) (s : MachineSetup) (h : IsUartMachine int s) (v : View) (me
   unfolding effect_of jmp_effect
   loop_does r x e = rw (e, not_zero x) refl
 
-  pub loop_tick : (r : Registers) (x : ℕ) → IsAt 3 0 r → r.x ≡ suc x → suc x < 2 ^ 32 → IsTicked (tick_of s v q r) 2 6 x r.osr false (λ old. old)
+  pub loop_tick : (r : Registers) (x : ℕ) → IsAtInstruction 3 0 r → r.x ≡ suc x → suc x < 2 ^ 32 → IsTicked (tick_of s v q r) 2 6 x r.osr false (λ old. old)
   unfolding tick_by after_effect last_of
   loop_tick r x a e l = rw (tick_is r _ _ a.delay (reads v r s.side_rule 3 0 0x0642 _ memory a.pending a.pc refl (jmp_word s.side_rule h.rule)) (loop_does r x e), a.begun, h.autopull, h.rule.pindirs) (record {
     at = record { pc = refl; delay = refl; pending = refl; begun = refl };
@@ -154,7 +154,7 @@ module _ (int : ℕ) (s : MachineSetup) (h : IsUartMachine int s) (v : View) (me
   last_does r e = rw e refl
 
   -- the last JMP isn't taken, and the program wraps
-  pub last_tick : (r : Registers) → IsAt 3 0 r → r.x ≡ 0 → IsTicked (tick_of s v q r) 0 6 (2 ^ 32 - 1) r.osr false (λ old. old)
+  pub last_tick : (r : Registers) → IsAtInstruction 3 0 r → r.x ≡ 0 → IsTicked (tick_of s v q r) 0 6 (2 ^ 32 - 1) r.osr false (λ old. old)
   unfolding tick_by after_effect last_of
   last_tick r a e = rw (tick_is r _ _ a.delay (reads v r s.side_rule 3 0 0x0642 _ memory a.pending a.pc refl (jmp_word s.side_rule h.rule)) (last_does r e), a.pc, a.pending, a.begun, h.autopull, h.wrap_top, h.wrap_bottom, h.rule.pindirs) (record {
     at = record { pc = refl; delay = refl; pending = refl; begun = refl };

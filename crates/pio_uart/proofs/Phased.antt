@@ -7,7 +7,7 @@ use Rattle.sm_registers.specs.Queues.{Queues}
 use Rattle.sm_registers.specs.State.{first_registers}
 use Rattle.sm_registers.specs.Tick.{tick_of}
 use Rattle.pio_uart.specs.Transmitter.{uart_memory, IsUartMachine}
-use Rattle.pio_uart.specs.Phases.{IsAt, IsPulling, IsOnCourse, pulls, ends, starts, sends, counts, phase_of, MovesOn}
+use Rattle.pio_uart.specs.Phases.{IsAtInstruction, IsPulling, IsOnCourse, pulls, ends, starts, sends, counts, phase_of, MovesOn}
 use Rattle.pio_uart.proofs.Instructions.{delay_tick, set_tick, out_tick, loop_tick, last_tick, pull_tick, stall_tick}
 
 phase-0 : (r : Registers) (d : ℕ) → r.pc ≡ 0 → r.delay ≡ d → phase_of r ≡ (80 - d) % 80
@@ -40,7 +40,7 @@ module _ (int : ℕ) (s : MachineSetup) (h : IsUartMachine int s) (v : View) (me
           phase = inr (e, phase-0 r 0 a.pc a.delay, phase-0 (tick_of s v q r).0 0 d.at.pc d.at.delay);
         }
 
-  last_or_next : (r : Registers) → r.x ≤ 7 → IsAt 3 0 r → (x : ℕ) → r.x ≡ x → MovesOn q.front r (tick_of s v q r).0
+  last_or_next : (r : Registers) → r.x ≤ 7 → IsAtInstruction 3 0 r → (x : ℕ) → r.x ≡ x → MovesOn q.front r (tick_of s v q r).0
   last_or_next r few a zero e =
       let d = last_tick int s h v memory q r a e in record {
         on_course = ends 6 (omega arith) d.at;

@@ -8,13 +8,13 @@ use Rattle.sm_registers.specs.declared.view.View.{View}
 use Rattle.sm_registers.specs.Queues.{Queues}
 use Rattle.sm_registers.specs.Tick.{tick_of}
 use Rattle.pio_uart.specs.Transmitter.{uart_memory, IsUartMachine}
-use Rattle.pio_uart.specs.Phases.{IsAt, IsPulling}
+use Rattle.pio_uart.specs.Phases.{IsAtInstruction, IsPulling}
 use Rattle.pio_uart.proofs.Instructions.{IsTicked, delay_tick, set_tick, out_tick, loop_tick, last_tick, pull_tick, stall_tick}
 use Rattle.pio_uart.proofs.TickRuns.{IsStep, takes, Keeps, keeps-join, keeps-one}
 
 -- the machine at the start of a tick: where it is, with X, OSR and pin 0's level
 pub record IsThere (r : Registers) (now : ℕ) (address left x osr level : ℕ) : Type 0 where
-  pub at : IsAt address left r
+  pub at : IsAtInstruction address left r
   pub x_is : r.x ≡ x
   pub osr_is : r.osr ≡ osr
   pub level_is : now ≡ level
@@ -28,7 +28,7 @@ pub record IsReady (r : Registers) (now : ℕ) : Type 0 where
 -- bit. The words are those that it has.
 pub data IsWaiting (r : Registers) (now least : ℕ) (words : List ℕ) : Type 0 where
   pulls : IsReady r now → now ≡ 1 → words ≡ [] → IsWaiting r now least words
-  rests : (left : ℕ) → least ≤ left → IsAt 1 left r → now ≡ 1 → words ≡ r.osr ∷ [] → IsWaiting r now least words
+  rests : (left : ℕ) → least ≤ left → IsAtInstruction 1 left r → now ≡ 1 → words ≡ r.osr ∷ [] → IsWaiting r now least words
 
 module _ (int : ℕ) (s : MachineSetup) (h : IsUartMachine int s) (regs : ℕ → Registers) (levels : ℕ → ℕ) (taken : ℕ → Option ℕ)
     (run : (t : ℕ) → IsStep s uart_memory 0 (regs t) (levels t) (regs (t + 1)) (levels (t + 1)) (taken t)) where
@@ -40,7 +40,7 @@ module _ (int : ℕ) (s : MachineSetup) (h : IsUartMachine int s) (regs : ℕ �
       let d = ticked k.view k.queues k.memory_is in
       let next : levels (t + 1) ≡ now = k.level_is ∙ d.level_is (levels t) ∙ same in (
         record {
-          at = subst (IsAt address left) (sym k.registers) d.at;
+          at = subst (IsAtInstruction address left) (sym k.registers) d.at;
           x_is = ap (λ (r : Registers). r.x) k.registers ∙ d.x_is ∙ ex;
           osr_is = ap (λ (r : Registers). r.osr) k.registers ∙ d.osr_is ∙ eo;
           level_is = next;
@@ -61,7 +61,7 @@ module _ (int : ℕ) (s : MachineSetup) (h : IsUartMachine int s) (regs : ℕ �
     record { levels_are = λ j l. absurd (omega (arith, l)); nothing = λ j l. absurd (omega (arith, l)) },
   )
   rests_for (suc n) t address left x osr now g =
-      let at : IsAt address (suc (n + left)) (regs t) = subst (λ k. IsAt address k (regs t)) (let e : suc n + left ≡ suc (n + left) = omega arith in e) g.at in
+      let at : IsAtInstruction address (suc (n + left)) (regs t) = subst (λ k. IsAtInstruction address k (regs t)) (let e : suc n + left ≡ suc (n + left) = omega arith in e) g.at in
       let one = moved t address (n + left) (regs t).x x (regs t).osr osr now (λ old. old) (λ v q m. delay_tick int s h v m q (regs t) address (n + left) at) g.x_is g.osr_is g.level_is in
       let more = rests_for n (t + 1) address left x osr now one.0 in (
         there_at (t + 1 + n) (t + suc n) address left x osr now (omega arith) more.0,
@@ -92,7 +92,7 @@ module _ (int : ℕ) (s : MachineSetup) (h : IsUartMachine int s) (regs : ℕ �
       bit_ends t 0 (2 ^ 32 - 1) 0 (osr / 2) now (osr % 2) a.1 (moved (t + 1) 0 6 (2 ^ 32 - 1) (2 ^ 32 - 1) (regs (t + 1)).osr (osr / 2) (osr % 2) (λ old. old) (λ v q m. last_tick int s h v m q (regs (t + 1)) a.0.at a.0.x_is) refl a.0.osr_is a.0.level_is)
 
   -- the data bits that are left
-  data_bits : (x t osr now : ℕ) → x < 8 → IsThere (regs t) (levels t) 2 0 x osr now → IsAt 0 0 (regs (t + 8 * (x + 1))) × ((i : ℕ) → i ≤ x → Keeps levels taken (t + 8 * i) 8 (osr / 2 ^ i % 2))
+  data_bits : (x t osr now : ℕ) → x < 8 → IsThere (regs t) (levels t) 2 0 x osr now → IsAtInstruction 0 0 (regs (t + 8 * (x + 1))) × ((i : ℕ) → i ≤ x → Keeps levels taken (t + 8 * i) 8 (osr / 2 ^ i % 2))
   data_bits zero t osr now l g = let b = bit_last t osr now g in (
     b.0.at,
     λ i m. subst (λ k. Keeps levels taken (t + 8 * k) 8 (osr / 2 ^ k % 2)) (let e : 0 ≡ i = omega (arith, m) in e) (keeps_at t (t + 8 * 0) 8 8 (osr / 2 ^ 0 % 2) (omega arith) refl (subst (Keeps levels taken t 8) (let e : osr % 2 ≡ osr / 2 ^ 0 % 2 = omega arith in e) b.1)),
@@ -100,7 +100,7 @@ module _ (int : ℕ) (s : MachineSetup) (h : IsUartMachine int s) (regs : ℕ �
   data_bits (suc x) t osr now l g =
       let b = bit_more t x osr now l g in
       let more = data_bits x (t + 8) (osr / 2) (osr % 2) (omega (arith, l)) b.0 in (
-        subst (λ k. IsAt 0 0 (regs k)) (let e : t + 8 + 8 * (x + 1) ≡ t + 8 * (suc x + 1) = omega arith in e) more.0,
+        subst (λ k. IsAtInstruction 0 0 (regs k)) (let e : t + 8 + 8 * (x + 1) ≡ t + 8 * (suc x + 1) = omega arith in e) more.0,
         each b.1 more.1,
       ) where
         each : Keeps levels taken t 8 (osr % 2) → ((i : ℕ) → i ≤ x → Keeps levels taken (t + 8 + 8 * i) 8 (osr / 2 / 2 ^ i % 2)) → (i : ℕ) → i ≤ suc x → Keeps levels taken (t + 8 * i) 8 (osr / 2 ^ i % 2)
@@ -110,14 +110,14 @@ module _ (int : ℕ) (s : MachineSetup) (h : IsUartMachine int s) (regs : ℕ �
             (subst (λ w. Keeps levels taken (t + 8 + 8 * i) 8 (w % 2)) (shr-shr osr 1 i ∙ ap (λ k. osr / 2 ^ k) (let e : 1 + i ≡ suc i = omega arith in e)) (rest i (omega (arith, m))))
 
   -- SET with the start bit, and the data bits
-  pub sends : (t word : ℕ) → IsAt 1 0 (regs t) → (regs t).osr ≡ word → Keeps levels taken t 8 0 × ((i : ℕ) → i < 8 → Keeps levels taken (t + 8 + 8 * i) 8 (word / 2 ^ i % 2)) × IsAt 0 0 (regs (t + 72))
+  pub sends : (t word : ℕ) → IsAtInstruction 1 0 (regs t) → (regs t).osr ≡ word → Keeps levels taken t 8 0 × ((i : ℕ) → i < 8 → Keeps levels taken (t + 8 + 8 * i) 8 (word / 2 ^ i % 2)) × IsAtInstruction 0 0 (regs (t + 72))
   sends t word at osr =
       let a = moved t 2 7 7 7 (regs t).osr word 0 (λ old. 0) (λ v q m. set_tick int s h v m q (regs t) at) refl osr refl in
       let b = rests_for 7 (t + 1) 2 0 7 word 0 a.0 in
       let c = data_bits 7 (t + 8) word 0 (omega arith) (there_at (t + 1 + 7) (t + 8) 2 0 7 word 0 (omega arith) b.0) in (
         keeps-join levels taken t 1 7 0 a.1 b.1,
         λ i l. c.1 i (omega (arith, l)),
-        subst (λ k. IsAt 0 0 (regs k)) (let e : t + 8 + 8 * (7 + 1) ≡ t + 72 = omega arith in e) c.0,
+        subst (λ k. IsAtInstruction 0 0 (regs k)) (let e : t + 8 + 8 * (7 + 1) ≡ t + 72 = omega arith in e) c.0,
       )
 
   pub weaken : (t more least : ℕ) (words : List ℕ) → least ≤ more → IsWaiting (regs t) (levels t) more words → IsWaiting (regs t) (levels t) least words
@@ -139,7 +139,7 @@ module _ (int : ℕ) (s : MachineSetup) (h : IsUartMachine int s) (regs : ℕ �
     by (Some word) e =
         let k = run t in
         let d = pull_tick int s h k.view k.memory_is k.queues (regs t) word g.at e in
-        rests 7 (omega arith) (subst (IsAt 1 7) (sym k.registers) d.at) (k.level_is ∙ d.level_is (levels t) ∙ side_one (regs t).begun (levels t) g.level_is)
+        rests 7 (omega arith) (subst (IsAtInstruction 1 7) (sym k.registers) d.at) (k.level_is ∙ d.level_is (levels t) ∙ side_one (regs t).begun (levels t) g.level_is)
         (ap option_to_list (k.taken_is ∙ ap (λ b. cond b k.queues.front None) d.takes ∙ e) ∙ ap (λ w. w ∷ []) (sym (ap (λ (r : Registers). r.osr) k.registers ∙ d.osr_is)))
     by None e =
         let k = run t in
@@ -152,7 +152,7 @@ module _ (int : ℕ) (s : MachineSetup) (h : IsUartMachine int s) (regs : ℕ �
   wait t least words l (pulls ready one none) =
       subst (IsWaiting (regs (t + 1)) (levels (t + 1)) least) (ap (λ ws. ws ++ option_to_list (taken t)) (sym none)) (weaken (t + 1) 7 least (option_to_list (taken t)) (omega (arith, l)) (pull t ready))
   wait t least words l (rests left m at one has) =
-      let at' : IsAt 1 (suc (left - 1)) (regs t) = subst (λ k. IsAt 1 k (regs t)) (let e : left ≡ suc (left - 1) = omega (arith, m) in e) at in
+      let at' : IsAtInstruction 1 (suc (left - 1)) (regs t) = subst (λ k. IsAtInstruction 1 k (regs t)) (let e : left ≡ suc (left - 1) = omega (arith, m) in e) at in
       let d = moved t 1 (left - 1) (regs t).x (regs t).x (regs t).osr (regs t).osr 1 (λ old. old) (λ v q m. delay_tick int s h v m q (regs t) 1 (left - 1) at') refl refl one in
       let nothing : taken t ≡ None = ap taken (let e : t ≡ t + 0 = omega arith in e) ∙ d.1.nothing 0 (omega arith) in
       rests (left - 1) (omega (arith, m)) d.0.at d.0.level_is

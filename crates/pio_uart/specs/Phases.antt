@@ -1,5 +1,5 @@
 -- The phase of the transmitter's machine: 80 ticks from the PULL of a word to that of the next one.
---   IsAt             it is at an address, with so many ticks of delay left before it
+--   IsAtInstruction  it is at an address, with so many ticks of delay left before it
 --   IsPulling        it is at the PULL, having stalled or not
 --   IsOnCourse       it is where the program brings it
 --   phase_of         its phase
@@ -8,7 +8,7 @@ use Rattle.std.specs.Prelude.{◌≡◌, ℕ, ◌+◌, ◌-◌, ◌*◌, ◌%◌
 use Rattle.sm_registers.specs.declared.registers.Registers.{Registers}
 
 -- at an instruction, or in the delay before it, with nothing pending and nothing begun
-pub record IsAt (address left : ℕ) (r : Registers) : Type 0 where
+pub record IsAtInstruction (address left : ℕ) (r : Registers) : Type 0 where
   pub pc : r.pc ≡ address
   pub delay : r.delay ≡ left
   pub pending : r.pending ≡ None
@@ -23,10 +23,10 @@ pub record IsPulling (r : Registers) : Type 0 where
 -- At the PULL, or in the delay after the last JMP; at SET; at OUT, or at JMP, with X counting the data bits that are left.
 pub data IsOnCourse (r : Registers) : Type 0 where
   pulls : IsPulling r → IsOnCourse r
-  ends : (left : ℕ) → left ≤ 6 → IsAt 0 left r → IsOnCourse r
-  starts : (left : ℕ) → left ≤ 7 → IsAt 1 left r → IsOnCourse r
-  sends : (left : ℕ) → left ≤ 7 → r.x ≤ 7 → IsAt 2 left r → IsOnCourse r
-  counts : r.x ≤ 7 → IsAt 3 0 r → IsOnCourse r
+  ends : (left : ℕ) → left ≤ 6 → IsAtInstruction 0 left r → IsOnCourse r
+  starts : (left : ℕ) → left ≤ 7 → IsAtInstruction 1 left r → IsOnCourse r
+  sends : (left : ℕ) → left ≤ 7 → r.x ≤ 7 → IsAtInstruction 2 left r → IsOnCourse r
+  counts : r.x ≤ 7 → IsAtInstruction 3 0 r → IsOnCourse r
 
 -- 0 at the PULL; 1 to 8 after it, with the line high; 9 to 16 after SET, in the start bit; then eight for each data bit
 abbrev pub phase_of : Registers → ℕ

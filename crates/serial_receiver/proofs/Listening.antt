@@ -3,12 +3,12 @@ use Rattle.std.proofs.Common.{◌≡◌, ℕ, suc, ◌+◌, ◌-◌, ◌^◌, �
 use Rattle.std.proofs.lemmas.List.{length-replicate}
 use Rattle.serial_receiver.specs.declared.frame.Frame.{Frame}
 use Rattle.serial_receiver.specs.declared.begun.Begun.{Begun}
-use Rattle.serial_receiver.specs.declared.line.Line.{Line}
-use Rattle.serial_receiver.specs.declared.line.Progress.{Progress}
-use Rattle.serial_receiver.specs.declared.line.Progress.TheVariants.{Reads, Ends}
+use Rattle.serial_receiver.specs.declared.line.LineSoFar.{LineSoFar}
+use Rattle.serial_receiver.specs.declared.line.FrameProgress.{FrameProgress}
+use Rattle.serial_receiver.specs.declared.line.FrameProgress.TheVariants.{Reads, Ends}
 use Rattle.serial_receiver.specs.declared.line.Heard.{Heard}
 use Rattle.serial_receiver.specs.Frames.{bits_read, falls, frame_at, frames, frames_from, level_in, middle}
-use Rattle.serial_receiver.specs.Hearing.{Brings, Hears, IsIdle, IsOpen, IsPhase, IsReading, Opens, Proceeds, Stays, heard_of, level_after}
+use Rattle.serial_receiver.specs.Hearing.{Brings, Hears, HasNoOpenFrame, IsOpen, IsPhase, HasReadBits, Opens, Proceeds, Stays, heard_of, level_after}
 use Rattle.serial_receiver.proofs.Levels.{level_after-append, level_after-same, middle-least, middle-most, middle-small, stays}
 use Rattle.serial_receiver.proofs.Framing.{after_stop, given, level_stays, no_fall, not_given}
 
@@ -20,7 +20,7 @@ hears_none bit before = record { last = refl; phase = λ rest. refl }
 -- more levels of an idle line, among which it doesn't fall
 idle_more : (bit : ℕ) (before : Bool) (levels more : List Bool) → ((rest : List Bool) → frames_from bit 0 (length levels) (level_after before levels) (more ++ rest)
     ≡ frames_from bit 0 (length (levels ++ more)) (level_after before (levels ++ more)) rest)
-    → IsIdle bit before levels → (frames bit before (levels ++ more) ≡ frames bit before levels) × IsIdle bit before (levels ++ more)
+    → HasNoOpenFrame bit before levels → (frames bit before (levels ++ more) ≡ frames bit before levels) × HasNoOpenFrame bit before (levels ++ more)
 unfolding frames_from
 idle_more bit before levels more go h =
     let none : frames bit before (levels ++ more) ≡ frames bit before levels =
@@ -34,8 +34,8 @@ idle_more bit before levels more go h =
     )
 
 -- a level that stays keeps a line idle
-pub idle_held : (bit : ℕ) (before : Bool) (levels : List Bool) (n : ℕ) (v : Bool) → v ≡ level_after before levels → IsIdle bit before levels
-    → (frames bit before (levels ++ replicate n v) ≡ frames bit before levels) × IsIdle bit before (levels ++ replicate n v)
+pub idle_held : (bit : ℕ) (before : Bool) (levels : List Bool) (n : ℕ) (v : Bool) → v ≡ level_after before levels → HasNoOpenFrame bit before levels
+    → (frames bit before (levels ++ replicate n v) ≡ frames bit before levels) × HasNoOpenFrame bit before (levels ++ replicate n v)
 idle_held bit before levels n v same h =
     idle_more bit before levels (replicate n v) (λ rest.
     ap (λ x. frames_from bit 0 (length levels) x (replicate n v ++ rest)) (sym same)
@@ -45,8 +45,8 @@ idle_held bit before levels n v same h =
     (sym (level_after-append before levels (replicate n v) ∙ ap (λ x. level_after x (replicate n v)) (sym same) ∙ level_after-same v n))) h
 
 -- so does one that doesn't fall
-idle_one : (bit : ℕ) (before : Bool) (levels : List Bool) (v : Bool) → falls (level_after before levels) v ≡ false → IsIdle bit before levels
-    → (frames bit before (levels ++ v ∷ []) ≡ frames bit before levels) × IsIdle bit before (levels ++ v ∷ [])
+idle_one : (bit : ℕ) (before : Bool) (levels : List Bool) (v : Bool) → falls (level_after before levels) v ≡ false → HasNoOpenFrame bit before levels
+    → (frames bit before (levels ++ v ∷ []) ≡ frames bit before levels) × HasNoOpenFrame bit before (levels ++ v ∷ [])
 idle_one bit before levels v none h =
     idle_more bit before levels (v ∷ []) (λ rest.
     no_fall bit (length levels) (level_after before levels) v rest none
@@ -55,7 +55,7 @@ idle_one bit before levels v none h =
 
 -- one that falls opens a frame
 opens_one : (bit : ℕ) (before : Bool) (levels : List Bool) (o : Begun) → 2 ≤ bit → level_after before levels ≡ true → o.start ≡ length levels → o.known ≡ 0 → o.byte ≡ 0
-    → IsIdle bit before levels → (frames bit before (levels ++ false ∷ []) ≡ frames bit before levels) × IsOpen bit before (levels ++ false ∷ []) o
+    → HasNoOpenFrame bit before levels → (frames bit before (levels ++ false ∷ []) ≡ frames bit before levels) × IsOpen bit before (levels ++ false ∷ []) o
 opens_one bit before levels o two high at known byte h =
     let go : (rest : List Bool) → frames bit before (levels ++ false ∷ rest) ≡ frames bit before levels ++ frames_from bit 0 o.start true (false ∷ rest) = λ rest.
     h (false ∷ rest)
@@ -82,7 +82,7 @@ ahead seen n v rest = append_assoc seen (replicate n v) rest
 
 -- a frame that goes on
 open_more : (bit : ℕ) (before : Bool) (levels : List Bool) (o p : Begun) (n : ℕ) (v : Bool) → (h : IsOpen bit before levels o)
-    → ((rest : List Bool) → (p.start ≡ o.start) × IsReading bit (level_in (false ∷ (h.seen ++ (replicate n v ++ rest)))) (suc (length h.seen) + n) p)
+    → ((rest : List Bool) → (p.start ≡ o.start) × HasReadBits bit (level_in (false ∷ (h.seen ++ (replicate n v ++ rest)))) (suc (length h.seen) + n) p)
     → (frames bit before (levels ++ replicate n v) ≡ frames bit before levels) × IsOpen bit before (levels ++ replicate n v) p
 open_more bit before levels o p n v h reads =
     let more : List Bool = replicate n v in
@@ -105,15 +105,15 @@ open_more bit before levels o p n v h reads =
         going = λ rest. ap (frames bit before) (append_assoc levels more rest) ∙ go rest ∙ ap (λ x. x ++ frames_from bit 0 p.start true (false ∷ (seen ++ rest))) (sym none);
         reading = λ rest.
             let r = reads rest in
-            subst (λ (xs : List Bool). IsReading bit (level_in (false ∷ xs)) (suc (length seen)) p) (sym (ahead h.seen n v rest))
-            (subst (λ k. IsReading bit (level_in (false ∷ (h.seen ++ (replicate n v ++ rest)))) k p) (sym long) r.1);
+            subst (λ (xs : List Bool). HasReadBits bit (level_in (false ∷ xs)) (suc (length seen)) p) (sym (ahead h.seen n v rest))
+            (subst (λ k. HasReadBits bit (level_in (false ∷ (h.seen ++ (replicate n v ++ rest)))) k p) (sym long) r.1);
       },
     )
 
 -- a frame that ends
 open_ends : (bit : ℕ) (before : Bool) (levels : List Bool) (o : Begun) (f : Frame) (n : ℕ) (v : Bool) → (h : IsOpen bit before levels o) → v ≡ level_after before (levels ++ replicate n v)
     → ((rest : List Bool) → (f ≡ frame_at (level_in (false ∷ (h.seen ++ (replicate n v ++ rest)))) bit o.start) × (middle bit 8 < suc (length h.seen) + n))
-    → (frames bit before (levels ++ replicate n v) ≡ frames bit before levels ++ f ∷ []) × IsIdle bit before (levels ++ replicate n v)
+    → (frames bit before (levels ++ replicate n v) ≡ frames bit before levels ++ f ∷ []) × HasNoOpenFrame bit before (levels ++ replicate n v)
 unfolding frames_from
 open_ends bit before levels o f n v h last ends =
     let more : List Bool = replicate n v in
@@ -136,12 +136,12 @@ open_ends bit before levels o f n v h last ends =
     )
 
 -- An open frame, where a level stays so many clocks: by how it proceeds.
-pub open_brings : (bit : ℕ) (before : Bool) (levels : List Bool) (o : Begun) (n : ℕ) (v : Bool) (progress : Progress) → (h : IsOpen bit before levels o)
+pub open_brings : (bit : ℕ) (before : Bool) (levels : List Bool) (o : Begun) (n : ℕ) (v : Bool) (progress : FrameProgress) → (h : IsOpen bit before levels o)
     → v ≡ level_after before (levels ++ replicate n v)
-    → ((at : ℕ → Bool) (old : ℕ) → IsReading bit at old o → old ≤ suc (length h.seen) + n → Stays at old (suc (length h.seen) + n) v → Proceeds bit at o.start (suc (length h.seen) + n) progress)
+    → ((at : ℕ → Bool) (old : ℕ) → HasReadBits bit at old o → old ≤ suc (length h.seen) + n → Stays at old (suc (length h.seen) + n) v → Proceeds bit at o.start (suc (length h.seen) + n) progress)
     → Brings bit before levels (replicate n v) (heard_of progress v)
 open_brings bit before levels o n v progress h last proceeds = on progress (λ rest. proceeds (level_in (false ∷ (h.seen ++ (replicate n v ++ rest)))) (suc (length h.seen)) (h.reading (replicate n v ++ rest)) (omega arith) (stays false h.seen n v rest)) where
-  on : (p : Progress) → ((rest : List Bool) → Proceeds bit (level_in (false ∷ (h.seen ++ (replicate n v ++ rest)))) o.start (suc (length h.seen) + n) p) → Brings bit before levels (replicate n v) (heard_of p v)
+  on : (p : FrameProgress) → ((rest : List Bool) → Proceeds bit (level_in (false ∷ (h.seen ++ (replicate n v ++ rest)))) o.start (suc (length h.seen) + n) p) → Brings bit before levels (replicate n v) (heard_of p v)
   on (Reads p) go =
       let both = open_more bit before levels o p n v h go in
       record { state = record { last = last; phase = both.1 }; ended = both.0 ∙ sym (append-nil (frames bit before levels)) }
@@ -150,7 +150,7 @@ open_brings bit before levels o n v progress h last proceeds = on progress (λ r
       record { state = record { last = last; phase = both.1 }; ended = both.0 }
 
 -- an idle line, where its level stays
-pub idle_brings : (bit : ℕ) (before : Bool) (levels : List Bool) (n : ℕ) (line : Line) → line.frame ≡ None → Hears bit before levels line
+pub idle_brings : (bit : ℕ) (before : Bool) (levels : List Bool) (n : ℕ) (line : LineSoFar) → line.frame ≡ None → Hears bit before levels line
     → Brings bit before levels (replicate n line.last) (record { line = line; frame = None })
 idle_brings bit before levels n line none h =
     let both = idle_held bit before levels n line.last h.last (subst (IsPhase bit before levels) none h.phase) in
@@ -168,10 +168,10 @@ fall_is true true h = cc
 fall_is false level h = cc
 
 -- an idle line, and the next level
-pub idle_next : (bit : ℕ) (before : Bool) (levels : List Bool) (v : Bool) (line : Line) (begun : Option Begun) → 2 ≤ bit → line.frame ≡ None → Hears bit before levels line
+pub idle_next : (bit : ℕ) (before : Bool) (levels : List Bool) (v : Bool) (line : LineSoFar) (begun : Option Begun) → 2 ≤ bit → line.frame ≡ None → Hears bit before levels line
     → Opens (length levels) line.last v begun → Brings bit before levels (v ∷ []) (record { line = record { last = v; frame = begun }; frame = None })
 idle_next bit before levels v line begun two none h opens = on begun opens where
-  idle : IsIdle bit before levels
+  idle : HasNoOpenFrame bit before levels
   idle = subst (IsPhase bit before levels) none h.phase
 
   last : v ≡ level_after before (levels ++ v ∷ [])
@@ -191,8 +191,8 @@ idle_next bit before levels v line begun two none h opens = on begun opens where
       })
 
 -- a line with an open frame, where its level stays up to a clock
-pub held_open : (bit clock reached : ℕ) (line : Line) (b : Begun) (progress : Progress) (heard : Heard) → line.frame ≡ Some b → reached ≡ clock - b.start
-    → ((at : ℕ → Bool) (old : ℕ) → IsReading bit at old b → old ≤ reached → Stays at old reached line.last → Proceeds bit at b.start reached progress)
+pub held_open : (bit clock reached : ℕ) (line : LineSoFar) (b : Begun) (progress : FrameProgress) (heard : Heard) → line.frame ≡ Some b → reached ≡ clock - b.start
+    → ((at : ℕ → Bool) (old : ℕ) → HasReadBits bit at old b → old ≤ reached → Stays at old reached line.last → Proceeds bit at b.start reached progress)
     → heard ≡ heard_of progress line.last → (before : Bool) (levels : List Bool) → Hears bit before levels line → length levels ≤ clock
     → Brings bit before levels (replicate (clock - length levels) line.last) heard
 held_open bit clock reached line b progress heard some far proceeds is before levels h low =
@@ -200,7 +200,7 @@ held_open bit clock reached line b progress heard some far proceeds is before le
     let n = clock - length levels in
     let place = phase.place in
     let same : reached ≡ suc (length phase.seen) + n = omega arith in
-    let P : ℕ → Type 0 = λ r. (at : ℕ → Bool) (old : ℕ) → IsReading bit at old b → old ≤ r → Stays at old r line.last → Proceeds bit at b.start r progress in
+    let P : ℕ → Type 0 = λ r. (at : ℕ → Bool) (old : ℕ) → HasReadBits bit at old b → old ≤ r → Stays at old r line.last → Proceeds bit at b.start r progress in
     let last : line.last ≡ level_after before (levels ++ replicate n line.last) =
     sym (level_after-append before levels (replicate n line.last) ∙ ap (λ x. level_after x (replicate n line.last)) (sym h.last) ∙ level_after-same line.last n) in
     subst (λ (x : Heard). Brings bit before levels (replicate n line.last) x) (sym is) (open_brings bit before levels b n line.last progress phase last (subst P same proceeds))
@@ -212,8 +212,8 @@ not_cut : (far cut : ℕ) → far < 2 ^ 20 → cut ≡ min (far + 1) (2 ^ 64 - 1
 not_cut far cut h e = omega arith
 
 -- the same, where the next level comes
-pub next_open : (bit clock reached : ℕ) (level : Bool) (line : Line) (b : Begun) (progress : Progress) (heard : Heard) → bit < 65536 → line.frame ≡ Some b → reached ≡ min (clock - b.start + 1) (2 ^ 64 - 1)
-    → ((at : ℕ → Bool) (old : ℕ) → IsReading bit at old b → old ≤ reached → Stays at old reached level → Proceeds bit at b.start reached progress)
+pub next_open : (bit clock reached : ℕ) (level : Bool) (line : LineSoFar) (b : Begun) (progress : FrameProgress) (heard : Heard) → bit < 65536 → line.frame ≡ Some b → reached ≡ min (clock - b.start + 1) (2 ^ 64 - 1)
+    → ((at : ℕ → Bool) (old : ℕ) → HasReadBits bit at old b → old ≤ reached → Stays at old reached level → Proceeds bit at b.start reached progress)
     → heard ≡ heard_of progress level → (before : Bool) (levels : List Bool) → Hears bit before levels line → length levels ≡ clock → Brings bit before levels (level ∷ []) heard
 next_open bit clock reached level line b progress heard small some far proceeds is before levels h at =
     let phase : IsOpen bit before levels b = subst (IsPhase bit before levels) some h.phase in
@@ -223,6 +223,6 @@ next_open bit clock reached level line b progress heard small some far proceeds 
     let gone : clock - b.start ≡ suc (length phase.seen) = omega arith in
     let near : clock - b.start < 2 ^ 20 = below _ _ _ gone next most in
     let same : reached ≡ suc (length phase.seen) + 1 = not_cut (clock - b.start) reached near far ∙ ap (λ k. k + 1) gone in
-    let P : ℕ → Type 0 = λ r. (at : ℕ → Bool) (old : ℕ) → IsReading bit at old b → old ≤ r → Stays at old r level → Proceeds bit at b.start r progress in
+    let P : ℕ → Type 0 = λ r. (at : ℕ → Bool) (old : ℕ) → HasReadBits bit at old b → old ≤ r → Stays at old r level → Proceeds bit at b.start r progress in
     let last : level ≡ level_after before (levels ++ replicate 1 level) = sym (level_after-append before levels (replicate 1 level)) in
     subst (λ (x : Heard). Brings bit before levels (level ∷ []) x) (sym is) (open_brings bit before levels b 1 level progress phase last (subst P same proceeds))

@@ -2,16 +2,16 @@
 use Rattle.std.proofs.Common.{◌≡◌, ℕ, suc, ◌+◌, ◌<◌, ◌≤◌, Bool, refl, sym, ap, ◌∙◌, subst, arith}
 use Rattle.serial_receiver.specs.declared.frame.Frame.{Frame}
 use Rattle.serial_receiver.specs.declared.begun.Begun.{Begun}
-use Rattle.serial_receiver.specs.declared.line.Progress.TheVariants.{Reads, Ends}
+use Rattle.serial_receiver.specs.declared.line.FrameProgress.TheVariants.{Reads, Ends}
 use Rattle.serial_receiver.specs.Frames.{bit_value, bits_read, frame_at, middle}
-use Rattle.serial_receiver.specs.Hearing.{IsReading, Proceeds, Stays}
+use Rattle.serial_receiver.specs.Hearing.{HasReadBits, Proceeds, Stays}
 use Rattle.serial_receiver.proofs.Levels.{middle-suc}
 
 -- What the loop keeps of a frame that began with this one: the bits that are known are read, and the next one is not yet known.
 pub record Known (bit reached : ℕ) (level : Bool) (first now : Begun) : Type 0 where
   pub start : now.start ≡ first.start
-  pub bits : (at : ℕ → Bool) (old : ℕ) → IsReading bit at old first → Stays at old reached level → now.byte ≡ bits_read at bit now.known
-  pub later : (at : ℕ → Bool) (old : ℕ) → IsReading bit at old first → old ≤ middle bit now.known
+  pub bits : (at : ℕ → Bool) (old : ℕ) → HasReadBits bit at old first → Stays at old reached level → now.byte ≡ bits_read at bit now.known
+  pub later : (at : ℕ → Bool) (old : ℕ) → HasReadBits bit at old first → old ≤ middle bit now.known
 
 pub known_first : (bit reached : ℕ) (level : Bool) (b : Begun) → Known bit reached level b b
 known_first bit reached level b = record { start = refl; bits = λ at old r s. r.byte; later = λ at old r. r.next }
@@ -35,12 +35,12 @@ known_more bit reached level first now next low start known byte h =
 
 -- the frame goes on
 pub goes_on : (bit reached m : ℕ) (level : Bool) (first now : Begun) → m ≡ middle bit now.known → reached ≤ m → Known bit reached level first now
-    → (at : ℕ → Bool) (old : ℕ) → IsReading bit at old first → old ≤ reached → Stays at old reached level → Proceeds bit at first.start reached (Reads now)
+    → (at : ℕ → Bool) (old : ℕ) → HasReadBits bit at old first → old ≤ reached → Stays at old reached level → Proceeds bit at first.start reached (Reads now)
 goes_on bit reached m level first now e h known = λ at old r low s. (known.start, record { byte = known.bits at old r s; next = subst (λ k. reached ≤ k) e h })
 
 -- the frame ends
 pub ends_so : (bit reached m : ℕ) (level : Bool) (first now : Begun) → m ≡ middle bit now.known → m < reached → now.known ≡ 8 → Known bit reached level first now
-    → (at : ℕ → Bool) (old : ℕ) → IsReading bit at old first → old ≤ reached → Stays at old reached level
+    → (at : ℕ → Bool) (old : ℕ) → HasReadBits bit at old first → old ≤ reached → Stays at old reached level
     → Proceeds bit at first.start reached (Ends (record { start = now.start; byte = now.byte; good = level }))
 unfolding frame_at
 ends_so bit reached m level first now e h eight known = λ at old r low s.

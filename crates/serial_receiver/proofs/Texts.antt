@@ -6,7 +6,7 @@ use Rattle.pio_edge.specs.Edge.{with_bytes, Takes, TakesPrefix}
 use Rattle.pio_edge.proofs.PutLaws.{with_bytes-append, with_bytes-nil, takes_off, takes_on, takes_prefix-append_r}
 use Rattle.vcd_trace.specs.Told.{IsNext, held_to, last_of}
 use Rattle.serial_receiver.specs.declared.frame.Frame.{Frame}
-use Rattle.serial_receiver.specs.declared.line.Line.{Line}
+use Rattle.serial_receiver.specs.declared.line.LineSoFar.{LineSoFar}
 use Rattle.serial_receiver.specs.declared.line.Heard.{Heard}
 use Rattle.pin_matrix.specs.Pins.{is_high}
 use Rattle.serial_receiver.specs.Frames.{frames, frames_from, levels_of}
@@ -46,7 +46,7 @@ length-held pin clock before told next =
     omega (arith, length-append levels more, length-replicate (clock - length levels) (level_after before levels))
 
 -- more frames are told
-receives_more : (pin bit : ℕ) (level : Bool) (taken : Option (List ℕ)) (told more : List Sample) (now next : Option (List ℕ)) (p b : ℕ) (line after : Line) (fs : List Frame)
+receives_more : (pin bit : ℕ) (level : Bool) (taken : Option (List ℕ)) (told more : List Sample) (now next : Option (List ℕ)) (p b : ℕ) (line after : LineSoFar) (fs : List Frame)
     → Receives pin bit level taken told now p b line → frames bit level (levels_of pin more) ≡ frames bit level (levels_of pin told) ++ fs
     → next ≡ with_bytes now (frames_text fs) → Hears bit level (levels_of pin more) after → Receives pin bit level taken more next p b after
 receives_more pin bit level taken told more now next p b line after fs h e t hears = record {
@@ -58,7 +58,7 @@ receives_more pin bit level taken told more now next p b line after fs h e t hea
 }
 
 -- a first part of them is
-breaks_more : (pin bit : ℕ) (level : Bool) (taken : Option (List ℕ)) (told more : List Sample) (now next : Option (List ℕ)) (p b : ℕ) (line : Line) (fs : List Frame)
+breaks_more : (pin bit : ℕ) (level : Bool) (taken : Option (List ℕ)) (told more : List Sample) (now next : Option (List ℕ)) (p b : ℕ) (line : LineSoFar) (fs : List Frame)
     → Receives pin bit level taken told now p b line → frames bit level (levels_of pin more) ≡ frames bit level (levels_of pin told) ++ fs
     → TakesPrefix now (frames_text fs) next → TakesPrefix taken (frames_text (frames bit level (levels_of pin more))) next
 breaks_more pin bit level taken told more now next p b line fs h e t =
@@ -68,16 +68,16 @@ breaks_more pin bit level taken told more now next p b line fs h e t =
     subst P whole (takes_prefix-append_r taken now next (frames_text (frames bit level (levels_of pin told))) (frames_text fs) h.text t)
 
 -- What the calls on a line say: where its level holds up to a clock, and after a clock.
-abbrev pub HoldsLine : (bit clock : ℕ) → Line → Heard → Type 0
+abbrev pub HoldsLine : (bit clock : ℕ) → LineSoFar → Heard → Type 0
 HoldsLine bit clock line heard = (before : Bool) (levels : List Bool) → Hears bit before levels line → length levels ≤ clock
     → Brings bit before levels (replicate (clock - length levels) line.last) heard
 
-abbrev pub StepsLine : (bit clock : ℕ) (level : Bool) → Line → Heard → Type 0
+abbrev pub StepsLine : (bit clock : ℕ) (level : Bool) → LineSoFar → Heard → Type 0
 StepsLine bit clock level line heard = (before : Bool) (levels : List Bool) → Hears bit before levels line → length levels ≡ clock
     → Brings bit before levels (level ∷ []) heard
 
 -- the line held to a clock
-held_brings : (pin bit clock : ℕ) (level : Bool) (told : List Sample) (line : Line) (one : Heard) → IsNext told clock → Hears bit level (levels_of pin told) line → HoldsLine bit clock line one
+held_brings : (pin bit clock : ℕ) (level : Bool) (told : List Sample) (line : LineSoFar) (one : Heard) → IsNext told clock → Hears bit level (levels_of pin told) line → HoldsLine bit clock line one
     → Hears bit level (levels_of pin (held_to clock told)) one.line × (frames bit level (levels_of pin (held_to clock told)) ≡ frames bit level (levels_of pin told) ++ frame_list one.frame)
 held_brings pin bit clock level told line one next h holds =
     let levels = levels_of pin told in
@@ -96,7 +96,7 @@ length-levels-held : (pin clock : ℕ) (before : Bool) (told : List Sample) → 
 length-levels-held pin clock before told next = ap length (levels-held pin clock before told next) ∙ length-held pin clock before told next
 
 -- the line after a sample
-told_brings : (pin bit clock : ℕ) (level : Bool) (told : List Sample) (s : Sample) (line : Line) (one two : Heard) → IsNext told clock → Hears bit level (levels_of pin told) line
+told_brings : (pin bit clock : ℕ) (level : Bool) (told : List Sample) (s : Sample) (line : LineSoFar) (one two : Heard) → IsNext told clock → Hears bit level (levels_of pin told) line
     → HoldsLine bit clock line one → StepsLine bit clock (is_high s.level pin) one.line two
     → Hears bit level (levels_of pin (held_to clock told ++ s ∷ [])) two.line
     × (frames bit level (levels_of pin (held_to clock told ++ s ∷ [])) ≡ frames bit level (levels_of pin told) ++ (frame_list one.frame ++ frame_list two.frame))
@@ -110,7 +110,7 @@ told_brings pin bit clock level told s line one two next h holds steps =
     subst P all (brings.state, brings.ended ∙ ap (λ x. x ++ frame_list two.frame) first.1 ∙ append_assoc fs (frame_list one.frame) (frame_list two.frame))
 
 -- a sample is told
-pub sample_receives : (pin bit clock : ℕ) (level : Bool) (taken : Option (List ℕ)) (told : List Sample) (s : Sample) (now next : Option (List ℕ)) (p b : ℕ) (line : Line) (one two : Heard)
+pub sample_receives : (pin bit clock : ℕ) (level : Bool) (taken : Option (List ℕ)) (told : List Sample) (s : Sample) (now next : Option (List ℕ)) (p b : ℕ) (line : LineSoFar) (one two : Heard)
     → IsNext told clock → Receives pin bit level taken told now p b line → HoldsLine b clock line one → StepsLine b clock (is_high s.level p) one.line two
     → next ≡ with_bytes now (frames_text (frame_list one.frame ++ frame_list two.frame)) → Receives pin bit level taken (held_to clock told ++ s ∷ []) next p b two.line
 sample_receives pin bit clock level taken told s now next p b line one two at h holds steps t =
@@ -120,7 +120,7 @@ sample_receives pin bit clock level taken told s now next p b line one two at h 
     let both = told_brings pin bit clock level told s line one two at h.heard (subst H h.own_bit holds) (subst T h.own_pin (subst S h.own_bit steps)) in
     receives_more pin bit level taken told (held_to clock told ++ s ∷ []) now next p b line two.line (frame_list one.frame ++ frame_list two.frame) h both.1 t both.0
 
-pub sample_breaks : (pin bit clock : ℕ) (level : Bool) (taken : Option (List ℕ)) (told : List Sample) (s : Sample) (now next : Option (List ℕ)) (p b : ℕ) (line : Line) (one two : Heard)
+pub sample_breaks : (pin bit clock : ℕ) (level : Bool) (taken : Option (List ℕ)) (told : List Sample) (s : Sample) (now next : Option (List ℕ)) (p b : ℕ) (line : LineSoFar) (one two : Heard)
     → IsNext told clock → Receives pin bit level taken told now p b line → HoldsLine b clock line one → StepsLine b clock (is_high s.level p) one.line two
     → TakesPrefix now (frames_text (frame_list one.frame ++ frame_list two.frame)) next → TakesPrefix taken (frames_text (frames bit level (levels_of pin (held_to clock told ++ s ∷ [])))) next
 sample_breaks pin bit clock level taken told s now next p b line one two at h holds steps t =
@@ -131,7 +131,7 @@ sample_breaks pin bit clock level taken told s now next p b line one two at h ho
     breaks_more pin bit level taken told (held_to clock told ++ s ∷ []) now next p b line (frame_list one.frame ++ frame_list two.frame) h both.1 t
 
 -- the end is told
-pub end_receives : (pin bit clock : ℕ) (level : Bool) (taken : Option (List ℕ)) (told : List Sample) (now next : Option (List ℕ)) (p b : ℕ) (line : Line) (one : Heard)
+pub end_receives : (pin bit clock : ℕ) (level : Bool) (taken : Option (List ℕ)) (told : List Sample) (now next : Option (List ℕ)) (p b : ℕ) (line : LineSoFar) (one : Heard)
     → IsNext told clock → Receives pin bit level taken told now p b line → HoldsLine b clock line one
     → next ≡ with_bytes now (frames_text (frame_list one.frame ++ [])) → Receives pin bit level taken (held_to clock told) next p b one.line
 end_receives pin bit clock level taken told now next p b line one at h holds t =
@@ -140,7 +140,7 @@ end_receives pin bit clock level taken told now next p b line one at h holds t =
     receives_more pin bit level taken told (held_to clock told) now next p b line one.line (frame_list one.frame ++ []) h
     (both.1 ∙ ap (λ x. frames bit level (levels_of pin told) ++ x) (sym (append-nil (frame_list one.frame)))) t both.0
 
-pub end_breaks : (pin bit clock : ℕ) (level : Bool) (taken : Option (List ℕ)) (told : List Sample) (now next : Option (List ℕ)) (p b : ℕ) (line : Line) (one : Heard)
+pub end_breaks : (pin bit clock : ℕ) (level : Bool) (taken : Option (List ℕ)) (told : List Sample) (now next : Option (List ℕ)) (p b : ℕ) (line : LineSoFar) (one : Heard)
     → IsNext told clock → Receives pin bit level taken told now p b line → HoldsLine b clock line one
     → TakesPrefix now (frames_text (frame_list one.frame ++ [])) next → TakesPrefix taken (frames_text (frames bit level (levels_of pin (held_to clock told)))) next
 end_breaks pin bit clock level taken told now next p b line one at h holds t =
@@ -171,7 +171,7 @@ same_taken None (Some b) h = absurd (apart (head (taken_code None)) (head (taken
 same_taken (Some a) None h = absurd (apart (head (taken_code None)) (head (taken_code (Some a))) (ap head (sym h)) refl refl)
 
 -- a receiver of which nothing was told
-pub begin_receives : (pin bit : ℕ) (level : Bool) (taken : Option (List ℕ)) (p b : ℕ) (first : Bool) (now : Option (List ℕ)) (line : Line)
+pub begin_receives : (pin bit : ℕ) (level : Bool) (taken : Option (List ℕ)) (p b : ℕ) (first : Bool) (now : Option (List ℕ)) (line : LineSoFar)
     → first_heard p b first now ≡ first_heard pin bit level taken → Hears b first [] line → Receives pin bit level taken [] now p b line
 unfolding frames_from
 begin_receives pin bit level taken p b first now line h hears =

@@ -1,6 +1,6 @@
 //! What is heard on a line: the frame that is begun, and how more levels end it.
 ghost use Rattle.std.specs.Prelude.{◌≡◌, ℕ, ◌-◌, ◌≤◌, Bool, List, [], ◌∷◌, length, replicate};
-ghost use Rattle.serial_receiver.specs.Hearing.{Brings, Hears, IsReading, Opens, Proceeds, Stays, heard_of};
+ghost use Rattle.serial_receiver.specs.Hearing.{Brings, Hears, HasReadBits, Opens, Proceeds, Stays, heard_of};
 
 use crate::begun::Begun;
 use crate::bits::middle;
@@ -8,14 +8,14 @@ use crate::frame::Frame;
 
 /// A line after some clocks.
 #[derive(Clone, Copy)]
-pub(crate) struct Line {
+pub(crate) struct LineSoFar {
     last: bool,
     frame: Option<Begun>,
 }
 
 /// How a frame is after more clocks.
 #[derive(Clone, Copy)]
-pub(crate) enum Progress {
+pub(crate) enum FrameProgress {
     Reads(Begun),
     Ends(Frame),
 }
@@ -23,16 +23,16 @@ pub(crate) enum Progress {
 /// A line after more clocks, and the frame that ended in them.
 #[derive(Clone, Copy)]
 pub(crate) struct Heard {
-    pub(crate) line: Line,
+    pub(crate) line: LineSoFar,
     pub(crate) frame: Option<Frame>,
 }
 
-impl Line {
+impl LineSoFar {
     /// A line with this level before clock 0.
-    pub(crate) fn new(level: bool) -> Line
+    pub(crate) fn new(level: bool) -> LineSoFar
         ensures { (bit : ℕ) → Hears bit level [] result }
     {
-        Line {
+        LineSoFar {
             last: level,
             frame: None,
         }
@@ -65,7 +65,7 @@ impl Line {
     {
         match self.frame {
             None => Heard {
-                line: Line {
+                line: LineSoFar {
                     last: level,
                     frame: opened(clock, self.last, level),
                 },
@@ -100,37 +100,37 @@ fn opened(clock: u64, before: bool, level: bool) -> Option<Begun>
 }
 
 /// What a frame's progress is to its line, whose last level is this one.
-fn heard_of(progress: Progress, last: bool) -> Heard
+fn heard_of(progress: FrameProgress, last: bool) -> Heard
     ensures { result ≡ heard_of progress last }
 {
     match progress {
-        Progress::Reads(begun) => Heard {
-            line: Line {
+        FrameProgress::Reads(begun) => Heard {
+            line: LineSoFar {
                 last,
                 frame: Some(begun),
             },
             frame: None,
         },
-        Progress::Ends(frame) => Heard {
-            line: Line { last, frame: None },
+        FrameProgress::Ends(frame) => Heard {
+            line: LineSoFar { last, frame: None },
             frame: Some(frame),
         },
     }
 }
 
 /// The frame where this level holds up to so many clocks after its fall, from the last clock on that is known.
-fn proceed(begun: Begun, bit: u16, reached: u64, level: bool) -> Progress
+fn proceed(begun: Begun, bit: u16, reached: u64, level: bool) -> FrameProgress
     requires { 2 ≤ bit }
-    ensures { (at : ℕ → Bool) (old : ℕ) → IsReading bit at old begun → old ≤ reached
+    ensures { (at : ℕ → Bool) (old : ℕ) → HasReadBits bit at old begun → old ≤ reached
         → Stays at old reached level → Proceeds bit at begun.start reached result }
 {
     let mut begun = begun;
     loop {
         if reached <= middle(bit, begun.known) {
-            return Progress::Reads(begun);
+            return FrameProgress::Reads(begun);
         }
         if begun.known == 8 {
-            return Progress::Ends(Frame {
+            return FrameProgress::Ends(Frame {
                 start: begun.start,
                 byte: begun.byte,
                 good: level,

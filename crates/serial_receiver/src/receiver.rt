@@ -6,7 +6,7 @@ ghost use Rattle.serial_receiver.specs.FrameText.{frames_text};
 ghost use Rattle.serial_receiver.specs.Hearing.{Receives, first_heard, frame_list};
 
 use crate::frame::{Frame, put_frame};
-use crate::line::{Heard, Line};
+use crate::line::{Heard, LineSoFar};
 use block_core::Sample;
 use pin_matrix::is_high;
 use pio_edge::{Sink, SinkFailed};
@@ -20,7 +20,7 @@ pub struct Receiver<'a, S: Sink> {
     pin: u8,
     bit: u16,
     first: bool,
-    line: Line,
+    line: LineSoFar,
     failed: bool,
     ghost pin_is_a_pin: { pin < 32 },
     ghost two_clocks: { 2 ≤ bit },
@@ -44,7 +44,7 @@ impl<'a, S: Sink> Receiver<'a, S> {
             pin,
             bit,
             first: level,
-            line: Line::new(level),
+            line: LineSoFar::new(level),
             failed: false,
         }
     }
@@ -68,7 +68,7 @@ impl<'a, S: Sink> Trace for Receiver<'a, S> {
         → TakesPrefix taken (frames_text (frames bit level (levels_of pin l))) (S.taken h.sink.now) };
 
     fn begin(&mut self) -> Result<(), TraceFailed> {
-        self.line = Line::new(self.first);
+        self.line = LineSoFar::new(self.first);
         Ok(())
     }
 

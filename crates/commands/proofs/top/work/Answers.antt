@@ -1,5 +1,5 @@
 use Rattle.std.proofs.Common.{map, string_bytes, refl, subst}
-use Rattle.command_line.specs.Words.{asked_by, HasCause, IsRefused}
+use Rattle.command_line.specs.Words.{asked_by, IsFaultOfWords, WordsAreRefused}
 use Rattle.commands.proofs.Wanting.{work_ends, usage_ends}
 use Rattle.commands.proofs.top.work.Goals as goal
 
@@ -9,5 +9,5 @@ returns-in-Ok-clause-ends g c = work_ends _ (asked_by c.in-Ok.order) _ c.obey.re
 pub returns-in-Err-Usage-clause-ends : goal.returns-in-Err-Usage-clause-ends
 returns-in-Err-Usage-clause-ends g c =
     let words = map string_bytes c.args.words.now in
-    let refused : IsRefused words = subst (HasCause words) c.in-Err-Usage.field-0-is c.in-Err-Usage.ensures.cause in
+    let refused : WordsAreRefused words = subst (IsFaultOfWords words) c.in-Err-Usage.field-0-is c.in-Err-Usage.ensures.cause in
     usage_ends words _ refused (record { shelf = refl; out = refl })

@@ -1,7 +1,7 @@
 use Rattle.std.proofs.Common.{ap, sym, subst, ◌∙◌}
 use Rattle.dreq_pacing.specs.Lines.{IsSchedule}
 use Rattle.drawn_load.specs.Draws.{letters_of, state_at}
-use Rattle.drawn_load.specs.Follows.{IsLoad}
+use Rattle.drawn_load.specs.SettingUp.{IsLoad}
 use Rattle.drawn_load.proofs.OneSetup.{one_setup}
 use Rattle.drawn_load.proofs.Schedules.{are_stimulus}
 use Rattle.drawn_load.proofs.load.draw_load.Goals as goal

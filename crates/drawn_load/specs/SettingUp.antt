@@ -1,17 +1,17 @@
 -- What is known of a setup that is made field by field: words of private clauses.
---   Follows  that a machine's setup is what its row says, with all else at its default
---   IsLoad   that the block's setup is the load of some letters
+--   SetsUp  that a machine's setup is what its row says, with all else at its default
+--   IsLoad  that the block's setup is the load of some letters
 use Rattle.std.specs.Prelude.{◌≡◌, true, false, Option, Some, None, List, [], ◌∷◌}
 use Rattle.pin_matrix.specs.Setups.{IsRow}
 use Rattle.pin_matrix.specs.declared.machine.MachineSetup.{MachineSetup}
 use Rattle.pin_matrix.specs.declared.setup.Setup.{Setup}
 use Rattle.drawn_load.specs.Draws.{Letters}
 use Rattle.drawn_load.specs.NoSide.{no_side_set}
-use Rattle.drawn_load.specs.Machines.{Row, memory_of, pulse_row, bits_row, reader_row, answer_row}
+use Rattle.drawn_load.specs.Machines.{MachineRow, memory_of, pulse_row, bits_row, reader_row, answer_row}
 
 -- A machine's setup is what its row says: it starts at its program's first word and wraps from the last one to it, without
 -- side-set. All else is at its default.
-pub record Follows (r : Row) (m : MachineSetup) : Type 0 where
+pub record SetsUp (r : MachineRow) (m : MachineSetup) : Type 0 where
   pub id : m.id ≡ r.id
   pub start : m.start ≡ r.first
   pub x : m.x ≡ 0
@@ -37,22 +37,22 @@ pub record Follows (r : Row) (m : MachineSetup) : Type 0 where
   pub status_rx : m.status_rx ≡ false
   pub status_n : m.status_n ≡ 0
 
--- each machine is configured, and follows its row
-abbrev pub AllFollow : List Row → List (Option MachineSetup) → Type 0
-AllFollow [] [] = Unit {0}
-AllFollow [] (m ∷ ms) = ⊥
-AllFollow (r ∷ rs) [] = ⊥
-AllFollow (r ∷ rs) (None ∷ ms) = ⊥
-AllFollow (r ∷ rs) (Some m ∷ ms) = Follows r m × AllFollow rs ms
+-- each machine is configured, and its row sets it up
+abbrev pub EachSetsUp : List MachineRow → List (Option MachineSetup) → Type 0
+EachSetsUp [] [] = Unit {0}
+EachSetsUp [] (m ∷ ms) = ⊥
+EachSetsUp (r ∷ rs) [] = ⊥
+EachSetsUp (r ∷ rs) (None ∷ ms) = ⊥
+EachSetsUp (r ∷ rs) (Some m ∷ ms) = SetsUp r m × EachSetsUp rs ms
 
 -- the rows of the four machines
-abbrev pub rows_of : Letters → List Row
+abbrev pub rows_of : Letters → List MachineRow
 rows_of l = pulse_row ∷ bits_row l ∷ reader_row ∷ answer_row ∷ []
 
 -- The setup of the block: pins 0, 1 and 3 are outputs, all pins are low and synchronised, and no span is asked of it.
 pub record IsLoad (l : Letters) (s : Setup) : Type 0 where
   pub memory : s.memory ≡ memory_of l
-  pub machines : AllFollow (rows_of l) s.machines
+  pub machines : EachSetsUp (rows_of l) s.machines
   pub high : s.high ≡ 0
   pub level : s.level ≡ 0
   pub out : s.out ≡ 11

@@ -1,6 +1,6 @@
 use Rattle.std.proofs.Common.{◌-◌, length}
 use Rattle.serial_receiver.proofs.Listening.{held_open, idle_brings}
-use Rattle.serial_receiver.proofs.line.Line.held.Goals as goal
+use Rattle.serial_receiver.proofs.line.LineSoFar.held.Goals as goal
 
 pub returns-in-None : goal.returns-in-None
 returns-in-None c = λ before levels h low. idle_brings c.args.bit before levels (c.args.clock - length levels) c.args.self c.in-None.is h

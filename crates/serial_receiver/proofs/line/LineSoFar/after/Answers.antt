@@ -1,7 +1,7 @@
 use Rattle.std.proofs.Common.{ℕ, ◌+◌, ◌-◌, ◌^◌, min, ap, sym, ◌∙◌, subst, arith}
 use Rattle.serial_receiver.specs.Hearing.{Opens}
 use Rattle.serial_receiver.proofs.Listening.{idle_next, next_open}
-use Rattle.serial_receiver.proofs.line.Line.after.Goals as goal
+use Rattle.serial_receiver.proofs.line.LineSoFar.after.Goals as goal
 
 pub returns-in-None : goal.returns-in-None
 returns-in-None c = λ before levels h at.
