@@ -9,7 +9,7 @@ use Rattle.pio_encode.specs.Word.{wait_at, in_at, push_or_pull_at, mov_at, irq_a
 use Rattle.sm_registers.specs.Effects.{jmp_effect, wait_effect, in_effect, out_effect, push_effect, pull_effect, mov_effect, irq_effect, set_effect, effect_of}
 use Rattle.sm_registers.specs.State.{settled_ports}
 use Rattle.sm_registers.specs.Tick.{after_effect, tick_delay, tick_by, tick_word, tick_of}
-use Rattle.dreq_pacing.specs.declared.line.Act.TheVariants.{Tx}
+use Rattle.dreq_pacing.specs.declared.line.LineAct.TheVariants.{Tx}
 use Rattle.dreq_pacing.specs.Ports.{due_in, transfers_after, acts_in}
 use Rattle.block_core.specs.declared.sample.Sample.{Sample}
 use Rattle.block_core.specs.Block.{BlockState, Run, stepped}

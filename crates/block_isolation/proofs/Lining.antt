@@ -8,8 +8,8 @@ use Rattle.std.proofs.Math.Pow.{pow-lt}
 use Rattle.std.specs.List.{AllByRecursion, slice_get}
 use Rattle.pin_matrix.specs.Pins.{IsWrite}
 use Rattle.dreq_pacing.specs.declared.due.Due.{Due}
-use Rattle.dreq_pacing.specs.declared.line.Act.{Act}
-use Rattle.dreq_pacing.specs.declared.line.Act.TheVariants.{Pin, Tx, Rx, Feed, Drain, Enable, Disable, Restart}
+use Rattle.dreq_pacing.specs.declared.line.LineAct.{LineAct}
+use Rattle.dreq_pacing.specs.declared.line.LineAct.TheVariants.{Pin, Tx, Rx, Feed, Drain, Enable, Disable, Restart}
 use Rattle.dreq_pacing.specs.declared.line.Line.{Line}
 use Rattle.dreq_pacing.specs.Due.{quiet, with_act, with_lines}
 use Rattle.dreq_pacing.specs.Lines.{IsAct, IsLine, IsSchedule, lines_in}
@@ -60,7 +60,7 @@ pub record SameLines (m : ℕ) (d e : Due) : Type 0 where
   pub disable : slice_get d.disable m ≡ slice_get e.disable m
   pub restart : slice_get d.restart m ≡ slice_get e.restart m
 
-both_act : (m : ℕ) (a : Act) (d e : Due) → SameLines m d e → SameLines m (with_act a d) (with_act a e)
+both_act : (m : ℕ) (a : LineAct) (d e : Due) → SameLines m d e → SameLines m (with_act a d) (with_act a e)
 both_act m (Pin pin level) d e h = record { word = h.word; read = h.read; enable = h.enable; disable = h.disable; restart = h.restart }
 both_act m (Tx k w) d e h = record { word = both_set d.word e.word m k (Some w) h.word; read = h.read; enable = h.enable; disable = h.disable; restart = h.restart }
 both_act m (Rx k) d e h = record { word = h.word; read = both_set d.read e.read m k true h.read; enable = h.enable; disable = h.disable; restart = h.restart }
@@ -73,7 +73,7 @@ both_act m (Restart k) d e h = record { word = h.word; read = h.read; enable = h
 unequal : (k m : ℕ) → (k == m) ≡ false → k ≢ m
 unequal k m h e = let t : (k == m) ≡ true = grind (arith, nat_tests) in cc
 
-other_act : (m reads : ℕ) (a : Act) (d e : Due) → names m reads a ≡ false → SameLines m d e → SameLines m (with_act a d) e
+other_act : (m reads : ℕ) (a : LineAct) (d e : Due) → names m reads a ≡ false → SameLines m d e → SameLines m (with_act a d) e
 other_act m reads (Pin pin level) d e n h = record { word = h.word; read = h.read; enable = h.enable; disable = h.disable; restart = h.restart }
 other_act m reads (Tx k w) d e n h = record { word = other_set d.word m k (Some w) (unequal k m n) ∙ h.word; read = h.read; enable = h.enable; disable = h.disable; restart = h.restart }
 other_act m reads (Rx k) d e n h = record { word = h.word; read = other_set d.read m k true (unequal k m n) ∙ h.read; enable = h.enable; disable = h.disable; restart = h.restart }
@@ -126,7 +126,7 @@ both_lines m reads c ls ks same =
     same_join m (with_lines (lines_in c ls) quiet) (with_lines (lines_in c ks) quiet) (with_lines (lines_in c (own_lines m reads ks)) quiet) one (lines_same m reads c ks quiet quiet (same_self m quiet))
 
 -- a transfer begins by own lines alone
-begun_other : (m reads c : ℕ) (a : Act) (p : Paced) → names m reads a ≡ false → begun_by m c a p ≡ p
+begun_other : (m reads c : ℕ) (a : LineAct) (p : Paced) → names m reads a ≡ false → begun_by m c a p ≡ p
 begun_other m reads c (Pin pin level) p n = refl
 begun_other m reads c (Tx k w) p n = refl
 begun_other m reads c (Rx k) p n = refl
@@ -152,7 +152,7 @@ later_none : (x : Option Bool) → later_level None x ≡ x
 later_none None = refl
 later_none (Some l) = refl
 
-level_other : (m reads p : ℕ) (a : Act) → has reads p ≡ true → names m reads a ≡ false → level_by p a ≡ None
+level_other : (m reads p : ℕ) (a : LineAct) → has reads p ≡ true → names m reads a ≡ false → level_by p a ≡ None
 level_other m reads p (Pin pin level) own n =
     let off : (pin == p) ≡ false = elim (cases_Bool (pin == p)) [
       | inl e ↦ absurd (let same : pin ≡ p = grind (arith, nat_tests) in let up : has reads pin ≡ true = ap (λ (i : ℕ). has reads i) same ∙ own in cc)
@@ -199,7 +199,7 @@ values_if : (b : Bool) (x y : ℕ) → x < 2 ^ 32 → y < 2 ^ 32 → cond b x y 
 values_if true x y h k = h
 values_if false x y h k = k
 
-words_act : (a : Act) (d : Due) → IsAct a → AreWords d → AreWords (with_act a d)
+words_act : (a : LineAct) (d : Due) → IsAct a → AreWords d → AreWords (with_act a d)
 words_act (Pin pin level) d inside h =
     let one : 2 ^ pin < 2 ^ 32 = pow-lt inside in
     record {

@@ -8,8 +8,8 @@ use Rattle.std.specs.Prelude.{◌≡◌, ℕ, ◌^◌, ◌<◌, ◌==◌, Bool, 
 use Rattle.std.specs.List.{filter}
 use Rattle.pin_matrix.specs.declared.machine.MachineSetup.{MachineSetup}
 use Rattle.pin_matrix.specs.declared.setup.Setup.{Setup}
-use Rattle.dreq_pacing.specs.declared.line.Act.{Act}
-use Rattle.dreq_pacing.specs.declared.line.Act.TheVariants.{Pin, Tx, Rx, Feed, Drain, Enable, Disable, Restart}
+use Rattle.dreq_pacing.specs.declared.line.LineAct.{LineAct}
+use Rattle.dreq_pacing.specs.declared.line.LineAct.TheVariants.{Pin, Tx, Rx, Feed, Drain, Enable, Disable, Restart}
 use Rattle.dreq_pacing.specs.declared.line.Line.{Line}
 use Rattle.block_core.specs.Block.{BlockState}
 use Rattle.block_core.specs.Following.{place_at}
@@ -29,7 +29,7 @@ pub record HasWords (s : Setup) : Type 0 where
   pub bypass : s.bypass < 2 ^ 32
 
 -- a line names the machine, or sets a pin that it reads
-abbrev pub names : (machine reads : ℕ) → Act → Bool
+abbrev pub names : (machine reads : ℕ) → LineAct → Bool
 names machine reads (Pin pin level) = has reads pin
 names machine reads (Tx m word) = m == machine
 names machine reads (Rx m) = m == machine

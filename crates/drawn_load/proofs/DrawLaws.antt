@@ -1,7 +1,7 @@
 -- One draw more, and what it leaves.
 use Rattle.std.proofs.Common.{◌≡◌, ℕ, ◌+◌, ◌%◌, ◌==◌, ap, add-one}
 use Rattle.dreq_pacing.specs.declared.line.Line.{Line}
-use Rattle.dreq_pacing.specs.declared.line.Act.TheVariants.{Pin}
+use Rattle.dreq_pacing.specs.declared.line.LineAct.TheVariants.{Pin}
 use Rattle.drawn_load.specs.Loads.{pin_line}
 use Rattle.drawn_load.specs.Draws.{state_at, next_state, sum_of_steps, step_of}
 

@@ -4,7 +4,7 @@
 use Rattle.std.specs.Prelude.{ℕ, ◌%◌, ◌==◌, List, ◌∷◌, map}
 use Rattle.std.specs.List.{range_with_len}
 use Rattle.dreq_pacing.specs.declared.line.Line.{Line}
-use Rattle.dreq_pacing.specs.declared.line.Act.TheVariants as act
+use Rattle.dreq_pacing.specs.declared.line.LineAct.TheVariants as act
 use Rattle.drawn_load.specs.Draws.{Letters, letters_of, words_of, edge_clock}
 
 -- line j of pin 2, from 0 on: the pin rises at the even ones

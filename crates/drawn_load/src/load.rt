@@ -12,7 +12,7 @@ use crate::machines::{answer, bits, pulse, reader};
 use crate::programs::memory_from;
 use crate::pulses::put_pin_lines;
 use crate::words::draw_words;
-use dreq_pacing::{Act, Line, Schedule, Words};
+use dreq_pacing::{Line, LineAct, Schedule, Words};
 use pin_matrix::{Setup, Spans};
 use setup_keys::{
     a_block_in_range_is_not_clipped, setups_that_say_the_same_are_one,
@@ -83,7 +83,7 @@ fn feed_of(letters: &Letters, words: Vec<u32>) -> Line
 {
     Line {
         clock: 0,
-        act: Act::Feed {
+        act: LineAct::Feed {
             machine: 1,
             every: u32::from(letters.e),
             words: Words::new(words),
@@ -97,7 +97,7 @@ fn drain_of(letters: &Letters) -> Line
 {
     Line {
         clock: 0,
-        act: Act::Drain {
+        act: LineAct::Drain {
             machine: 2,
             every: u32::from(letters.g),
         },

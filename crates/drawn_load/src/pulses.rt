@@ -4,7 +4,7 @@ ghost use Rattle.drawn_load.specs.Draws.{state_at};
 ghost use Rattle.drawn_load.specs.Loads.{pin_lines};
 
 use crate::draws::Draws;
-use dreq_pacing::{Act, Line};
+use dreq_pacing::{Line, LineAct};
 use std::alloc::AllocError;
 
 /// Appends the 1,000 lines of pin 2. The draws have given the letters and the words. The error is want of memory.
@@ -17,7 +17,7 @@ pub fn put_pin_lines(lines: &mut Vec<Line>, draws: &mut Draws) -> Result<(), All
         clock += u64::from(1 + draws.below(2000));
         lines.push(Line {
             clock,
-            act: Act::Pin {
+            act: LineAct::Pin {
                 pin: 2,
                 level: j % 2 == 0,
             },

@@ -6,8 +6,8 @@ use Rattle.std.proofs.lemmas.Bool.Decides.{nat_tests}
 use Rattle.std.proofs.lemmas.List.{map-append, append-nil}
 use Rattle.std.proofs.lemmas.List.Elements.{filter-append}
 use Rattle.dreq_pacing.specs.declared.line.Line.{Line}
-use Rattle.dreq_pacing.specs.declared.line.Act.{Act}
-use Rattle.dreq_pacing.specs.declared.line.Act.TheVariants.{Pin, Tx, Rx, Feed, Drain, Enable, Disable, Restart}
+use Rattle.dreq_pacing.specs.declared.line.LineAct.{LineAct}
+use Rattle.dreq_pacing.specs.declared.line.LineAct.TheVariants.{Pin, Tx, Rx, Feed, Drain, Enable, Disable, Restart}
 use Rattle.dreq_pacing.specs.Lines.{IsActOf, IsScheduleOf, MayPrecede, is_place, transfer_of, access_of, has_transfer, has_access}
 use Rattle.dreq_pacing.specs.Blocks.{machine_of, has_machine, is_own, own_act, own_line, block_lines}
 
@@ -20,7 +20,7 @@ within : (first m : ℕ) → has_machine first (Some m) ≡ true → (first ≤ 
 within first m h = (grind (arith, nat_tests), grind (arith, nat_tests))
 
 -- what a block does is in its ranges
-own_act-fine : (first machines : ℕ) (a : Act) → has_machine first (machine_of a) ≡ true → IsActOf machines a → IsActOf 4 (own_act first a)
+own_act-fine : (first machines : ℕ) (a : LineAct) → has_machine first (machine_of a) ≡ true → IsActOf machines a → IsActOf 4 (own_act first a)
 own_act-fine first machines (Pin p v) own h = h
 own_act-fine first machines (Tx m w) own h = (let k = within first m own in omega arith)
 own_act-fine first machines (Rx m) own h = (let k = within first m own in omega arith)
@@ -44,7 +44,7 @@ plain_moved first m own = (let k = within first m own in record { moved = refl; 
 none_moved : (first : ℕ) → IsMoved first None None
 none_moved first = record { moved = refl; past = tt }
 
-transfer-moved : (first : ℕ) (a : Act) → has_machine first (machine_of a) ≡ true → IsMoved first (transfer_of a) (transfer_of (own_act first a))
+transfer-moved : (first : ℕ) (a : LineAct) → has_machine first (machine_of a) ≡ true → IsMoved first (transfer_of a) (transfer_of (own_act first a))
 transfer-moved first (Pin p v) own = none_moved first
 transfer-moved first (Tx m w) own = none_moved first
 transfer-moved first (Rx m) own = none_moved first
@@ -54,7 +54,7 @@ transfer-moved first (Enable m) own = none_moved first
 transfer-moved first (Disable m) own = none_moved first
 transfer-moved first (Restart m) own = none_moved first
 
-access-moved : (first : ℕ) (a : Act) → has_machine first (machine_of a) ≡ true → IsMoved first (access_of a) (access_of (own_act first a))
+access-moved : (first : ℕ) (a : LineAct) → has_machine first (machine_of a) ≡ true → IsMoved first (access_of a) (access_of (own_act first a))
 access-moved first (Pin p v) own = none_moved first
 access-moved first (Tx m w) own = plain_moved first m own
 access-moved first (Rx m) own = place_moved first m 8 own
@@ -118,7 +118,7 @@ block_lines-schedule first machines (l ∷ ls) h =
     ] refl
 
 -- a line of the first block is as it is among those of both
-pub own_act-zero : (a : Act) → own_act 0 a ≡ a
+pub own_act-zero : (a : LineAct) → own_act 0 a ≡ a
 own_act-zero (Pin p v) = refl
 own_act-zero (Tx m w) = ap (λ (n : ℕ). Tx n w) (omega arith)
 own_act-zero (Rx m) = ap Rx (omega arith)

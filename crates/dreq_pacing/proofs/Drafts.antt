@@ -7,8 +7,8 @@ use Rattle.std.proofs.lemmas.Bool.Decides.{nat_tests}
 use Rattle.std.proofs.lemmas.List.{get_or-set_same, get_or-set_other, get_or-replicate}
 use Rattle.std.proofs.lemmas.List.Folds.{list_any-append}
 use Rattle.dreq_pacing.specs.declared.line.Line.{Line}
-use Rattle.dreq_pacing.specs.declared.line.Act.{Act}
-use Rattle.dreq_pacing.specs.declared.line.Act.TheVariants.{Pin, Tx, Rx, Feed, Drain, Enable, Disable, Restart}
+use Rattle.dreq_pacing.specs.declared.line.LineAct.{LineAct}
+use Rattle.dreq_pacing.specs.declared.line.LineAct.TheVariants.{Pin, Tx, Rx, Feed, Drain, Enable, Disable, Restart}
 use Rattle.dreq_pacing.specs.Lines.{IsLineOf, IsActOf, IsScheduleOf, MayPrecede, is_place, is_transfer, is_access, transfer_of, access_of, has_transfer, has_access, is_crowded}
 use Rattle.dreq_pacing.specs.Drafts.{IsDraft, taken_at, marked, still_taken}
 
@@ -43,7 +43,7 @@ access_none None lines last clock lt h = refl
 access_none (Some p) lines last clock lt h = sym (none_later p clock last lines lt h)
 
 -- what may be done beside fewer machines may be done beside more
-pub wider : (a : Act) (machines more : ℕ) → IsActOf machines a → machines ≤ more → IsActOf more a
+pub wider : (a : LineAct) (machines more : ℕ) → IsActOf machines a → machines ≤ more → IsActOf more a
 wider (Pin p v) machines more h le = h
 wider (Tx m w) machines more h le = omega arith
 wider (Rx m) machines more h le = omega arith
@@ -53,7 +53,7 @@ wider (Enable m) machines more h le = omega arith
 wider (Disable m) machines more h le = omega arith
 wider (Restart m) machines more h le = omega arith
 
-pub transfer_below : (a : Act) → IsActOf 8 a → IfSome (transfer_of a) (λ p. p < 16)
+pub transfer_below : (a : LineAct) → IsActOf 8 a → IfSome (transfer_of a) (λ p. p < 16)
 transfer_below (Pin p v) h = tt
 transfer_below (Tx m w) h = tt
 transfer_below (Rx m) h = tt
@@ -63,7 +63,7 @@ transfer_below (Enable m) h = tt
 transfer_below (Disable m) h = tt
 transfer_below (Restart m) h = tt
 
-pub access_below : (a : Act) → IsActOf 8 a → IfSome (access_of a) (λ p. p < 32)
+pub access_below : (a : LineAct) → IsActOf 8 a → IfSome (access_of a) (λ p. p < 32)
 access_below (Pin p v) h = tt
 access_below (Tx m w) h = (let k : m < 8 = h in omega arith)
 access_below (Rx m) h = (let k : m < 8 = h in omega arith)

@@ -7,8 +7,8 @@ use Rattle.std.proofs.lemmas.Bool.Decides.{nat_tests}
 use Rattle.std.proofs.Math.Pow.{pow-lt}
 use Rattle.std.proofs.lemmas.Nat.Bits.{bit_at_or, bit_at_and, bit_at_not, bit_at-zero, bit_at-lt, bit_at-pow_same, bit_at-pow_other}
 use Rattle.dreq_pacing.specs.declared.line.Line.{Line}
-use Rattle.dreq_pacing.specs.declared.line.Act.{Act}
-use Rattle.dreq_pacing.specs.declared.line.Act.TheVariants.{Pin, Tx, Rx, Feed, Drain, Enable, Disable, Restart}
+use Rattle.dreq_pacing.specs.declared.line.LineAct.{LineAct}
+use Rattle.dreq_pacing.specs.declared.line.LineAct.TheVariants.{Pin, Tx, Rx, Feed, Drain, Enable, Disable, Restart}
 use Rattle.dreq_pacing.specs.declared.due.Due.{Due}
 use Rattle.dreq_pacing.specs.Lines.{IsLine, IsAct}
 use Rattle.dreq_pacing.specs.Due.{quiet, with_pin, with_act, with_lines}
@@ -70,7 +70,7 @@ pin-down p pin d lt inside =
           ∙ (omega arith ∙ sym (ap (λ (b : Bool). level_over (cond b (Some false) None) (bit_at d.values pin)) no)))
     ])
 
-act-set : (a : Act) (pin : ℕ) (d : Due) → bit_at (with_act a d).pins pin ≡ set_over (level_by pin a) (bit_at d.pins pin)
+act-set : (a : LineAct) (pin : ℕ) (d : Due) → bit_at (with_act a d).pins pin ≡ set_over (level_by pin a) (bit_at d.pins pin)
 act-set (Pin p level) pin d = pin-set p pin level d
 act-set (Tx m w) pin d = refl
 act-set (Rx m) pin d = refl
@@ -80,7 +80,7 @@ act-set (Enable m) pin d = refl
 act-set (Disable m) pin d = refl
 act-set (Restart m) pin d = refl
 
-act-level : (a : Act) (pin : ℕ) (d : Due) → IsAct a → pin < 32 → bit_at (with_act a d).values pin ≡ level_over (level_by pin a) (bit_at d.values pin)
+act-level : (a : LineAct) (pin : ℕ) (d : Due) → IsAct a → pin < 32 → bit_at (with_act a d).values pin ≡ level_over (level_by pin a) (bit_at d.values pin)
 act-level (Pin p true) pin d h lt = pin-up p pin d
 act-level (Pin p false) pin d h lt = pin-down p pin d h lt
 act-level (Tx m w) pin d h lt = refl

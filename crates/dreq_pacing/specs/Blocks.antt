@@ -7,13 +7,13 @@
 use Rattle.std.specs.Prelude.{ℕ, ◌+◌, ◌-◌, ◌&&◌, nat_le, nat_lt, Bool, true, Option, Some, None, List, map, Result}
 use Rattle.std.specs.List.{filter}
 use Rattle.answers.specs.Answers.{made}
-use Rattle.dreq_pacing.specs.declared.line.Act.{Act}
-use Rattle.dreq_pacing.specs.declared.line.Act.TheVariants.{Pin, Tx, Rx, Feed, Drain, Enable, Disable, Restart}
+use Rattle.dreq_pacing.specs.declared.line.LineAct.{LineAct}
+use Rattle.dreq_pacing.specs.declared.line.LineAct.TheVariants.{Pin, Tx, Rx, Feed, Drain, Enable, Disable, Restart}
 use Rattle.dreq_pacing.specs.declared.line.Line.{Line}
 use Rattle.dreq_pacing.specs.Reading.{StimulusRefusal, read_of}
 
 -- the machine that a line names; a pin has none
-abbrev pub machine_of : Act → Option ℕ
+abbrev pub machine_of : LineAct → Option ℕ
 machine_of (Pin pin level) = None
 machine_of (Tx machine word) = Some machine
 machine_of (Rx machine) = Some machine
@@ -33,7 +33,7 @@ abbrev pub is_own : ℕ → Line → Bool
 is_own first l = has_machine first (machine_of l.act)
 
 -- what a line does, with the number that its machine has in the block
-abbrev pub own_act : ℕ → Act → Act
+abbrev pub own_act : ℕ → LineAct → LineAct
 own_act first (Pin pin level) = Pin pin level
 own_act first (Tx machine word) = Tx (machine - first) word
 own_act first (Rx machine) = Rx (machine - first)

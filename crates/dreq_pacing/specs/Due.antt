@@ -4,8 +4,8 @@
 --   lined     what some lines do
 use Rattle.std.specs.Prelude.{ℕ, ◌-◌, ◌^◌, Bool, true, false, Some, None, List, [], ◌∷◌, if◌then◌else◌, slice_set, bit_and, bit_or}
 use Rattle.dreq_pacing.specs.declared.due.Due.{Due}
-use Rattle.dreq_pacing.specs.declared.line.Act.{Act}
-use Rattle.dreq_pacing.specs.declared.line.Act.TheVariants.{Pin, Tx, Rx, Feed, Drain, Enable, Disable, Restart}
+use Rattle.dreq_pacing.specs.declared.line.LineAct.{LineAct}
+use Rattle.dreq_pacing.specs.declared.line.LineAct.TheVariants.{Pin, Tx, Rx, Feed, Drain, Enable, Disable, Restart}
 use Rattle.dreq_pacing.specs.declared.line.Line.{Line}
 
 -- no machine
@@ -38,7 +38,7 @@ with_pin pin level d = record d {
 }
 
 -- what a line does beside what was done before it; a feed or a drain begins, and does nothing by that
-abbrev pub with_act : Act → Due → Due
+abbrev pub with_act : LineAct → Due → Due
 with_act (Pin pin level) d = with_pin pin level d
 with_act (Tx machine word) d = record d { word = slice_set d.word machine (Some word) }
 with_act (Rx machine) d = record d { read = slice_set d.read machine true }

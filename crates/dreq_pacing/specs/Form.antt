@@ -11,8 +11,8 @@ use Rattle.dreq_pacing.specs.declared.fault.StimKind.{StimKind}
 use Rattle.dreq_pacing.specs.declared.fault.StimKind.TheVariants.{BadLine, Range}
 use Rattle.dreq_pacing.specs.declared.verb.Verb.{Verb}
 use Rattle.dreq_pacing.specs.declared.verb.Verb.TheVariants as verb
-use Rattle.dreq_pacing.specs.declared.line.Act.{Act}
-use Rattle.dreq_pacing.specs.declared.line.Act.TheVariants as act
+use Rattle.dreq_pacing.specs.declared.line.LineAct.{LineAct}
+use Rattle.dreq_pacing.specs.declared.line.LineAct.TheVariants as act
 use Rattle.dreq_pacing.specs.declared.line.Line.{Line}
 use Rattle.dreq_pacing.specs.Lines.{last_clock, longest_period}
 use Rattle.dreq_pacing.specs.Number.{is_number, in_range}
@@ -84,27 +84,27 @@ abbrev pub words_of : List (List ℕ) → Option (List ℕ)
 words_of fields = option_and_then if_any (all_words fields)
 
 -- each form's act, where its fields are numbers in their ranges (choice of this profile): a pin's outside value
-abbrev pub pin_act : Option (List ℕ) → Option (List ℕ) → Option Act
+abbrev pub pin_act : Option (List ℕ) → Option (List ℕ) → Option LineAct
 pin_act pin level = do
   p ← number 0 31 pin
   l ← number 0 1 level
   Some (act.Pin p (l == 1))
 
 -- a word written to a TX FIFO
-abbrev pub tx_act : ℕ → Option (List ℕ) → Option (List ℕ) → Option Act
+abbrev pub tx_act : ℕ → Option (List ℕ) → Option (List ℕ) → Option LineAct
 tx_act machines field word = do
   m ← machine machines field
   w ← number 0 greatest_word word
   Some (act.Tx m w)
 
 -- a read of an RX FIFO
-abbrev pub rx_act : ℕ → Option (List ℕ) → Option Act
+abbrev pub rx_act : ℕ → Option (List ℕ) → Option LineAct
 rx_act machines field = do
   m ← machine machines field
   Some (act.Rx m)
 
 -- a transfer of words to a TX FIFO, at most one in so many clocks
-abbrev pub feed_act : ℕ → Option (List ℕ) → Option (List ℕ) → List (List ℕ) → Option Act
+abbrev pub feed_act : ℕ → Option (List ℕ) → Option (List ℕ) → List (List ℕ) → Option LineAct
 feed_act machines field every words = do
   m ← machine machines field
   e ← number 1 longest_period every
@@ -112,32 +112,32 @@ feed_act machines field every words = do
   Some (act.Feed m e ws)
 
 -- a transfer out of an RX FIFO, at most one in so many clocks
-abbrev pub drain_act : ℕ → Option (List ℕ) → Option (List ℕ) → Option Act
+abbrev pub drain_act : ℕ → Option (List ℕ) → Option (List ℕ) → Option LineAct
 drain_act machines field every = do
   m ← machine machines field
   e ← number 1 longest_period every
   Some (act.Drain m e)
 
 -- a machine is enabled
-abbrev pub enable_act : ℕ → Option (List ℕ) → Option Act
+abbrev pub enable_act : ℕ → Option (List ℕ) → Option LineAct
 enable_act machines field = do
   m ← machine machines field
   Some (act.Enable m)
 
 -- a machine is disabled
-abbrev pub disable_act : ℕ → Option (List ℕ) → Option Act
+abbrev pub disable_act : ℕ → Option (List ℕ) → Option LineAct
 disable_act machines field = do
   m ← machine machines field
   Some (act.Disable m)
 
 -- a machine's divider is restarted
-abbrev pub restart_act : ℕ → Option (List ℕ) → Option Act
+abbrev pub restart_act : ℕ → Option (List ℕ) → Option LineAct
 restart_act machines field = do
   m ← machine machines field
   Some (act.Restart m)
 
 -- what the fields after the word say, where they are in their ranges
-abbrev pub act_of : ℕ → Verb → List (List ℕ) → Option Act
+abbrev pub act_of : ℕ → Verb → List (List ℕ) → Option LineAct
 act_of machines verb.Pin args = pin_act (slice_get args 0) (slice_get args 1)
 act_of machines verb.Tx args = tx_act machines (slice_get args 0) (slice_get args 1)
 act_of machines verb.Rx args = rx_act machines (slice_get args 0)
@@ -148,7 +148,7 @@ act_of machines verb.Disable args = disable_act machines (slice_get args 0)
 act_of machines verb.Restart args = restart_act machines (slice_get args 0)
 
 -- the line of a clock, where all is in its range
-abbrev pub ranged : Option ℕ → Option Act → Result Line StimKind
+abbrev pub ranged : Option ℕ → Option LineAct → Result Line StimKind
 ranged None act = Err Range
 ranged (Some clock) None = Err Range
 ranged (Some clock) (Some act) = Ok (record { clock = clock; act = act })

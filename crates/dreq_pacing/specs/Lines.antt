@@ -7,8 +7,8 @@
 -- `IsActOf`, `IsLineOf` and `IsScheduleOf` have the number of machines.
 use Rattle.std.specs.Prelude.{◌≡◌, ℕ, ◌+◌, ◌<◌, ◌≤◌, ◌==◌, ◌&&◌, ◌||◌, Bool, true, false, Option, Some, None, List, [], ◌∷◌, length, if◌then◌else◌}
 use Rattle.std.specs.List.{AllByRecursion, list_any}
-use Rattle.dreq_pacing.specs.declared.line.Act.{Act}
-use Rattle.dreq_pacing.specs.declared.line.Act.TheVariants.{Pin, Tx, Rx, Feed, Drain, Enable, Disable, Restart}
+use Rattle.dreq_pacing.specs.declared.line.LineAct.{LineAct}
+use Rattle.dreq_pacing.specs.declared.line.LineAct.TheVariants.{Pin, Tx, Rx, Feed, Drain, Enable, Disable, Restart}
 use Rattle.dreq_pacing.specs.declared.line.Line.{Line}
 
 -- the last clock that a line may have
@@ -21,7 +21,7 @@ longest_period = 1000000
 
 -- what a line may do beside so many machines: pins are 0 to 31, machines below their number, periods 1 to 1,000,000, and a feed
 -- has a word
-abbrev pub IsActOf : ℕ → Act → Type 0
+abbrev pub IsActOf : ℕ → LineAct → Type 0
 IsActOf machines (Pin pin level) = pin < 32
 IsActOf machines (Tx machine word) = machine < machines
 IsActOf machines (Rx machine) = machine < machines
@@ -32,7 +32,7 @@ IsActOf machines (Disable machine) = machine < machines
 IsActOf machines (Restart machine) = machine < machines
 
 -- what a line may do beside one block, whose machines are 0 to 3
-abbrev pub IsAct : Act → Type 0
+abbrev pub IsAct : LineAct → Type 0
 IsAct a = IsActOf 4 a
 
 -- A line in its ranges, beside so many machines.
@@ -45,7 +45,7 @@ abbrev pub IsLine : Line → Type 0
 IsLine l = IsLineOf 4 l
 
 -- the place of a transfer among those of a file: each machine, of eight at most, may have one feed and one drain
-abbrev pub transfer_of : Act → Option ℕ
+abbrev pub transfer_of : LineAct → Option ℕ
 transfer_of (Feed machine every words) = Some machine
 transfer_of (Drain machine every) = Some (8 + machine)
 transfer_of (Pin pin level) = None
@@ -57,7 +57,7 @@ transfer_of (Restart machine) = None
 
 -- the place of another access among those of a clock: each machine, of eight at most, may have one word, one read, one enabling
 -- or disabling, and one restart
-abbrev pub access_of : Act → Option ℕ
+abbrev pub access_of : LineAct → Option ℕ
 access_of (Tx machine word) = Some machine
 access_of (Rx machine) = Some (8 + machine)
 access_of (Enable machine) = Some (16 + machine)

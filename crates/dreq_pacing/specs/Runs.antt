@@ -1,14 +1,14 @@
 -- What clocks in a row do, and what the lines of a clock do to a pin: the words of the laws.
 use Rattle.std.specs.Prelude.{◌≡◌, ℕ, ◌==◌, Bool, Option, Some, None, List, [], ◌∷◌, ◌++◌, option_to_list, if◌then◌else◌}
 use Rattle.dreq_pacing.specs.declared.due.Requests.{Requests}
-use Rattle.dreq_pacing.specs.declared.line.Act.{Act}
-use Rattle.dreq_pacing.specs.declared.line.Act.TheVariants.{Pin, Tx, Rx, Feed, Drain, Enable, Disable, Restart}
+use Rattle.dreq_pacing.specs.declared.line.LineAct.{LineAct}
+use Rattle.dreq_pacing.specs.declared.line.LineAct.TheVariants.{Pin, Tx, Rx, Feed, Drain, Enable, Disable, Restart}
 use Rattle.dreq_pacing.specs.declared.line.Line.{Line}
 use Rattle.dreq_pacing.specs.Transfers.{Feeding, fed_word, fed}
 use Rattle.dreq_pacing.specs.Ports.{Ports, transfers_at}
 
 -- the level to which a line sets a pin, if it does
-abbrev pub level_by : ℕ → Act → Option Bool
+abbrev pub level_by : ℕ → LineAct → Option Bool
 level_by pin (Pin p level) = if p == pin then Some level else None
 level_by pin (Tx m w) = None
 level_by pin (Rx m) = None

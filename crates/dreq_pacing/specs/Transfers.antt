@@ -6,8 +6,8 @@
 --   begun              after some lines
 --   feed_moves, drain_moves   that a word moves in a clock
 use Rattle.std.specs.Prelude.{ℕ, ◌+◌, ◌==◌, ◌&&◌, nat_le, Bool, true, false, Option, Some, None, List, [], ◌∷◌, drop, slice_get, if◌then◌else◌}
-use Rattle.dreq_pacing.specs.declared.line.Act.{Act}
-use Rattle.dreq_pacing.specs.declared.line.Act.TheVariants.{Pin, Tx, Rx, Feed, Drain, Enable, Disable, Restart}
+use Rattle.dreq_pacing.specs.declared.line.LineAct.{LineAct}
+use Rattle.dreq_pacing.specs.declared.line.LineAct.TheVariants.{Pin, Tx, Rx, Feed, Drain, Enable, Disable, Restart}
 use Rattle.dreq_pacing.specs.declared.line.Line.{Line}
 use Rattle.dreq_pacing.specs.declared.transfer.Draining.{Draining}
 
@@ -38,7 +38,7 @@ abbrev pub first_transfers : Transfers
 first_transfers = record { first = unpaced; second = unpaced; third = unpaced; fourth = unpaced }
 
 -- A machine's transfers after a line of this clock: a feed or drain of the machine begins, and is due from this clock on.
-abbrev pub begun_by : ℕ → ℕ → Act → Paced → Paced
+abbrev pub begun_by : ℕ → ℕ → LineAct → Paced → Paced
 begun_by machine clock (Feed m every words) p =
     if m == machine then record p { feed = record { words = words; every = every; due = clock } } else p
 begun_by machine clock (Drain m every) p =

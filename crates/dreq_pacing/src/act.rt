@@ -4,7 +4,7 @@ ghost use Rattle.dreq_pacing.specs.Lines.{IsActOf};
 ghost use Rattle.dreq_pacing.specs.Form as spec;
 
 use crate::fields::Fields;
-use crate::line::{Act, Words};
+use crate::line::{LineAct, Words};
 use crate::number::in_range;
 use crate::verb::Verb;
 use std::alloc::{AllocError, Global};
@@ -17,7 +17,7 @@ pub fn read_act(
     machines: u8,
     verb: Verb,
     args: &Fields,
-) -> Result<Option<Act>, AllocError>
+) -> Result<Option<LineAct>, AllocError>
     requires { 1 ≤ machines }
     ensures value { IfOk result (λ act. act ≡ spec.act_of machines verb args.now) }
     ensures range { IfOk result (λ act. IfSome act (IsActOf machines)) }
@@ -37,32 +37,32 @@ pub fn read_act(
     }
 }
 
-fn read_pin(pin: Option<&[u8]>, level: Option<&[u8]>) -> Option<Act>
+fn read_pin(pin: Option<&[u8]>, level: Option<&[u8]>) -> Option<LineAct>
     ensures value { result ≡ spec.pin_act (option_copied pin.entry) (option_copied level.entry) }
     ensures range { (machines : ℕ) → IfSome result (IsActOf machines) }
 {
     let pin = number(pin, 0, 31)? as u8;
     let level = number(level, 0, 1)? == 1;
-    Some(Act::Pin { pin, level })
+    Some(LineAct::Pin { pin, level })
 }
 
-fn read_tx(machines: u8, machine: Option<&[u8]>, word: Option<&[u8]>) -> Option<Act>
+fn read_tx(machines: u8, machine: Option<&[u8]>, word: Option<&[u8]>) -> Option<LineAct>
     requires { 1 ≤ machines }
     ensures value { result ≡ spec.tx_act machines (option_copied machine.entry) (option_copied word.entry) }
     ensures range { IfSome result (IsActOf machines) }
 {
     let machine = machine_in(machines, machine)?;
     let word = number(word, 0, 0xffff_ffff)? as u32;
-    Some(Act::Tx { machine, word })
+    Some(LineAct::Tx { machine, word })
 }
 
-fn read_rx(machines: u8, machine: Option<&[u8]>) -> Option<Act>
+fn read_rx(machines: u8, machine: Option<&[u8]>) -> Option<LineAct>
     requires { 1 ≤ machines }
     ensures value { result ≡ spec.rx_act machines (option_copied machine.entry) }
     ensures range { IfSome result (IsActOf machines) }
 {
     let machine = machine_in(machines, machine)?;
-    Some(Act::Rx { machine })
+    Some(LineAct::Rx { machine })
 }
 
 fn read_feed(
@@ -71,7 +71,7 @@ fn read_feed(
     machine: Option<&[u8]>,
     every: Option<&[u8]>,
     words: &Fields,
-) -> Result<Option<Act>, AllocError>
+) -> Result<Option<LineAct>, AllocError>
     requires { 1 ≤ machines }
     ensures value { IfOk result (λ act.
         act ≡ spec.feed_act machines (option_copied machine.entry) (option_copied every.entry) words.now) }
@@ -84,7 +84,7 @@ fn read_feed(
         return Ok(None);
     };
     match read_words(alloc, words)? {
-        Some(words) => Ok(Some(Act::Feed {
+        Some(words) => Ok(Some(LineAct::Feed {
             machine,
             every: every as u32,
             words,
@@ -93,41 +93,41 @@ fn read_feed(
     }
 }
 
-fn read_drain(machines: u8, machine: Option<&[u8]>, every: Option<&[u8]>) -> Option<Act>
+fn read_drain(machines: u8, machine: Option<&[u8]>, every: Option<&[u8]>) -> Option<LineAct>
     requires { 1 ≤ machines }
     ensures value { result ≡ spec.drain_act machines (option_copied machine.entry) (option_copied every.entry) }
     ensures range { IfSome result (IsActOf machines) }
 {
     let machine = machine_in(machines, machine)?;
     let every = number(every, 1, 1_000_000)? as u32;
-    Some(Act::Drain { machine, every })
+    Some(LineAct::Drain { machine, every })
 }
 
-fn read_enable(machines: u8, machine: Option<&[u8]>) -> Option<Act>
+fn read_enable(machines: u8, machine: Option<&[u8]>) -> Option<LineAct>
     requires { 1 ≤ machines }
     ensures value { result ≡ spec.enable_act machines (option_copied machine.entry) }
     ensures range { IfSome result (IsActOf machines) }
 {
     let machine = machine_in(machines, machine)?;
-    Some(Act::Enable { machine })
+    Some(LineAct::Enable { machine })
 }
 
-fn read_disable(machines: u8, machine: Option<&[u8]>) -> Option<Act>
+fn read_disable(machines: u8, machine: Option<&[u8]>) -> Option<LineAct>
     requires { 1 ≤ machines }
     ensures value { result ≡ spec.disable_act machines (option_copied machine.entry) }
     ensures range { IfSome result (IsActOf machines) }
 {
     let machine = machine_in(machines, machine)?;
-    Some(Act::Disable { machine })
+    Some(LineAct::Disable { machine })
 }
 
-fn read_restart(machines: u8, machine: Option<&[u8]>) -> Option<Act>
+fn read_restart(machines: u8, machine: Option<&[u8]>) -> Option<LineAct>
     requires { 1 ≤ machines }
     ensures value { result ≡ spec.restart_act machines (option_copied machine.entry) }
     ensures range { IfSome result (IsActOf machines) }
 {
     let machine = machine_in(machines, machine)?;
-    Some(Act::Restart { machine })
+    Some(LineAct::Restart { machine })
 }
 
 /// The words of a feed, where there is one.

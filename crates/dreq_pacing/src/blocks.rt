@@ -5,7 +5,7 @@ ghost use Rattle.dreq_pacing.specs.Lines.{IsLineOf, IsScheduleOf};
 ghost use Rattle.dreq_pacing.specs.Blocks as spec;
 ghost use Rattle.dreq_pacing.specs.Blocks.{block_lines, has_machine, machine_of};
 
-use crate::line::{Act, Line};
+use crate::line::{Line, LineAct};
 use crate::schedule::Schedule;
 use std::alloc::{AllocFailed, Global};
 
@@ -28,10 +28,10 @@ fn share(line: Line, first: &mut Vec<Line>, second: &mut Vec<Line>) -> Result<()
     ensures first { IfOk result (λ _. first.new.items ≡ first.old.items ++ block_lines 0 (line ∷ [])) }
     ensures second { IfOk result (λ _. second.new.items ≡ second.old.items ++ block_lines 4 (line ∷ [])) }
 {
-    if let Act::Pin { pin, level } = line.act {
+    if let LineAct::Pin { pin, level } = line.act {
         first.push(Line {
             clock: line.clock,
-            act: Act::Pin { pin, level },
+            act: LineAct::Pin { pin, level },
         })?;
         second.push(line)
     } else if is_first(&line.act) {
@@ -45,55 +45,55 @@ fn share(line: Line, first: &mut Vec<Line>, second: &mut Vec<Line>) -> Result<()
 }
 
 /// Whether what a line does is for the first block, be it for the second too.
-fn is_first(act: &Act) -> bool
+fn is_first(act: &LineAct) -> bool
     ensures { result ≡ has_machine 0 (machine_of act.now) }
 {
     match act {
-        Act::Pin { .. } => true,
-        Act::Tx { machine, .. }
-        | Act::Rx { machine }
-        | Act::Feed { machine, .. }
-        | Act::Drain { machine, .. }
-        | Act::Enable { machine }
-        | Act::Disable { machine }
-        | Act::Restart { machine } => *machine < 4,
+        LineAct::Pin { .. } => true,
+        LineAct::Tx { machine, .. }
+        | LineAct::Rx { machine }
+        | LineAct::Feed { machine, .. }
+        | LineAct::Drain { machine, .. }
+        | LineAct::Enable { machine }
+        | LineAct::Disable { machine }
+        | LineAct::Restart { machine } => *machine < 4,
     }
 }
 
 /// What a line does, with the number that its machine has in the second block.
-fn less_four(act: Act) -> Act
+fn less_four(act: LineAct) -> LineAct
     requires { IfSome (machine_of act) (λ machine. 4 ≤ machine) }
     ensures { result ≡ spec.own_act 4 act }
 {
     match act {
-        Act::Pin { pin, level } => Act::Pin { pin, level },
-        Act::Tx { machine, word } => Act::Tx {
+        LineAct::Pin { pin, level } => LineAct::Pin { pin, level },
+        LineAct::Tx { machine, word } => LineAct::Tx {
             machine: machine - 4,
             word,
         },
-        Act::Rx { machine } => Act::Rx {
+        LineAct::Rx { machine } => LineAct::Rx {
             machine: machine - 4,
         },
-        Act::Feed {
+        LineAct::Feed {
             machine,
             every,
             words,
-        } => Act::Feed {
+        } => LineAct::Feed {
             machine: machine - 4,
             every,
             words,
         },
-        Act::Drain { machine, every } => Act::Drain {
+        LineAct::Drain { machine, every } => LineAct::Drain {
             machine: machine - 4,
             every,
         },
-        Act::Enable { machine } => Act::Enable {
+        LineAct::Enable { machine } => LineAct::Enable {
             machine: machine - 4,
         },
-        Act::Disable { machine } => Act::Disable {
+        LineAct::Disable { machine } => LineAct::Disable {
             machine: machine - 4,
         },
-        Act::Restart { machine } => Act::Restart {
+        LineAct::Restart { machine } => LineAct::Restart {
             machine: machine - 4,
         },
     }

@@ -5,7 +5,7 @@ ghost use Rattle.dreq_pacing.specs.Lines.{IsLineOf, IsScheduleOf, is_crowded};
 ghost use Rattle.dreq_pacing.specs.Drafts.{first_draft, objection, with_line, taken_at, marked, still_taken};
 
 use crate::fault::StimKind;
-use crate::line::{Act, Line};
+use crate::line::{Line, LineAct};
 use std::alloc::{AllocFailed, Global};
 use std::marker::Model;
 
@@ -88,14 +88,14 @@ impl StimulusDraft {
         self.has_transfer(&line.act) || self.has_access(line.clock, &line.act)
     }
 
-    fn has_transfer(&self, act: &Act) -> bool
+    fn has_transfer(&self, act: &LineAct) -> bool
         requires { spec.IsActOf self.now.machines act.now }
         ensures { result ≡ spec.has_transfer (spec.transfer_of act.now) self.now.lines }
     {
         has_place(&self.transfers, transfer_of(act))
     }
 
-    fn has_access(&self, clock: u64, act: &Act) -> bool
+    fn has_access(&self, clock: u64, act: &LineAct) -> bool
         requires act { spec.IsActOf self.now.machines act.now }
         requires in_order { self.now.clock ≤ clock }
         ensures { result ≡ spec.has_access (spec.access_of act.now) clock self.now.lines }
@@ -127,29 +127,31 @@ impl StimulusDraft {
 }
 
 /// The place of a transfer among those of a file.
-fn transfer_of(act: &Act) -> Option<usize>
+fn transfer_of(act: &LineAct) -> Option<usize>
     requires { spec.IsActOf 8 act.now }
     ensures place { result ≡ spec.transfer_of act.now }
     ensures below { IfSome result (λ place. place < 16) }
 {
     match act {
-        Act::Feed { machine, .. } => Some(usize::from(*machine)),
-        Act::Drain { machine, .. } => Some(8 + usize::from(*machine)),
+        LineAct::Feed { machine, .. } => Some(usize::from(*machine)),
+        LineAct::Drain { machine, .. } => Some(8 + usize::from(*machine)),
         _ => None,
     }
 }
 
 /// The place of another access among those of a clock.
-fn access_of(act: &Act) -> Option<usize>
+fn access_of(act: &LineAct) -> Option<usize>
     requires { spec.IsActOf 8 act.now }
     ensures place { result ≡ spec.access_of act.now }
     ensures below { IfSome result (λ place. place < 32) }
 {
     match act {
-        Act::Tx { machine, .. } => Some(usize::from(*machine)),
-        Act::Rx { machine } => Some(8 + usize::from(*machine)),
-        Act::Enable { machine } | Act::Disable { machine } => Some(16 + usize::from(*machine)),
-        Act::Restart { machine } => Some(24 + usize::from(*machine)),
+        LineAct::Tx { machine, .. } => Some(usize::from(*machine)),
+        LineAct::Rx { machine } => Some(8 + usize::from(*machine)),
+        LineAct::Enable { machine } | LineAct::Disable { machine } => Some(
+            16 + usize::from(*machine),
+        ),
+        LineAct::Restart { machine } => Some(24 + usize::from(*machine)),
         _ => None,
     }
 }

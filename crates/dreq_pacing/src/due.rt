@@ -3,7 +3,7 @@ ghost use Rattle.std.specs.Prelude.{◌≡◌, ◌<◌};
 ghost use Rattle.dreq_pacing.specs.Lines.{IsAct};
 ghost use Rattle.dreq_pacing.specs.Due as spec;
 
-use crate::line::Act;
+use crate::line::LineAct;
 
 /// The requests of each machine for paced transfers, as at the clock's start.
 #[derive(Clone, Copy)]
@@ -56,18 +56,18 @@ impl Due {
     }
 
     /// What a line does beside what those before it did. A transfer begins in its own place.
-    pub(crate) fn add(&mut self, act: &Act)
+    pub(crate) fn add(&mut self, act: &LineAct)
         requires { IsAct act.now }
         ensures { self.new ≡ spec.with_act act.now self.old }
     {
         match act {
-            Act::Pin { pin, level } => self.set_pin(*pin, *level),
-            Act::Tx { machine, word } => self.word[*machine as usize] = Some(*word),
-            Act::Rx { machine } => self.read[*machine as usize] = true,
-            Act::Enable { machine } => self.enable[*machine as usize] = true,
-            Act::Disable { machine } => self.disable[*machine as usize] = true,
-            Act::Restart { machine } => self.restart[*machine as usize] = true,
-            Act::Feed { .. } | Act::Drain { .. } => {}
+            LineAct::Pin { pin, level } => self.set_pin(*pin, *level),
+            LineAct::Tx { machine, word } => self.word[*machine as usize] = Some(*word),
+            LineAct::Rx { machine } => self.read[*machine as usize] = true,
+            LineAct::Enable { machine } => self.enable[*machine as usize] = true,
+            LineAct::Disable { machine } => self.disable[*machine as usize] = true,
+            LineAct::Restart { machine } => self.restart[*machine as usize] = true,
+            LineAct::Feed { .. } | LineAct::Drain { .. } => {}
         }
     }
 

@@ -23,7 +23,7 @@ pub use laws::{
     a_clock_without_acts_does_nothing, a_feed_keeps_its_words_in_order, ports_follow_the_history,
     quiet_clocks_may_be_left_out, the_last_pin_line_counts,
 };
-pub use line::{Act, Line, Words};
+pub use line::{Line, LineAct, Words};
 pub use ports::HostPorts;
 pub use schedule::Schedule;
 pub use stimulus::{read_pair_stimulus, read_stimulus};

@@ -35,7 +35,7 @@ impl Words {
 
 /// What the system does. A machine is 0 to 3; while the lines of two blocks are read, 4 to 7 are those of the second.
 #[derive(Drop)]
-pub enum Act {
+pub enum LineAct {
     /// The outside drives this level on a pin, 0 to 31, from this clock on.
     Pin {
         pin: u8,
@@ -81,5 +81,5 @@ pub enum Act {
 #[derive(Drop)]
 pub struct Line {
     pub clock: u64,
-    pub act: Act,
+    pub act: LineAct,
 }

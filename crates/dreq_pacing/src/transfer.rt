@@ -5,7 +5,7 @@ ghost use Rattle.dreq_pacing.specs.Transfers.{begun};
 ghost use Rattle.dreq_pacing.specs.Ports.{IsFirst, tx_ready, rx_ready, paced_moves, moves};
 
 use crate::due::{Due, Requests};
-use crate::line::{Act, Line};
+use crate::line::{Line, LineAct};
 use crate::ports::earlier;
 use std::marker::Model;
 
@@ -133,11 +133,11 @@ impl<'a> Pacer<'a> {
     }
 
     /// A feed or drain of the machine begins where the line of this clock is one.
-    pub fn begin(&mut self, machine: u8, clock: u64, act: &'a Act)
+    pub fn begin(&mut self, machine: u8, clock: u64, act: &'a LineAct)
         ensures { self.new ≡ spec.begun_by machine clock act.now self.old }
     {
         match act {
-            Act::Feed {
+            LineAct::Feed {
                 machine: of,
                 every,
                 words,
@@ -148,7 +148,7 @@ impl<'a> Pacer<'a> {
                     self.due = clock;
                 }
             }
-            Act::Drain { machine: of, every } => {
+            LineAct::Drain { machine: of, every } => {
                 if *of == machine {
                     self.drain = Some(Draining {
                         every: *every,

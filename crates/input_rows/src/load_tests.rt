@@ -1,6 +1,6 @@
 //! Rows of drawn loads: what four seeds give, worked out apart from the code.
 use drawn_load::{Load, draw_load};
-use dreq_pacing::{Act, Line};
+use dreq_pacing::{Line, LineAct};
 use pin_matrix::MachineSetup;
 use std::test::Fail;
 
@@ -63,7 +63,7 @@ fn divider_of(machine: Option<MachineSetup>) -> Option<[u32; 2]> {
 fn edge_of(line: Option<&Line>, to: bool) -> Option<u64> {
     let line = line?;
     match line.act {
-        Act::Pin { pin: 2, level } if level == to => Some(line.clock),
+        LineAct::Pin { pin: 2, level } if level == to => Some(line.clock),
         _ => None,
     }
 }
@@ -76,7 +76,7 @@ fn row_of(load: &Load) -> Option<Row> {
     let [feed, drain, edges @ ..] = load.schedule.lines() else {
         return None;
     };
-    let Act::Feed {
+    let LineAct::Feed {
         machine: 1,
         every: e,
         words,
@@ -84,7 +84,7 @@ fn row_of(load: &Load) -> Option<Row> {
     else {
         return None;
     };
-    let Act::Drain {
+    let LineAct::Drain {
         machine: 2,
         every: g,
     } = &drain.act

@@ -8,7 +8,6 @@ ghost use Rattle.pio_assemble.specs.Source as spec;
 use crate::draft::Draft;
 use crate::fault::at_line;
 use crate::line::SourceLine;
-use crate::name::copy;
 use crate::symbols_of::{add_symbols, program_on};
 use crate::{LineFault, Program, SourceFault};
 use pio_encode::Name;
@@ -80,7 +79,7 @@ impl<'a> Assembly<'a> {
     {
         self.scope.next_program();
         self.symbols = add_symbols(alloc, &mut self.scope, self.symbols)?;
-        let next = Draft::begun(alloc, Some(copy(alloc, name)?));
+        let next = Draft::begun(alloc, Some(name.copy(alloc)?));
         add(&mut self.programs, replace(&mut self.draft, next))
     }
 

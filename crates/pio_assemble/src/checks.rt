@@ -7,7 +7,6 @@ ghost use Rattle.pio_assemble.specs.Checks as spec;
 use crate::before::Before;
 use crate::fault::at_line;
 use crate::line::SourceLine;
-use crate::name::copy;
 use crate::names::Names;
 use crate::{LineFault, SourceFault, SourceKind};
 use pio_encode::Name;
@@ -165,7 +164,7 @@ fn duplicate(alloc: Global, names: &Names, name: &Name) -> Result<(), LineFault>
     ensures { Finds result (spec.duplicate names.now name.now) }
 {
     if names.has(name) {
-        let name = copy(alloc, name)?;
+        let name = name.copy(alloc)?;
         return Err(LineFault::Found(SourceKind::Duplicate(name)));
     }
     Ok(())

@@ -4,7 +4,6 @@ ghost use Rattle.pio_assemble.specs.Answers.{Answers};
 ghost use Rattle.pio_assemble.specs.Drafts as spec;
 
 use crate::instruction::word;
-use crate::name::copy;
 use crate::operands::byte_in;
 use crate::rule::{most_bits, no_side_set, rule};
 use crate::{LineFault, Program, ProgramSymbol, ProgramSymbols, Quantity, SourceKind};
@@ -137,7 +136,7 @@ impl Draft {
     {
         let value = scope.value_of_name(name)?;
         self.symbols.push(ProgramSymbol {
-            name: copy(alloc, name)?,
+            name: name.copy(alloc)?,
             value,
             public,
             is_label: false,
@@ -150,7 +149,7 @@ impl Draft {
         ensures { OnOk result (self.new ≡ spec.labelled self.old public name.now) }
     {
         self.symbols.push(ProgramSymbol {
-            name: copy(alloc, name)?,
+            name: name.copy(alloc)?,
             value: self.words.len() as i32,
             public,
             is_label: true,

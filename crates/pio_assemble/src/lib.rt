@@ -11,7 +11,6 @@ mod instruction;
 mod laws;
 mod line;
 mod lines;
-mod name;
 mod names;
 mod operands;
 mod program;

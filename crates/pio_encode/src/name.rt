@@ -1,8 +1,9 @@
 //! A name: of a program, a symbol, a span or a key.
-ghost use Rattle.std.specs.Prelude.{◌≡◌, Some, nat_eq, string_bytes};
+ghost use Rattle.std.specs.Prelude.{◌≡◌, IfOk, Some, nat_eq, string_bytes};
 ghost use Rattle.std.specs.Cmp.{partial_equiv_from_equiv};
 ghost use Rattle.std.specs.Cmp.Lexicographic.{nat_list_eq_equiv, pointwise};
 
+use std::alloc::{AllocError, Global};
 use std::fmt;
 use std::marker::Model;
 
@@ -26,6 +27,13 @@ impl Name {
         ensures { result ≡ string_bytes text }
     {
         Name { text }
+    }
+
+    /// A name of its own with this text. The error is want of memory.
+    pub fn copy(&self, alloc: Global) -> Result<Self, AllocError>
+        ensures { IfOk result (λ copy. copy ≡ self.now) }
+    {
+        Ok(Name::new(String::from_str(alloc, self.as_str())?))
     }
 
     /// Its text.

@@ -1,7 +1,6 @@
 //! An expression: its numbers, names and operations in postfix order.
 ghost use Rattle.std.specs.Prelude.{◌≡◌, IfOk};
 
-use crate::name::copy;
 use pio_encode::Name;
 use std::alloc::{AllocError, Global};
 use std::marker::Model;
@@ -31,7 +30,7 @@ impl Item {
     {
         Ok(match self {
             Item::Number(value) => Item::Number(*value),
-            Item::Name(name) => Item::Name(copy(alloc, name)?),
+            Item::Name(name) => Item::Name(name.copy(alloc)?),
             Item::Add => Item::Add,
             Item::Subtract => Item::Subtract,
             Item::Multiply => Item::Multiply,

@@ -8,7 +8,6 @@ ghost use Rattle.pio_expr.specs.Values.{number_by, left_by, first_of, after_firs
 ghost use Rattle.pio_expr.specs.Frames.{is_local, looked_up, looked_at, Looks, Agrees, Shows, WaitsAtName};
 
 use crate::arithmetic::{add, divide, multiply, negate, reverse, subtract};
-use crate::name::copy;
 use crate::symbols::ScopeSymbols;
 use crate::{Item, Symbol, ValueFault, ValueKind};
 use indexmap::IndexMap;
@@ -154,7 +153,7 @@ fn look_up<'a>(
 pub fn unknown(alloc: Global, name: &Name) -> ValueFault
     ensures { Tells result (Unknown name.now) }
 {
-    match copy(alloc, name) {
+    match name.copy(alloc) {
         Ok(name) => ValueFault::Found(ValueKind::Unknown(name)),
         Err(_) => ValueFault::Memory,
     }
@@ -164,7 +163,7 @@ pub fn unknown(alloc: Global, name: &Name) -> ValueFault
 fn cycle(alloc: Global, name: &Name) -> ValueFault
     ensures { Tells result (Cycle name.now) }
 {
-    match copy(alloc, name) {
+    match name.copy(alloc) {
         Ok(name) => ValueFault::Found(ValueKind::Cycle(name)),
         Err(_) => ValueFault::Memory,
     }

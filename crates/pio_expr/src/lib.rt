@@ -7,7 +7,6 @@ mod fault;
 mod frame;
 mod laws;
 mod mark;
-mod name;
 mod parse;
 mod postfix;
 mod scope;

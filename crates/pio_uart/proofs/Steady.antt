@@ -1,8 +1,8 @@
 -- Beside a stimulus that leaves the machines' ticks alone, the system enables, disables and restarts none.
 --   IsLeft           it does nothing of the kind to a machine in a clock
 use Rattle.std.proofs.Common.{◌≡◌, ◌==◌, ℕ, zero, suc, true, false, cond, List, [], ◌∷◌, slice_index_or, refl, ap, ◌∙◌}
-use Rattle.dreq_pacing.specs.declared.line.Act.{Act}
-use Rattle.dreq_pacing.specs.declared.line.Act.TheVariants.{Pin, Tx, Rx, Feed, Drain, Enable, Disable, Restart}
+use Rattle.dreq_pacing.specs.declared.line.LineAct.{LineAct}
+use Rattle.dreq_pacing.specs.declared.line.LineAct.TheVariants.{Pin, Tx, Rx, Feed, Drain, Enable, Disable, Restart}
 use Rattle.dreq_pacing.specs.declared.line.Line.{Line}
 use Rattle.dreq_pacing.specs.declared.due.Due.{Due}
 use Rattle.dreq_pacing.specs.Lines.{lines_in}
@@ -31,7 +31,7 @@ some_steady clock (l ∷ lines) h = elim (l.clock == clock) as (λ b. IsSteady (
   | false ↦ some_steady clock lines h.1
 ]
 
-alike_act : (act : Act) (d : Due) → is_steady act ≡ true → IsAlike (with_act act d) d
+alike_act : (act : LineAct) (d : Due) → is_steady act ≡ true → IsAlike (with_act act d) d
 alike_act (Pin pin level) d h = record { enable = refl; disable = refl; restart = refl }
 alike_act (Tx machine word) d h = record { enable = refl; disable = refl; restart = refl }
 alike_act (Rx machine) d h = record { enable = refl; disable = refl; restart = refl }

@@ -5,7 +5,7 @@
 --   SendsAll         in the end all words are sent
 use Rattle.std.specs.Prelude.{◌≡◌, ℕ, ◌+◌, ◌*◌, ◌%◌, ◌<◌, true, List, [], ◌∷◌, length, map, nat_lt, if◌then◌else◌}
 use Rattle.pin_matrix.specs.declared.setup.Setup.{Setup}
-use Rattle.dreq_pacing.specs.declared.line.Act.TheVariants.{Feed}
+use Rattle.dreq_pacing.specs.declared.line.LineAct.TheVariants.{Feed}
 use Rattle.dreq_pacing.specs.declared.line.Line.{Line}
 use Rattle.serial_receiver.specs.declared.frame.Frame.{Frame}
 use Rattle.pio_uart.specs.Sending.{frames_in}

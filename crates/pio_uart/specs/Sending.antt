@@ -8,8 +8,8 @@ use Rattle.std.specs.Prelude.{◌≡◌, ℕ, ◌%◌, Bool, true, false, List, 
 use Rattle.std.specs.List.{AllByRecursion}
 use Rattle.pin_matrix.specs.declared.setup.Setup.{Setup}
 use Rattle.pin_matrix.specs.Pins.{is_high}
-use Rattle.dreq_pacing.specs.declared.line.Act.{Act}
-use Rattle.dreq_pacing.specs.declared.line.Act.TheVariants.{Pin, Tx, Rx, Feed, Drain, Enable, Disable, Restart}
+use Rattle.dreq_pacing.specs.declared.line.LineAct.{LineAct}
+use Rattle.dreq_pacing.specs.declared.line.LineAct.TheVariants.{Pin, Tx, Rx, Feed, Drain, Enable, Disable, Restart}
 use Rattle.dreq_pacing.specs.declared.line.Line.{Line}
 use Rattle.block_core.specs.Block.{first_run}
 use Rattle.block_core.specs.Hosted.{samples}
@@ -18,7 +18,7 @@ use Rattle.serial_receiver.specs.Frames.{frames, levels_of}
 use Rattle.pio_uart.specs.Accepted.{accepted}
 
 -- the act enables or disables no machine, and restarts no divider
-abbrev pub is_steady : Act → Bool
+abbrev pub is_steady : LineAct → Bool
 is_steady (Pin pin level) = true
 is_steady (Tx machine word) = true
 is_steady (Rx machine) = true

@@ -2,7 +2,7 @@
 ghost use Rattle.std.specs.Prelude.{◌≡◌, IfOk};
 ghost use Rattle.pio_uart.specs.Feeding.{fed};
 
-use dreq_pacing::{Act, Line, Schedule, Words};
+use dreq_pacing::{Line, LineAct, Schedule, Words};
 use std::alloc::{AllocError, Global};
 
 /// A stimulus that feeds these bytes to machine 0 from clock 0 on, a word each, one a clock where there is room. The error is want
@@ -22,11 +22,11 @@ pub fn feed(alloc: Global, bytes: &[u8]) -> Result<Schedule, AllocError>
 /// The line that feeds words to machine 0.
 fn feed_line(words: Vec<u32>) -> Line
     ensures clock { result.clock ≡ 0 }
-    ensures act { result.act ≡ Act.Feed 0 1 words.items }
+    ensures act { result.act ≡ LineAct.Feed 0 1 words.items }
 {
     Line {
         clock: 0,
-        act: Act::Feed {
+        act: LineAct::Feed {
             machine: 0,
             every: 1,
             words: Words::new(words),

@@ -1,5 +1,6 @@
 -- A machine's state, and what becomes of it in a clock.
---   Ports, MachineState     the FIFOs with what they tell; all of a machine
+--   MachinePorts            the FIFOs with what they tell
+--   MachineState            all of a machine
 --   first_machine           as a setup begins
 --   queues_of               what a tick sees of the FIFOs
 --   settled_ports           the ports after a clock
@@ -16,7 +17,7 @@ use Rattle.sm_registers.specs.declared.shown.Shown.{Shown}
 use Rattle.sm_registers.specs.Ranges.{IsPlaced}
 
 -- the FIFOs, the last word that the system read, and the sticky FIFO flags
-pub record Ports : Type 0 where
+pub record MachinePorts : Type 0 where
   pub fifos : Fifos
   pub got : ℕ
   pub sticky : ℕ
@@ -25,7 +26,7 @@ pub record Ports : Type 0 where
 pub record MachineState : Type 0 where
   pub setup : MachineSetup
   pub registers : Registers
-  pub ports : Ports
+  pub ports : MachinePorts
 
 -- at the start PC, X and Y are the setup's, and the OSR counts as empty (choice of this profile: all else is 0)
 abbrev pub first_registers : MachineSetup → Registers
@@ -70,7 +71,7 @@ got_after (Some word) before = word
 
 -- The ports after a clock in which the machine wants this, and the system writes the word, if any, and reads or doesn't.
 -- A sticky flag stays up (RP2040 Datasheet, section 3.7, FDEBUG).
-unfoldable pub settled_ports : Intent → (system_word : Option ℕ) → (system_read : Bool) → Ports → Ports
+unfoldable pub settled_ports : Intent → (system_word : Option ℕ) → (system_read : Bool) → MachinePorts → MachinePorts
 settled_ports i system_word system_read p = record {
   fifos = settled i.take i.word system_word system_read p.fifos;
   got = got_after (got_word system_read p.fifos) p.got;
@@ -82,7 +83,7 @@ abbrev pub uses_fifos : Intent → (system_word : Option ℕ) → (system_read :
 uses_fifos i system_word system_read = i.take || (is_some i.word || (is_some system_word || system_read))
 
 -- what can be seen of a machine
-abbrev pub shown_of : Ports → Shown
+abbrev pub shown_of : MachinePorts → Shown
 shown_of p = record {
   tx = length p.fifos.tx;
   rx = length p.fifos.rx;

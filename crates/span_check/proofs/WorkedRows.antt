@@ -2,7 +2,7 @@
 use Rattle.std.proofs.Common.{◌≡◌, ℕ, zero, suc, sym, ◌∙◌, true, false, [], ◌∷◌, refl, arith}
 use Rattle.pin_matrix.specs.declared.setup.Setup.{Setup}
 use Rattle.pin_matrix.specs.declared.span.SpanUnit.TheVariants.{Ticks, Clocks}
-use Rattle.dreq_pacing.specs.declared.line.Act.TheVariants.{Tx, Restart, Disable, Enable}
+use Rattle.dreq_pacing.specs.declared.line.LineAct.TheVariants.{Tx, Restart, Disable, Enable}
 use Rattle.clock_divider.specs.Ticks.{is_tick}
 use Rattle.fifo_pair.specs.Fifos.{settled}
 use Rattle.pin_matrix.specs.Pins.{merged}
