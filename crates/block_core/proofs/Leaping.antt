@@ -52,7 +52,7 @@ machines_calm laws r pad n is told h k lt =
     stir_parts r pad k is (ap (moves_on quiet) (sym rests_so_far) ∙ h k lt)
 
 -- what it shows, and what its machines ask for
-shown_rests : (n : ℕ) (place : Option Slot) → shown_in (rested_place n place) ≡ shown_in place
+pub shown_rests : (n : ℕ) (place : Option Slot) → shown_in (rested_place n place) ≡ shown_in place
 shown_rests n None = refl
 shown_rests n (Some s) = refl
 

@@ -17,3 +17,4 @@ pub mod TwinRuns
 pub mod Passing
 pub mod Rows
 pub mod TwinRows
+pub mod Showing

@@ -3,6 +3,9 @@ use Rattle.std.specs.Prelude.{◌≡◌, ℕ, ◌+◌, ◌^◌, ◌<◌, ◌≤�
 use Rattle.std.specs.List.{AllByRecursion}
 use Rattle.sm_registers.specs.Told.{IsKnown}
 use Rattle.sm_registers.specs.declared.view.View.{View}
+use Rattle.block_core.specs.declared.sample.Sample.{Sample}
+use Rattle.block_core.specs.Block.{BlockState}
+use Rattle.block_core.specs.Shown.{sample_of}
 use Rattle.block_core.specs.Slots.{Slot}
 
 -- a place's divider is in this clock, and its transfers moved at most a word in each
@@ -40,6 +43,20 @@ pub record AreInStep (memory : List ℕ) (clock : ℕ) (a b c d : Option Slot) :
   pub second : IsInStep clock b
   pub third : IsInStep clock c
   pub fourth : IsInStep clock d
+
+-- the state of these places, pins and flags
+abbrev pub state_of : (a b c d : Option Slot) (levels directions flags outside : ℕ) → BlockState
+state_of a b c d levels directions flags outside = record {
+  machines = a ∷ b ∷ c ∷ d ∷ [];
+  levels = levels;
+  directions = directions;
+  flags = flags;
+  outside = outside;
+}
+
+-- The sample is that of the state.
+pub record IsSampleOf (state : BlockState) (sample : Sample) : Type 0 where
+  pub is : sample ≡ sample_of state
 
 -- No more clocks of two blocks were worked out singly than went by, and both are in the same clock.
 pub record AreTwins (worked first second : ℕ) : Type 0 where

@@ -1,5 +1,5 @@
 -- What is seen of a block's state: its sample, and what its machines ask of the system.
-use Rattle.std.specs.Prelude.{ℕ, true, not, Option, Some, None, map, slice_index_or}
+use Rattle.std.specs.Prelude.{◌≡◌, ℕ, true, not, Option, Some, None, map, slice_index_or, slice_set}
 use Rattle.sm_registers.specs.State.{shown_of}
 use Rattle.sm_registers.specs.declared.shown.Shown.{Shown}
 use Rattle.dreq_pacing.specs.declared.due.Requests.{Requests}
@@ -27,6 +27,19 @@ sample_of b = record {
   got = map (λ m. (shown_in m).got) b.machines;
   sticky = map (λ m. (shown_in m).sticky) b.machines;
 }
+
+-- a sample with this seen of a place, and all else as it was
+unfoldable pub with_shown : (place : ℕ) → Shown → Sample → Sample
+with_shown place seen s = record s {
+  tx = slice_set s.tx place seen.tx;
+  rx = slice_set s.rx place seen.rx;
+  got = slice_set s.got place seen.got;
+  sticky = slice_set s.sticky place seen.sticky;
+}
+
+-- a sample has what is seen of a place: writing it again changes nothing
+abbrev pub Shows : (place : ℕ) → Option Slot → Sample → Type 0
+Shows place slot s = s ≡ with_shown place (shown_in slot) s
 
 -- what the machines ask of the system: a word where TX isn't full, a read where RX isn't empty
 unfoldable pub requests_of : BlockState → Requests

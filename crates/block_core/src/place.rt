@@ -1,16 +1,17 @@
 //! A place of a block: its machine, where one is configured.
-ghost use Rattle.std.specs.Prelude.{◌≡◌, option_map, IfOk};
+ghost use Rattle.std.specs.Prelude.{◌≡◌, ◌<◌, Some, option_map, IfOk};
 ghost use Rattle.std.specs.List.{AllByRecursion};
 ghost use Rattle.pin_matrix.specs.Pins.{IsWrite};
 ghost use Rattle.block_core.specs.Kept.{IsInTime};
 ghost use Rattle.block_core.specs.Merging.{with_intent};
-ghost use Rattle.block_core.specs.Shown.{shown_in, moved_in};
+ghost use Rattle.block_core.specs.Shown.{Shows, shown_in, moved_in, with_shown};
 ghost use Rattle.block_core.specs.Slots.{doing, first_slot, place_after, place_intent, place_uses_fifos};
 
+use crate::Sample;
 use crate::merging::Wanted;
 use crate::slot::Slot;
 use dreq_pacing::Due;
-use fifo_pair::Fifo;
+use fifo_pair::{Fifo, a_quiet_clock_changes_nothing};
 use pin_matrix::MachineSetup;
 use sm_registers::{Intent, Shown, View};
 use std::alloc::{AllocError, Global};
@@ -28,7 +29,8 @@ pub(crate) fn slot_of<F: Fifo>(
     }
 }
 
-/// A clock of a place, whose machine adds what it wants of the block. True where anything was done at its FIFOs.
+/// A clock of a place, whose machine adds what it wants of the block. The sample, which has what was seen of the place, gets
+/// what is seen of it now. True where anything was done at its FIFOs.
 #[inline(always)]
 #[tactic(auto, using(crate::proofs::Wanting::nothing_added))]
 pub(crate) fn step<F: Fifo>(
@@ -36,17 +38,23 @@ pub(crate) fn step<F: Fifo>(
     view: &View,
     due: Option<&Due>,
     wanted: &mut Wanted,
+    place: usize,
+    sample: &mut Sample,
 ) -> bool
-    requires { IsInTime slot.old }
+    requires time { IsInTime slot.old }
+    requires place { place < 4 }
+    requires shows { Shows place slot.old sample.old }
     ensures after { slot.new ≡ place_after view.now (doing due.entry) slot.old }
     ensures wanted { wanted.new ≡ with_intent wanted.old
         (place_intent view.now (doing due.entry) slot.old) }
     ensures used { result ≡ place_uses_fifos view.now (doing due.entry) slot.old }
+    ensures sample { sample.new ≡ with_shown place (shown_in slot.new) sample.old }
     ensures level { AllByRecursion IsWrite
         (place_intent view.now (doing due.entry) slot.old).level }
     ensures direction { AllByRecursion IsWrite
         (place_intent view.now (doing due.entry) slot.old).direction }
 {
+    a_quiet_clock_changes_nothing();
     let Some(slot) = slot else {
         return false;
     };
@@ -56,7 +64,19 @@ pub(crate) fn step<F: Fifo>(
     let mut intent = Intent::none();
     let used = slot.clock(view, due, &mut intent);
     wanted.add(&intent);
+    if used || intent.sticky != 0 {
+        refresh(slot, place, sample);
+    }
     used
+}
+
+/// What is seen of a machine now, in the sample. It is rarely new, so the code of a clock goes without it.
+#[inline(never)]
+fn refresh<F: Fifo>(slot: &Slot<F>, place: usize, sample: &mut Sample)
+    requires { place < 4 }
+    ensures { sample.new ≡ with_shown place (shown_in (Some slot.now)) sample.old }
+{
+    sample.show(place, &slot.shown());
 }
 
 /// What is seen of a place.

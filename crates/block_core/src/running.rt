@@ -39,29 +39,25 @@ pub(crate) struct Running<F: Fifo> {
     outside: u32,
     sync: Sync,
     clock: u64,
+    // What `view` tells, brought up to date by each clock, since a trace asks after each and little of it changes.
+    sample: Sample,
 }
 
 impl<F: Fifo> Model for Running<F> {
-    ghost use Rattle.std.specs.Prelude.{[], ◌∷◌};
     ghost use Rattle.block_core.specs.Block.{Run};
-    ghost use Rattle.block_core.specs.Kept.{AreInStep};
+    ghost use Rattle.block_core.specs.Kept.{AreInStep, IsSampleOf, state_of};
 
     ghost Value = { Run };
 
     ghost view = { λ b. record {
       memory = b.view.memory;
       clock = b.clock;
-      state = record {
-        machines = b.first ∷ b.second ∷ b.third ∷ b.fourth ∷ [];
-        levels = b.levels;
-        directions = b.directions;
-        flags = b.view.flags.up;
-        outside = b.outside;
-      };
+      state = state_of b.first b.second b.third b.fourth b.levels b.directions b.view.flags.up b.outside;
       synchroniser = b.sync;
     } };
 
-    ghost invariant = { λ b. AreInStep b.view.memory b.clock b.first b.second b.third b.fourth };
+    ghost invariant = { λ b. AreInStep b.view.memory b.clock b.first b.second b.third b.fourth
+        × IsSampleOf (state_of b.first b.second b.third b.fourth b.levels b.directions b.view.flags.up b.outside) b.sample };
 }
 
 impl<F: Fifo> Running<F> {
@@ -85,6 +81,15 @@ impl<F: Fifo> Running<F> {
             outside: setup.high,
             sync: Sync::new(pad, setup.bypass),
             clock: 0,
+            sample: Sample {
+                level: setup.level,
+                direction: setup.out,
+                flags: 0,
+                tx: [0; 4],
+                rx: [0; 4],
+                got: [0; 4],
+                sticky: [0; 4],
+            },
         })
     }
 
@@ -140,13 +145,17 @@ impl<F: Fifo> Running<F> {
         self.view.seen = seen;
         self.sync.step(pad);
         let mut wanted = Wanted::new(self.levels, self.directions);
-        let first = step(&mut self.first, &self.view, due, &mut wanted);
-        let second = step(&mut self.second, &self.view, due, &mut wanted);
-        let third = step(&mut self.third, &self.view, due, &mut wanted);
-        let fourth = step(&mut self.fourth, &self.view, due, &mut wanted);
+        let sample = &mut self.sample;
+        let first = step(&mut self.first, &self.view, due, &mut wanted, 0, sample);
+        let second = step(&mut self.second, &self.view, due, &mut wanted, 1, sample);
+        let third = step(&mut self.third, &self.view, due, &mut wanted, 2, sample);
+        let fourth = step(&mut self.fourth, &self.view, due, &mut wanted, 3, sample);
         self.levels = wanted.levels;
         self.directions = wanted.directions;
         wanted.merge_flags(&mut self.view.flags);
+        self.sample.level = self.levels;
+        self.sample.direction = self.directions;
+        self.sample.flags = self.view.flags.up;
         self.clock += 1;
         first | (second | (third | fourth))
     }
@@ -234,21 +243,10 @@ impl<F: Fifo> Running<F> {
     }
 
     /// What the last clock shows, or the values that a run begins with.
-    #[tactic(auto, unfolding(crate::specs::Shown::sample_of))]
     pub fn view(&self) -> Sample
         ensures { result ≡ sample_of self.now.state }
     {
-        let (first, second) = (shown(&self.first), shown(&self.second));
-        let (third, fourth) = (shown(&self.third), shown(&self.fourth));
-        Sample {
-            level: self.levels,
-            direction: self.directions,
-            flags: self.view.flags.up,
-            tx: [first.tx, second.tx, third.tx, fourth.tx],
-            rx: [first.rx, second.rx, third.rx, fourth.rx],
-            got: [first.got, second.got, third.got, fourth.got],
-            sticky: [first.sticky, second.sticky, third.sticky, fourth.sticky],
-        }
+        self.sample
     }
 
     /// How many words paced transfers have moved into a machine's TX and out of its RX.

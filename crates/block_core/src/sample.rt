@@ -1,4 +1,8 @@
 //! What is seen of a block after a clock: 88 values, in the order in which a trace writes them.
+ghost use Rattle.std.specs.Prelude.{◌≡◌, ◌<◌};
+ghost use Rattle.block_core.specs.Shown.{with_shown};
+
+use sm_registers::Shown;
 
 /// The state of a block after one clock, as a trace shows it (choice of this profile).
 ///
@@ -19,4 +23,18 @@ pub struct Sample {
     pub got: [u32; 4],
     /// Each machine's sticky flags: 1 TXOVER, 2 RXUNDER, 4 TXSTALL, 8 RXSTALL.
     pub sticky: [u8; 4],
+}
+
+impl Sample {
+    /// Puts in what is seen of a place; all else stays.
+    #[tactic(auto, unfolding(crate::specs::Shown::with_shown))]
+    pub(crate) fn show(&mut self, place: usize, seen: &Shown)
+        requires { place < 4 }
+        ensures { self.new ≡ with_shown place seen.now self.old }
+    {
+        self.tx[place] = seen.tx;
+        self.rx[place] = seen.rx;
+        self.got[place] = seen.got;
+        self.sticky[place] = seen.sticky;
+    }
 }

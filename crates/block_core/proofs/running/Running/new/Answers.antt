@@ -1,15 +1,19 @@
+use Rattle.block_core.proofs.Showing.{first_sample}
 use Rattle.block_core.proofs.Steps.{first_in_step}
 use Rattle.block_core.proofs.Told.{first_told}
 use Rattle.block_core.proofs.running.Running.new.Goals as goal
 
 pub invariant_of-result : goal.invariant_of-result
-invariant_of-result g c = record {
-  told = (
-    first_told _ _ _ c.in_ok-slot_of.ensures,
-    (first_told _ _ _ c.in_ok-slot_of-2.ensures, (first_told _ _ _ c.in_ok-slot_of-3.ensures, (first_told _ _ _ c.in_ok-slot_of-4.ensures, tt))),
-  );
-  first = first_in_step _ _ c.in_ok-slot_of.ensures;
-  second = first_in_step _ _ c.in_ok-slot_of-2.ensures;
-  third = first_in_step _ _ c.in_ok-slot_of-3.ensures;
-  fourth = first_in_step _ _ c.in_ok-slot_of-4.ensures;
-}
+invariant_of-result g c = (
+  record {
+    told = (
+      first_told _ _ _ c.in_ok-slot_of.ensures,
+      (first_told _ _ _ c.in_ok-slot_of-2.ensures, (first_told _ _ _ c.in_ok-slot_of-3.ensures, (first_told _ _ _ c.in_ok-slot_of-4.ensures, tt))),
+    );
+    first = first_in_step _ _ c.in_ok-slot_of.ensures;
+    second = first_in_step _ _ c.in_ok-slot_of-2.ensures;
+    third = first_in_step _ _ c.in_ok-slot_of-3.ensures;
+    fourth = first_in_step _ _ c.in_ok-slot_of-4.ensures;
+  },
+  first_sample _ _ _ _ _ _ _ _ _ _ _ c.in_ok-slot_of.ensures c.in_ok-slot_of-2.ensures c.in_ok-slot_of-3.ensures c.in_ok-slot_of-4.ensures,
+)

@@ -1,27 +1,59 @@
 use Rattle.std.proofs.Common.{refl}
 use Rattle.block_core.specs.Slots.{doing}
+use Rattle.block_core.proofs.Showing.{shows_first, shows_second, shows_third, shows_fourth, first_new, second_new, third_new, fourth_new, pins_new}
 use Rattle.block_core.proofs.Steps.{in_step_after}
 use Rattle.block_core.proofs.Told.{place_told}
 use Rattle.block_core.proofs.Wanting.{next_run, any_used, levels_are_last, directions_are_last}
 use Rattle.block_core.proofs.running.Running.step.Goals as goal
 
+pub step-first-requires-clause-shows : goal.step-first-requires-clause-shows
+step-first-requires-clause-shows g c =
+    shows_first c.self.invariant.1
+
+pub step-second-requires-clause-shows : goal.step-second-requires-clause-shows
+step-second-requires-clause-shows g c =
+    let one = first_new c.self.invariant.1 _ _ c.step-first.ensures.sample in
+    shows_second one
+
+pub step-third-requires-clause-shows : goal.step-third-requires-clause-shows
+step-third-requires-clause-shows g c =
+    let one = first_new c.self.invariant.1 _ _ c.step-first.ensures.sample in
+    let two = second_new one _ _ c.step-second.ensures.sample in
+    shows_third two
+
+pub step-fourth-requires-clause-shows : goal.step-fourth-requires-clause-shows
+step-fourth-requires-clause-shows g c =
+    let one = first_new c.self.invariant.1 _ _ c.step-first.ensures.sample in
+    let two = second_new one _ _ c.step-second.ensures.sample in
+    let three = third_new two _ _ c.step-third.ensures.sample in
+    shows_fourth three
+
 pub invariant_of-self : goal.invariant_of-self
-invariant_of-self g c = let kept = c.self.invariant in let law = c.a_calm_tick_tells_nothing_new.ensures in record {
-  told = (
-    place_told law.after law.more _ _ _ _ _ refl kept.told.0 c.step-first.ensures.after,
-    (
-      place_told law.after law.more _ _ _ _ _ refl kept.told.1.0 c.step-second.ensures.after,
-      (
-        place_told law.after law.more _ _ _ _ _ refl kept.told.1.1.0 c.step-third.ensures.after,
-        (place_told law.after law.more _ _ _ _ _ refl kept.told.1.1.1.0 c.step-fourth.ensures.after, tt),
-      ),
-    ),
-  );
-  first = in_step_after _ _ _ _ _ kept.first c.step-first.ensures.after;
-  second = in_step_after _ _ _ _ _ kept.second c.step-second.ensures.after;
-  third = in_step_after _ _ _ _ _ kept.third c.step-third.ensures.after;
-  fourth = in_step_after _ _ _ _ _ kept.fourth c.step-fourth.ensures.after;
-}
+invariant_of-self g c =
+    let kept = c.self.invariant.0 in
+    let law = c.a_calm_tick_tells_nothing_new.ensures in
+    let one = first_new c.self.invariant.1 _ _ c.step-first.ensures.sample in
+    let two = second_new one _ _ c.step-second.ensures.sample in
+    let three = third_new two _ _ c.step-third.ensures.sample in
+    let four = fourth_new three _ _ c.step-fourth.ensures.sample in (
+      record {
+        told = (
+          place_told law.after law.more _ _ _ _ _ refl kept.told.0 c.step-first.ensures.after,
+          (
+            place_told law.after law.more _ _ _ _ _ refl kept.told.1.0 c.step-second.ensures.after,
+            (
+              place_told law.after law.more _ _ _ _ _ refl kept.told.1.1.0 c.step-third.ensures.after,
+              (place_told law.after law.more _ _ _ _ _ refl kept.told.1.1.1.0 c.step-fourth.ensures.after, tt),
+            ),
+          ),
+        );
+        first = in_step_after _ _ _ _ _ kept.first c.step-first.ensures.after;
+        second = in_step_after _ _ _ _ _ kept.second c.step-second.ensures.after;
+        third = in_step_after _ _ _ _ _ kept.third c.step-third.ensures.after;
+        fourth = in_step_after _ _ _ _ _ kept.fourth c.step-fourth.ensures.after;
+      },
+      pins_new four _ _ _ _,
+    )
 
 pub returns-clause-run : goal.returns-clause-run
 returns-clause-run g c =
