@@ -1,12 +1,14 @@
 -- The text of the changes, and that of a dump, by its groups.
-use Rattle.std.proofs.Common.{◌≡◌, ℕ, ◌+◌, ◌/◌, Bool, true, false, cond, eqb, List, [], ◌∷◌, ◌++◌, zero, suc, length, refl, sym, ap, ◌∙◌, append_assoc, arith}
+use Rattle.std.specs.Prelude.{◌&&◌}
+use Rattle.std.proofs.Common.{◌≡◌, ℕ, ◌+◌, ◌/◌, Bool, true, false, cond, eqb, List, [], ◌∷◌, ◌++◌, zero, suc, length, refl, sym, ap, ◌∙◌, append_assoc, arith, eq-eqb, length-append}
+use borrow.Author.Tests.{eqb-true}
 use Rattle.std.specs.Prelude.{replicate, codes}
 use Rattle.std.proofs.lemmas.List.{length-replicate}
 use Rattle.block_core.specs.declared.sample.Sample.{Sample}
-use Rattle.block_core.specs.Sample.{bits_of, values_of}
+use Rattle.block_core.specs.Sample.{bits_of, same_numbers, values_of}
 use Rattle.vcd_trace.specs.VcdText.{variables, widths, bit_line, vector_line, value_lines, change_lines, changes_over, values_over, dump_text}
 use Rattle.vcd_trace.specs.TwinText.{twin_dump_text}
-use Rattle.vcd_trace.specs.Groups.{bit_lines, bit_changes, vector_lines, vector_changes, vectors_of}
+use Rattle.vcd_trace.specs.Groups.{bit_lines, bit_changes, same_words, vector_lines, vector_changes, vectors_of}
 use Rattle.vcd_trace.proofs.TextLaws.{change_lines-append, value_lines-append}
 
 pub length-bits_of : (k n : ℕ) → length (bits_of k n) ≡ k
@@ -125,3 +127,42 @@ unfolding twin_dump_text
 twin_dump-parts s =
     append_assoc (codes "$dumpvars\n" ++ values_over 0 s.0) (values_over 128 s.1) (codes "$end\n")
     ∙ append_assoc (codes "$dumpvars\n") (values_over 0 s.0) (values_over 128 s.1 ++ codes "$end\n")
+
+-- values that are what they were have no lines
+vector_changes-none : (id : ℕ) (words : List ℕ) → vector_changes id words words ≡ []
+vector_changes-none id [] = refl
+vector_changes-none id (w ∷ words) = ap (λ t. cond t [] (vector_line id w) ++ vector_changes (id + 1) words words) (eq-eqb w w refl) ∙ vector_changes-none (id + 1) words
+
+-- both of two are true
+pub both_true : (a b : Bool) → (a && b) ≡ true → (a ≡ true) × (b ≡ true)
+both_true true b h = (refl, h)
+both_true false b h = cc
+
+-- lists of the same numbers are one
+pub same_numbers-equal : (xs ys : List ℕ) → same_numbers xs ys ≡ true → xs ≡ ys
+same_numbers-equal [] [] h = refl
+same_numbers-equal [] (y ∷ ys) h = cc
+same_numbers-equal (x ∷ xs) [] h = cc
+same_numbers-equal (x ∷ xs) (y ∷ ys) h =
+    let t = both_true (eqb x y) (same_numbers xs ys) h in
+    let first : x ≡ y = eqb-true x y t.0 in
+    let rest : xs ≡ ys = same_numbers-equal xs ys t.1 in
+    cc
+
+-- samples that agree in their words add no lines of words
+pub same_words-none : (id : ℕ) (a b : Sample) → same_words a b ≡ true → vector_changes id (vectors_of a) (vectors_of b) ≡ []
+same_words-none id a b h =
+    let g = both_true (same_numbers a.got b.got) (same_numbers a.tx b.tx && (same_numbers a.rx b.rx && same_numbers a.sticky b.sticky)) h in
+    let t = both_true (same_numbers a.tx b.tx) (same_numbers a.rx b.rx && same_numbers a.sticky b.sticky) g.1 in
+    let r = both_true (same_numbers a.rx b.rx) (same_numbers a.sticky b.sticky) t.1 in
+    let got : a.got ≡ b.got = same_numbers-equal a.got b.got g.0 in
+    let tx : a.tx ≡ b.tx = same_numbers-equal a.tx b.tx t.0 in
+    let rx : a.rx ≡ b.rx = same_numbers-equal a.rx b.rx r.0 in
+    let sticky : a.sticky ≡ b.sticky = same_numbers-equal a.sticky b.sticky r.1 in
+    let same : vectors_of a ≡ vectors_of b = cc in
+    ap (λ l. vector_changes id (vectors_of a) l) (sym same) ∙ vector_changes-none id (vectors_of a)
+
+-- four words of each of four kinds
+pub length-vectors_of : (s : Sample) → length s.tx ≡ 4 → length s.rx ≡ 4 → length s.got ≡ 4 → length s.sticky ≡ 4 → length (vectors_of s) ≡ 16
+length-vectors_of s tx rx got sticky =
+    omega (arith, length-append (s.tx ++ s.rx ++ s.got) s.sticky, length-append (s.tx ++ s.rx) s.got, length-append s.tx s.rx, tx, rx, got, sticky)

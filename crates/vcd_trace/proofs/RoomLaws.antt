@@ -2,6 +2,11 @@
 use Rattle.std.proofs.Common.{◌≡◌, ℕ, drop, length, List, [], ◌∷◌, slice_set, arith, ap, ◌∙◌, refl, length-drop}
 use Rattle.std.proofs.lemmas.List.{drop-set-add}
 
+one : (l : List ℕ) (z : ℕ) → length l ≡ 1 → slice_set l 0 z ≡ z ∷ []
+one [] z h = absurd (omega arith)
+one (a ∷ []) z h = refl
+one (a ∷ b ∷ l) z h = absurd (omega arith)
+
 three : (l : List ℕ) (x y z : ℕ) → length l ≡ 3 → slice_set (slice_set (slice_set l 0 x) 1 y) 2 z ≡ x ∷ y ∷ z ∷ []
 three [] x y z h = absurd (omega arith)
 three (a ∷ []) x y z h = absurd (omega arith)
@@ -16,6 +21,9 @@ four (a ∷ b ∷ []) w x y z h = absurd (omega arith)
 four (a ∷ b ∷ c ∷ []) w x y z h = absurd (omega arith)
 four (a ∷ b ∷ c ∷ d ∷ []) w x y z h = refl
 four (a ∷ b ∷ c ∷ d ∷ e ∷ l) w x y z h = absurd (omega arith)
+
+pub last_one : (line : List ℕ) (z : ℕ) → length line ≡ 22 → drop 21 (slice_set line 21 z) ≡ z ∷ []
+last_one line z h = drop-set-add 21 line 0 z ∙ one (drop 21 line) z (omega (arith, length-drop 21 line))
 
 pub last_three : (line : List ℕ) (x y z : ℕ) → length line ≡ 37 → drop 34 (slice_set (slice_set (slice_set line 34 x) 35 y) 36 z) ≡ x ∷ y ∷ z ∷ []
 last_three line x y z h =

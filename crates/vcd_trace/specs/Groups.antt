@@ -1,7 +1,7 @@
 -- What the lines of one group of values are: words of private clauses, which the whole text is made of.
-use Rattle.std.specs.Prelude.{ℕ, ◌+◌, ◌==◌, List, [], ◌∷◌, ◌++◌, replicate, if◌then◌else◌}
+use Rattle.std.specs.Prelude.{ℕ, ◌+◌, ◌==◌, ◌&&◌, Bool, List, [], ◌∷◌, ◌++◌, replicate, if◌then◌else◌}
 use Rattle.block_core.specs.declared.sample.Sample.{Sample}
-use Rattle.block_core.specs.Sample.{bits_of}
+use Rattle.block_core.specs.Sample.{bits_of, same_numbers}
 use Rattle.vcd_trace.specs.VcdText.{value_lines, change_lines, vector_line}
 
 -- the lines of so many bits of a number
@@ -25,3 +25,7 @@ vector_changes id _ _ = []
 -- a sample's values of more than one bit, in order
 abbrev pub vectors_of : Sample → List ℕ
 vectors_of s = s.tx ++ s.rx ++ s.got ++ s.sticky
+
+-- two samples agree in the values of more than one bit
+abbrev pub same_words : Sample → Sample → Bool
+same_words a b = same_numbers a.got b.got && (same_numbers a.tx b.tx && (same_numbers a.rx b.rx && same_numbers a.sticky b.sticky))

@@ -1,5 +1,5 @@
 -- What the value-change text of a list of samples is (IEEE 1364-2005, section 18.2), for the 88 variables of this profile.
-use Rattle.std.specs.Prelude.{ℕ, ◌+◌, ◌-◌, ◌==◌, nat_lt, Bool, false, List, [], ◌∷◌, ◌++◌, zero, suc, codes, decimal, map, if◌then◌else◌}
+use Rattle.std.specs.Prelude.{ℕ, ◌+◌, ◌-◌, ◌==◌, nat_lt, Bool, false, Option, Some, None, List, [], ◌∷◌, ◌++◌, zero, suc, codes, decimal, map, if◌then◌else◌}
 use Rattle.std.specs.Fmt.{digits}
 use Rattle.vcd_trace.specs.Characters.{newline, blank, hash, digit_0, letter_b, letter_d, letter_f, letter_p, letter_r, letter_s, letter_t, letter_w, tilde}
 use Rattle.block_core.specs.declared.sample.Sample.{Sample}
@@ -105,6 +105,11 @@ changes_text before now = changes_over 0 before now
 -- what a clock adds to the text: nothing where its sample is that of the clock before
 abbrev pub step_text : ℕ → Sample → Sample → List ℕ
 step_text clock before now = if same_sample before now then [] else clock_line clock ++ changes_text before now
+
+-- the last sample is shown again, which adds nothing
+abbrev pub shows_again : Option Sample → Sample → Bool
+shows_again None now = false
+shows_again (Some before) now = same_sample before now
 
 -- the text of samples
 abbrev pub vcd_form : TextForm Sample

@@ -2,7 +2,7 @@
 ghost use Rattle.std.specs.Prelude.{◌≡◌, ℕ, ◌+◌, ◌^◌, ◌<◌, ◌≤◌};
 ghost use Rattle.pio_edge.specs.Edge.{Takes, PutCounts};
 ghost use Rattle.vcd_trace.specs.VcdText.{changes_over};
-ghost use Rattle.vcd_trace.specs.Groups.{bit_changes, vector_changes};
+ghost use Rattle.vcd_trace.specs.Groups.{bit_changes, same_words, vector_changes, vectors_of};
 
 use crate::line::{put_bit, put_vector};
 use crate::variable::{DIRECTION, FLAG, LEVEL, VECTOR, vectors_of};
@@ -23,7 +23,6 @@ pub(crate) fn put_changes<S: Sink>(
         (S.taken sink.new) result }
     ensures cause { PutCounts (S.faults sink.old) (S.faults sink.new) result }
 {
-    let (vectors_before, vectors_now) = (vectors_of(before), vectors_of(now));
     put_changed_bits(sink, LEVEL + more, 32, before.level, now.level)?;
     put_changed_bits(sink, DIRECTION + more, 32, before.direction, now.direction)?;
     put_changed_bits(
@@ -33,7 +32,7 @@ pub(crate) fn put_changes<S: Sink>(
         u32::from(before.flags),
         u32::from(now.flags),
     )?;
-    put_changed_vectors(sink, VECTOR + more, &vectors_before, &vectors_now)
+    put_changed_words(sink, VECTOR + more, before, now)
 }
 
 // The low `count` bits, from bit 0 on; the others are 0.
@@ -59,6 +58,52 @@ fn put_changed_bits<S: Sink>(
         changed &= changed - 1;
     }
     Ok(())
+}
+
+// The values of more than one bit: in most clocks none of them changes, which few comparisons tell.
+#[inline(always)]
+fn put_changed_words<S: Sink>(
+    sink: &mut S,
+    first: u8,
+    before: &Sample,
+    now: &Sample,
+) -> Result<(), SinkFailed>
+    requires { first + 16 ≤ 256 }
+    ensures bytes { Takes (S.taken sink.old) (vector_changes first (vectors_of before.now) (vectors_of now.now))
+        (S.taken sink.new) result }
+    ensures cause { PutCounts (S.faults sink.old) (S.faults sink.new) result }
+{
+    if has_same_words(before, now) {
+        return Ok(());
+    }
+    put_words(sink, first, before, now)
+}
+
+// Whether two samples agree in the values of more than one bit.
+#[inline(always)]
+fn has_same_words(before: &Sample, now: &Sample) -> bool
+    ensures { result ≡ same_words before.now now.now }
+{
+    before.got == now.got
+        && before.tx == now.tx
+        && before.rx == now.rx
+        && before.sticky == now.sticky
+}
+
+// The same where one changes. A call of its own, which keeps the comparison short.
+#[inline(never)]
+fn put_words<S: Sink>(
+    sink: &mut S,
+    first: u8,
+    before: &Sample,
+    now: &Sample,
+) -> Result<(), SinkFailed>
+    requires { first + 16 ≤ 256 }
+    ensures bytes { Takes (S.taken sink.old) (vector_changes first (vectors_of before.now) (vectors_of now.now))
+        (S.taken sink.new) result }
+    ensures cause { PutCounts (S.faults sink.old) (S.faults sink.new) result }
+{
+    put_changed_vectors(sink, first, &vectors_of(before), &vectors_of(now))
 }
 
 #[inline(always)]

@@ -6,8 +6,7 @@ ghost use Rattle.vcd_trace.specs.Characters.{blank, letter_b, newline, tilde};
 ghost use Rattle.vcd_trace.specs.VcdText.{clock_line, bit_line, vector_line, identifier};
 
 use crate::variable::SECOND;
-use arrayvec::ArrayString;
-use itoa::Buffer;
+use itoa::write_digits;
 use pio_edge::{Sink, SinkFailed};
 
 /// The line of a clock.
@@ -15,12 +14,24 @@ pub(crate) fn put_clock<S: Sink>(sink: &mut S, clock: u64) -> Result<(), SinkFai
     ensures bytes { Takes (S.taken sink.old) (clock_line clock) (S.taken sink.new) result }
     ensures cause { PutCounts (S.faults sink.old) (S.faults sink.new) result }
 {
-    let mut number = Buffer::new();
-    let mut line = ArrayString::<24>::new();
-    line.push_str("#");
-    line.push_str(number.format(clock));
-    line.push_str("\n");
-    sink.put(line.as_str().as_bytes())
+    let mut line = [0; CLOCK_ROOM];
+    let start = write_clock(&mut line, clock);
+    sink.put(&line[start..])
+}
+
+/// Room for `#`, the 20 digits of the greatest number and the newline.
+const CLOCK_ROOM: usize = 22;
+
+// Writes the line of a clock up to the end of the room, and says where it begins.
+#[inline(always)]
+fn write_clock(line: &mut [u8; CLOCK_ROOM], clock: u64) -> usize
+    ensures within { result ≤ CLOCK_ROOM }
+    ensures text { drop result line.new ≡ clock_line clock }
+{
+    line[CLOCK_ROOM - 1] = b'\n';
+    let start = write_digits(clock, line, CLOCK_ROOM - 1) - 1;
+    line[start] = b'#';
+    start
 }
 
 /// The line of a value of one bit.
@@ -45,7 +56,7 @@ pub(crate) fn put_vector<S: Sink>(sink: &mut S, id: u8, value: u32) -> Result<()
 {
     let mut line = [0; LINE_ROOM];
     let end = write_name(&mut line, id);
-    let start = write_digits(&mut line, end, value);
+    let start = write_bits(&mut line, end, value);
     sink.put(&line[start..])
 }
 
@@ -87,7 +98,7 @@ fn write_two_characters(line: &mut [u8; LINE_ROOM], id: u8)
 }
 
 // Writes `b` and the digits up to a place, from the last one on, and says where they begin.
-fn write_digits(line: &mut [u8; LINE_ROOM], end: usize, value: u32) -> usize
+fn write_bits(line: &mut [u8; LINE_ROOM], end: usize, value: u32) -> usize
     requires after { 33 ≤ end }
     requires before { end < LINE_ROOM }
     ensures within { result ≤ LINE_ROOM }

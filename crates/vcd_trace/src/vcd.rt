@@ -4,6 +4,7 @@ ghost use Rattle.pio_edge.specs.Edge.{Takes, PutCounts, TakesPrefix};
 ghost use Rattle.block_core.specs.Sample.{same_sample};
 ghost use Rattle.vcd_trace.specs.TextForm.{HasPut, added, ended};
 ghost use Rattle.vcd_trace.specs.VcdText.{vcd_form, open_text, step_text, text_of};
+ghost use Rattle.vcd_trace.specs.VcdText as spec;
 
 use crate::changes::put_changes;
 use crate::dump::put_dump;
@@ -61,9 +62,12 @@ impl<'a, S: Sink> Trace for VcdTrace<'a, S> {
         }
     }
 
-    // Called in each clock: its samples stay in memory, where a run has no registers for them.
-    #[inline(never)]
+    // Called in each clock, most of which show what the one before showed.
+    #[inline(always)]
     fn sample(&mut self, clock: u64, sample: &Sample) -> Result<(), TraceFailed> {
+        if shows_again(&self.last, sample) {
+            return Ok(());
+        }
         match put_sample(self.sink, clock, &self.last, sample) {
             Ok(()) => {
                 self.last = Some(*sample);
@@ -100,7 +104,19 @@ fn put_opening<S: Sink>(sink: &mut S) -> Result<(), SinkFailed>
     put_clock(sink, 0)
 }
 
-// What a sample adds after the one that was told last.
+// Whether the sample that was told last is shown again.
+#[inline(always)]
+fn shows_again(last: &Option<Sample>, sample: &Sample) -> bool
+    ensures { result ≡ spec.shows_again last.now sample.now }
+{
+    match last {
+        None => false,
+        Some(before) => is_same(before, sample),
+    }
+}
+
+// What a sample adds after the one that was told last. A call of its own, since a run has no registers for the samples.
+#[inline(never)]
 fn put_sample<S: Sink>(
     sink: &mut S,
     clock: u64,

@@ -1,8 +1,7 @@
-use Rattle.std.proofs.Common.{◌≡◌, ℕ, ◌+◌, ◌<◌, ◌≤◌, ◌^◌, drop, ◌-◌, length, ◌/◌, ◌%◌, List, ◌∷◌, slice_set, arith, ap, sym, ◌∙◌, subst}
-use Rattle.std.proofs.lemmas.Grind.{drop-set_at}
+use Rattle.std.proofs.Common.{◌≡◌, ℕ, ◌+◌, ◌<◌, ◌^◌, drop, ◌-◌, ◌/◌, ◌%◌, ◌∷◌, slice_set, arith, ap, sym, ◌∙◌, subst}
 use Rattle.std.proofs.Math.ListN.{length-set}
-use Rattle.vcd_trace.proofs.Digits.{binary_onto, binary_onto-all, binary_onto-last, binary_onto-step, half_fits, has_bit}
-use Rattle.vcd_trace.proofs.line.write_digits.Goals as goal
+use Rattle.vcd_trace.proofs.Digits.{binary_onto, binary_onto-all, binary_onto-last, binary_onto-step, half_fits, has_bit, put_before}
+use Rattle.vcd_trace.proofs.line.write_bits.Goals as goal
 
 -- at the end all 32 digits have room
 room_at-end : (end : ℕ) → end + 32 - end ≡ 32
@@ -23,10 +22,6 @@ loop-rest-init c =
       fits = subst (λ (k : ℕ). value < 2 ^ k) (sym (room_at-end end)) fits;
       text = ap (λ (k : ℕ). binary_onto k value (drop end c.args.line.now)) (digits_at-end end) ∙ binary_onto-all value (drop end c.args.line.now);
     }
-
--- the place before what is written, with a byte put there
-put_before : (line : List ℕ) (start byte : ℕ) → 1 ≤ start → start ≤ length line → drop (start - 1) (slice_set line (start - 1) byte) ≡ byte ∷ drop start line
-put_before line start byte low high = drop-set_at line (start - 1) (start - 1) byte (omega arith) (omega arith) ∙ ap (λ n. byte ∷ drop n line) (let e : start - 1 + 1 ≡ start = omega arith in e)
 
 pub loop-rest-preserved : goal.loop-rest-preserved
 loop-rest-preserved c =

@@ -1,7 +1,7 @@
 use Rattle.std.proofs.Common.{◌≡◌, ◌+◌, ◌-◌, ◌^◌, ◌<◌, ◌≤◌, false, ◌++◌, drop, length}
 use Rattle.std.specs.Fmt.{digits}
 use Rattle.vcd_trace.proofs.Digits.{binary_onto}
-use Rattle.vcd_trace.proofs.line.write_digits.Given as goal
+use Rattle.vcd_trace.proofs.line.write_bits.Given as goal
 
 -- what is left of the value fits the room, and its digits before what is written are the line's
 abbrev pub invariant-loop-rest : goal.invariant-loop-rest
