@@ -49,7 +49,8 @@ pub fn receive<F: Shelf, O: Sink, L: Ledger>(
     requires pin { line.pin < 32 }
     requires bit { 2 ≤ line.bit }
     ensures ends { CommandEnds
-        (receive_asked files.entry.source.now (option_map (λ t. t.now) files.entry.config) (option_map (λ t. t.now) files.entry.stimulus) clocks line.pin line.bit)
+        (receive_asked files.entry.source.now (option_map (λ t. t.now) files.entry.config)
+        (option_map (λ t. t.now) files.entry.stimulus) clocks line.pin line.bit)
         (call_of (F.holds shelf.old) (F.faults shelf.old) (F.faults shelf.new)
         (output_of (O.taken out.old) (O.waiting out.old) (O.faults out.old))
         (output_of (O.taken out.new) (O.waiting out.new) (O.faults out.new)))
@@ -57,7 +58,8 @@ pub fn receive<F: Shelf, O: Sink, L: Ledger>(
     ensures same { F.holds shelf.new ≡ F.holds shelf.old }
     ensures steps { steps.new ≤ steps.old + clocks }
     ensures worked { steps.new ≤ steps.old + most_worked (F.holds shelf.old)
-        (receive_asked files.entry.source.now (option_map (λ t. t.now) files.entry.config) (option_map (λ t. t.now) files.entry.stimulus) clocks line.pin line.bit) }
+        (receive_asked files.entry.source.now (option_map (λ t. t.now) files.entry.config)
+        (option_map (λ t. t.now) files.entry.stimulus) clocks line.pin line.bit) }
 {
     let (setup, schedule) = prepare(alloc, shelf, files)?;
     write_received(alloc, &setup, &schedule, clocks, line, out, steps)

@@ -71,7 +71,8 @@ impl<F: Fifo> Machine<F> {
         &self.setup
     }
 
-    /// One tick. Its registers change; all else that it does is the intent, which `settle` and the block carry out.
+    /// One tick. Its registers change; all else that it does is the intent, which `settle` and the block carry out. Rows alone
+    /// call it: a block calls `tick_into`.
     pub fn tick(&mut self, view: &View) -> Intent
         ensures intent { result ≡ (spec_tick.tick_of self.old.setup view.now (queues_of self.old.ports.fifos) self.old.registers).1 }
         ensures state { self.new ≡ record self.old {

@@ -81,7 +81,8 @@ span = ["x"]|load = [{}]| => span: C3
 [[load]]|program = "square"|at = 4|[[load]]|program = "ahead"|at = 3| => load[1].at: C7 4
 [[load]]|program = "square"|at = 4|[[load]]|program = "ahead"|at = 8| => ok
 [[load]]|program = "square"|at = 4|[[load]]|program = "fixed"| => load[1].at: C7 7
-[[load]]|program = "square"|at = 8|[[load]]|program = "ahead"|at = 5|[[load]]|program = "long"|at = 4| => load[2].at: C7 5
+[[load]]|program = "square"|at = 8|[[load]]|program = "ahead"|at = 5|[[load]]|program = "long"|at = 4| => \
+    load[2].at: C7 5
 [[load]]|program = "long"|at = 24|[[load]]|program = "square"|at = 30| => load[1].at: C8
 ### A machine comes before pins, whatever the order of the file.
 [pins]|high = 1|[[machine]]|id = 1| => machine[0].program: C13
@@ -107,11 +108,27 @@ pins = { high = [`87374 31,`] } => ok
 pub static SETUPS: &str = r#"
  => pins 0 0 0 0
 [[load]]|program = "square"|at = 5| => 5:e081 6:e101 7:e000 8:0006 pins 0 0 0 0
-[[load]]|program = "ahead"|at = 29|[[load]]|program = "fixed"|[[load]]|program = "square"| => 0:e081 1:e101 2:e000 3:0001 7:e003 29:001f 30:e001 pins 0 0 0 0
+[[load]]|program = "ahead"|at = 29|[[load]]|program = "fixed"|[[load]]|program = "square"| => \
+    0:e081 1:e101 2:e000 3:0001 7:e003 29:001f 30:e001 pins 0 0 0 0
 [pins]|high = [0, 31, 0]|level = [1]|out = []|bypass = [4, 2]| => pins 80000001 2 0 14
-[[machine]]|id = 3|program = "square"|start = "again"|[[machine]]|id = 1|program = "square"|[[load]]|program = "square"|at = 5| => 5:e081 6:e101 7:e000 8:0006 m1 5 5-8 1+0 in 0 jmp 0 out 0x0 set 0x5 side 0x0 shift true true false false 32 32 join false false status false 0 x 0 y 0 m3 6 5-8 1+0 in 0 jmp 0 out 0x0 set 0x5 side 0x0 shift true true false false 32 32 join false false status false 0 x 0 y 0 pins 0 0 0 0
-load = [{ program = "fixed" }]|[[machine]]|id = 2|program = "fixed"|divider = 2|fraction = 3|in_base = 4|out_base = 5|set_base = 6|side_base = 7|jmp_pin = 8|out_count = 9|set_count = 1|in_right = false|out_right = false|autopush = true|autopull = true|join_tx = false|join_rx = true|status_rx = true|push_threshold = 10|pull_threshold = 11|status_n = 12|x = 13|y = 14| => 7:e003 m2 7 7-7 2+3 in 4 jmp 8 out 5x9 set 6x1 side 7x0 shift false false true true 10 11 join false true status true 12 x 13 y 14 pins 0 0 0 0
-[[load]]|program = "fixed"|[[load]]|program = "long"|at = 16|[[span]]|name = "lap"|machine = 0|from_pin = 3|to_pin = 4|from_edge = "rise"|to_edge = "fall"|min = 5|max = 6|stalls = ["last", "first"]|[[span]]|name = "lap"|machine = 0|from_pin = 8|to_pin = 7|from_edge = "fall"|to_edge = "rise"|unit = "clocks"|min = 0|max = 1|[[machine]]|id = 0|program = "long"|start = "last"| => 7:e003 16:e000 17:e000 18:e000 19:e000 20:e000 21:e000 22:e000 23:e000 m0 23 16-23 1+0 in 0 jmp 0 out 0x0 set 0x5 side 0x0 shift true true false false 32 32 join false false status false 0 x 0 y 0 pins 0 0 0 0 lap m0 3 true 4 false ticks 5-6 [23 16] lap m0 8 false 7 true clocks 0-1 []
+[[machine]]|id = 3|program = "square"|start = "again"|[[machine]]|id = 1|program = "square"|\
+    [[load]]|program = "square"|at = 5| => \
+    5:e081 6:e101 7:e000 8:0006 m1 5 5-8 1+0 in 0 jmp 0 out 0x0 set 0x5 side 0x0 shift true true false false 32 32 \
+    join false false status false 0 x 0 y 0 m3 6 5-8 1+0 in 0 jmp 0 out 0x0 set 0x5 side 0x0 shift true true false \
+    false 32 32 join false false status false 0 x 0 y 0 pins 0 0 0 0
+load = [{ program = "fixed" }]|[[machine]]|id = 2|program = "fixed"|divider = 2|fraction = 3|in_base = 4|\
+    out_base = 5|set_base = 6|side_base = 7|jmp_pin = 8|out_count = 9|set_count = 1|in_right = false|\
+    out_right = false|autopush = true|autopull = true|join_tx = false|join_rx = true|status_rx = true|\
+    push_threshold = 10|pull_threshold = 11|status_n = 12|x = 13|y = 14| => \
+    7:e003 m2 7 7-7 2+3 in 4 jmp 8 out 5x9 set 6x1 side 7x0 shift false false true true 10 11 join false true \
+    status true 12 x 13 y 14 pins 0 0 0 0
+[[load]]|program = "fixed"|[[load]]|program = "long"|at = 16|[[span]]|name = "lap"|machine = 0|from_pin = 3|\
+    to_pin = 4|from_edge = "rise"|to_edge = "fall"|min = 5|max = 6|stalls = ["last", "first"]|\
+    [[span]]|name = "lap"|machine = 0|from_pin = 8|to_pin = 7|from_edge = "fall"|to_edge = "rise"|unit = "clocks"|\
+    min = 0|max = 1|[[machine]]|id = 0|program = "long"|start = "last"| => \
+    7:e003 16:e000 17:e000 18:e000 19:e000 20:e000 21:e000 22:e000 23:e000 m0 23 16-23 1+0 in 0 jmp 0 out 0x0 set \
+    0x5 side 0x0 shift true true false false 32 32 join false false status false 0 x 0 y 0 pins 0 0 0 0 lap m0 3 \
+    true 4 false ticks 5-6 [23 16] lap m0 8 false 7 true clocks 0-1 []
 "#;
 
 /// Configurations of a second block on the same pins: the first fault, or what the setup says and the pins that the block
@@ -147,24 +164,37 @@ own = [1]| => top: C2
 ### Its machines have the numbers 0 to 3.
 [[machine]]|id = 4| => machine[0].id: C4
 [[load]]|program = "square"|[[load]]|program = "ahead"|at = 3| => load[1].at: C7 3
-[[load]]|program = "fixed"|[[machine]]|id = 3|program = "fixed"|[pins]|own = [1]| => 7:e003 m3 7 7-7 1+0 in 0 jmp 0 out 0x0 set 0x5 side 0x0 shift true true false false 32 32 join false false status false 0 x 0 y 0 pins 0 0 0 0 own 2
+[[load]]|program = "fixed"|[[machine]]|id = 3|program = "fixed"|[pins]|own = [1]| => \
+    7:e003 m3 7 7-7 1+0 in 0 jmp 0 out 0x0 set 0x5 side 0x0 shift true true false false 32 32 join false false \
+    status false 0 x 0 y 0 pins 0 0 0 0 own 2
 "#;
 
 /// Whole files, the first fault, and its kind.
 pub static KINDS: &str = r#"
 [[load]]|program = "square"|[[load]]|program = "ahead"|at = 3| => load[1].at: C7 3 Overlap(3)
-[[load]]|program = "square"|[[machine]]|id = 0|program = "square"|divider = 0|fraction = 1| => machine[0].fraction: C11 Divider
-[[load]]|program = "square"|[[machine]]|id = 2|program = "square"|`63 [[span]]|name = "a"|machine = 2|from_pin = 3|to_pin = 4|from_edge = "rise"|to_edge = "fall"|min = 0|max = 1|`[[span]]|name = "a"|machine = 2|from_pin = 3|to_pin = 4|from_edge = "rise"|to_edge = "fall"|min = 0|max = 16777216| => span[63].max: C4 Range
+[[load]]|program = "square"|[[machine]]|id = 0|program = "square"|divider = 0|fraction = 1| => \
+    machine[0].fraction: C11 Divider
+[[load]]|program = "square"|[[machine]]|id = 2|program = "square"|`63 [[span]]|name = "a"|machine = 2|from_pin = 3|\
+    to_pin = 4|from_edge = "rise"|to_edge = "fall"|min = 0|max = 1|`[[span]]|name = "a"|machine = 2|from_pin = 3|\
+    to_pin = 4|from_edge = "rise"|to_edge = "fall"|min = 0|max = 16777216| => span[63].max: C4 Range
 [pins]|hi = []| => pins: C2 UnknownKey
 "#;
 
 /// Sources, and what the default setup of their programs says, or its fault.
 pub static DEFAULTS: &str = r#"
-.program squarewave|set pindirs, 1|again:|set pins, 1 [1]|set pins, 0|jmp again| => 0:e081 1:e101 2:e000 3:0001 m0 0 0-3 1+0 in 0 jmp 0 out 0x0 set 0x5 side 0x0 shift true true false false 32 32 join false false status false 0 x 0 y 0 pins 0 0 0 0
-.program squarewave|.origin 5|set pindirs, 1|again:|set pins, 1 [1]|set pins, 0|jmp again| => 5:e081 6:e101 7:e000 8:0006 m0 5 5-8 1+0 in 0 jmp 0 out 0x0 set 0x5 side 0x0 shift true true false false 32 32 join false false status false 0 x 0 y 0 pins 0 0 0 0
-.program squarewave|.origin 28|set pindirs, 1|again:|set pins, 1 [1]|set pins, 0|jmp again| => 28:e081 29:e101 30:e000 31:001d m0 28 28-31 1+0 in 0 jmp 0 out 0x0 set 0x5 side 0x0 shift true true false false 32 32 join false false status false 0 x 0 y 0 pins 0 0 0 0
+.program squarewave|set pindirs, 1|again:|set pins, 1 [1]|set pins, 0|jmp again| => \
+    0:e081 1:e101 2:e000 3:0001 m0 0 0-3 1+0 in 0 jmp 0 out 0x0 set 0x5 side 0x0 shift true true false false 32 32 \
+    join false false status false 0 x 0 y 0 pins 0 0 0 0
+.program squarewave|.origin 5|set pindirs, 1|again:|set pins, 1 [1]|set pins, 0|jmp again| => \
+    5:e081 6:e101 7:e000 8:0006 m0 5 5-8 1+0 in 0 jmp 0 out 0x0 set 0x5 side 0x0 shift true true false false 32 32 \
+    join false false status false 0 x 0 y 0 pins 0 0 0 0
+.program squarewave|.origin 28|set pindirs, 1|again:|set pins, 1 [1]|set pins, 0|jmp again| => \
+    28:e081 29:e101 30:e000 31:001d m0 28 28-31 1+0 in 0 jmp 0 out 0x0 set 0x5 side 0x0 shift true true false false \
+    32 32 join false false status false 0 x 0 y 0 pins 0 0 0 0
 .program squarewave|.origin 29|set pindirs, 1|again:|set pins, 1 [1]|set pins, 0|jmp again| => default: C8
-.program ahead|.origin 29|jmp end|set pins, 1|end:| => 29:001f 30:e001 m0 29 29-30 1+0 in 0 jmp 0 out 0x0 set 0x5 side 0x0 shift true true false false 32 32 join false false status false 0 x 0 y 0 pins 0 0 0 0
+.program ahead|.origin 29|jmp end|set pins, 1|end:| => \
+    29:001f 30:e001 m0 29 29-30 1+0 in 0 jmp 0 out 0x0 set 0x5 side 0x0 shift true true false false 32 32 join \
+    false false status false 0 x 0 y 0 pins 0 0 0 0
 .program ahead|.origin 30|jmp end|set pins, 1|end:| => default: C8
  => default: C5
 "#;

@@ -7,7 +7,8 @@ pub static WORDS: &str = r#"
 |; nothing| => 
 .define a 1|.define b a + 1 => 
 .program squarewave|set pindirs, 1|again:|set pins, 1 [1]|set pins, 0|jmp again => squarewave e081 e101 e000 0001
-.program uart_tx|.side_set 1 opt|pull side 1 [7]|set x, 7 side 0 [7]|bitloop:|out pins, 1|jmp x-- bitloop [6] => uart_tx 9fa0 f727 6001 0642
+.program uart_tx|.side_set 1 opt|pull side 1 [7]|set x, 7 side 0 [7]|bitloop:|out pins, 1|jmp x-- bitloop [6] => \
+    uart_tx 9fa0 f727 6001 0642
 ### Each program counts its words, and has its own symbols, rule and wraps.
 .program a|nop|end: jmp end|.program b|.side_set 1|end: jmp end side 1|nop side 0 => a a042 0001 b 1000 a042
 ### A symbol may be used before its line; it is looked up in the program first.
@@ -39,7 +40,9 @@ pub static WORDS: &str = r#"
 
 /// A source, and each of its programs with its origin, its side-set bits, its wraps and its symbols.
 pub static SHAPES: &str = r#"
-.program ws2812|.side_set 1|.define public T1 2|.define public T2 5|.define public T3 3|.wrap_target|bitloop:|out x, 1 side 0 [T3 - 1]|jmp !x do_zero side 1 [T1 - 1]|do_one:|jmp bitloop side 1 [T2 - 1]|do_zero:|nop side 0 [T2 - 1]|.wrap => ws2812 none 1 0..3 T1=2+ T2=5+ T3=3+ bitloop=0: do_one=2: do_zero=3:
+.program ws2812|.side_set 1|.define public T1 2|.define public T2 5|.define public T3 3|.wrap_target|bitloop:|\
+    out x, 1 side 0 [T3 - 1]|jmp !x do_zero side 1 [T1 - 1]|do_one:|jmp bitloop side 1 [T2 - 1]|do_zero:|\
+    nop side 0 [T2 - 1]|.wrap => ws2812 none 1 0..3 T1=2+ T2=5+ T3=3+ bitloop=0: do_one=2: do_zero=3:
 .program p|nop|nop => p none 0 0..1
 .program p|nop|.wrap_target|nop|nop|.wrap|nop => p none 0 1..2
 .program p|nop|.wrap|.wrap_target|nop => p none 0 1..0

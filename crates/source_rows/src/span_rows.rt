@@ -35,7 +35,8 @@ name = "a"|machine = 2|from_pin = 3|to_pin = 3|from_edge = "rise"|to_edge = "fal
 
 /// Begins the table of a span from a rise of pin 3 to a fall of pin 4.
 pub const ENDS: &str =
-    r#"[[load]]|program = "square"|at = 5|[[machine]]|id = 2|program = "square"|start = "again"|[[span]]|name = "a"|machine = 2|from_pin = 3|to_pin = 4|from_edge = "rise"|to_edge = "fall"|"#;
+    r#"[[load]]|program = "square"|at = 5|[[machine]]|id = 2|program = "square"|start = "again"
+[[span]]|name = "a"|machine = 2|from_pin = 3|to_pin = 4|from_edge = "rise"|to_edge = "fall"|"#;
 
 /// What goes on so, and the first fault.
 pub static BOUNDS: &str = r#"

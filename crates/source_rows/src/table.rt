@@ -1,4 +1,5 @@
-//! Tables of rows: a text with a row a line, which is a source, ` => ` and what is told of it.
+//! Tables of rows: a text with a row a line, which is a source, ` => ` and what is told of it. A line that ends with `\` goes on
+//! in the next one, without the blanks that it begins with.
 use crate::telling::{Subject, tell};
 use std::alloc::{AllocError, Global};
 use std::test::Fail;
@@ -6,11 +7,23 @@ use std::test::Fail;
 /// What is told of `before` and a row's source is what the row says, for each row of the table. The error names the row, and
 /// what was told.
 pub fn rows_hold(alloc: Global, subject: Subject, before: &str, table: &str) -> Result<(), Fail> {
+    let mut row = String::new(alloc);
     for line in table.lines() {
-        let mut text = String::new(alloc);
-        if is_row(line) && row_holds(alloc, subject, before, line, &mut text) != Some(true) {
-            return Err(Fail::new(format_args!("{line}, but told: {text}")));
+        let part = if row.is_empty() {
+            line
+        } else {
+            line.trim_start()
+        };
+        if let Some(begun) = part.strip_suffix('\\') {
+            row.push_str(begun)?;
+            continue;
         }
+        row.push_str(part)?;
+        let mut text = String::new(alloc);
+        if is_row(&row) && row_holds(alloc, subject, before, &row, &mut text) != Some(true) {
+            return Err(Fail::new(format_args!("{row}, but told: {text}")));
+        }
+        row.clear();
     }
     Ok(())
 }
