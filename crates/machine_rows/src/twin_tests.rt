@@ -1,6 +1,6 @@
 //! Two blocks on one set of pins, with both kinds of FIFO over the system's ports. A row was worked by hand from the rules
 //! of the datasheet and of this profile.
-ghost use Rattle.std.specs.Prelude.{◌≤◌};
+ghost use Rattle.std.specs.Prelude.{◌≡◌, ◌≤◌};
 
 use crate::block_row::Seen::{Levels, Stirs, Tx};
 use crate::block_row::{Keys, LOW, PLAIN, Pins, Row, setup_of};
@@ -149,7 +149,7 @@ pub(crate) static ROWS: [TwinRow; 4] = [
     },
 ];
 
-/// The row's clocks, one after the other: the first after which something isn't seen.
+/// The first clock of a row after which something isn't seen.
 fn unseen<F: Fifo>(
     alloc: Global,
     row: &TwinRow,
@@ -158,9 +158,21 @@ fn unseen<F: Fifo>(
 ) -> Result<Option<u64>, AllocError> {
     let one = setup_of(&row.first, Spans::empty(alloc));
     let other = setup_of(&row.second, Spans::empty(alloc));
+    let mut twin = Twin::<F>::new(alloc, &one, &other, row.own)?;
+    Ok(first_unseen(&mut twin, row, first, second))
+}
+
+/// The row's clocks, one after the other, of two blocks in clock 0: the first after which something isn't seen.
+fn first_unseen<F: Fifo>(
+    twin: &mut Twin<F>,
+    row: &TwinRow,
+    first: &Schedule,
+    second: &Schedule,
+) -> Option<u64>
+    requires { twin.old.twin.first.clock ≡ 0 }
+{
     let mut first_ports = HostPorts::new(first);
     let mut second_ports = HostPorts::new(second);
-    let mut twin = Twin::<F>::new(alloc, &one, &other, row.own)?;
     for clock in 0..clocks_of(&row.first).max(clocks_of(&row.second)) {
         let requests = twin.requests();
         let first_due = first_ports.at(clock, &requests.0);
@@ -171,10 +183,10 @@ fn unseen<F: Fifo>(
         if !are_seen(&row.first, &samples.0, stir, clock)
             || !are_seen(&row.second, &samples.1, stir, clock)
         {
-            return Ok(Some(clock));
+            return Some(clock);
         }
     }
-    Ok(None)
+    None
 }
 
 /// A row runs with both kinds of FIFO.

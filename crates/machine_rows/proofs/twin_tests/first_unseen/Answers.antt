@@ -1,7 +1,7 @@
 use Rattle.std.proofs.Common.{ℕ, ◌+◌, ap, ◌∙◌}
 use Rattle.dreq_pacing.specs.Ports.{Ports}
 use Rattle.block_core.specs.Twin.{TwinRun, twin_next}
-use Rattle.machine_rows.proofs.twin_tests.unseen.Goals as goal
+use Rattle.machine_rows.proofs.twin_tests.first_unseen.Goals as goal
 
 pub loop-clock-preserved : goal.loop-clock-preserved
 unfolding twin_next

@@ -1,5 +1,5 @@
 use Rattle.std.proofs.Common.{◌≡◌}
-use Rattle.machine_rows.proofs.twin_tests.unseen.Given as goal
+use Rattle.machine_rows.proofs.twin_tests.first_unseen.Given as goal
 
 -- the ports and both blocks are at this clock
 abbrev pub invariant-loop-clock : goal.invariant-loop-clock
