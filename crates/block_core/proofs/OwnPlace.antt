@@ -10,8 +10,7 @@ use Rattle.pin_matrix.specs.declared.machine.MachineSetup.{MachineSetup}
 use Rattle.pin_matrix.specs.declared.setup.Setup.{Setup}
 use Rattle.sm_registers.specs.declared.registers.Registers.{Registers}
 use Rattle.sm_registers.specs.declared.view.View.{View}
-use Rattle.sm_registers.specs.declared.intent.Intent.{Intent}
-use Rattle.sm_registers.specs.Effects.{no_intent}
+use Rattle.sm_registers.specs.Intents.{Intent, no_intent, two_writes}
 use Rattle.sm_registers.specs.Laws.{WritesPins}
 use Rattle.sm_registers.specs.Queues.{Queues}
 use Rattle.sm_registers.specs.Rules.{holds}
@@ -19,7 +18,7 @@ use Rattle.sm_registers.specs.State.{queues_of}
 use Rattle.sm_registers.specs.Tick.{tick_of}
 use Rattle.dreq_pacing.specs.declared.due.Due.{Due}
 use Rattle.block_core.specs.Slots.{Slot, first_slot, lined, has_tick, acted, place_after, place_intent}
-use Rattle.block_core.specs.Block.{BlockState, first_state, first_place, stepped, view_of, intents_of, two_writes, level_writes}
+use Rattle.block_core.specs.Block.{BlockState, first_state, first_place, stepped, view_of, intents_of, level_writes}
 use Rattle.block_core.specs.Following.{Follows, place_at, intent_in, leaves_level, OthersLeave}
 use Rattle.block_core.proofs.Writes.{two_of}
 
@@ -50,10 +49,15 @@ TicksWriteOwnPins =
     (s : MachineSetup) (v : View) (q : Queues) (r : Registers) (p : ℕ) → p < 32 → holds s.out p ≡ false → holds s.set p ≡ false
     → (s.side_rule.pindirs || not (holds s.side p)) ≡ true → AllByRecursion (IsFree p) (tick_of s v q r).1.level
 
-place_writes : TicksWritePins → IsWrite (0, 0) → (v : View) (d : Due) (place : Option Slot) → AllByRecursion IsWrite (place_intent v d place).level
+pub place_writes : TicksWritePins → IsWrite (0, 0) → (v : View) (d : Due) (place : Option Slot) → AllByRecursion IsWrite (place_intent v d place).level
 place_writes law none v d None = (none, (none, tt))
 place_writes law none v d (Some m) =
     of_intent (λ i. AllByRecursion IsWrite i.level) v d (none, (none, tt)) m (law m.machine.setup v (queues_of m.machine.ports.fifos) m.machine.registers).level
+
+pub place_turns : TicksWritePins → IsWrite (0, 0) → (v : View) (d : Due) (place : Option Slot) → AllByRecursion IsWrite (place_intent v d place).direction
+place_turns law none v d None = (none, (none, tt))
+place_turns law none v d (Some m) =
+    of_intent (λ i. AllByRecursion IsWrite i.direction) v d (none, (none, tt)) m (law m.machine.setup v (queues_of m.machine.ports.fifos) m.machine.registers).direction
 
 all_writes : TicksWritePins → IsWrite (0, 0) → (v : View) (d : Due) (places : List (Option Slot)) → AllByRecursion IsWrite (level_writes (intents_of v d places))
 all_writes law none v d [] = tt

@@ -6,12 +6,9 @@ use Rattle.std.specs.Int.Bits.{or_zero_l}
 use Rattle.fifo_pair.specs.Fifos.{Fifos, settled}
 use Rattle.pin_matrix.specs.declared.machine.MachineSetup.{MachineSetup}
 use Rattle.pin_matrix.specs.Pins.{merged}
-use Rattle.sm_registers.specs.declared.intent.Intent.{Intent}
-use Rattle.sm_registers.specs.declared.intent.Kind.{Kind}
-use Rattle.sm_registers.specs.declared.intent.Kind.TheVariants.{Off, Delay}
+use Rattle.sm_registers.specs.Intents.{Intent, Kind, Off, Delay, no_intent}
 use Rattle.sm_registers.specs.declared.registers.Registers.{Registers}
 use Rattle.sm_registers.specs.declared.view.View.{View}
-use Rattle.sm_registers.specs.Effects.{no_intent}
 use Rattle.sm_registers.specs.Idling.{is_counting, only_counts}
 use Rattle.sm_registers.specs.Queues.{Queues}
 use Rattle.sm_registers.specs.State.{queues_of, settled_ports, uses_fifos}

@@ -11,15 +11,14 @@ use Rattle.pin_matrix.specs.Pads.{Synchroniser}
 use Rattle.pin_matrix.specs.Pins.{merged}
 use Rattle.sm_registers.specs.declared.registers.Registers.{Registers}
 use Rattle.sm_registers.specs.declared.view.View.{View}
-use Rattle.sm_registers.specs.declared.intent.Intent.{Intent}
-use Rattle.sm_registers.specs.Effects.{no_intent}
+use Rattle.sm_registers.specs.Intents.{Intent, no_intent, two_writes}
 use Rattle.sm_registers.specs.Idling.{stirs, only_counts, only_waits}
 use Rattle.sm_registers.specs.Queues.{Queues}
 use Rattle.sm_registers.specs.State.{queues_of, settled_ports}
 use Rattle.sm_registers.specs.Tick.{tick_of}
 use Rattle.sm_registers.specs.Told.{IsKnown, AreUp}
 use Rattle.dreq_pacing.specs.Due.{quiet, no_machine}
-use Rattle.block_core.specs.Block.{BlockState, Run, next, next_over, stepped, run_from, view_of, seen_over, pads_in, two_writes, level_writes, direction_writes, with_all}
+use Rattle.block_core.specs.Block.{BlockState, Run, next, next_over, stepped, run_from, view_of, seen_over, pads_in, level_writes, direction_writes, with_all}
 use Rattle.block_core.specs.Kept.{memory_alone, IsTold, AreTold}
 use Rattle.block_core.specs.Resting.{ticks_in, rested_slot, rested_place, rested}
 use Rattle.block_core.specs.Slots.{Slot, lined, has_tick, acted, settled_slot, slot_after, place_after, place_intent}

@@ -8,8 +8,7 @@ use Rattle.pin_matrix.specs.Pins.{IsWrite, merged, last_of}
 use Rattle.pin_matrix.specs.Pads as pads
 use Rattle.pin_matrix.specs.Pads.{Synchroniser, seen_of}
 use Rattle.sm_registers.specs.declared.view.View.{View}
-use Rattle.sm_registers.specs.declared.intent.Intent.{Intent}
-use Rattle.sm_registers.specs.Effects.{no_intent}
+use Rattle.sm_registers.specs.Intents.{Intent, no_intent}
 use Rattle.dreq_pacing.specs.declared.due.Due.{Due}
 use Rattle.block_core.specs.declared.merging.Wanted.{Wanted}
 use Rattle.block_core.specs.Slots.{Slot, place_after, place_intent, place_uses_fifos}
@@ -52,8 +51,10 @@ pub record IsStep (d : Due) (memory : List ℕ) (levels directions flags outside
 pub all_added : (d : Due) (memory : List ℕ) (clock levels directions flags outside : ℕ) (sync : Synchroniser) (a b c e : Option Slot) (outside2 pad seen : ℕ) (w0 w1 w2 w3 w4 : Wanted) → IsStep d memory levels directions flags outside sync a b c e outside2 pad seen w0 w1 w2 w3 w4 →
     let wanted = wanted_over pad d (run memory clock levels directions flags outside sync a b c e) in
     w4 ≡ record {
-      levels = merged levels (level_writes wanted);
-      directions = merged directions (direction_writes wanted);
+      outputs = record {
+        levels = merged levels (level_writes wanted);
+        directions = merged directions (direction_writes wanted);
+      };
       clears = any_of (map (λ (i : Intent). i.clears) wanted);
       sets = any_of (map (λ (i : Intent). i.sets) wanted);
     }
@@ -62,7 +63,7 @@ all_added d memory clock levels directions flags outside sync a b c e outside2 p
     rw (s.fourth, s.third, s.second, s.first, s.start, s.sees) refl
 
 -- the run after the clock
-pub next_run : (d : Due) (memory : List ℕ) (clock levels directions flags outside : ℕ) (sync : Synchroniser) (a b c e : Option Slot) (outside2 pad seen : ℕ) (w0 w1 w2 w3 w4 : Wanted) (flags2 : ℕ) (sync2 : Synchroniser) (a2 b2 c2 e2 : Option Slot) → IsStep d memory levels directions flags outside sync a b c e outside2 pad seen w0 w1 w2 w3 w4 → flags2 ≡ merged_flags flags w4.clears w4.sets → sync2 ≡ pads.stepped pad sync → a2 ≡ place_after (view memory seen flags) d a → b2 ≡ place_after (view memory seen flags) d b → c2 ≡ place_after (view memory seen flags) d c → e2 ≡ place_after (view memory seen flags) d e → run memory (clock + 1) w4.levels w4.directions flags2 outside2 sync2 a2 b2 c2 e2 ≡ next_over pad d (run memory clock levels directions flags outside sync a b c e)
+pub next_run : (d : Due) (memory : List ℕ) (clock levels directions flags outside : ℕ) (sync : Synchroniser) (a b c e : Option Slot) (outside2 pad seen : ℕ) (w0 w1 w2 w3 w4 : Wanted) (flags2 : ℕ) (sync2 : Synchroniser) (a2 b2 c2 e2 : Option Slot) → IsStep d memory levels directions flags outside sync a b c e outside2 pad seen w0 w1 w2 w3 w4 → flags2 ≡ merged_flags flags w4.clears w4.sets → sync2 ≡ pads.stepped pad sync → a2 ≡ place_after (view memory seen flags) d a → b2 ≡ place_after (view memory seen flags) d b → c2 ≡ place_after (view memory seen flags) d c → e2 ≡ place_after (view memory seen flags) d e → run memory (clock + 1) w4.outputs.levels w4.outputs.directions flags2 outside2 sync2 a2 b2 c2 e2 ≡ next_over pad d (run memory clock levels directions flags outside sync a b c e)
 unfolding stepped
 next_run d memory clock levels directions flags outside sync a b c e outside2 pad seen w0 w1 w2 w3 w4 flags2 sync2 a2 b2 c2 e2 s f y ea eb ec ee =
     rw (
@@ -78,14 +79,14 @@ next_run d memory clock levels directions flags outside sync a b c e outside2 pa
     ) refl
 
 -- each pin has the bit of the last write
-pub levels_are_last : (d : Due) (memory : List ℕ) (clock levels directions flags outside : ℕ) (sync : Synchroniser) (a b c e : Option Slot) (outside2 pad seen : ℕ) (w0 w1 w2 w3 w4 : Wanted) → IsStep d memory levels directions flags outside sync a b c e outside2 pad seen w0 w1 w2 w3 w4 → LastWriteCounts → IsWrite (0, 0) → AllByRecursion IsWrite (place_intent (view memory seen flags) d a).level → AllByRecursion IsWrite (place_intent (view memory seen flags) d b).level → AllByRecursion IsWrite (place_intent (view memory seen flags) d c).level → AllByRecursion IsWrite (place_intent (view memory seen flags) d e).level → TakesLastWrites levels w4.levels (level_writes (wanted_over pad d (run memory clock levels directions flags outside sync a b c e)))
+pub levels_are_last : (d : Due) (memory : List ℕ) (clock levels directions flags outside : ℕ) (sync : Synchroniser) (a b c e : Option Slot) (outside2 pad seen : ℕ) (w0 w1 w2 w3 w4 : Wanted) → IsStep d memory levels directions flags outside sync a b c e outside2 pad seen w0 w1 w2 w3 w4 → LastWriteCounts → IsWrite (0, 0) → AllByRecursion IsWrite (place_intent (view memory seen flags) d a).level → AllByRecursion IsWrite (place_intent (view memory seen flags) d b).level → AllByRecursion IsWrite (place_intent (view memory seen flags) d c).level → AllByRecursion IsWrite (place_intent (view memory seen flags) d e).level → TakesLastWrites levels w4.outputs.levels (level_writes (wanted_over pad d (run memory clock levels directions flags outside sync a b c e)))
 levels_are_last d memory clock levels directions flags outside sync a b c e outside2 pad seen w0 w1 w2 w3 w4 s law none ha hb hc he p below =
     let v = view memory seen flags in
     let writes = levels_are_writes none (place_intent v d a) (place_intent v d b) (place_intent v d c) (place_intent v d e) ha hb hc he in
     let added = all_added d memory clock levels directions flags outside sync a b c e outside2 pad seen w0 w1 w2 w3 w4 s in
     rw added (law p levels _ below (rw s.sees at writes))
 
-pub directions_are_last : (d : Due) (memory : List ℕ) (clock levels directions flags outside : ℕ) (sync : Synchroniser) (a b c e : Option Slot) (outside2 pad seen : ℕ) (w0 w1 w2 w3 w4 : Wanted) → IsStep d memory levels directions flags outside sync a b c e outside2 pad seen w0 w1 w2 w3 w4 → LastWriteCounts → IsWrite (0, 0) → AllByRecursion IsWrite (place_intent (view memory seen flags) d a).direction → AllByRecursion IsWrite (place_intent (view memory seen flags) d b).direction → AllByRecursion IsWrite (place_intent (view memory seen flags) d c).direction → AllByRecursion IsWrite (place_intent (view memory seen flags) d e).direction → TakesLastWrites directions w4.directions (direction_writes (wanted_over pad d (run memory clock levels directions flags outside sync a b c e)))
+pub directions_are_last : (d : Due) (memory : List ℕ) (clock levels directions flags outside : ℕ) (sync : Synchroniser) (a b c e : Option Slot) (outside2 pad seen : ℕ) (w0 w1 w2 w3 w4 : Wanted) → IsStep d memory levels directions flags outside sync a b c e outside2 pad seen w0 w1 w2 w3 w4 → LastWriteCounts → IsWrite (0, 0) → AllByRecursion IsWrite (place_intent (view memory seen flags) d a).direction → AllByRecursion IsWrite (place_intent (view memory seen flags) d b).direction → AllByRecursion IsWrite (place_intent (view memory seen flags) d c).direction → AllByRecursion IsWrite (place_intent (view memory seen flags) d e).direction → TakesLastWrites directions w4.outputs.directions (direction_writes (wanted_over pad d (run memory clock levels directions flags outside sync a b c e)))
 directions_are_last d memory clock levels directions flags outside sync a b c e outside2 pad seen w0 w1 w2 w3 w4 s law none ha hb hc he p below =
     let v = view memory seen flags in
     let writes = directions_are_writes none (place_intent v d a) (place_intent v d b) (place_intent v d c) (place_intent v d e) ha hb hc he in

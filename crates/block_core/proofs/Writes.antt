@@ -4,8 +4,8 @@ use Rattle.std.proofs.lemmas.Bool.{and_parts}
 use Rattle.std.proofs.lemmas.Bool.Decides.{nat_tests}
 use Rattle.std.specs.List.{AllByRecursion, list_all}
 use Rattle.pin_matrix.specs.Pins.{IsWrite}
-use Rattle.sm_registers.specs.declared.intent.Intent.{Intent}
-use Rattle.block_core.specs.Block.{two_writes, level_writes, direction_writes}
+use Rattle.sm_registers.specs.Intents.{Intent, two_writes}
+use Rattle.block_core.specs.Block.{level_writes, direction_writes}
 
 pub two_of : IsWrite (0, 0) → (writes : List (ℕ × ℕ)) (rest : List (ℕ × ℕ)) → AllByRecursion IsWrite writes → AllByRecursion IsWrite rest → AllByRecursion IsWrite (two_writes writes ++ rest)
 two_of none [] rest h k = (none, (none, k))

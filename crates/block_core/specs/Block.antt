@@ -17,7 +17,7 @@ use Rattle.pin_matrix.specs.Pins.{written, merged, last_of}
 use Rattle.pin_matrix.specs.Pads as pads
 use Rattle.pin_matrix.specs.Pads.{Synchroniser, pads_of, seen_of, first_synchroniser}
 use Rattle.sm_registers.specs.declared.view.View.{View}
-use Rattle.sm_registers.specs.declared.intent.Intent.{Intent}
+use Rattle.sm_registers.specs.Intents.{Intent, two_writes}
 use Rattle.dreq_pacing.specs.declared.due.Due.{Due}
 use Rattle.block_core.specs.Slots.{Slot, first_slot, place_after, place_intent, place_uses_fifos}
 
@@ -53,10 +53,6 @@ pads_in d b = pads_of b.levels b.directions (outside_after d b.outside)
 -- what every machine sees in a clock: the flags are those at its start
 abbrev pub view_of : (memory : List ℕ) → (seen : ℕ) → BlockState → View
 view_of memory seen b = record { memory = memory; seen = seen; flags = record { up = b.flags } }
-
--- an intent's writes to levels, or to directions: the instruction's, then side-set's
-abbrev pub two_writes : List (ℕ × ℕ) → List (ℕ × ℕ)
-two_writes writes = slice_index_or writes 0 (0, 0) ∷ slice_index_or writes 1 (0, 0) ∷ []
 
 -- what the machines want in a clock, in order of their numbers
 abbrev pub intents_of : View → Due → List (Option Slot) → List Intent

@@ -2,20 +2,21 @@
 --   nothing_wanted   of no machine
 --   with_intent      with one machine more
 use Rattle.std.specs.Prelude.{ℕ, bit_or}
-use Rattle.pin_matrix.specs.Pins.{merged}
-use Rattle.sm_registers.specs.declared.intent.Intent.{Intent}
+use Rattle.sm_registers.specs.Intents.{Intent, written_by}
 use Rattle.block_core.specs.declared.merging.Wanted.{Wanted}
-use Rattle.block_core.specs.Block.{two_writes}
 
 -- levels and directions stay, and no flag is lowered or raised
 unfoldable pub nothing_wanted : (levels directions : ℕ) → Wanted
-nothing_wanted levels directions = record { levels = levels; directions = directions; clears = 0; sets = 0 }
+nothing_wanted levels directions = record {
+  outputs = record { levels = levels; directions = directions };
+  clears = 0;
+  sets = 0;
+}
 
 -- its writes take precedence over those of the machines before it
 unfoldable pub with_intent : Wanted → Intent → Wanted
 with_intent w i = record {
-  levels = merged w.levels (two_writes i.level);
-  directions = merged w.directions (two_writes i.direction);
+  outputs = written_by w.outputs i;
   clears = bit_or w.clears i.clears;
   sets = bit_or w.sets i.sets;
 }

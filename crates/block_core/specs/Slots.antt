@@ -14,8 +14,7 @@ use Rattle.clock_divider.specs.Ticks.{is_tick}
 use Rattle.pin_matrix.specs.declared.machine.MachineSetup.{MachineSetup}
 use Rattle.sm_registers.specs.declared.registers.Registers.{Registers}
 use Rattle.sm_registers.specs.declared.view.View.{View}
-use Rattle.sm_registers.specs.declared.intent.Intent.{Intent}
-use Rattle.sm_registers.specs.Effects.{no_intent}
+use Rattle.sm_registers.specs.Intents.{Intent, no_intent}
 use Rattle.sm_registers.specs.Idling.{is_counting}
 use Rattle.sm_registers.specs.Tick.{tick_of}
 use Rattle.sm_registers.specs.State.{MachineState, first_machine, queues_of, settled_ports, uses_fifos}

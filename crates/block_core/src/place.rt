@@ -1,11 +1,10 @@
 //! A place of a block: its machine, where one is configured.
-ghost use Rattle.std.specs.Prelude.{◌≡◌, ◌<◌, Some, option_map, IfOk};
-ghost use Rattle.std.specs.List.{AllByRecursion};
-ghost use Rattle.pin_matrix.specs.Pins.{IsWrite};
+ghost use Rattle.std.specs.Prelude.{◌≡◌, ◌<◌, true, Some, option_map, IfOk};
 ghost use Rattle.block_core.specs.Kept.{IsInTime};
 ghost use Rattle.block_core.specs.Merging.{with_intent};
 ghost use Rattle.block_core.specs.Shown.{Shows, shown_in, moved_in, with_shown};
-ghost use Rattle.block_core.specs.Slots.{doing, first_slot, place_after, place_intent, place_uses_fifos};
+ghost use Rattle.dreq_pacing.specs.Due.{quiet};
+ghost use Rattle.block_core.specs.Slots.{doing, first_slot, has_tick, place_after, place_intent, place_uses_fifos, slot_after, slot_intent, slot_uses_fifos};
 
 use crate::Sample;
 use crate::merging::Wanted;
@@ -13,7 +12,7 @@ use crate::slot::Slot;
 use dreq_pacing::Due;
 use fifo_pair::{Fifo, a_quiet_clock_changes_nothing};
 use pin_matrix::MachineSetup;
-use sm_registers::{Intent, Shown, View};
+use sm_registers::{Shown, View, Wants};
 use std::alloc::{AllocError, Global};
 
 /// The place of a setup's machine.
@@ -49,22 +48,93 @@ pub(crate) fn step<F: Fifo>(
         (place_intent view.now (doing due.entry) slot.old) }
     ensures used { result ≡ place_uses_fifos view.now (doing due.entry) slot.old }
     ensures sample { sample.new ≡ with_shown place (shown_in slot.new) sample.old }
-    ensures level { AllByRecursion IsWrite
-        (place_intent view.now (doing due.entry) slot.old).level }
-    ensures direction { AllByRecursion IsWrite
-        (place_intent view.now (doing due.entry) slot.old).direction }
 {
-    a_quiet_clock_changes_nothing();
     let Some(slot) = slot else {
         return false;
     };
-    if due.is_none() && slot.pass() {
+    match due {
+        None => quiet_step(slot, view, wanted, place, sample),
+        Some(due) => due_step(slot, view, due, wanted, place, sample),
+    }
+}
+
+/// A clock of a machine in which the system does nothing. One that it only passes is no call.
+#[inline(always)]
+fn quiet_step<F: Fifo>(
+    slot: &mut Slot<F>,
+    view: &View,
+    wanted: &mut Wanted,
+    place: usize,
+    sample: &mut Sample,
+) -> bool
+    requires time { IsInTime (Some slot.old) }
+    requires place { place < 4 }
+    requires shows { Shows place (Some slot.old) sample.old }
+    ensures after { slot.new ≡ slot_after view.now quiet slot.old }
+    ensures wanted { wanted.new ≡ with_intent wanted.old (slot_intent view.now quiet slot.old) }
+    ensures used { result ≡ slot_uses_fifos view.now quiet slot.old }
+    ensures sample { sample.new ≡ with_shown place (shown_in (Some slot.new)) sample.old }
+{
+    a_quiet_clock_changes_nothing();
+    if slot.pass() {
         return false;
     }
-    let mut intent = Intent::none();
-    let used = slot.clock(view, due, &mut intent);
-    wanted.add(&intent);
-    if used || intent.sticky != 0 {
+    act_alone(slot, view, wanted, place, sample)
+}
+
+/// A clock in which the system does nothing and the machine acts. It is one piece of code, which all four call.
+#[inline(never)]
+#[tactic(auto, unfolding(crate::specs::Merging::with_intent))]
+fn act_alone<F: Fifo>(
+    slot: &mut Slot<F>,
+    view: &View,
+    wanted: &mut Wanted,
+    place: usize,
+    sample: &mut Sample,
+) -> bool
+    requires tick { has_tick slot.old ≡ true }
+    requires time { IsInTime (Some slot.old) }
+    requires place { place < 4 }
+    requires shows { Shows place (Some slot.old) sample.old }
+    ensures after { slot.new ≡ slot_after view.now quiet slot.old }
+    ensures wanted { wanted.new ≡ with_intent wanted.old (slot_intent view.now quiet slot.old) }
+    ensures used { result ≡ slot_uses_fifos view.now quiet slot.old }
+    ensures sample { sample.new ≡ with_shown place (shown_in (Some slot.new)) sample.old }
+{
+    a_quiet_clock_changes_nothing();
+    let mut wants = Wants::none();
+    let used = slot.quiet_tick(view, &mut wanted.outputs, &mut wants);
+    wanted.add_flags(&wants);
+    if used || wants.sticky != 0 {
+        refresh(slot, place, sample);
+    }
+    used
+}
+
+/// A clock of a machine in which the system does something.
+#[inline(never)]
+#[tactic(auto, unfolding(crate::specs::Merging::with_intent))]
+fn due_step<F: Fifo>(
+    slot: &mut Slot<F>,
+    view: &View,
+    due: &Due,
+    wanted: &mut Wanted,
+    place: usize,
+    sample: &mut Sample,
+) -> bool
+    requires time { IsInTime (Some slot.old) }
+    requires place { place < 4 }
+    requires shows { Shows place (Some slot.old) sample.old }
+    ensures after { slot.new ≡ slot_after view.now due.now slot.old }
+    ensures wanted { wanted.new ≡ with_intent wanted.old (slot_intent view.now due.now slot.old) }
+    ensures used { result ≡ slot_uses_fifos view.now due.now slot.old }
+    ensures sample { sample.new ≡ with_shown place (shown_in (Some slot.new)) sample.old }
+{
+    a_quiet_clock_changes_nothing();
+    let mut wants = Wants::none();
+    let used = slot.clock(view, Some(due), &mut wanted.outputs, &mut wants);
+    wanted.add_flags(&wants);
+    if used || wants.sticky != 0 {
         refresh(slot, place, sample);
     }
     used

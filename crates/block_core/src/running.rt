@@ -21,7 +21,7 @@ use dreq_pacing::{Due, Requests};
 use fifo_pair::Fifo;
 use irq_flags::Flags;
 use pin_matrix::{Setup, Sync, no_write_changes_nothing, pad_of, the_last_write_counts};
-use sm_registers::{View, a_calm_tick_tells_nothing_new};
+use sm_registers::{Outputs, View, a_calm_tick_tells_nothing_new, writes_are_of_pins};
 use std::alloc::{AllocError, Global};
 use std::marker::Model;
 
@@ -34,8 +34,8 @@ pub(crate) struct Running<F: Fifo> {
     fourth: Option<Slot<F>>,
     // What the machines see; `seen` is that of the last clock.
     view: View,
-    levels: u32,
-    directions: u32,
+    // The pins as they are, and what the machines want of the flags in the clock that is worked out.
+    wanted: Wanted,
     outside: u32,
     sync: Sync,
     clock: u64,
@@ -52,12 +52,12 @@ impl<F: Fifo> Model for Running<F> {
     ghost view = { λ b. record {
       memory = b.view.memory;
       clock = b.clock;
-      state = state_of b.first b.second b.third b.fourth b.levels b.directions b.view.flags.up b.outside;
+      state = state_of b.first b.second b.third b.fourth b.wanted.outputs.levels b.wanted.outputs.directions b.view.flags.up b.outside;
       synchroniser = b.sync;
     } };
 
     ghost invariant = { λ b. AreInStep b.view.memory b.clock b.first b.second b.third b.fourth
-        × IsSampleOf (state_of b.first b.second b.third b.fourth b.levels b.directions b.view.flags.up b.outside) b.sample };
+        × IsSampleOf (state_of b.first b.second b.third b.fourth b.wanted.outputs.levels b.wanted.outputs.directions b.view.flags.up b.outside) b.sample };
 }
 
 impl<F: Fifo> Running<F> {
@@ -76,8 +76,14 @@ impl<F: Fifo> Running<F> {
                 seen: 0,
                 flags: Flags { up: 0 },
             },
-            levels: setup.level,
-            directions: setup.out,
+            wanted: Wanted {
+                outputs: Outputs {
+                    levels: setup.level,
+                    directions: setup.out,
+                },
+                clears: 0,
+                sets: 0,
+            },
             outside: setup.high,
             sync: Sync::new(pad, setup.bypass),
             clock: 0,
@@ -98,7 +104,7 @@ impl<F: Fifo> Running<F> {
     pub fn levels(&self) -> u32
         ensures { result ≡ self.now.state.levels }
     {
-        self.levels
+        self.wanted.outputs.levels
     }
 
     /// The directions.
@@ -106,7 +112,7 @@ impl<F: Fifo> Running<F> {
     pub fn directions(&self) -> u32
         ensures { result ≡ self.now.state.directions }
     {
-        self.directions
+        self.wanted.outputs.directions
     }
 
     /// The levels that the outside drives in a clock in which the system does this, where it does anything.
@@ -122,7 +128,7 @@ impl<F: Fifo> Running<F> {
     pub fn pads(&self, due: Option<&Due>) -> u32
         ensures { result ≡ pads_in (doing due.entry) self.now.state }
     {
-        pad_of(self.levels, self.directions, self.outside(due))
+        pad_of(self.levels(), self.directions(), self.outside(due))
     }
 
     /// One clock with these pads, in which the system does this, where it does anything. Every machine with a tick acts from
@@ -140,21 +146,20 @@ impl<F: Fifo> Running<F> {
         the_last_write_counts();
         no_write_changes_nothing();
         a_calm_tick_tells_nothing_new();
+        writes_are_of_pins();
         self.outside = outside_after(self.outside, due);
         let seen = self.sync.seen(pad);
         self.view.seen = seen;
         self.sync.step(pad);
-        let mut wanted = Wanted::new(self.levels, self.directions);
-        let sample = &mut self.sample;
-        let first = step(&mut self.first, &self.view, due, &mut wanted, 0, sample);
-        let second = step(&mut self.second, &self.view, due, &mut wanted, 1, sample);
-        let third = step(&mut self.third, &self.view, due, &mut wanted, 2, sample);
-        let fourth = step(&mut self.fourth, &self.view, due, &mut wanted, 3, sample);
-        self.levels = wanted.levels;
-        self.directions = wanted.directions;
-        wanted.merge_flags(&mut self.view.flags);
-        self.sample.level = self.levels;
-        self.sample.direction = self.directions;
+        self.wanted.begin();
+        let (view, wanted, sample) = (&self.view, &mut self.wanted, &mut self.sample);
+        let first = step(&mut self.first, view, due, wanted, 0, sample);
+        let second = step(&mut self.second, view, due, wanted, 1, sample);
+        let third = step(&mut self.third, view, due, wanted, 2, sample);
+        let fourth = step(&mut self.fourth, view, due, wanted, 3, sample);
+        self.wanted.merge_flags(&mut self.view.flags);
+        self.sample.level = self.wanted.outputs.levels;
+        self.sample.direction = self.wanted.outputs.directions;
         self.sample.flags = self.view.flags.up;
         self.clock += 1;
         first | (second | (third | fourth))

@@ -1,9 +1,7 @@
 //! One machine in a run of its block, with its divider.
 ghost use Rattle.std.specs.Prelude.{◌≡◌, ℕ, ◌<◌, ◌≤◌, ◌^◌, ◌+◌, Some, length, IsTrue, IsSome, IfOk, if◌then◌else◌, slice_index_or, false, true};
-ghost use Rattle.std.specs.List.{AllByRecursion};
 ghost use Rattle.clock_divider.specs.Timing as timing;
-ghost use Rattle.pin_matrix.specs.Pins.{IsWrite};
-ghost use Rattle.sm_registers.specs.Effects.{no_intent};
+ghost use Rattle.sm_registers.specs.Intents.{intent_of, no_intent, no_wants, wants_of, written_by};
 ghost use Rattle.sm_registers.specs.State as spec_shown;
 ghost use Rattle.sm_registers.specs.declared.view.View as spec_view;
 ghost use Rattle.dreq_pacing.specs.Due.{quiet};
@@ -18,7 +16,7 @@ use dreq_pacing::Due;
 use fifo_pair::{Fifo, a_quiet_clock_changes_nothing};
 use pin_matrix::MachineSetup;
 use sm_registers::{
-    Idle, Intent, Machine, Shown, View, a_calm_tick_only_counts, a_delay_only_counts,
+    Idle, Machine, Outputs, Shown, View, Wants, a_calm_tick_only_counts, a_delay_only_counts,
 };
 use std::alloc::{AllocError, Global};
 use std::marker::Model;
@@ -61,23 +59,46 @@ impl<F: Fifo> Slot<F> {
         })
     }
 
-    /// One clock, in which the system does this, where it does anything. The intent, of nothing so far, gets what it wants of
-    /// its block. True where it or the system did anything at its FIFOs.
+    /// One clock, in which the system does this, where it does anything. It writes its pins over those of the machines before
+    /// it, and the wants, of nothing so far, get what else it wants of its block. True where it or the system did anything at
+    /// its FIFOs.
     #[inline(always)]
-    pub fn clock(&mut self, view: &View, due: Option<&Due>, intent: &mut Intent) -> bool
-        requires fresh { intent.old ≡ no_intent }
+    pub fn clock(
+        &mut self,
+        view: &View,
+        due: Option<&Due>,
+        outputs: &mut Outputs,
+        wants: &mut Wants,
+    ) -> bool
+        requires fresh { wants.old ≡ no_wants }
         requires clock { self.old.timing.clock < 2 ^ 40 }
         requires sent { self.old.sent < 2 ^ 40 }
         requires received { self.old.received < 2 ^ 40 }
         ensures after { self.new ≡ slot_after view.now (doing due.entry) self.old }
-        ensures intent { intent.new ≡ slot_intent view.now (doing due.entry) self.old }
+        ensures outputs { outputs.new ≡ written_by outputs.old (slot_intent view.now (doing due.entry) self.old) }
+        ensures wants { wants.new ≡ wants_of (slot_intent view.now (doing due.entry) self.old) }
         ensures used { result ≡ slot_uses_fifos view.now (doing due.entry) self.old }
-        ensures level { AllByRecursion IsWrite intent.new.level }
-        ensures direction { AllByRecursion IsWrite intent.new.direction }
     {
         self.obey(due);
-        self.act(view, intent);
-        self.settle(due, intent)
+        self.act(view, outputs, wants);
+        self.settle(due, wants)
+    }
+
+    /// Its tick in a clock in which the system does nothing. The same of what it writes, wants and uses.
+    #[inline(always)]
+    #[tactic(auto, unfolding(crate::specs::Slots::acted, crate::specs::Slots::settled_slot, sm_registers::specs::State::settled_ports))]
+    pub fn quiet_tick(&mut self, view: &View, outputs: &mut Outputs, wants: &mut Wants) -> bool
+        requires tick { spec.has_tick self.old ≡ true }
+        requires fresh { wants.old ≡ no_wants }
+        requires clock { self.old.timing.clock < 2 ^ 40 }
+        ensures after { self.new ≡ slot_after view.now quiet self.old }
+        ensures outputs { outputs.new ≡ written_by outputs.old (slot_intent view.now quiet self.old) }
+        ensures wants { wants.new ≡ wants_of (slot_intent view.now quiet self.old) }
+        ensures used { result ≡ slot_uses_fifos view.now quiet self.old }
+    {
+        self.machine.tick(view, outputs, wants);
+        self.divider.step();
+        self.machine.settle(wants, None, false)
     }
 
     /// Its clock, where the system does nothing in it and it has no tick, or one that only counts a delay; else nothing is
@@ -90,6 +111,7 @@ impl<F: Fifo> Slot<F> {
         ensures wants { (v : spec_view.View) → result ≡ true →
             slot_intent v quiet self.old ≡ record no_intent { kind = (slot_intent v quiet self.old).kind } }
         ensures kept { result ≡ false → self.new ≡ self.old }
+        ensures ticks { result ≡ false → spec.has_tick self.old ≡ true }
     {
         a_delay_only_counts();
         a_quiet_clock_changes_nothing();
@@ -141,44 +163,42 @@ impl<F: Fifo> Slot<F> {
 
     /// Its tick, where it has one in this clock.
     #[inline(always)]
-    #[tactic(auto, unfolding(crate::specs::Slots::acted))]
-    fn act(&mut self, view: &View, intent: &mut Intent)
-        requires { intent.old ≡ no_intent }
-        ensures intent { intent.new ≡ (acted view.now self.old).1 }
+    #[tactic(auto, unfolding(crate::specs::Slots::acted, pin_matrix::specs::Pins::merged))]
+    fn act(&mut self, view: &View, outputs: &mut Outputs, wants: &mut Wants)
+        requires { wants.old ≡ no_wants }
+        ensures outputs { outputs.new ≡ written_by outputs.old (acted view.now self.old).1 }
+        ensures wants { wants.new ≡ wants_of (acted view.now self.old).1 }
         ensures after { self.new ≡ record self.old {
           machine = record self.old.machine { registers = (acted view.now self.old).0 };
         } }
-        ensures level { AllByRecursion IsWrite intent.new.level }
-        ensures direction { AllByRecursion IsWrite intent.new.direction }
-        ensures take { IsTrue intent.new.take → 0 < length self.new.machine.ports.fifos.tx }
-        ensures word { IsSome intent.new.word → length self.new.machine.ports.fifos.rx < self.new.machine.ports.fifos.rx_room }
+        ensures take { IsTrue wants.new.take → 0 < length self.new.machine.ports.fifos.tx }
+        ensures word { IsSome wants.new.word → length self.new.machine.ports.fifos.rx < self.new.machine.ports.fifos.rx_room }
     {
-        if self.enabled && self.divider.ticks_now() {
-            self.machine.tick_into(view, intent);
+        if self.has_tick() {
+            self.machine.tick(view, outputs, wants);
         }
     }
 
     /// The end of the clock: its FIFOs, its divider, and what the transfers moved.
     #[inline(always)]
-    #[tactic(auto, unfolding(crate::specs::Slots::settled_slot))]
-    fn settle(&mut self, due: Option<&Due>, intent: &Intent) -> bool
-        requires take { IsTrue intent.now.take → 0 < length self.old.machine.ports.fifos.tx }
-        requires word { IsSome intent.now.word → length self.old.machine.ports.fifos.rx < self.old.machine.ports.fifos.rx_room }
+    #[tactic(auto, unfolding(crate::specs::Slots::settled_slot, sm_registers::specs::State::settled_ports))]
+    fn settle(&mut self, due: Option<&Due>, wants: &Wants) -> bool
+        requires take { IsTrue wants.now.take → 0 < length self.old.machine.ports.fifos.tx }
+        requires word { IsSome wants.now.word → length self.old.machine.ports.fifos.rx < self.old.machine.ports.fifos.rx_room }
         requires clock { self.old.timing.clock < 2 ^ 40 }
         requires sent { self.old.sent < 2 ^ 40 }
         requires received { self.old.received < 2 ^ 40 }
-        ensures after { self.new ≡ settled_slot (doing due.entry) (self.old.machine.registers, intent.now) self.old }
-        ensures used { result ≡ used_by (doing due.entry) self.old intent.now }
+        ensures after { self.new ≡ settled_slot (doing due.entry) (self.old.machine.registers, intent_of wants.now) self.old }
+        ensures used { result ≡ used_by (doing due.entry) self.old (intent_of wants.now) }
     {
         self.divider.step();
         let Some(due) = due else {
-            return self.machine.settle(intent, None, false);
+            return self.machine.settle(wants, None, false);
         };
         let place = self.place();
         self.sent = counted(due.word_paced[place], self.sent);
         self.received = counted(due.read_paced[place], self.received);
-        self.machine
-            .settle(intent, due.word[place], due.read[place])
+        self.machine.settle(wants, due.word[place], due.read[place])
     }
 
     /// Whether it begins an instruction in the present clock, if no line acts in it.

@@ -4,7 +4,7 @@ use Rattle.std.proofs.Math.ListN.{get_or-map}
 use Rattle.pin_matrix.specs.Pins.{last_of}
 use Rattle.pin_matrix.specs.declared.machine.MachineSetup.{MachineSetup}
 use Rattle.pin_matrix.specs.declared.setup.Setup.{Setup}
-use Rattle.sm_registers.specs.declared.intent.Intent.{Intent}
+use Rattle.sm_registers.specs.Intents.{Intent, two_writes}
 use Rattle.sm_registers.specs.declared.view.View.{View}
 use Rattle.dreq_pacing.specs.declared.due.Due.{Due}
 use Rattle.dreq_pacing.specs.declared.line.Line.{Line}
@@ -12,7 +12,7 @@ use Rattle.dreq_pacing.specs.Due.{quiet}
 use Rattle.dreq_pacing.specs.Lines.{IsSchedule}
 use Rattle.dreq_pacing.specs.Ports.{due_in, transfers_after}
 use Rattle.block_core.specs.Slots.{Slot, first_slot, place_after, place_intent}
-use Rattle.block_core.specs.Block.{BlockState, next, stepped, outside_after, pads_in, seen_in, view_of, two_writes, first_state, first_run}
+use Rattle.block_core.specs.Block.{BlockState, next, stepped, outside_after, pads_in, seen_in, view_of, first_state, first_run}
 use Rattle.block_core.specs.Following.{place_at}
 use Rattle.block_core.specs.Hosted.{Hosted, due_of, hosted_next, hosted_at}
 use Rattle.block_core.specs.Shown.{requests_of}

@@ -7,13 +7,12 @@ use Rattle.std.specs.List.{AllByRecursion}
 use Rattle.pin_matrix.specs.Pins.{IsWrite, IsFree, last_of}
 use Rattle.pin_matrix.specs.declared.machine.MachineSetup.{MachineSetup}
 use Rattle.sm_registers.specs.declared.view.View.{View}
-use Rattle.sm_registers.specs.declared.intent.Intent.{Intent}
-use Rattle.sm_registers.specs.Effects.{no_intent}
+use Rattle.sm_registers.specs.Intents.{Intent, no_intent, two_writes}
 use Rattle.sm_registers.specs.State.{queues_of}
 use Rattle.sm_registers.specs.Tick.{tick_of}
 use Rattle.dreq_pacing.specs.declared.due.Due.{Due}
 use Rattle.block_core.specs.Slots.{Slot, lined, has_tick, acted, settled_slot, slot_after, slot_intent, place_after, place_intent}
-use Rattle.block_core.specs.Block.{two_writes, with_all}
+use Rattle.block_core.specs.Block.{with_all}
 use Rattle.block_core.specs.History.{OfEach}
 use Rattle.block_isolation.proofs.Bits.{has_or, has_zero}
 use Rattle.block_isolation.proofs.Feeling.{ChangesOwn, LeavesPin, changes_own, leaves_pin}

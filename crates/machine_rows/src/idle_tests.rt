@@ -3,7 +3,7 @@
 use crate::machine_row::{PLAIN, setup_of};
 use fifo_pair::{Fifo, PlainFifo, RingFifo};
 use irq_flags::Flags;
-use sm_registers::{Idle, Intent, Machine, View};
+use sm_registers::{Idle, Machine, Outputs, View, Wants};
 use std::alloc::{AllocError, Global};
 use std::test::Fail;
 
@@ -16,6 +16,17 @@ fn quiet_view(word: u16) -> View {
     }
 }
 
+/// One clock of a machine whose pins nobody looks at.
+fn clock<F: Fifo>(machine: &mut Machine<F>, view: &View) {
+    let mut outputs = Outputs {
+        levels: 0,
+        directions: 0,
+    };
+    let mut wants = Wants::none();
+    machine.tick(view, &mut outputs, &mut wants);
+    machine.settle(&wants, None, false);
+}
+
 /// How long a machine idles after so many ticks of a word, beside a TX that then holds a word or is empty.
 fn idle_after<F: Fifo>(
     alloc: Global,
@@ -26,11 +37,9 @@ fn idle_after<F: Fifo>(
     let view = quiet_view(word);
     let mut machine = Machine::<F>::new(alloc, &setup_of(&PLAIN, 1))?;
     for _ in 0..ticks {
-        let intent = machine.tick(&view);
-        machine.settle(&intent, None, false);
+        clock(&mut machine, &view);
     }
-    let intent = Intent::none();
-    machine.settle(&intent, tx, false);
+    machine.settle(&Wants::none(), tx, false);
     Ok(machine.idle_until(&view))
 }
 
@@ -79,7 +88,7 @@ fn passes_at_once(rt: HostRuntime) -> Result<(), Fail> {
         let mut machine = Machine::<RingFifo>::new(rt.alloc(), &setup_of(&PLAIN, 1))?;
         let before = machine.idle_until(&view);
         assert!(rt; before == Idle::Ticks(0), "{word:04x}");
-        machine.tick(&view);
+        clock(&mut machine, &view);
         pass_idle(&mut machine, &view);
         let want = if word == 0xff3f {
             Idle::Ticks(0)

@@ -6,7 +6,7 @@ use crate::machine_row::{Event, PLAIN, Row, Seen, setup_of};
 use crate::machine_shifts::SHIFTS;
 use fifo_pair::{Fifo, PlainFifo, RingFifo};
 use irq_flags::Flags;
-use sm_registers::{Machine, View};
+use sm_registers::{Machine, Outputs, View, Wants};
 use std::alloc::{AllocError, Global};
 use std::process::Abort;
 use std::test::Fail;
@@ -18,8 +18,7 @@ const CLOCKS: u8 = 70;
 #[derive(Drop)]
 struct Around {
     view: View,
-    level: u32,
-    direction: u32,
+    outputs: Outputs,
 }
 
 /// Memory with the words from address 0 on.
@@ -39,15 +38,11 @@ fn with_memory(words: &[u16]) -> Around {
             seen: 0,
             flags: Flags { up: 0 },
         },
-        level: 0,
-        direction: 0,
+        outputs: Outputs {
+            levels: 0,
+            directions: 0,
+        },
     }
-}
-
-/// The pins after a machine's two writes to them.
-fn written(pins: u32, writes: [(u32, u32); 2]) -> u32 {
-    let [(pins_1, bits_1), (pins_2, bits_2)] = writes;
-    (pins & !pins_1 | bits_1) & !pins_2 | bits_2
 }
 
 /// One clock with its events.
@@ -62,26 +57,22 @@ fn clock<F: Fifo>(machine: &mut Machine<F>, around: &mut Around, events: &[(u8, 
                 Event::Read => read = true,
                 Event::See(seen) => around.view.seen = seen,
                 Event::Lower(flags) => lowered = flags,
-                Event::Levels(level) => around.level = level,
+                Event::Levels(level) => around.outputs.levels = level,
             }
         }
     }
-    let intent = machine.tick(&around.view);
-    machine.settle(&intent, word, read);
-    around.level = written(around.level, intent.level);
-    around.direction = written(around.direction, intent.direction);
-    around
-        .view
-        .flags
-        .merge(intent.clears | lowered, intent.sets);
+    let mut wants = Wants::none();
+    machine.tick(&around.view, &mut around.outputs, &mut wants);
+    machine.settle(&wants, word, read);
+    around.view.flags.merge(wants.clears | lowered, wants.sets);
 }
 
 /// Whether this is seen.
 fn is_seen<F: Fifo>(machine: &Machine<F>, around: &Around, seen: Seen) -> bool {
     let shown = machine.shown();
     match seen {
-        Seen::Level(level) => around.level == level,
-        Seen::Direction(direction) => around.direction == direction,
+        Seen::Level(level) => around.outputs.levels == level,
+        Seen::Direction(direction) => around.outputs.directions == direction,
         Seen::Tx(level) => shown.tx == level,
         Seen::Rx(level) => shown.rx == level,
         Seen::Got(word) => shown.got == word,
@@ -140,9 +131,15 @@ fn reserved_words_do_nothing(rt: HostRuntime) -> Result<(), Fail> {
         let mut machine = Machine::<PlainFifo>::new(rt.alloc(), &setup_of(&PLAIN, 2))?;
         let mut around = with_memory(&[word, 0xe001]);
         clock(&mut machine, &mut around, &[], 0);
-        assert!(rt; around.level == 0 && around.direction == 0, "{word:04x}");
+        assert!(rt;
+            around.outputs.levels == 0 && around.outputs.directions == 0,
+            "{word:04x}"
+        );
         clock(&mut machine, &mut around, &[], 1);
-        assert!(rt; around.level == 1 && around.direction == 0, "{word:04x}");
+        assert!(rt;
+            around.outputs.levels == 1 && around.outputs.directions == 0,
+            "{word:04x}"
+        );
     }
     Ok(())
 }

@@ -14,16 +14,15 @@ use Rattle.pin_matrix.specs.Pads.{seen_of}
 use Rattle.pin_matrix.specs.Pins.{last_of}
 use Rattle.pin_matrix.specs.declared.machine.MachineSetup.{MachineSetup}
 use Rattle.pin_matrix.specs.declared.setup.Setup.{Setup}
-use Rattle.sm_registers.specs.declared.intent.Intent.{Intent}
+use Rattle.sm_registers.specs.Intents.{Intent, no_intent, two_writes}
 use Rattle.sm_registers.specs.declared.registers.Registers.{Registers}
 use Rattle.sm_registers.specs.declared.view.View.{View}
-use Rattle.sm_registers.specs.Effects.{no_intent}
 use Rattle.sm_registers.specs.State.{queues_of, settled_ports}
 use Rattle.sm_registers.specs.Tick.{tick_of}
 use Rattle.dreq_pacing.specs.declared.due.Due.{Due}
 use Rattle.dreq_pacing.specs.declared.line.Line.{Line}
 use Rattle.block_core.specs.Slots.{Slot, first_slot, lined, has_tick, acted, settled_slot, slot_after, place_after, place_intent}
-use Rattle.block_core.specs.Block.{BlockState, first_run, first_state, first_place, view_of, two_writes}
+use Rattle.block_core.specs.Block.{BlockState, first_run, first_state, first_place, view_of}
 use Rattle.block_core.specs.Following.{Follows, place_at, intent_in, OthersLeave}
 use Rattle.block_core.specs.History.{pad_at, pad_before}
 use Rattle.block_core.specs.Hosted.{hosted_at, host_of}

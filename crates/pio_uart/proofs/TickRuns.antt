@@ -10,7 +10,7 @@ use Rattle.sm_registers.specs.declared.registers.Registers.{Registers}
 use Rattle.sm_registers.specs.declared.view.View.{View}
 use Rattle.sm_registers.specs.Queues.{Queues}
 use Rattle.sm_registers.specs.Tick.{tick_of}
-use Rattle.block_core.specs.Block.{two_writes}
+use Rattle.sm_registers.specs.Intents.{two_writes}
 
 -- A tick of a machine, whatever it sees of pins, flags and FIFOs: the registers and the pin's level before it and after it, and the
 -- word that it takes.

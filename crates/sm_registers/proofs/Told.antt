@@ -16,7 +16,7 @@ use Rattle.pio_encode.specs.declared.act.SetDestination.TheVariants as set_desti
 use Rattle.pio_encode.specs.Word.{act_of}
 use Rattle.fifo_pair.specs.Fifos.{Fifos}
 use Rattle.pin_matrix.specs.declared.machine.MachineSetup.{MachineSetup}
-use Rattle.sm_registers.specs.declared.intent.TheConstants.{TX_STALL, RX_STALL}
+use Rattle.sm_registers.specs.declared.sticky.TheConstants.{TX_STALL, RX_STALL}
 use Rattle.sm_registers.specs.declared.registers.Registers.{Registers}
 use Rattle.sm_registers.specs.declared.view.View.{View}
 use Rattle.sm_registers.specs.Queues.{Queues}

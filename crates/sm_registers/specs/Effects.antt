@@ -1,11 +1,10 @@
 -- What each of the nine instructions does in a tick, one function each: what it reads, when it stalls, what it does.
 -- What they share, the PC's next step, side-set, delay and refill, is in Tick.
 --   Effect               what an instruction does
---   no_intent            the intent of a clock without a tick
 --   quiet, stall         effects that do nothing but what they did to the registers
 --   jmp_effect .. set_effect     the instructions
 --   effect_of            that of any act
-use Rattle.std.specs.Prelude.{ℕ, ◌+◌, ◌-◌, ◌/◌, ◌%◌, ◌^◌, ◌==◌, nat_lt, nat_le, min, Bool, true, false, not, ◌&&◌, ◌||◌, if◌then◌else◌, Option, Some, None, [], ◌∷◌}
+use Rattle.std.specs.Prelude.{ℕ, ◌+◌, ◌-◌, ◌/◌, ◌%◌, ◌^◌, ◌==◌, nat_lt, nat_le, min, Bool, true, false, not, ◌&&◌, ◌||◌, if◌then◌else◌, Option, Some, None}
 use Rattle.pio_encode.specs.declared.act.Act.{Act}
 use Rattle.pio_encode.specs.declared.act.Act.TheVariants.{Jmp, Wait, In, Out, Push, Pull, Mov, Irq, Set, Nothing}
 use Rattle.pio_encode.specs.declared.act.Condition.{Condition}
@@ -32,9 +31,7 @@ use Rattle.pin_matrix.specs.declared.machine.MachineSetup.{MachineSetup}
 use Rattle.sm_registers.specs.declared.registers.Registers.{Registers}
 use Rattle.sm_registers.specs.declared.view.View.{View}
 use Rattle.sm_registers.specs.Queues.{Queues}
-use Rattle.sm_registers.specs.declared.intent.Intent.{Intent}
-use Rattle.sm_registers.specs.declared.intent.Kind.TheVariants.{Off}
-use Rattle.sm_registers.specs.declared.intent.TheConstants.{TX_STALL, RX_STALL}
+use Rattle.sm_registers.specs.declared.sticky.TheConstants.{TX_STALL, RX_STALL}
 
 -- What an instruction does in one tick. A write to pins is the pins and their bits.
 pub record Effect : Type 0 where
@@ -60,20 +57,6 @@ pub record Effect : Type 0 where
   pub word : Option ℕ
   -- the sticky FIFO flags that it raises
   pub sticky : ℕ
-
--- nothing is written, lowered, raised, taken or given
-abbrev pub no_intent : Intent
-no_intent = record {
-  level = (0, 0) ∷ (0, 0) ∷ [];
-  direction = (0, 0) ∷ (0, 0) ∷ [];
-  clears = 0;
-  sets = 0;
-  take = false;
-  word = None;
-  sticky = 0;
-  kind = Off;
-  stalled = false;
-}
 
 -- it finishes, and does nothing else than what it did to the registers
 abbrev pub quiet : Registers → Effect

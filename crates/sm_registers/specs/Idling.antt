@@ -16,13 +16,11 @@ use Rattle.std.specs.Prelude.{◌≡◌, ℕ, zero, suc, ◌-◌, ◌<◌, ◌==
 use Rattle.pin_matrix.specs.declared.machine.MachineSetup.{MachineSetup}
 use Rattle.sm_registers.specs.declared.idle.Idle.{Idle}
 use Rattle.sm_registers.specs.declared.idle.Idle.TheVariants.{Ticks, Never}
-use Rattle.sm_registers.specs.declared.intent.Intent.{Intent}
-use Rattle.sm_registers.specs.declared.intent.Kind.{Kind}
-use Rattle.sm_registers.specs.declared.intent.Kind.TheVariants.{Off, First, Late, Delay}
+use Rattle.sm_registers.specs.Intents.{Intent, Kind, Off, First, Late, Delay, no_intent}
 use Rattle.sm_registers.specs.declared.registers.Registers.{Registers}
 use Rattle.sm_registers.specs.declared.view.View.{View}
 use Rattle.sm_registers.specs.Queues.{Queues}
-use Rattle.sm_registers.specs.Effects.{Effect, no_intent, effect_of}
+use Rattle.sm_registers.specs.Effects.{Effect, effect_of}
 use Rattle.sm_registers.specs.Rules.{current_act}
 use Rattle.sm_registers.specs.Tick.{refills, tick_of}
 

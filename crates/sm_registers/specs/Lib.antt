@@ -1,8 +1,9 @@
 pub mod Queues
+pub mod Intents
 pub mod Effects
 pub mod Decoding
 pub mod Tick
-pub mod Outcomes
+pub mod Ends
 pub mod Ranges
 pub mod State
 pub mod Laws

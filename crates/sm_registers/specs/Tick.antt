@@ -14,9 +14,8 @@ use Rattle.pin_matrix.specs.declared.machine.MachineSetup.{MachineSetup}
 use Rattle.sm_registers.specs.declared.registers.Registers.{Registers}
 use Rattle.sm_registers.specs.declared.view.View.{View}
 use Rattle.sm_registers.specs.Queues.{Queues}
-use Rattle.sm_registers.specs.declared.intent.Intent.{Intent}
-use Rattle.sm_registers.specs.declared.intent.Kind.TheVariants.{First, Late, Delay}
-use Rattle.sm_registers.specs.Effects.{Effect, no_intent, osr_filled, effect_of}
+use Rattle.sm_registers.specs.Intents.{Intent, First, Late, Delay, no_intent}
+use Rattle.sm_registers.specs.Effects.{Effect, osr_filled, effect_of}
 
 -- the address that follows: the program wraps after wrap_top (section 3.5.2), and the memory after 31
 abbrev pub next_pc : MachineSetup → Registers → ℕ

@@ -1,5 +1,5 @@
-//! What a machine has read of the instruction memory: each word is decoded once for each address.
-ghost use Rattle.std.specs.Prelude.{◌≡◌, ◌<◌, slice_index};
+//! What a machine has read: the word at each address, and the pending word, is decoded once.
+ghost use Rattle.std.specs.Prelude.{◌≡◌, ◌≤◌, slice_index};
 ghost use Rattle.pio_encode.specs.Ranges.{IsInRange};
 ghost use Rattle.pio_encode.specs.Word.{reading_of};
 ghost use Rattle.sm_registers.specs.Decoding.{all_zero};
@@ -14,11 +14,14 @@ pub(crate) struct Reading {
     pub op: Op,
 }
 
-/// The last word read at each address, with its meaning.
+/// The place of the pending word, after those of the 32 addresses.
+pub(crate) const PENDING: u8 = 32;
+
+/// The last word read at each place, with its meaning.
 #[derive(Drop)]
 pub(crate) struct Decoded {
     rule: SideRule,
-    readings: [Reading; 32],
+    readings: [Reading; 33],
 }
 
 impl Model for Decoded {
@@ -34,36 +37,36 @@ impl Model for Decoded {
 }
 
 impl Decoded {
-    /// Nothing read so far: the word 0 at each address.
+    /// Nothing read so far: the word 0 at each place.
     pub fn new(rule: &SideRule) -> Decoded
         ensures { result ≡ record { rule = rule.now; words = all_zero } }
     {
         let op = decode(0, rule);
         Decoded {
             rule: *rule,
-            readings: [Reading { word: 0, op }; 32],
+            readings: [Reading { word: 0, op }; 33],
         }
     }
 
-    /// Reads a word at an address, and decodes it where another one was read there before.
+    /// Reads a word at a place, and decodes it where another one was read there before.
     #[inline(always)]
-    pub fn read(&mut self, address: u8, word: u16)
-        requires { address < 32 }
-        ensures word { slice_index self.new.words address ≡ word }
+    pub fn read(&mut self, place: u8, word: u16)
+        requires { place ≤ 32 }
+        ensures word { slice_index self.new.words place ≡ word }
         ensures rule { self.new.rule ≡ self.old.rule }
     {
-        if self.readings[usize::from(address)].word != word {
-            self.decode(address, word);
+        if self.readings[usize::from(place)].word != word {
+            self.decode(place, word);
         }
     }
 
-    /// What a word at an address means. It is decoded only where another one was last read there.
-    pub fn meaning(&self, address: u8, word: u16) -> Op
-        requires { address < 32 }
+    /// What a word at a place means. It is decoded only where another one was last read there.
+    pub fn meaning(&self, place: u8, word: u16) -> Op
+        requires { place ≤ 32 }
         ensures value { result ≡ reading_of word self.now.rule }
         ensures act { IsInRange result.act }
     {
-        let reading = &self.readings[usize::from(address)];
+        let reading = &self.readings[usize::from(place)];
         if reading.word == word {
             reading.op
         } else {
@@ -71,26 +74,26 @@ impl Decoded {
         }
     }
 
-    /// Decodes a word at an address.
+    /// Decodes a word at a place.
     #[cold]
     #[inline(never)]
     #[tactic(auto, using(crate::proofs::Decoding::word_set))]
-    fn decode(&mut self, address: u8, word: u16)
-        requires { address < 32 }
-        ensures word { slice_index self.new.words address ≡ word }
+    fn decode(&mut self, place: u8, word: u16)
+        requires { place ≤ 32 }
+        ensures word { slice_index self.new.words place ≡ word }
         ensures rule { self.new.rule ≡ self.old.rule }
     {
         let op = decode(word, &self.rule);
-        self.readings[usize::from(address)] = Reading { word, op };
+        self.readings[usize::from(place)] = Reading { word, op };
     }
 
-    /// What the word means that was last read at an address.
+    /// What the word means that was last read at a place.
     #[inline(always)]
-    pub fn op(&self, address: u8) -> &Op
-        requires { address < 32 }
-        ensures value { result.now ≡ reading_of (slice_index self.now.words address) self.now.rule }
+    pub fn op(&self, place: u8) -> &Op
+        requires { place ≤ 32 }
+        ensures value { result.now ≡ reading_of (slice_index self.now.words place) self.now.rule }
         ensures act { IsInRange result.now.act }
     {
-        &self.readings[usize::from(address)].op
+        &self.readings[usize::from(place)].op
     }
 }

@@ -1,18 +1,20 @@
 //! PUSH and PULL: words between the shift registers and the FIFOs (RP2040 Datasheet, sections 3.4.6 and 3.4.7).
 ghost use Rattle.std.specs.Prelude.{◌≡◌};
 ghost use Rattle.sm_registers.specs.Effects as spec;
-ghost use Rattle.sm_registers.specs.Outcomes.{effect_by};
-ghost use Rattle.sm_registers.specs.Ranges.{WritesOwnPins};
+ghost use Rattle.sm_registers.specs.Ends.{effect_by};
+ghost use Rattle.sm_registers.specs.Intents.{no_wants};
 ghost use Rattle.sm_registers.specs.State.{queues_of};
 
-use crate::intent::{RX_STALL, TX_STALL};
-use crate::outcome::{Deed, Outcome};
+use crate::end::End;
 use crate::registers::Registers;
 use crate::shifting::{empty_isr, give_isr};
+use crate::sticky::{RX_STALL, TX_STALL};
+use crate::wants::Wants;
 use fifo_pair::{Fifo, Pair};
 use pin_matrix::MachineSetup;
 
 /// Gives the ISR to RX. A full RX makes it stall, or without Block lose its word.
+#[inline(never)]
 #[tactic(auto, unfolding(crate::specs::Effects::push_effect))]
 pub(crate) fn push_effect<F: Fifo>(
     if_full: bool,
@@ -20,27 +22,30 @@ pub(crate) fn push_effect<F: Fifo>(
     setup: &MachineSetup,
     fifos: &Pair<F>,
     registers: &mut Registers,
-) -> Outcome
-    ensures value { effect_by registers.new result
+    wants: &mut Wants,
+) -> End
+    requires { wants.old ≡ no_wants }
+    ensures { effect_by registers.new wants.new result
         ≡ spec.push_effect if_full block setup.now (queues_of fifos.now) registers.old }
-    ensures writes { WritesOwnPins (effect_by registers.new result) }
 {
     if if_full && registers.in_count < setup.push_threshold {
-        Outcome::Finishes(Deed::Nothing)
-    } else if !fifos.rx_full() {
-        Outcome::Finishes(give_isr(registers))
-    } else if block {
-        Outcome::Stalls {
-            sets: 0,
-            sticky: RX_STALL,
-        }
+        return End::GoesOn;
+    }
+    if !fifos.rx_full() {
+        give_isr(registers, wants);
+        return End::GoesOn;
+    }
+    wants.sticky = RX_STALL;
+    if block {
+        End::Stalls
     } else {
         empty_isr(registers);
-        Outcome::Finishes(Deed::Tell(RX_STALL))
+        End::GoesOn
     }
 }
 
 /// Takes a word from TX into the OSR. An empty TX makes it stall, or without Block copy X.
+#[inline(never)]
 #[tactic(auto, unfolding(crate::specs::Effects::pull_effect))]
 pub(crate) fn pull_effect<F: Fifo>(
     if_empty: bool,
@@ -48,15 +53,16 @@ pub(crate) fn pull_effect<F: Fifo>(
     setup: &MachineSetup,
     fifos: &Pair<F>,
     registers: &mut Registers,
-) -> Outcome
-    ensures value { effect_by registers.new result
+    wants: &mut Wants,
+) -> End
+    requires { wants.old ≡ no_wants }
+    ensures { effect_by registers.new wants.new result
         ≡ spec.pull_effect if_empty block setup.now (queues_of fifos.now) registers.old }
-    ensures writes { WritesOwnPins (effect_by registers.new result) }
 {
     if pulls_nothing(if_empty, setup, registers) {
-        Outcome::Finishes(Deed::Nothing)
+        End::GoesOn
     } else {
-        pulled(fifos.tx_front(), block, registers)
+        pulled(fifos.tx_front(), block, registers, wants)
     }
 }
 
@@ -69,24 +75,23 @@ fn pulls_nothing(if_empty: bool, setup: &MachineSetup, registers: &Registers) ->
 }
 
 /// What a PULL that isn't kept from it does with the oldest word of TX, or with none.
-fn pulled(front: Option<u32>, block: bool, registers: &mut Registers) -> Outcome
-    ensures value { effect_by registers.new result ≡ spec.pulled front block registers.old }
-    ensures writes { WritesOwnPins (effect_by registers.new result) }
+fn pulled(front: Option<u32>, block: bool, registers: &mut Registers, wants: &mut Wants) -> End
+    requires { wants.old ≡ no_wants }
+    ensures { effect_by registers.new wants.new result ≡ spec.pulled front block registers.old }
 {
     match front {
         Some(word) => {
             fill_osr(word, registers);
-            Outcome::Finishes(Deed::Take)
+            wants.take = true;
+            End::GoesOn
         }
         None if block => {
-            Outcome::Stalls {
-                sets: 0,
-                sticky: TX_STALL,
-            }
+            wants.sticky = TX_STALL;
+            End::Stalls
         }
         None => {
             fill_osr(registers.x, registers);
-            Outcome::Finishes(Deed::Nothing)
+            End::GoesOn
         }
     }
 }

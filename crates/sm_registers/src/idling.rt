@@ -1,23 +1,24 @@
 //! How long a machine idles: the ticks before the next one that stirs, found without making any of them.
 ghost use Rattle.std.specs.Prelude.{◌≡◌};
-ghost use Rattle.pio_encode.specs.Ranges.{IsInRange};
-ghost use Rattle.pio_encode.specs.Word.{reading_of};
 ghost use Rattle.sm_registers.specs.Idling as spec;
-ghost use Rattle.sm_registers.specs.Outcomes.{effect_by};
+ghost use Rattle.sm_registers.specs.Ends.{effect_by};
 ghost use Rattle.sm_registers.specs.Ranges.{IsPlaced};
 ghost use Rattle.sm_registers.specs.State.{queues_of};
 ghost use Rattle.sm_registers.specs.Tick as spec_tick;
 ghost use Rattle.sm_registers.specs.declared.registers.Registers as spec_registers;
+ghost use Rattle.sm_registers.specs.declared.wants.Wants as spec_wants;
 
 use crate::decoded::Decoded;
+use crate::end::End;
 use crate::idle::Idle;
 use crate::instruction::effect_of;
-use crate::outcome::Outcome;
+use crate::outputs::Outputs;
 use crate::registers::Registers;
+use crate::tick::current_word;
 use crate::view::View;
+use crate::wants::Wants;
 use fifo_pair::{Fifo, Pair};
 use pin_matrix::MachineSetup;
-use pio_encode::{Op, decode};
 
 /// The ticks before the next one that stirs, of a machine that sees the same in each.
 pub(crate) fn idle_of<F: Fifo>(
@@ -61,35 +62,32 @@ fn stalls_again<F: Fifo>(
     requires rule { decoded.now.rule ≡ setup.now.side_rule }
     ensures { result ≡ (spec.undelayed setup.now view.now (queues_of fifos.now) registers.now).stalled }
 {
-    let op = current_op(setup, view, decoded, registers);
+    let (place, word) = current_word(view, registers);
+    let op = decoded.meaning(place, word);
     let mut undelayed = Registers {
         delay: 0,
         ..*registers
     };
-    let outcome = effect_of(op.act, setup, view, fifos, &mut undelayed);
-    is_stall(outcome)
+    let mut outputs = Outputs {
+        levels: 0,
+        directions: 0,
+    };
+    let mut wants = Wants::none();
+    let end = effect_of(
+        op.act,
+        setup,
+        view,
+        fifos,
+        &mut undelayed,
+        &mut outputs,
+        &mut wants,
+    );
+    is_stall(end)
 }
 
-/// What the pending word means, else memory at PC.
-fn current_op(setup: &MachineSetup, view: &View, decoded: &Decoded, registers: &Registers) -> Op
-    requires placed { IsPlaced registers.now }
-    requires rule { decoded.now.rule ≡ setup.now.side_rule }
-    ensures value { result
-        ≡ reading_of (spec_tick.current_word view.now registers.now) setup.now.side_rule }
-    ensures act { IsInRange result.act }
+/// Whether an instruction that ends so stalls, whatever else it does.
+fn is_stall(end: End) -> bool
+    ensures { (r : spec_registers.Registers) (w : spec_wants.Wants) → result ≡ (effect_by r w end).stalled }
 {
-    match registers.pending {
-        Some(word) => decode(word, &setup.side_rule),
-        None => {
-            let address = registers.pc;
-            decoded.meaning(address, view.memory[usize::from(address)])
-        }
-    }
-}
-
-/// Whether an instruction with this outcome stalls, whatever the registers are after it.
-fn is_stall(outcome: Outcome) -> bool
-    ensures { (r : spec_registers.Registers) → result ≡ (effect_by r outcome).stalled }
-{
-    matches!(outcome, Outcome::Stalls { .. })
+    matches!(end, End::Stalls)
 }

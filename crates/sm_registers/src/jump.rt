@@ -1,16 +1,17 @@
 //! JMP (RP2040 Datasheet, section 3.4.2).
 ghost use Rattle.std.specs.Prelude.{◌≡◌, ◌<◌};
 ghost use Rattle.sm_registers.specs.Effects as spec;
-ghost use Rattle.sm_registers.specs.Outcomes.{effect_by};
-ghost use Rattle.sm_registers.specs.Ranges.{WritesOwnPins};
+ghost use Rattle.sm_registers.specs.Ends.{effect_by};
+ghost use Rattle.sm_registers.specs.Intents.{no_wants};
 
-use crate::outcome::{Deed, Outcome};
+use crate::end::End;
 use crate::registers::Registers;
 use crate::view::View;
 use pin_matrix::MachineSetup;
 use pio_encode::Condition;
 
 /// Goes to the address where the condition holds. X or Y counts down in any case.
+#[inline(always)]
 #[tactic(auto, unfolding(crate::specs::Effects::jmp_effect))]
 pub(crate) fn jmp_effect(
     condition: Condition,
@@ -18,20 +19,20 @@ pub(crate) fn jmp_effect(
     setup: &MachineSetup,
     view: &View,
     registers: &mut Registers,
-) -> Outcome
-    ensures value { effect_by registers.new result ≡ spec.jmp_effect condition address setup.now view.now registers.old }
-    ensures writes { WritesOwnPins (effect_by registers.new result) }
+) -> End
+    ensures { effect_by registers.new no_wants result ≡ spec.jmp_effect condition address setup.now view.now registers.old }
 {
     let is_taken = jumps(condition, setup, view, registers);
     count_down(condition, registers);
-    Outcome::Finishes(if is_taken {
-        Deed::Jump(address)
+    if is_taken {
+        End::Jumps(address)
     } else {
-        Deed::Nothing
-    })
+        End::GoesOn
+    }
 }
 
 /// Whether the condition holds, by X and Y before the count.
+#[inline(always)]
 fn jumps(condition: Condition, setup: &MachineSetup, view: &View, registers: &Registers) -> bool
     ensures { result ≡ spec.jumps condition setup.now view.now registers.now }
 {
@@ -48,6 +49,7 @@ fn jumps(condition: Condition, setup: &MachineSetup, view: &View, registers: &Re
 }
 
 /// X or Y one less, where the condition counts.
+#[inline(always)]
 fn count_down(condition: Condition, registers: &mut Registers)
     ensures { registers.new ≡ spec.counted_down condition registers.old }
 {

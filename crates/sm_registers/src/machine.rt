@@ -1,8 +1,6 @@
 //! A state machine with its FIFOs. In a clock it ticks or doesn't, and then settles what it and the system want.
 ghost use Rattle.std.specs.Prelude.{◌≡◌, ℕ, ◌-◌, ◌<◌, false, true, length, IsTrue, IsSome, IfOk};
-ghost use Rattle.std.specs.List.{AllByRecursion};
-ghost use Rattle.pin_matrix.specs.Pins.{IsWrite};
-ghost use Rattle.sm_registers.specs.Effects.{no_intent};
+ghost use Rattle.sm_registers.specs.Intents.{intent_of, no_wants, wants_of, written_by};
 ghost use Rattle.sm_registers.specs.Idling.{IsIdle, IsSoon, after_ticks, begins_next, idle_of, is_counting, only_counts, stirs_at};
 ghost use Rattle.sm_registers.specs.State.{IsKept, first_machine, queues_of, settled_ports, shown_of, uses_fifos};
 ghost use Rattle.sm_registers.specs.State as spec;
@@ -12,11 +10,13 @@ use crate::decoded::Decoded;
 use crate::idle::Idle;
 use crate::idling;
 use crate::idling::refills;
-use crate::intent::{Intent, RX_UNDER, TX_OVER};
+use crate::outputs::Outputs;
 use crate::registers::Registers;
 use crate::shown::Shown;
+use crate::sticky::{RX_UNDER, TX_OVER};
 use crate::tick::tick_of;
 use crate::view::View;
+use crate::wants::Wants;
 use fifo_pair::{Fifo, Pair};
 use pin_matrix::MachineSetup;
 use std::alloc::{AllocError, Global};
@@ -71,37 +71,21 @@ impl<F: Fifo> Machine<F> {
         &self.setup
     }
 
-    /// One tick. Its registers change; all else that it does is the intent, which `settle` and the block carry out. Rows alone
-    /// call it: a block calls `tick_into`.
-    pub fn tick(&mut self, view: &View) -> Intent
-        ensures intent { result ≡ (spec_tick.tick_of self.old.setup view.now (queues_of self.old.ports.fifos) self.old.registers).1 }
+    /// One tick. Its registers change, and it writes its pins over those of the machines before it. The wants, of nothing so
+    /// far, get the rest of what it does, which `settle` and the block carry out.
+    #[inline(always)]
+    pub fn tick(&mut self, view: &View, outputs: &mut Outputs, wants: &mut Wants)
+        requires fresh { wants.old ≡ no_wants }
         ensures state { self.new ≡ record self.old {
           registers =
               (spec_tick.tick_of self.old.setup view.now (queues_of self.old.ports.fifos) self.old.registers).0;
         } }
-        ensures level { AllByRecursion IsWrite result.level }
-        ensures direction { AllByRecursion IsWrite result.direction }
-        ensures take { IsTrue result.take → 0 < length self.new.ports.fifos.tx }
-        ensures word { IsSome result.word → length self.new.ports.fifos.rx < self.new.ports.fifos.rx_room }
-    {
-        let mut intent = Intent::none();
-        self.tick_into(view, &mut intent);
-        intent
-    }
-
-    /// The same, with the intent put into one that wants nothing so far, which spares a copy in each clock.
-    #[inline(never)]
-    pub fn tick_into(&mut self, view: &View, intent: &mut Intent)
-        requires { intent.old ≡ no_intent }
-        ensures intent { intent.new ≡ (spec_tick.tick_of self.old.setup view.now (queues_of self.old.ports.fifos) self.old.registers).1 }
-        ensures state { self.new ≡ record self.old {
-          registers =
-              (spec_tick.tick_of self.old.setup view.now (queues_of self.old.ports.fifos) self.old.registers).0;
-        } }
-        ensures level { AllByRecursion IsWrite intent.new.level }
-        ensures direction { AllByRecursion IsWrite intent.new.direction }
-        ensures take { IsTrue intent.new.take → 0 < length self.new.ports.fifos.tx }
-        ensures word { IsSome intent.new.word → length self.new.ports.fifos.rx < self.new.ports.fifos.rx_room }
+        ensures outputs { outputs.new ≡ written_by outputs.old
+            (spec_tick.tick_of self.old.setup view.now (queues_of self.old.ports.fifos) self.old.registers).1 }
+        ensures wants { wants.new
+            ≡ wants_of (spec_tick.tick_of self.old.setup view.now (queues_of self.old.ports.fifos) self.old.registers).1 }
+        ensures take { IsTrue wants.new.take → 0 < length self.new.ports.fifos.tx }
+        ensures word { IsSome wants.new.word → length self.new.ports.fifos.rx < self.new.ports.fifos.rx_room }
     {
         tick_of(
             &self.setup,
@@ -109,7 +93,8 @@ impl<F: Fifo> Machine<F> {
             &self.fifos,
             &mut self.decoded,
             &mut self.registers,
-            intent,
+            outputs,
+            wants,
         );
     }
 
@@ -188,36 +173,37 @@ impl<F: Fifo> Machine<F> {
         self.fifos.rx_level() as u8
     }
 
-    /// Ends a clock: the machine takes and gives what the intent says, and the system writes the word, if any, and reads
-    /// RX or doesn't. A level is what it was at the clock's start. True where any of them did anything at the FIFOs.
+    /// Ends a clock: the machine takes and gives what it wants, and the system writes the word, if any, and reads RX or
+    /// doesn't. A level is what it was at the clock's start. True where any of them did anything at the FIFOs.
     #[inline(always)]
     #[tactic(auto, unfolding(crate::specs::State::settled_ports, fifo_pair::specs::Fifos::settled))]
-    pub fn settle(&mut self, intent: &Intent, word: Option<u32>, read: bool) -> bool
-        requires take { IsTrue intent.now.take → 0 < length self.old.ports.fifos.tx }
-        requires word { IsSome intent.now.word → length self.old.ports.fifos.rx < self.old.ports.fifos.rx_room }
-        ensures after { self.new ≡ record self.old { ports = settled_ports intent.now word read self.old.ports } }
-        ensures used { result ≡ uses_fifos intent.now word read }
+    pub fn settle(&mut self, wants: &Wants, word: Option<u32>, read: bool) -> bool
+        requires take { IsTrue wants.now.take → 0 < length self.old.ports.fifos.tx }
+        requires word { IsSome wants.now.word → length self.old.ports.fifos.rx < self.old.ports.fifos.rx_room }
+        ensures after { self.new ≡ record self.old { ports = settled_ports (intent_of wants.now) word read self.old.ports } }
+        ensures used { result ≡ uses_fifos (intent_of wants.now) word read }
     {
-        if !intent.take && intent.word.is_none() && word.is_none() && !read {
-            self.sticky = intent.sticky | self.sticky;
+        if !wants.take && wants.word.is_none() && word.is_none() && !read {
+            self.sticky = wants.sticky | self.sticky;
             false
         } else {
-            self.settle_words(intent, word, read);
+            self.settle_words(*wants, word, read);
             true
         }
     }
 
     /// The same where somebody does something.
+    // The wants come as a copy, so that those of a tick need no place in memory.
     #[inline(never)]
     #[tactic(auto, unfolding(crate::specs::State::settled_ports, fifo_pair::specs::Fifos::settled))]
-    fn settle_words(&mut self, intent: &Intent, word: Option<u32>, read: bool)
-        requires take { IsTrue intent.now.take → 0 < length self.old.ports.fifos.tx }
-        requires word { IsSome intent.now.word → length self.old.ports.fifos.rx < self.old.ports.fifos.rx_room }
-        ensures { self.new ≡ record self.old { ports = settled_ports intent.now word read self.old.ports } }
+    fn settle_words(&mut self, wants: Wants, word: Option<u32>, read: bool)
+        requires take { IsTrue wants.take → 0 < length self.old.ports.fifos.tx }
+        requires word { IsSome wants.word → length self.old.ports.fifos.rx < self.old.ports.fifos.rx_room }
+        ensures { self.new ≡ record self.old { ports = settled_ports (intent_of wants) word read self.old.ports } }
     {
-        let settled = self.fifos.settle(intent.take, intent.word, word, read);
+        let settled = self.fifos.settle(wants.take, wants.word, word, read);
         self.got = got_after(settled.got, self.got);
-        self.sticky = told(settled.over, settled.under) | (intent.sticky | self.sticky);
+        self.sticky = told(settled.over, settled.under) | (wants.sticky | self.sticky);
     }
 
     /// What can be seen of it.

@@ -1,12 +1,13 @@
 //! MOV and SET, which put a word or a number where it belongs (RP2040 Datasheet, sections 3.4.8 and 3.4.10).
 ghost use Rattle.std.specs.Prelude.{◌≡◌};
 ghost use Rattle.sm_registers.specs.Effects as spec;
-ghost use Rattle.sm_registers.specs.Outcomes.{effect_by, finished_by};
-ghost use Rattle.sm_registers.specs.Ranges.{WritesOwnPins};
+ghost use Rattle.sm_registers.specs.Ends.{effect_by, unwritten, written_once};
+ghost use Rattle.sm_registers.specs.Intents.{no_wants};
 ghost use Rattle.sm_registers.specs.State.{queues_of};
 
+use crate::end::End;
 use crate::fifo_moves::fill_osr;
-use crate::outcome::{Deed, Outcome};
+use crate::outputs::Outputs;
 use crate::registers::Registers;
 use crate::view::View;
 use fifo_pair::{Fifo, Pair};
@@ -25,13 +26,21 @@ pub(crate) fn mov_effect<F: Fifo>(
     view: &View,
     fifos: &Pair<F>,
     registers: &mut Registers,
-) -> Outcome
-    ensures value { effect_by registers.new result
-        ≡ spec.mov_effect destination operation source setup.now view.now (queues_of fifos.now) registers.old }
-    ensures writes { WritesOwnPins (effect_by registers.new result) }
+    outputs: &mut Outputs,
+) -> End
+    ensures value { effect_by registers.new no_wants result
+        ≡ unwritten (spec.mov_effect destination operation source setup.now view.now (queues_of fifos.now) registers.old) }
+    ensures outputs { outputs.new ≡ written_once outputs.old
+        (spec.mov_effect destination operation source setup.now view.now (queues_of fifos.now) registers.old) }
 {
     let word = mov_word(source, setup, view, fifos, registers);
-    Outcome::Finishes(mov_to(destination, operated(operation, word), setup, registers))
+    mov_to(
+        destination,
+        operated(operation, word),
+        setup,
+        registers,
+        outputs,
+    )
 }
 
 /// The word that a MOV takes.
@@ -83,52 +92,51 @@ fn operated(operation: MovOperation, word: u32) -> u32
 }
 
 /// Puts a MOV's word where it goes.
+#[inline(always)]
 fn mov_to(
     destination: MovDestination,
     value: u32,
     setup: &MachineSetup,
     registers: &mut Registers,
-) -> Deed
-    ensures value { finished_by registers.new result ≡ spec.mov_to destination value setup.now registers.old }
-    ensures writes { WritesOwnPins (finished_by registers.new result) }
+    outputs: &mut Outputs,
+) -> End
+    ensures value { effect_by registers.new no_wants result ≡ unwritten (spec.mov_to destination value setup.now registers.old) }
+    ensures outputs { outputs.new ≡ written_once outputs.old (spec.mov_to destination value setup.now registers.old) }
 {
     match destination {
-        MovDestination::Pins => return Deed::WriteLevels(writes_of(&setup.out, value)),
+        MovDestination::Pins => outputs.write_levels(writes_of(&setup.out, value)),
         MovDestination::X => registers.x = value,
         MovDestination::Y => registers.y = value,
-        MovDestination::Exec => return Deed::Execute((value % 65_536) as u16),
-        MovDestination::Pc => return Deed::Jump((value % 32) as u8),
+        MovDestination::Exec => return End::Executes((value % 65_536) as u16),
+        MovDestination::Pc => return End::Jumps((value % 32) as u8),
         MovDestination::Isr => {
             registers.isr = value;
             registers.in_count = 0;
         }
         MovDestination::Osr => fill_osr(value, registers),
     }
-    Deed::Nothing
+    End::GoesOn
 }
 
 /// Sets pins, directions, X or Y to a number of five bits.
+#[inline(always)]
 #[tactic(auto, unfolding(crate::specs::Effects::set_effect))]
 pub(crate) fn set_effect(
     destination: SetDestination,
     value: u8,
     setup: &MachineSetup,
     registers: &mut Registers,
-) -> Outcome
-    ensures value { effect_by registers.new result ≡ spec.set_effect destination value setup.now registers.old }
-    ensures writes { WritesOwnPins (effect_by registers.new result) }
+    outputs: &mut Outputs,
+) -> End
+    ensures value { effect_by registers.new no_wants result ≡ unwritten (spec.set_effect destination value setup.now registers.old) }
+    ensures outputs { outputs.new ≡ written_once outputs.old (spec.set_effect destination value setup.now registers.old) }
 {
     let value = u32::from(value);
-    Outcome::Finishes(match destination {
-        SetDestination::Pins => Deed::WriteLevels(writes_of(&setup.set, value)),
-        SetDestination::X => {
-            registers.x = value;
-            Deed::Nothing
-        }
-        SetDestination::Y => {
-            registers.y = value;
-            Deed::Nothing
-        }
-        SetDestination::Pindirs => Deed::WriteDirections(writes_of(&setup.set, value)),
-    })
+    match destination {
+        SetDestination::Pins => outputs.write_levels(writes_of(&setup.set, value)),
+        SetDestination::X => registers.x = value,
+        SetDestination::Y => registers.y = value,
+        SetDestination::Pindirs => outputs.write_directions(writes_of(&setup.set, value)),
+    }
+    End::GoesOn
 }

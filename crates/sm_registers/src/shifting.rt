@@ -1,20 +1,23 @@
 //! IN and OUT: bits into the ISR and out of the OSR (RP2040 Datasheet, sections 3.4.4, 3.4.5 and 3.5.4).
 ghost use Rattle.std.specs.Prelude.{◌≡◌, ◌≤◌, Some};
 ghost use Rattle.sm_registers.specs.Effects as spec;
-ghost use Rattle.sm_registers.specs.Outcomes.{effect_by, finished_by};
-ghost use Rattle.sm_registers.specs.Ranges.{WritesOwnPins};
+ghost use Rattle.sm_registers.specs.Ends.{effect_by, unwritten, written_once};
+ghost use Rattle.sm_registers.specs.Intents.{no_wants};
 ghost use Rattle.sm_registers.specs.State.{queues_of};
 
-use crate::intent::{RX_STALL, TX_STALL};
-use crate::outcome::{Deed, Outcome};
+use crate::end::End;
+use crate::outputs::Outputs;
 use crate::registers::Registers;
+use crate::sticky::{RX_STALL, TX_STALL};
 use crate::view::View;
+use crate::wants::Wants;
 use fifo_pair::{Fifo, Pair};
 use pin_matrix::{MachineSetup, pins_from, writes_of};
 use pio_encode::{InSource, OutDestination};
 use shift_engine::{shift_in, shift_out};
 
 /// Shifts bits in, in its first tick alone; with autopush it then pushes at the threshold, and stalls while RX is full.
+#[inline(always)]
 #[tactic(auto, unfolding(crate::specs::Effects::in_effect))]
 pub(crate) fn in_effect<F: Fifo>(
     source: InSource,
@@ -23,18 +26,19 @@ pub(crate) fn in_effect<F: Fifo>(
     view: &View,
     fifos: &Pair<F>,
     registers: &mut Registers,
-) -> Outcome
+    wants: &mut Wants,
+) -> End
     requires count { count ≤ 32 }
     requires placed { registers.old.in_count ≤ 32 }
-    ensures value { effect_by registers.new result
+    requires fresh { wants.old ≡ no_wants }
+    ensures { effect_by registers.new wants.new result
         ≡ spec.in_effect source count setup.now view.now (queues_of fifos.now) registers.old }
-    ensures writes { WritesOwnPins (effect_by registers.new result) }
 {
     if !registers.begun {
         let word = in_word(source, setup, view, registers);
         put_bits_in(word, count, setup, registers);
     }
-    autopush(setup, fifos, registers)
+    autopush(setup, fifos, registers, wants)
 }
 
 /// The word that an IN takes bits of.
@@ -62,33 +66,32 @@ fn put_bits_in(word: u32, count: u8, setup: &MachineSetup, registers: &mut Regis
 }
 
 /// With autopush, pushes an ISR whose count has reached the threshold.
-fn autopush<F: Fifo>(setup: &MachineSetup, fifos: &Pair<F>, registers: &mut Registers) -> Outcome
-    ensures value { effect_by registers.new result ≡ spec.autopushed setup.now (queues_of fifos.now) registers.old }
-    ensures writes { WritesOwnPins (effect_by registers.new result) }
+fn autopush<F: Fifo>(
+    setup: &MachineSetup,
+    fifos: &Pair<F>,
+    registers: &mut Registers,
+    wants: &mut Wants,
+) -> End
+    requires { wants.old ≡ no_wants }
+    ensures { effect_by registers.new wants.new result ≡ spec.autopushed setup.now (queues_of fifos.now) registers.old }
 {
     if setup.autopush && setup.push_threshold <= registers.in_count {
         if fifos.rx_full() {
-            Outcome::Stalls {
-                sets: 0,
-                sticky: RX_STALL,
-            }
-        } else {
-            Outcome::Finishes(give_isr(registers))
+            wants.sticky = RX_STALL;
+            return End::Stalls;
         }
-    } else {
-        Outcome::Finishes(Deed::Nothing)
+        give_isr(registers, wants);
     }
+    End::GoesOn
 }
 
 /// Gives the ISR to RX, which leaves it empty.
-pub(crate) fn give_isr(registers: &mut Registers) -> Deed
-    ensures value { finished_by registers.new result
-        ≡ record (spec.quiet (spec.isr_emptied registers.old)) { word = Some registers.old.isr } }
-    ensures writes { WritesOwnPins (finished_by registers.new result) }
+pub(crate) fn give_isr(registers: &mut Registers, wants: &mut Wants)
+    ensures isr { registers.new ≡ spec.isr_emptied registers.old }
+    ensures word { wants.new ≡ record wants.old { word = Some registers.old.isr } }
 {
-    let word = registers.isr;
+    wants.word = Some(registers.isr);
     empty_isr(registers);
-    Deed::Give(word)
 }
 
 /// Empties the ISR.
@@ -108,46 +111,52 @@ pub(crate) fn out_effect<F: Fifo>(
     setup: &MachineSetup,
     fifos: &Pair<F>,
     registers: &mut Registers,
-) -> Outcome
+    outputs: &mut Outputs,
+    wants: &mut Wants,
+) -> End
     requires count { count ≤ 32 }
     requires placed { registers.old.out_count ≤ 32 }
-    ensures value { effect_by registers.new result
-        ≡ spec.out_effect destination count setup.now (queues_of fifos.now) registers.old }
-    ensures writes { WritesOwnPins (effect_by registers.new result) }
+    requires fresh { wants.old ≡ no_wants }
+    ensures value { effect_by registers.new wants.new result
+        ≡ unwritten (spec.out_effect destination count setup.now (queues_of fifos.now) registers.old) }
+    ensures outputs { outputs.new ≡ written_once outputs.old
+        (spec.out_effect destination count setup.now (queues_of fifos.now) registers.old) }
 {
     if setup.autopull && setup.pull_threshold <= registers.out_count {
-        let sticky = if fifos.tx_level() == 0 { TX_STALL } else { 0 };
-        return Outcome::Stalls { sets: 0, sticky };
+        wants.sticky = if fifos.tx_level() == 0 { TX_STALL } else { 0 };
+        return End::Stalls;
     }
     let (value, osr) = shift_out(registers.osr, count, setup.out_right);
     registers.osr = osr;
     registers.out_count = (registers.out_count + count).min(32);
-    Outcome::Finishes(out_to(destination, value, count, setup, registers))
+    out_to(destination, value, count, setup, registers, outputs)
 }
 
 /// Puts an OUT's bits where they go.
+#[inline(always)]
 fn out_to(
     destination: OutDestination,
     value: u32,
     count: u8,
     setup: &MachineSetup,
     registers: &mut Registers,
-) -> Deed
-    ensures value { finished_by registers.new result ≡ spec.out_to destination value count setup.now registers.old }
-    ensures writes { WritesOwnPins (finished_by registers.new result) }
+    outputs: &mut Outputs,
+) -> End
+    ensures value { effect_by registers.new no_wants result ≡ unwritten (spec.out_to destination value count setup.now registers.old) }
+    ensures outputs { outputs.new ≡ written_once outputs.old (spec.out_to destination value count setup.now registers.old) }
 {
     match destination {
-        OutDestination::Pins => return Deed::WriteLevels(writes_of(&setup.out, value)),
+        OutDestination::Pins => outputs.write_levels(writes_of(&setup.out, value)),
         OutDestination::X => registers.x = value,
         OutDestination::Y => registers.y = value,
         OutDestination::Null => {}
-        OutDestination::Pindirs => return Deed::WriteDirections(writes_of(&setup.out, value)),
-        OutDestination::Pc => return Deed::Jump((value % 32) as u8),
+        OutDestination::Pindirs => outputs.write_directions(writes_of(&setup.out, value)),
+        OutDestination::Pc => return End::Jumps((value % 32) as u8),
         OutDestination::Isr => {
             registers.isr = value;
             registers.in_count = count;
         }
-        OutDestination::Exec => return Deed::Execute((value % 65_536) as u16),
+        OutDestination::Exec => return End::Executes((value % 65_536) as u16),
     }
-    Deed::Nothing
+    End::GoesOn
 }

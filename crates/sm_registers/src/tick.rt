@@ -1,212 +1,148 @@
 //! One tick: the current word's effect, and what each tick does besides (RP2040 Datasheet, sections 3.2.4 and 3.5).
-ghost use Rattle.std.specs.Prelude.{◌≡◌, ◌<◌, ◌≤◌, [], ◌∷◌, None, is_some, false, true, if◌then◌else◌};
-ghost use Rattle.sm_registers.specs.Ranges.{IsPlaced, WritesOwnPins};
-ghost use Rattle.std.specs.List.{AllByRecursion};
-ghost use Rattle.pin_matrix.specs.Pins.{IsWrite};
-ghost use Rattle.pin_matrix.specs.Pins as pins;
+ghost use Rattle.std.specs.Prelude.{◌≡◌, ◌<◌, ◌≤◌, None, is_some, false};
 ghost use Rattle.pio_encode.specs.Ranges.{IsInRange};
 ghost use Rattle.pio_encode.specs.Word.{reading_of};
-ghost use Rattle.sm_registers.specs.Effects.{no_intent};
-ghost use Rattle.sm_registers.specs.Outcomes.{effect_by, finished_by, side_intent, wanted_by};
+ghost use Rattle.sm_registers.specs.Ends.{effect_by, written_side};
+ghost use Rattle.sm_registers.specs.Intents.{no_wants, wants_of, written_by};
+ghost use Rattle.sm_registers.specs.Ranges.{IsPlaced};
 ghost use Rattle.sm_registers.specs.State.{queues_of};
 ghost use Rattle.sm_registers.specs.Tick as spec;
 
-use crate::decoded::Decoded;
+use crate::decoded::{Decoded, PENDING};
+use crate::end::End;
 use crate::fifo_moves::fill_osr;
 use crate::instruction::effect_of;
-use crate::intent::{Intent, Kind};
-use crate::outcome::{Deed, Outcome};
+use crate::outputs::Outputs;
 use crate::registers::Registers;
 use crate::view::View;
+use crate::wants::Wants;
 use fifo_pair::{Fifo, Pair};
 use pin_matrix::{MachineSetup, writes_of};
-use pio_encode::{Op, decode};
+use pio_encode::Op;
 
-/// A tick: changes the registers. The intent, of nothing so far, gets what it does outside them.
+/// A tick: changes the registers, and writes its pins over those of the machines before. The wants, of nothing so far, get
+/// the rest of what it does outside.
 #[inline(always)]
-#[tactic(auto, unfolding(crate::specs::Tick::tick_of, crate::specs::Tick::tick_delay))]
+#[tactic(auto, unfolding(crate::specs::Tick::tick_of, crate::specs::Tick::tick_delay, pin_matrix::specs::Pins::merged))]
 pub(crate) fn tick_of<F: Fifo>(
     setup: &MachineSetup,
     view: &View,
     fifos: &Pair<F>,
     decoded: &mut Decoded,
     registers: &mut Registers,
-    intent: &mut Intent,
+    outputs: &mut Outputs,
+    wants: &mut Wants,
 )
     requires placed { IsPlaced registers.old }
     requires rule { decoded.old.rule ≡ setup.now.side_rule }
-    requires fresh { intent.old ≡ no_intent }
-    ensures value { (registers.new, intent.new) ≡ spec.tick_of setup.now view.now (queues_of fifos.now) registers.old }
-    ensures level { AllByRecursion IsWrite intent.new.level }
-    ensures direction { AllByRecursion IsWrite intent.new.direction }
+    requires fresh { wants.old ≡ no_wants }
+    ensures registers { registers.new ≡ (spec.tick_of setup.now view.now (queues_of fifos.now) registers.old).0 }
+    ensures outputs { outputs.new ≡ written_by outputs.old (spec.tick_of setup.now view.now (queues_of fifos.now) registers.old).1 }
+    ensures wants { wants.new ≡ wants_of (spec.tick_of setup.now view.now (queues_of fifos.now) registers.old).1 }
     ensures same { decoded.new.rule ≡ decoded.old.rule }
 {
     if registers.delay > 0 {
         registers.delay -= 1;
-        intent.kind = Kind::Delay;
-        intent.take = refill(setup, fifos, registers);
-    } else {
-        tick_current(setup, view, fifos, decoded, registers, intent);
+        wants.take = refill(setup, fifos, registers);
+        return;
     }
+    let (place, word) = current_word(view, registers);
+    decoded.read(place, word);
+    tick_op(
+        decoded.op(place),
+        setup,
+        view,
+        fifos,
+        registers,
+        outputs,
+        wants,
+    );
 }
 
-/// A tick of the pending word, else of memory at PC.
+/// The word that a tick runs, with its place among those that are decoded: the pending word, else that of memory at PC.
 #[inline(always)]
-fn tick_current<F: Fifo>(
-    setup: &MachineSetup,
-    view: &View,
-    fifos: &Pair<F>,
-    decoded: &mut Decoded,
-    registers: &mut Registers,
-    intent: &mut Intent,
-)
-    requires placed { IsPlaced registers.old }
-    requires rule { decoded.old.rule ≡ setup.now.side_rule }
-    requires fresh { intent.old ≡ no_intent }
-    ensures value { (registers.new, intent.new)
-        ≡ spec.tick_word (reading_of (spec.current_word view.now registers.old) setup.now.side_rule)
-        setup.now view.now (queues_of fifos.now) registers.old }
-    ensures level { AllByRecursion IsWrite intent.new.level }
-    ensures direction { AllByRecursion IsWrite intent.new.direction }
-    ensures same { decoded.new.rule ≡ decoded.old.rule }
+pub(crate) fn current_word(view: &View, registers: &Registers) -> (u8, u16)
+    requires { registers.now.pc < 32 }
+    ensures place { result.0 ≤ 32 }
+    ensures word { result.1 ≡ spec.current_word view.now registers.now }
 {
     match registers.pending {
-        Some(word) => tick_pending(word, setup, view, fifos, registers, intent),
-        None => {
-            let address = registers.pc;
-            decoded.read(address, view.memory[usize::from(address)]);
-            tick_op(decoded.op(address), setup, view, fifos, registers, intent);
-        }
+        Some(word) => (PENDING, word),
+        None => (registers.pc, view.memory[usize::from(registers.pc)]),
     }
 }
 
-/// A tick of a pending word, which is rare.
-#[cold]
-#[inline(never)]
-fn tick_pending<F: Fifo>(
-    word: u16,
-    setup: &MachineSetup,
-    view: &View,
-    fifos: &Pair<F>,
-    registers: &mut Registers,
-    intent: &mut Intent,
-)
-    requires placed { IsPlaced registers.old }
-    requires fresh { intent.old ≡ no_intent }
-    ensures value { (registers.new, intent.new)
-        ≡ spec.tick_word (reading_of word setup.now.side_rule) setup.now view.now (queues_of fifos.now) registers.old }
-    ensures level { AllByRecursion IsWrite intent.new.level }
-    ensures direction { AllByRecursion IsWrite intent.new.direction }
-{
-    let op = decode(word, &setup.side_rule);
-    tick_op(&op, setup, view, fifos, registers, intent);
-}
-
-/// A tick of an instruction. The intent, of nothing so far, gets what it does outside the registers.
+/// A tick of an instruction.
 #[inline(always)]
-#[tactic(auto, unfolding(crate::specs::Tick::tick_word, crate::specs::Tick::tick_by))]
+#[tactic(auto, unfolding(crate::specs::Tick::tick_word, crate::specs::Tick::tick_by, crate::specs::Tick::after_effect, pin_matrix::specs::Pins::merged))]
 fn tick_op<F: Fifo>(
     op: &Op,
     setup: &MachineSetup,
     view: &View,
     fifos: &Pair<F>,
     registers: &mut Registers,
-    intent: &mut Intent,
+    outputs: &mut Outputs,
+    wants: &mut Wants,
 )
     requires act { IsInRange op.now.act }
     requires placed { IsPlaced registers.old }
-    requires fresh { intent.old ≡ no_intent }
-    ensures value { (registers.new, intent.new)
-        ≡ spec.tick_word op.now setup.now view.now (queues_of fifos.now) registers.old }
-    ensures level { AllByRecursion IsWrite intent.new.level }
-    ensures direction { AllByRecursion IsWrite intent.new.direction }
+    requires fresh { wants.old ≡ no_wants }
+    ensures registers { registers.new
+        ≡ (spec.tick_word op.now setup.now view.now (queues_of fifos.now) registers.old).0 }
+    ensures outputs { outputs.new
+        ≡ written_by outputs.old (spec.tick_word op.now setup.now view.now (queues_of fifos.now) registers.old).1 }
+    ensures wants { wants.new
+        ≡ wants_of (spec.tick_word op.now setup.now view.now (queues_of fifos.now) registers.old).1 }
 {
     let before = *registers;
-    let outcome = effect_of(op.act, setup, view, fifos, registers);
-    conclude(&outcome, op, setup, &before, registers, intent);
+    let end = effect_of(op.act, setup, view, fifos, registers, outputs, wants);
+    conclude(end, op.delay, setup, &before, registers);
+    write_side(op.side, before.begun, setup, outputs);
     if refill(setup, fifos, registers) {
-        intent.take = true;
+        wants.take = true;
     }
 }
 
-/// Ends an instruction's tick, by the registers before it. The intent, of nothing so far, gets side-set and what it does.
+/// The registers at the end of an instruction's tick, by those before it: whether it has begun, else PC, pending word and
+/// delay.
 #[inline(always)]
 #[tactic(auto, unfolding(crate::specs::Tick::after_effect))]
 fn conclude(
-    outcome: &Outcome,
-    op: &Op,
+    end: End,
+    delay: u8,
     setup: &MachineSetup,
     before: &Registers,
     registers: &mut Registers,
-    intent: &mut Intent,
 )
-    requires pc { before.now.pc < 32 }
-    requires fresh { intent.old ≡ no_intent }
-    requires writes { WritesOwnPins (effect_by registers.old outcome.now) }
-    ensures registers { registers.new
-        ≡ spec.after_effect op.now.delay setup.now before.now (effect_by registers.old outcome.now) }
-    ensures intent { intent.new
-        ≡ wanted_by op.now setup.now before.now.begun (effect_by registers.old outcome.now) }
-    ensures level { AllByRecursion IsWrite intent.new.level }
-    ensures direction { AllByRecursion IsWrite intent.new.direction }
+    requires { before.now.pc < 32 }
+    ensures { registers.new ≡ spec.after_effect delay setup.now before.now (effect_by registers.old no_wants end) }
 {
-    set_side(op.side, before.begun, setup, intent);
-    match outcome {
-        Outcome::Stalls { sets, sticky } => {
-            registers.begun = true;
-            intent.sets = *sets;
-            intent.sticky = *sticky;
-            intent.stalled = true;
-        }
-        Outcome::Finishes(deed) => finish(deed, op, setup, before, registers, intent),
+    match end {
+        End::Stalls => registers.begun = true,
+        End::GoesOn => finish(next_pc(setup, before), None, delay, registers),
+        End::Jumps(address) => finish(address, None, delay, registers),
+        End::Executes(word) => finish(next_pc(setup, before), Some(word), 0, registers),
     }
 }
 
-/// Ends an instruction that is finished: PC, pending word and delay. The intent, of side-set alone so far, gets its deed.
+/// Ends an instruction that is finished.
 #[inline(always)]
-#[tactic(auto, unfolding(crate::specs::Tick::after_effect))]
-fn finish(
-    deed: &Deed,
-    op: &Op,
-    setup: &MachineSetup,
-    before: &Registers,
-    registers: &mut Registers,
-    intent: &mut Intent,
-)
-    requires pc { before.now.pc < 32 }
-    requires side_set { intent.old ≡ side_intent op.now.side setup.now before.now.begun }
-    ensures registers { registers.new
-        ≡ spec.after_effect op.now.delay setup.now before.now (finished_by registers.old deed.now) }
-    ensures intent { intent.new
-        ≡ wanted_by op.now setup.now before.now.begun (finished_by registers.old deed.now) }
+fn finish(pc: u8, pending: Option<u16>, delay: u8, registers: &mut Registers)
+    ensures { registers.new ≡ record registers.old { pc = pc; pending = pending; delay = delay; begun = false } }
 {
-    registers.pc = next_pc(before.pending.is_some(), setup, before);
-    registers.pending = None;
-    registers.delay = op.delay;
+    registers.pc = pc;
+    registers.pending = pending;
+    registers.delay = delay;
     registers.begun = false;
-    match deed {
-        Deed::Nothing => {}
-        Deed::Jump(address) => registers.pc = *address,
-        Deed::Execute(word) => {
-            registers.pending = Some(*word);
-            registers.delay = 0;
-        }
-        Deed::WriteLevels(write) => intent.level[0] = *write,
-        Deed::WriteDirections(write) => intent.direction[0] = *write,
-        Deed::Lower(flags) => intent.clears = *flags,
-        Deed::Raise(flags) => intent.sets = *flags,
-        Deed::Take => intent.take = true,
-        Deed::Give(word) => intent.word = Some(*word),
-        Deed::Tell(flags) => intent.sticky = *flags,
-    }
 }
 
 /// PC after an instruction that doesn't jump.
-fn next_pc(was_pending: bool, setup: &MachineSetup, registers: &Registers) -> u8
+#[inline(always)]
+fn next_pc(setup: &MachineSetup, registers: &Registers) -> u8
     requires { registers.now.pc < 32 }
-    ensures { result ≡ spec.pc_after None was_pending setup.now registers.now }
+    ensures { result ≡ spec.pc_after None (is_some registers.now.pending) setup.now registers.now }
 {
-    if was_pending {
+    if registers.pending.is_some() {
         registers.pc
     } else if registers.pc == setup.wrap_top {
         setup.wrap_bottom
@@ -229,34 +165,20 @@ fn refill<F: Fifo>(setup: &MachineSetup, fifos: &Pair<F>, registers: &mut Regist
     false
 }
 
-/// Gives an intent, of nothing so far, its kind and what side-set writes, in the first tick of an instruction alone.
+/// Writes side-set's pins, in the first tick of an instruction alone.
 #[inline(always)]
-fn set_side(side: Option<u8>, begun: bool, setup: &MachineSetup, intent: &mut Intent)
-    requires { intent.old ≡ no_intent }
-    ensures value { intent.new ≡ side_intent side setup.now begun }
-    ensures write { IsWrite (spec.side_writes side begun setup.now) }
+fn write_side(side: Option<u8>, begun: bool, setup: &MachineSetup, outputs: &mut Outputs)
+    ensures { outputs.new ≡ written_side side begun setup.now outputs.old }
 {
-    intent.kind = if begun { Kind::Late } else { Kind::First };
     match side {
-        Some(value) if !begun => write_side(value, setup, intent),
+        Some(value) if !begun => {
+            let write = writes_of(&setup.side, u32::from(value));
+            if setup.side_rule.pindirs {
+                outputs.write_directions(write);
+            } else {
+                outputs.write_levels(write);
+            }
+        }
         _ => {}
-    }
-}
-
-/// Gives an intent without side-set the writes of a side-set value.
-fn write_side(value: u8, setup: &MachineSetup, intent: &mut Intent)
-    requires level { intent.old.level ≡ no_intent.level }
-    requires direction { intent.old.direction ≡ no_intent.direction }
-    ensures value { intent.new ≡ record intent.old {
-      level = (0, 0) ∷ (if setup.now.side_rule.pindirs then (0, 0) else pins.writes_of setup.now.side value) ∷ [];
-      direction = (0, 0) ∷ (if setup.now.side_rule.pindirs then pins.writes_of setup.now.side value else (0, 0)) ∷ [];
-    } }
-    ensures write { IsWrite (pins.writes_of setup.now.side value) }
-{
-    let writes = writes_of(&setup.side, u32::from(value));
-    if setup.side_rule.pindirs {
-        intent.direction[1] = writes;
-    } else {
-        intent.level[1] = writes;
     }
 }

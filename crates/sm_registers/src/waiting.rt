@@ -2,18 +2,20 @@
 ghost use Rattle.std.specs.Prelude.{◌≡◌, ◌<◌, ◌^◌};
 ghost use Rattle.irq_flags.specs.Flags.{flag_of};
 ghost use Rattle.sm_registers.specs.Effects as spec;
-ghost use Rattle.sm_registers.specs.Outcomes.{effect_by};
-ghost use Rattle.sm_registers.specs.Ranges.{WritesOwnPins};
+ghost use Rattle.sm_registers.specs.Ends.{effect_by};
+ghost use Rattle.sm_registers.specs.Intents.{no_wants};
 
+use crate::end::End;
 use crate::jump::is_up;
-use crate::outcome::{Deed, Outcome};
 use crate::registers::Registers;
 use crate::view::View;
+use crate::wants::Wants;
 use irq_flags::resolve;
 use pin_matrix::MachineSetup;
 use pio_encode::WaitSource;
 
 /// Stalls until the source has the polarity; `wait 1 irq` then lowers its flag.
+#[inline(never)]
 #[tactic(auto, unfolding(crate::specs::Effects::wait_effect))]
 pub(crate) fn wait_effect(
     polarity: bool,
@@ -22,15 +24,17 @@ pub(crate) fn wait_effect(
     setup: &MachineSetup,
     view: &View,
     registers: &Registers,
-) -> Outcome
-    requires { index < 32 }
-    ensures value { effect_by registers.now result ≡ spec.wait_effect polarity source index setup.now view.now registers.now }
-    ensures writes { WritesOwnPins (effect_by registers.now result) }
+    wants: &mut Wants,
+) -> End
+    requires index { index < 32 }
+    requires fresh { wants.old ≡ no_wants }
+    ensures { effect_by registers.now wants.new result ≡ spec.wait_effect polarity source index setup.now view.now registers.now }
 {
     if waited_bit(source, index, setup, view) == polarity {
-        Outcome::Finishes(Deed::Lower(waited_flag(polarity, source, index, setup)))
+        wants.clears = waited_flag(polarity, source, index, setup);
+        End::GoesOn
     } else {
-        Outcome::Stalls { sets: 0, sticky: 0 }
+        End::Stalls
     }
 }
 
@@ -58,6 +62,7 @@ fn waited_flag(polarity: bool, source: WaitSource, index: u8, setup: &MachineSet
 }
 
 /// Raises or lowers a flag. One that is raised with Wait stalls in that tick, and until the flag is down.
+#[inline(never)]
 #[tactic(auto, unfolding(crate::specs::Effects::irq_effect))]
 pub(crate) fn irq_effect(
     clear: bool,
@@ -66,25 +71,26 @@ pub(crate) fn irq_effect(
     setup: &MachineSetup,
     view: &View,
     registers: &Registers,
-) -> Outcome
-    requires { index < 32 }
-    ensures value { effect_by registers.now result ≡ spec.irq_effect clear waits index setup.now view.now registers.now }
-    ensures writes { WritesOwnPins (effect_by registers.now result) }
+    wants: &mut Wants,
+) -> End
+    requires index { index < 32 }
+    requires fresh { wants.old ≡ no_wants }
+    ensures { effect_by registers.now wants.new result ≡ spec.irq_effect clear waits index setup.now view.now registers.now }
 {
     let flag = flag_bit(index, setup);
     if clear {
-        Outcome::Finishes(Deed::Lower(flag))
+        wants.clears = flag;
+        End::GoesOn
     } else if !waits {
-        Outcome::Finishes(Deed::Raise(flag))
+        wants.sets = flag;
+        End::GoesOn
     } else if !registers.begun {
-        Outcome::Stalls {
-            sets: flag,
-            sticky: 0,
-        }
+        wants.sets = flag;
+        End::Stalls
     } else if is_up(u32::from(view.flags.up), resolve(index, setup.id)) {
-        Outcome::Stalls { sets: 0, sticky: 0 }
+        End::Stalls
     } else {
-        Outcome::Finishes(Deed::Nothing)
+        End::GoesOn
     }
 }
 

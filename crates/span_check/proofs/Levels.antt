@@ -2,16 +2,14 @@
 use Rattle.std.proofs.Common.{◌≡◌, ℕ, Bool, true, false, cond, List, [], ◌∷◌, nat_lt, refl}
 use Rattle.std.proofs.lemmas.Nat.Bits.{bit_at-zero}
 use Rattle.pin_matrix.specs.declared.machine.MachineSetup.{MachineSetup}
-use Rattle.sm_registers.specs.declared.intent.Kind.{Kind}
-use Rattle.sm_registers.specs.declared.intent.Kind.TheVariants.{First, Late, Delay}
+use Rattle.sm_registers.specs.Intents.{Kind, First, Late, Delay, no_intent, two_writes}
 use Rattle.sm_registers.specs.declared.registers.Registers.{Registers}
 use Rattle.sm_registers.specs.declared.view.View.{View}
-use Rattle.sm_registers.specs.Effects.{no_intent, effect_of}
+use Rattle.sm_registers.specs.Effects.{effect_of}
 use Rattle.sm_registers.specs.Queues.{Queues}
 use Rattle.pio_encode.specs.declared.op.Op.{Op}
 use Rattle.pio_encode.specs.Word.{reading_of}
 use Rattle.sm_registers.specs.Tick.{tick_of, tick_delay, tick_word, tick_by, current_word, side_writes}
-use Rattle.block_core.specs.Block.{two_writes}
 use Rattle.span_step.specs.Courses.{is_edge}
 use Rattle.span_ticks.specs.Following.{level_after}
 use Rattle.block_core.specs.Edges.{changes}

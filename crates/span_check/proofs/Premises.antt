@@ -15,7 +15,8 @@ use Rattle.sm_registers.specs.Tick.{tick_of}
 use Rattle.dreq_pacing.specs.declared.due.Due.{Due}
 use Rattle.dreq_pacing.specs.declared.line.Line.{Line}
 use Rattle.block_core.specs.Slots.{place_after}
-use Rattle.block_core.specs.Block.{BlockState, Run, first_state, first_place, run_from, view_of, two_writes}
+use Rattle.sm_registers.specs.Intents.{two_writes}
+use Rattle.block_core.specs.Block.{BlockState, Run, first_state, first_place, run_from, view_of}
 use Rattle.block_core.specs.Following.{Follows, place_at, intent_in, OthersLeave}
 use Rattle.block_core.specs.Hosted.{hosted_at, host_of}
 use Rattle.span_step.specs.declared.ages.Ages.{Ages}

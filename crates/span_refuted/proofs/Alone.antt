@@ -15,7 +15,8 @@ use Rattle.dreq_pacing.specs.declared.line.Line.{Line}
 use Rattle.dreq_pacing.specs.Due.{no_machine}
 use Rattle.dreq_pacing.specs.Ports.{due_in}
 use Rattle.block_core.specs.Slots.{first_slot, place_after}
-use Rattle.block_core.specs.Block.{BlockState, Run, first_state, first_run, first_place, run_from, stepped, next, view_of, two_writes}
+use Rattle.sm_registers.specs.Intents.{two_writes}
+use Rattle.block_core.specs.Block.{BlockState, Run, first_state, first_run, first_place, run_from, stepped, next, view_of}
 use Rattle.block_core.specs.Following.{Follows, place_at, intent_in, leaves_level, OthersLeave}
 use Rattle.block_core.specs.Hosted.{hosted_at, hosted_next, host_of}
 use Rattle.span_step.specs.Courses.{start}

@@ -17,4 +17,4 @@ returns g c = λ test h.
     let three = c.sooner-third.ensures (λ n. (test n || stirs_after v b.first n) || stirs_after v b.second n) two in
     let four = c.sooner.ensures (λ n. ((test n || stirs_after v b.first n) || stirs_after v b.second n) || stirs_after v b.third n) three in
     subst (λ (r : Run). IsFirst (λ n. test n || machines_stir_over c.args.pad quiet (rested n r)) 0 c.sooner.result) c.self.view_is
-    (first_stirs b.view.memory b.clock b.levels b.directions b.view.flags.up b.outside b.sync b.first b.second b.third b.fourth c.args.pad c.seen.result test c.sooner.result c.seen.ensures four)
+    (first_stirs b.view.memory b.clock b.wanted.outputs.levels b.wanted.outputs.directions b.view.flags.up b.outside b.sync b.first b.second b.third b.fourth c.args.pad c.seen.result test c.sooner.result c.seen.ensures four)

@@ -1,5 +1,6 @@
 use Rattle.std.proofs.Common.{refl}
 use Rattle.block_core.specs.Slots.{doing}
+use Rattle.block_core.proofs.OwnPlace.{place_writes, place_turns}
 use Rattle.block_core.proofs.Showing.{shows_first, shows_second, shows_third, shows_fourth, first_new, second_new, third_new, fourth_new, pins_new}
 use Rattle.block_core.proofs.Steps.{in_step_after}
 use Rattle.block_core.proofs.Told.{place_told}
@@ -58,10 +59,10 @@ invariant_of-self g c =
 pub returns-clause-run : goal.returns-clause-run
 returns-clause-run g c =
     let b = c.self.inside in
-    let next = next_run (doing c.args.due) b.view.memory b.clock b.levels b.directions b.view.flags.up b.outside b.sync b.first b.second b.third b.fourth c.outside_after-self-inside.result c.args.pad c.seen-seen.result c.new-wanted.result c.step-first.new.wanted c.step-second.new.wanted c.step-third.new.wanted c.step-fourth.new.wanted _ _ _ _ _ _ (record {
+    let next = next_run (doing c.args.due) b.view.memory b.clock b.wanted.outputs.levels b.wanted.outputs.directions b.view.flags.up b.outside b.sync b.first b.second b.third b.fourth c.outside_after-self-inside.result c.args.pad c.seen-seen.result c.begin.new.self c.step-first.new.wanted c.step-second.new.wanted c.step-third.new.wanted c.step-fourth.new.wanted _ _ _ _ _ _ (record {
       driven = c.outside_after-self-inside.ensures;
       sees = c.seen-seen.ensures;
-      start = c.new-wanted.ensures;
+      start = c.begin.ensures;
       first = c.step-first.ensures.wanted;
       second = c.step-second.ensures.wanted;
       third = c.step-third.ensures.wanted;
@@ -73,10 +74,10 @@ returns-clause-run g c =
 pub returns-clause-used : goal.returns-clause-used
 returns-clause-used g c =
     let b = c.self.inside in
-    let any = any_used (doing c.args.due) b.view.memory b.clock b.levels b.directions b.view.flags.up b.outside b.sync b.first b.second b.third b.fourth c.outside_after-self-inside.result c.args.pad c.seen-seen.result c.new-wanted.result c.step-first.new.wanted c.step-second.new.wanted c.step-third.new.wanted c.step-fourth.new.wanted (record {
+    let any = any_used (doing c.args.due) b.view.memory b.clock b.wanted.outputs.levels b.wanted.outputs.directions b.view.flags.up b.outside b.sync b.first b.second b.third b.fourth c.outside_after-self-inside.result c.args.pad c.seen-seen.result c.begin.new.self c.step-first.new.wanted c.step-second.new.wanted c.step-third.new.wanted c.step-fourth.new.wanted (record {
       driven = c.outside_after-self-inside.ensures;
       sees = c.seen-seen.ensures;
-      start = c.new-wanted.ensures;
+      start = c.begin.ensures;
       first = c.step-first.ensures.wanted;
       second = c.step-second.ensures.wanted;
       third = c.step-third.ensures.wanted;
@@ -88,27 +89,27 @@ returns-clause-used g c =
 pub returns-clause-levels : goal.returns-clause-levels
 returns-clause-levels g c =
     let b = c.self.inside in
-    let last = levels_are_last (doing c.args.due) b.view.memory b.clock b.levels b.directions b.view.flags.up b.outside b.sync b.first b.second b.third b.fourth c.outside_after-self-inside.result c.args.pad c.seen-seen.result c.new-wanted.result c.step-first.new.wanted c.step-second.new.wanted c.step-third.new.wanted c.step-fourth.new.wanted (record {
+    let last = levels_are_last (doing c.args.due) b.view.memory b.clock b.wanted.outputs.levels b.wanted.outputs.directions b.view.flags.up b.outside b.sync b.first b.second b.third b.fourth c.outside_after-self-inside.result c.args.pad c.seen-seen.result c.begin.new.self c.step-first.new.wanted c.step-second.new.wanted c.step-third.new.wanted c.step-fourth.new.wanted (record {
       driven = c.outside_after-self-inside.ensures;
       sees = c.seen-seen.ensures;
-      start = c.new-wanted.ensures;
+      start = c.begin.ensures;
       first = c.step-first.ensures.wanted;
       second = c.step-second.ensures.wanted;
       third = c.step-third.ensures.wanted;
       fourth = c.step-fourth.ensures.wanted;
-    }) c.the_last_write_counts.ensures.pin c.no_write_changes_nothing.ensures.write c.step-first.ensures.level c.step-second.ensures.level c.step-third.ensures.level c.step-fourth.ensures.level in
+    }) c.the_last_write_counts.ensures.pin c.no_write_changes_nothing.ensures.write (place_writes c.writes_are_of_pins.ensures c.no_write_changes_nothing.ensures.write _ (doing c.args.due) b.first) (place_writes c.writes_are_of_pins.ensures c.no_write_changes_nothing.ensures.write _ (doing c.args.due) b.second) (place_writes c.writes_are_of_pins.ensures c.no_write_changes_nothing.ensures.write _ (doing c.args.due) b.third) (place_writes c.writes_are_of_pins.ensures c.no_write_changes_nothing.ensures.write _ (doing c.args.due) b.fourth) in
     rw (← c.self.view_is) last
 
 pub returns-clause-directions : goal.returns-clause-directions
 returns-clause-directions g c =
     let b = c.self.inside in
-    let last = directions_are_last (doing c.args.due) b.view.memory b.clock b.levels b.directions b.view.flags.up b.outside b.sync b.first b.second b.third b.fourth c.outside_after-self-inside.result c.args.pad c.seen-seen.result c.new-wanted.result c.step-first.new.wanted c.step-second.new.wanted c.step-third.new.wanted c.step-fourth.new.wanted (record {
+    let last = directions_are_last (doing c.args.due) b.view.memory b.clock b.wanted.outputs.levels b.wanted.outputs.directions b.view.flags.up b.outside b.sync b.first b.second b.third b.fourth c.outside_after-self-inside.result c.args.pad c.seen-seen.result c.begin.new.self c.step-first.new.wanted c.step-second.new.wanted c.step-third.new.wanted c.step-fourth.new.wanted (record {
       driven = c.outside_after-self-inside.ensures;
       sees = c.seen-seen.ensures;
-      start = c.new-wanted.ensures;
+      start = c.begin.ensures;
       first = c.step-first.ensures.wanted;
       second = c.step-second.ensures.wanted;
       third = c.step-third.ensures.wanted;
       fourth = c.step-fourth.ensures.wanted;
-    }) c.the_last_write_counts.ensures.pin c.no_write_changes_nothing.ensures.write c.step-first.ensures.direction c.step-second.ensures.direction c.step-third.ensures.direction c.step-fourth.ensures.direction in
+    }) c.the_last_write_counts.ensures.pin c.no_write_changes_nothing.ensures.write (place_turns c.writes_are_of_pins.ensures c.no_write_changes_nothing.ensures.write _ (doing c.args.due) b.first) (place_turns c.writes_are_of_pins.ensures c.no_write_changes_nothing.ensures.write _ (doing c.args.due) b.second) (place_turns c.writes_are_of_pins.ensures c.no_write_changes_nothing.ensures.write _ (doing c.args.due) b.third) (place_turns c.writes_are_of_pins.ensures c.no_write_changes_nothing.ensures.write _ (doing c.args.due) b.fourth) in
     rw (← c.self.view_is) last

@@ -1,7 +1,8 @@
 use Rattle.std.proofs.Common.{refl}
+use Rattle.sm_registers.specs.State.{settled_ports}
 use Rattle.block_core.specs.Slots.{settled_slot}
 use Rattle.block_core.proofs.slot.Slot.clock.Goals as goal
 
 pub returns-clause-after : goal.returns-clause-after
-unfolding settled_slot
-returns-clause-after g c = rw (c.settle.ensures.after, c.act.ensures.after, c.act.ensures.intent, c.obey.ensures) refl
+unfolding settled_slot settled_ports
+returns-clause-after g c = rw (c.settle.ensures.after, c.act.ensures.after, c.act.ensures.wants, c.obey.ensures) refl

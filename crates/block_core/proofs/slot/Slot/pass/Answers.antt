@@ -1,7 +1,6 @@
 use Rattle.std.proofs.Common.{◌≡◌, true, false, subst, sym, ap, ◌∙◌}
 use Rattle.clock_divider.specs.Timing.{Timing}
-use Rattle.sm_registers.specs.declared.intent.Kind.TheVariants.{Off, Delay}
-use Rattle.sm_registers.specs.Effects.{no_intent}
+use Rattle.sm_registers.specs.Intents.{Off, Delay, no_intent}
 use Rattle.sm_registers.specs.Idling.{only_counts}
 use Rattle.sm_registers.specs.State.{MachineState}
 use Rattle.dreq_pacing.specs.Due.{quiet}
