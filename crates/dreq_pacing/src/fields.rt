@@ -13,11 +13,11 @@ pub struct Fields<'a> {
 
 impl<'a> Model for Fields<'a> {
     ghost use Rattle.std.specs.Prelude.{ℕ, List};
-    ghost use Rattle.dreq_pacing.specs.Fields.{parted};
+    ghost use Rattle.dreq_pacing.specs.Fields.{fields_of};
 
     ghost Value = { List (List ℕ) };
 
-    ghost view = { λ f. parted f.rest.now };
+    ghost view = { λ f. fields_of f.rest.now };
 }
 
 impl<'a> Fields<'a> {
@@ -25,9 +25,7 @@ impl<'a> Fields<'a> {
     pub fn of_line(line: &'a [u8]) -> Fields<'a>
         ensures { result ≡ spec.fields_of line.now }
     {
-        Fields {
-            rest: before_comment(line),
-        }
+        Fields { rest: line }
     }
 
     /// The next field, if there is one.
@@ -57,25 +55,16 @@ impl<'a> Fields<'a> {
     }
 }
 
-/// What comes before the first `#`.
-fn before_comment(line: &[u8]) -> &[u8]
-    ensures { result.now ≡ spec.before_comment line.now }
-{
-    for (at, byte) in line.iter().enumerate() {
-        if *byte == b'#' {
-            return &line[..at];
-        }
-    }
-    line
-}
-
-/// What comes before the first blank, and what comes after it.
+/// What comes before the first blank or `#`, and what comes after it, which a comment has no part in.
 fn first_part(text: &[u8]) -> (&[u8], &[u8])
     requires { 0 < length text.now }
-    ensures parts { spec.parted text.now ≡ spec.with_field result.0.now (spec.parted result.1.now) }
+    ensures parts { spec.fields_of text.now ≡ spec.with_field result.0.now (spec.fields_of result.1.now) }
     ensures shorter { length result.1.now < length text.now }
 {
     for (at, byte) in text.iter().enumerate() {
+        if *byte == b'#' {
+            return (&text[..at], &[]);
+        }
         if is_blank(*byte) {
             return (&text[..at], &text[at + 1..]);
         }

@@ -1,6 +1,0 @@
-use Rattle.std.proofs.Common.{◌≡◌, ◌++◌, take, drop}
-use Rattle.dreq_pacing.specs.Fields.{before_comment}
-use Rattle.dreq_pacing.proofs.fields.before_comment.Given as goal
-
-abbrev pub invariant-loop-at : goal.invariant-loop-at
-invariant-loop-at l = before_comment l.line ≡ take l.at l.line ++ before_comment (drop l.at l.line)
