@@ -3,6 +3,7 @@ pub mod Firsts
 pub mod Numbers
 pub mod Parts
 pub mod Forms
+pub mod Shorts
 pub mod Drafts
 pub mod BlockLines
 pub mod Readings

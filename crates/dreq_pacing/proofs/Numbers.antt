@@ -1,11 +1,12 @@
 -- A number that is cut off past every range stays so with more digits.
-use Rattle.std.proofs.Common.{◌≡◌, ℕ, ◌+◌, ◌*◌, ◌<◌, ◌≤◌, min, length, get_or, drop, Option, Some, None, List, [], ◌∷◌, refl, sym, ap, ◌∙◌, inl, inr, arith}
+use Rattle.std.proofs.Common.{◌≡◌, ℕ, ◌+◌, ◌*◌, ◌<◌, ◌≤◌, min, length, get_or, drop, Option, Some, None, List, [], ◌∷◌, refl, sym, ap, ◌∙◌, inl, inr, arith, nat_le, cond, Bool, true, false, ◌&&◌}
 use Rattle.std.specs.Prelude.{option_map, option_and_then, is_some}
 use Rattle.std.proofs.lemmas.List.{at_drop_more}
 use Rattle.std.proofs.lemmas.Bool.{cases_lt}
+use Rattle.std.proofs.lemmas.Bool.Decides.{nat_tests}
 use Rattle.std.proofs.lemmas.Nat.{mul-le}
 use Rattle.byte_lines.specs.Bytes.{digit_of}
-use Rattle.dreq_pacing.specs.Number.{number_from, capped}
+use Rattle.dreq_pacing.specs.Number.{number_from, capped, within}
 
 -- one more digit
 more : (base a b d : ℕ) → 1 ≤ base → capped a ≡ capped b → capped (a * base + d) ≡ capped (b * base + d)
@@ -40,3 +41,23 @@ digit_step base value n i d digits all lt e is some whole =
 pub is_some_map : (f : ℕ → ℕ) (o : Option ℕ) → is_some (option_map f o) ≡ is_some o
 is_some_map f None = refl
 is_some_map f (Some n) = refl
+
+and_no : (s : Bool) (m n : ℕ) (t : Bool) → cond (s && false) (Some m) None ≡ cond (t && false) (Some n) None
+and_no true m n true = refl
+and_no true m n false = refl
+and_no false m n true = refl
+and_no false m n false = refl
+
+-- a number past every range is in none
+pub within_capped : (low high : ℕ) (o : Option ℕ) → high ≤ 1000000000000 → within low high (option_map capped o) ≡ within low high o
+within_capped low high None le = refl
+within_capped low high (Some n) le =
+    elim (cases_lt high n) [
+      | inl gt ↦ (
+          let no : nat_le n high ≡ false = grind (arith, nat_tests) in
+          let past : nat_le (capped n) high ≡ false = grind (arith, nat_tests) in
+          ap (λ (t : Bool). cond (nat_le low (capped n) && t) (Some (capped n)) None) past
+          ∙ (and_no (nat_le low (capped n)) (capped n) n (nat_le low n)
+          ∙ sym (ap (λ (t : Bool). cond (nat_le low n && t) (Some n) None) no)))
+      | inr ge ↦ (let same : capped n ≡ n = omega arith in ap (λ m. within low high (Some m)) same)
+    ]

@@ -6,6 +6,7 @@ pub mod Runs
 pub mod Fields
 pub mod Number
 pub mod Form
+pub mod Short
 pub mod Drafts
 pub mod Reading
 pub mod Blocks

@@ -1,69 +1,73 @@
 //! One line of a stimulus: first its form, then its ranges (choice of this profile).
-ghost use Rattle.std.specs.Prelude.{◌≡◌, ◌≤◌, IfOk, length, min};
+ghost use Rattle.std.specs.Prelude.{◌≡◌, ◌≤◌, ◌∷◌, false, Some, IfOk, length, min};
 ghost use Rattle.dreq_pacing.specs.Lines.{IsLineOf};
 ghost use Rattle.dreq_pacing.specs.Form as spec;
+ghost use Rattle.dreq_pacing.specs.Short as short;
+ghost use Rattle.dreq_pacing.specs.declared.verb.Verb.TheVariants.{Feed};
 
-use crate::act::read_act;
+use crate::act::{read_feed, short_act};
 use crate::fault::StimKind;
 use crate::fields::Fields;
 use crate::line::Line;
-use crate::number::{in_range, is_number};
+use crate::number::{in_range, is_number, number_of, within};
 use crate::verb::{Verb, verb_of};
 use std::alloc::{AllocError, Global};
 
-/// The line that the fields are, beside so many machines, in a file of version 1 or 2. The error is want of memory.
+/// The last clock that a line may have.
+const LAST_CLOCK: u64 = 1_000_000_000_000;
+
+/// The line of a clock's field and those after it, beside so many machines, in a file of version 1 or 2. The error is
+/// want of memory.
 pub fn read_line(
     alloc: Global,
     machines: u8,
     two: bool,
-    fields: &Fields,
+    clock: &[u8],
+    after: &Fields,
 ) -> Result<Result<Line, StimKind>, AllocError>
     requires { 1 ≤ machines }
-    ensures value { IfOk result (λ said. said ≡ spec.line_of machines two fields.now) }
+    ensures value { IfOk result (λ said. said ≡ spec.line_of machines two (clock.now ∷ after.now)) }
     ensures line { IfOk result (λ said. IfOk said (IsLineOf machines)) }
 {
-    let mut rest = fields.again();
-    let Some(clock) = rest.next() else {
-        return Ok(Err(StimKind::BadLine));
-    };
+    let mut rest = after.again();
     let Some(name) = rest.next() else {
         return Ok(Err(StimKind::BadLine));
     };
     match verb_of(name, two) {
-        Some(verb) => read_form(alloc, machines, verb, clock, &rest),
+        Some(Verb::Feed) => read_feed_line(alloc, machines, clock, &rest),
+        Some(verb) => Ok(read_short_line(machines, verb, clock, &rest)),
         None => Ok(Err(StimKind::BadLine)),
     }
 }
 
-/// The line with this word, its clock's field and those after the word.
-fn read_form(
+/// The line with the word `feed`, by its clock's field and those after the word.
+fn read_feed_line(
     alloc: Global,
     machines: u8,
-    verb: Verb,
     clock: &[u8],
     args: &Fields,
 ) -> Result<Result<Line, StimKind>, AllocError>
     requires { 1 ≤ machines }
-    ensures value { IfOk result (λ said. said ≡ spec.line_by machines verb clock.now args.now) }
+    ensures value { IfOk result (λ said. said ≡ spec.line_by machines Feed clock.now args.now) }
     ensures line { IfOk result (λ said. IfOk said (IsLineOf machines)) }
 {
-    if !has_form(verb, clock, args) {
+    if !is_feed(clock, args) {
         return Ok(Err(StimKind::BadLine));
     }
-    let Some(clock) = in_range(clock, 0, 1_000_000_000_000) else {
+    let Some(clock) = in_range(clock, 0, LAST_CLOCK) else {
         return Ok(Err(StimKind::Range));
     };
-    match read_act(alloc, machines, verb, args)? {
+    match read_feed(alloc, machines, args)? {
         Some(act) => Ok(Ok(Line { clock, act })),
         None => Ok(Err(StimKind::Range)),
     }
 }
 
-/// Whether all fields are numbers, and as many as the word wants.
-fn has_form(verb: Verb, clock: &[u8], args: &Fields) -> bool
-    ensures { result ≡ spec.has_form verb clock.now args.now }
+/// Whether all fields are numbers, and at least three come after the word.
+fn is_feed(clock: &[u8], args: &Fields) -> bool
+    ensures { result ≡ spec.has_form Feed clock.now args.now }
 {
-    is_number(clock) && fits(verb, count_to_three(args)) && are_numbers(args)
+    is_number(clock) && count_to_three(args) == 3 && are_numbers(args)
 }
 
 fn are_numbers(fields: &Fields) -> bool
@@ -90,14 +94,65 @@ fn count_to_three(fields: &Fields) -> usize
     count
 }
 
-/// Whether a word wants so many fields after it, where three is for more too.
-fn fits(verb: Verb, count: usize) -> bool
-    requires { count ≤ 3 }
-    ensures { result ≡ spec.fits verb count }
+/// The line with another word, by its clock's field and those after the word. Each number is worked out once.
+#[tactic(auto, using(crate::proofs::Shorts::short_is))]
+fn read_short_line(machines: u8, verb: Verb, clock: &[u8], args: &Fields) -> Result<Line, StimKind>
+    requires some { 1 ≤ machines }
+    requires short { spec.fits verb 3 ≡ false }
+    ensures value { result ≡ spec.line_by machines verb clock.now args.now }
+    ensures line { IfOk result (IsLineOf machines) }
+{
+    short_line(machines, verb, number_of(clock), one_or_two(args))
+}
+
+/// The numbers of one field or two, if there are so many and they are numbers.
+fn one_or_two(fields: &Fields) -> Option<(u64, Option<u64>)>
+    ensures { result ≡ short.one_or_two fields.now }
+{
+    let mut rest = fields.again();
+    let first = number_of(rest.next()?)?;
+    let Some(second) = rest.next() else {
+        return Some((first, None));
+    };
+    if rest.next().is_some() {
+        return None;
+    }
+    Some((first, Some(number_of(second)?)))
+}
+
+/// The line of these numbers, or what is wrong with it.
+fn short_line(
+    machines: u8,
+    verb: Verb,
+    clock: Option<u64>,
+    numbers: Option<(u64, Option<u64>)>,
+) -> Result<Line, StimKind>
+    requires { 1 ≤ machines }
+    ensures value { result ≡ short.short_line machines verb clock numbers }
+    ensures line { IfOk result (IsLineOf machines) }
+{
+    let (Some(clock), Some((first, second))) = (clock, numbers) else {
+        return Err(StimKind::BadLine);
+    };
+    if !fits(verb, second) {
+        return Err(StimKind::BadLine);
+    }
+    let Some(clock) = within(Some(clock), 0, LAST_CLOCK) else {
+        return Err(StimKind::Range);
+    };
+    match short_act(machines, verb, Some(first), second) {
+        Some(act) => Ok(Line { clock, act }),
+        None => Err(StimKind::Range),
+    }
+}
+
+/// Whether a word wants one field or two after it, as there are.
+fn fits(verb: Verb, second: Option<u64>) -> bool
+    ensures { result ≡ spec.fits verb (short.count_of second) }
 {
     match verb {
-        Verb::Pin | Verb::Tx | Verb::Drain => count == 2,
-        Verb::Rx | Verb::Enable | Verb::Disable | Verb::Restart => count == 1,
-        Verb::Feed => count == 3,
+        Verb::Pin | Verb::Tx | Verb::Drain => second.is_some(),
+        Verb::Rx | Verb::Enable | Verb::Disable | Verb::Restart => second.is_none(),
+        Verb::Feed => false,
     }
 }

@@ -17,19 +17,28 @@ pub fn is_number(field: &[u8]) -> bool
 }
 
 /// The number of a field, where it is one from `low` to `high`, at most 10^12.
+#[tactic(auto, using(crate::proofs::Numbers::within_capped))]
 pub fn in_range(field: &[u8], low: u64, high: u64) -> Option<u64>
     requires { high ≤ 1000000000000 }
     ensures value { result ≡ spec.in_range low high field.now }
     ensures range { IfSome result (λ n. (low ≤ n) × (n ≤ high)) }
 {
-    match number_of(field) {
+    within(number_of(field), low, high)
+}
+
+/// The number, where it is one from `low` to `high`.
+pub fn within(number: Option<u64>, low: u64, high: u64) -> Option<u64>
+    ensures value { result ≡ spec.within low high number }
+    ensures range { IfSome result (λ n. (low ≤ n) × (n ≤ high)) }
+{
+    match number {
         Some(number) if low <= number && number <= high => Some(number),
         _ => None,
     }
 }
 
 /// The number of a field, or `PAST` where it is more.
-fn number_of(field: &[u8]) -> Option<u64>
+pub fn number_of(field: &[u8]) -> Option<u64>
     ensures { result ≡ option_map spec.capped (spec.number_of field.now) }
 {
     match field {

@@ -1,5 +1,5 @@
 //! A stimulus, line by line: its version, and then its lines in order (choice of this profile).
-ghost use Rattle.std.specs.Prelude.{◌≡◌, ◌<◌, ◌≤◌, Ok, Err, IfOk, IfErr, MatchOption};
+ghost use Rattle.std.specs.Prelude.{◌≡◌, ◌∷◌, ◌<◌, ◌≤◌, Ok, Err, IfOk, IfErr, MatchOption};
 ghost use Rattle.answers.specs.Answers.{Answers, Gives};
 ghost use Rattle.dreq_pacing.specs.declared.fault.StimFault.TheVariants.{Memory};
 ghost use Rattle.dreq_pacing.specs.Lines.{IsScheduleOf};
@@ -104,7 +104,7 @@ impl Reader {
         if self.count == 0 && first == b"version".as_slice() {
             return Ok(self.take_version(&rest));
         }
-        self.take_line(alloc, fields)
+        self.take_line(alloc, first, &rest)
     }
 
     /// The version line, by the fields after its word.
@@ -124,16 +124,21 @@ impl Reader {
         }
     }
 
-    /// Another line.
-    fn take_line(&mut self, alloc: Global, fields: &Fields) -> Result<Option<StimKind>, StimFault>
+    /// Another line, by its first field and those after it.
+    fn take_line(
+        &mut self,
+        alloc: Global,
+        first: &[u8],
+        after: &Fields,
+    ) -> Result<Option<StimKind>, StimFault>
         requires { self.old.count < 1000000 }
         ensures said { IfOk result (λ kind. MatchOption kind
-            (spec.with_said self.old (line_of self.old.draft.machines self.old.two fields.now) ≡ Ok self.new)
-            (λ k. spec.with_said self.old (line_of self.old.draft.machines self.old.two fields.now) ≡ Err k)) }
+            (spec.with_said self.old (line_of self.old.draft.machines self.old.two (first.now ∷ after.now)) ≡ Ok self.new)
+            (λ k. spec.with_said self.old (line_of self.old.draft.machines self.old.two (first.now ∷ after.now)) ≡ Err k)) }
         ensures machines { IfOk result (λ _. self.new.draft.machines ≡ self.old.draft.machines) }
         ensures memory { IfErr result (λ fault. fault ≡ Memory) }
     {
-        match read_line(alloc, self.draft.machines(), self.two, fields)? {
+        match read_line(alloc, self.draft.machines(), self.two, first, after)? {
             Ok(line) => {
                 let objection = self.draft.add(line)?;
                 self.count += 1;
