@@ -1,10 +1,12 @@
 -- A number that is cut off past every range stays so with more digits.
-use Rattle.std.proofs.Common.{◌≡◌, ℕ, ◌+◌, ◌*◌, ◌<◌, ◌≤◌, min, length, get_or, drop, Option, Some, None, List, [], ◌∷◌, refl, sym, ap, ◌∙◌, inl, inr, arith, nat_le, cond, Bool, true, false, ◌&&◌}
+use Rattle.std.proofs.Common.{◌≡◌, ℕ, ◌^◌, ◌+◌, ◌*◌, ◌<◌, ◌≤◌, min, length, get_or, drop, Option, Some, None, List, [], ◌∷◌, refl, sym, ap, ◌∙◌, inl, inr, arith, nat_le, cond, Bool, true, false, ◌&&◌}
 use Rattle.std.specs.Prelude.{option_map, option_and_then, is_some}
 use Rattle.std.proofs.lemmas.List.{at_drop_more}
 use Rattle.std.proofs.lemmas.Bool.{cases_lt}
 use Rattle.std.proofs.lemmas.Bool.Decides.{nat_tests}
 use Rattle.std.proofs.lemmas.Nat.{mul-le}
+use Rattle.std.proofs.lemmas.Grind.{pow_more}
+use Rattle.std.proofs.Math.Nat.{pow-le-pow_right}
 use Rattle.byte_lines.specs.Bytes.{digit_of}
 use Rattle.dreq_pacing.specs.Number.{number_from, capped, within}
 
@@ -61,3 +63,20 @@ within_capped low high (Some n) le =
           ∙ sym (ap (λ (t : Bool). cond (nat_le low n && t) (Some n) None) no)))
       | inr ge ↦ (let same : capped n ≡ n = omega arith in ap (λ m. within low high (Some m)) same)
     ]
+
+-- one more of few decimal digits
+pub few_digits : (n i d : ℕ) → i < 18 → n < 10 ^ i → d ≤ 9 → (n * 10 + d < 1000000000000000000) × (n * 10 + d < 10 ^ (i + 1))
+few_digits n i d lt below digit =
+    let next : 10 ^ (i + 1) ≡ 10 ^ i * 10 = pow_more 10 i in
+    let ten : 0 < 10 = omega arith in
+    let short : i + 1 ≤ 18 = omega arith in
+    let whole : 10 ^ (i + 1) ≤ 10 ^ 18 = pow-le-pow_right ten short in
+    let least : n * 10 + d < 10 ^ (i + 1) = omega arith in
+    ((omega arith), least)
+
+pub decimal_step : (value n i d : ℕ) (digits : List ℕ) (all : Option ℕ) → i < length digits → digit_of 10 (get_or digits i 0) ≡ Some d → n ≡ value * 10 + d → number_from 10 value (drop i digits) ≡ all → number_from 10 n (drop (i + 1) digits) ≡ all
+decimal_step value n i d digits all lt e is whole =
+    let bs = drop (i + 1) digits in
+    ap (λ (m : ℕ). number_from 10 m bs) is
+    ∙ (sym (ap (λ (o : Option ℕ). option_and_then (λ x. number_from 10 (value * 10 + x) bs) o) e)
+    ∙ (sym (at_drop_more (λ (xs : List ℕ). number_from 10 value xs) digits i 0 lt) ∙ whole))
