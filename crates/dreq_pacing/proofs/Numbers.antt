@@ -73,10 +73,3 @@ few_digits n i d lt below digit =
     let whole : 10 ^ (i + 1) ≤ 10 ^ 18 = pow-le-pow_right ten short in
     let least : n * 10 + d < 10 ^ (i + 1) = omega arith in
     ((omega arith), least)
-
-pub decimal_step : (value n i d : ℕ) (digits : List ℕ) (all : Option ℕ) → i < length digits → digit_of 10 (get_or digits i 0) ≡ Some d → n ≡ value * 10 + d → number_from 10 value (drop i digits) ≡ all → number_from 10 n (drop (i + 1) digits) ≡ all
-decimal_step value n i d digits all lt e is whole =
-    let bs = drop (i + 1) digits in
-    ap (λ (m : ℕ). number_from 10 m bs) is
-    ∙ (sym (ap (λ (o : Option ℕ). option_and_then (λ x. number_from 10 (value * 10 + x) bs) o) e)
-    ∙ (sym (at_drop_more (λ (xs : List ℕ). number_from 10 value xs) digits i 0 lt) ∙ whole))

@@ -28,3 +28,7 @@ with_field part fields = if has_bytes part then part ∷ fields else fields
 -- the fields of a line
 abbrev pub fields_of : List ℕ → List (List ℕ)
 fields_of line = parted (before_comment line)
+
+-- the fields after a byte that ends one: none after `#`
+abbrev pub fields_after : ℕ → List ℕ → List (List ℕ)
+fields_after b rest = if b == number_sign then [] else fields_of rest

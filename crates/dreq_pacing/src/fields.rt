@@ -1,5 +1,6 @@
 //! The fields of a line: what comes before `#`, parted by blanks (choice of this profile).
-ghost use Rattle.std.specs.Prelude.{◌≡◌, ◌∷◌, ◌<◌, ◌≤◌, [], drop, length, option_copied, slice_get, MatchOption};
+ghost use Rattle.std.specs.Prelude.{◌≡◌, ◌||◌, ◌==◌, ◌∷◌, ◌<◌, ◌≤◌, [], drop, length, option_copied, slice_get, slice_index_or, ◌+◌, MatchOption};
+ghost use Rattle.byte_lines.specs.Bytes.{is_blank};
 ghost use Rattle.dreq_pacing.specs.Fields as spec;
 
 use byte_lines::is_blank;
@@ -62,12 +63,29 @@ fn first_part(text: &[u8]) -> (&[u8], &[u8])
     ensures shorter { length result.1.now < length text.now }
 {
     for (at, byte) in text.iter().enumerate() {
-        if *byte == b'#' {
-            return (&text[..at], &[]);
-        }
-        if is_blank(*byte) {
-            return (&text[..at], &text[at + 1..]);
+        if ends_field(*byte) {
+            return (&text[..at], after_end(text, at));
         }
     }
     (text, &[])
+}
+
+/// What comes after the byte here, which parts fields.
+fn after_end(text: &[u8], at: usize) -> &[u8]
+    requires { at < length text.now }
+    ensures fields { spec.fields_of result.now ≡ spec.fields_after (slice_index_or text.now at 0) (drop (at + 1) text.now) }
+    ensures shorter { length result.now < length text.now }
+{
+    if text[at] == b'#' {
+        &[]
+    } else {
+        &text[at + 1..]
+    }
+}
+
+/// Whether a byte parts fields: a blank, or the `#` of a comment.
+fn ends_field(byte: u8) -> bool
+    ensures { result ≡ (is_blank byte || byte == spec.number_sign) }
+{
+    is_blank(byte) || byte == b'#'
 }
