@@ -16,7 +16,7 @@ use std::alloc::{AllocError, Global};
 #[tactic(auto, using(crate::proofs::Forms::second_field, crate::proofs::Forms::after_two))]
 pub fn read_feed(alloc: Global, machines: u8, args: &Fields) -> Result<Option<LineAct>, AllocError>
     requires { 1 ≤ machines }
-    ensures value { IfOk result (λ act. act ≡ spec.act_of machines Feed args.now) }
+    ensures value { IfOk result (λ act. act ≡ spec.act_of machines Feed args.now.fields) }
     ensures range { IfOk result (λ act. IfSome act (IsActOf machines)) }
 {
     let mut rest = args.again();
@@ -34,7 +34,7 @@ fn read_feed_of(
 ) -> Result<Option<LineAct>, AllocError>
     requires { 1 ≤ machines }
     ensures value { IfOk result (λ act.
-        act ≡ spec.feed_act machines (option_copied machine.entry) (option_copied every.entry) words.now) }
+        act ≡ spec.feed_act machines (option_copied machine.entry) (option_copied every.entry) words.now.fields) }
     ensures range { IfOk result (λ act. IfSome act (IsActOf machines)) }
 {
     let Some(machine) = number(machine, 0, u64::from(machines) - 1) else {
@@ -55,7 +55,7 @@ fn read_feed_of(
 
 /// The words of a feed, where there is one.
 fn read_words(alloc: Global, fields: &Fields) -> Result<Option<Words>, AllocError>
-    ensures value { IfOk result (λ words. words ≡ spec.words_of fields.now) }
+    ensures value { IfOk result (λ words. words ≡ spec.words_of fields.now.fields) }
     ensures some { IfOk result (λ words. IfSome words (λ ws. 1 ≤ length ws)) }
 {
     match read_all(alloc, fields)? {
@@ -72,7 +72,7 @@ fn read_words(alloc: Global, fields: &Fields) -> Result<Option<Words>, AllocErro
 
 /// The words that the fields are.
 fn read_all(alloc: Global, fields: &Fields) -> Result<Option<Vec<u32>>, AllocError>
-    ensures { IfOk result (λ words. option_map (λ ws. ws.items) words ≡ spec.all_words fields.now) }
+    ensures { IfOk result (λ words. option_map (λ ws. ws.items) words ≡ spec.all_words fields.now.fields) }
 {
     let mut rest = fields.again();
     let mut words = Vec::new(alloc);

@@ -1,51 +1,44 @@
 //! The fields of a line: what comes before `#`, parted by blanks (choice of this profile).
-ghost use Rattle.std.specs.Prelude.{◌≡◌, ◌||◌, ◌==◌, ◌∷◌, ◌<◌, ◌≤◌, [], drop, length, option_copied, slice_get, slice_index_or, ◌+◌, MatchOption};
-ghost use Rattle.byte_lines.specs.Bytes.{is_blank};
+ghost use Rattle.std.specs.Prelude.{◌≡◌, ◌∷◌, [], drop, false, length, option_copied, slice_get, MatchOption};
+ghost use Rattle.byte_lines.specs.Lines.{lines_left};
 ghost use Rattle.dreq_pacing.specs.Fields as spec;
 
-use byte_lines::is_blank;
+use byte_lines::{first_line, is_blank};
 use std::marker::Model;
 
-/// The fields of a line that are still to be read, which contracts see as their list.
+/// What is still to be read of a text, which contracts see as the fields of its first line and the lines after that.
 #[derive(Drop)]
 pub struct Fields<'a> {
     rest: &'a [u8],
 }
 
 impl<'a> Model for Fields<'a> {
-    ghost use Rattle.std.specs.Prelude.{ℕ, List};
-    ghost use Rattle.dreq_pacing.specs.Fields.{fields_of};
+    ghost use Rattle.dreq_pacing.specs.Fields.{Rest, rest_of};
 
-    ghost Value = { List (List ℕ) };
+    ghost Value = { Rest };
 
-    ghost view = { λ f. fields_of f.rest.now };
+    ghost view = { λ f. rest_of f.rest.now };
 }
 
 impl<'a> Fields<'a> {
-    /// The fields of a line without its newline.
-    pub fn of_line(line: &'a [u8]) -> Fields<'a>
-        ensures { result ≡ spec.fields_of line.now }
+    /// The fields of a text's first line.
+    pub fn of_text(text: &'a [u8]) -> Fields<'a>
+        ensures { result ≡ spec.rest_of text.now }
     {
-        Fields { rest: line }
+        Fields { rest: text }
     }
 
-    /// The next field, if there is one.
+    /// The next field of the line, if there is one.
     pub fn next(&mut self) -> Option<&'a [u8]>
-        ensures cases { MatchOption result (self.old ≡ []) (λ field. self.old ≡ field.now ∷ self.new) }
-        ensures field { option_copied result ≡ slice_get self.old 0 }
-        ensures rest { self.new ≡ drop 1 self.old }
+        ensures cases { MatchOption result (self.old.fields ≡ [])
+            (λ field. self.old.fields ≡ field.now ∷ self.new.fields) }
+        ensures field { option_copied result ≡ slice_get self.old.fields 0 }
+        ensures rest { self.new.fields ≡ drop 1 self.old.fields }
+        ensures left { self.new.left ≡ self.old.left }
     {
-        let mut rest = self.rest;
-        while !rest.is_empty() {
-            let (field, after) = first_part(rest);
-            rest = after;
-            if !field.is_empty() {
-                self.rest = rest;
-                return Some(field);
-            }
-        }
+        let (field, rest) = first_part(after_blanks(self.rest));
         self.rest = rest;
-        None
+        if field.is_empty() { None } else { Some(field) }
     }
 
     /// The same fields, to be read once more.
@@ -54,38 +47,46 @@ impl<'a> Fields<'a> {
     {
         Fields { rest: self.rest }
     }
+
+    /// The lines after this one, where there is one. It is quick once all fields are read.
+    pub fn after_line(&self) -> Option<&'a [u8]>
+        ensures { lines_left (option_copied result) ≡ self.now.left }
+    {
+        let (_, after) = first_line(self.rest);
+        after
+    }
 }
 
-/// What comes before the first blank or `#`, and what comes after it, which a comment has no part in.
-fn first_part(text: &[u8]) -> (&[u8], &[u8])
-    requires { 0 < length text.now }
-    ensures parts { spec.fields_of text.now ≡ spec.with_field result.0.now (spec.fields_of result.1.now) }
-    ensures shorter { length result.1.now < length text.now }
+/// A text without the blanks that it begins with.
+fn after_blanks(text: &[u8]) -> &[u8]
+    ensures same { spec.rest_of result.now ≡ spec.rest_of text.now }
+    ensures none { spec.starts_blank result.now ≡ false }
 {
     for (at, byte) in text.iter().enumerate() {
-        if ends_field(*byte) {
-            return (&text[..at], after_end(text, at));
+        if !is_blank(*byte) {
+            return &text[at..];
+        }
+    }
+    &[]
+}
+
+/// What comes before the first byte that parts fields, and what comes from that byte on.
+fn first_part(text: &[u8]) -> (&[u8], &[u8])
+    requires { spec.starts_blank text.now ≡ false }
+    ensures parts { spec.rest_of text.now ≡ spec.with_part result.0.now (spec.rest_of result.1.now) }
+    ensures none { length result.0.now ≡ 0 → (spec.rest_of text.now).fields ≡ [] }
+{
+    for (at, byte) in text.iter().enumerate() {
+        if parts_fields(*byte) {
+            return (&text[..at], &text[at..]);
         }
     }
     (text, &[])
 }
 
-/// What comes after the byte here, which parts fields.
-fn after_end(text: &[u8], at: usize) -> &[u8]
-    requires { at < length text.now }
-    ensures fields { spec.fields_of result.now ≡ spec.fields_after (slice_index_or text.now at 0) (drop (at + 1) text.now) }
-    ensures shorter { length result.now < length text.now }
+/// Whether a byte parts fields: a blank, a newline, or the `#` of a comment.
+fn parts_fields(byte: u8) -> bool
+    ensures { result ≡ spec.parts_fields byte }
 {
-    if text[at] == b'#' {
-        &[]
-    } else {
-        &text[at + 1..]
-    }
-}
-
-/// Whether a byte parts fields: a blank, or the `#` of a comment.
-fn ends_field(byte: u8) -> bool
-    ensures { result ≡ (is_blank byte || byte == spec.number_sign) }
-{
-    is_blank(byte) || byte == b'#'
+    is_blank(byte) || byte == b'\n' || byte == b'#'
 }

@@ -23,19 +23,19 @@ pub fn read_line(
     machines: u8,
     two: bool,
     clock: &[u8],
-    after: &Fields,
+    after: &mut Fields,
 ) -> Result<Result<Line, StimKind>, AllocError>
     requires { 1 ≤ machines }
-    ensures value { IfOk result (λ said. said ≡ spec.line_of machines two (clock.now ∷ after.now)) }
+    ensures value { IfOk result (λ said. said ≡ spec.line_of machines two (clock.now ∷ after.old.fields)) }
+    ensures left { after.new.left ≡ after.old.left }
     ensures line { IfOk result (λ said. IfOk said (IsLineOf machines)) }
 {
-    let mut rest = after.again();
-    let Some(name) = rest.next() else {
+    let Some(name) = after.next() else {
         return Ok(Err(StimKind::BadLine));
     };
     match verb_of(name, two) {
-        Some(Verb::Feed) => read_feed_line(alloc, machines, clock, &rest),
-        Some(verb) => Ok(read_short_line(machines, verb, clock, &rest)),
+        Some(Verb::Feed) => read_feed_line(alloc, machines, clock, &after.again()),
+        Some(verb) => Ok(read_short_line(machines, verb, clock, after)),
         None => Ok(Err(StimKind::BadLine)),
     }
 }
@@ -48,7 +48,7 @@ fn read_feed_line(
     args: &Fields,
 ) -> Result<Result<Line, StimKind>, AllocError>
     requires { 1 ≤ machines }
-    ensures value { IfOk result (λ said. said ≡ spec.line_by machines Feed clock.now args.now) }
+    ensures value { IfOk result (λ said. said ≡ spec.line_by machines Feed clock.now args.now.fields) }
     ensures line { IfOk result (λ said. IfOk said (IsLineOf machines)) }
 {
     if !is_feed(clock, args) {
@@ -65,13 +65,13 @@ fn read_feed_line(
 
 /// Whether all fields are numbers, and at least three come after the word.
 fn is_feed(clock: &[u8], args: &Fields) -> bool
-    ensures { result ≡ spec.has_form Feed clock.now args.now }
+    ensures { result ≡ spec.has_form Feed clock.now args.now.fields }
 {
     is_number(clock) && count_to_three(args) == 3 && are_numbers(args)
 }
 
 fn are_numbers(fields: &Fields) -> bool
-    ensures { result ≡ spec.are_numbers fields.now }
+    ensures { result ≡ spec.are_numbers fields.now.fields }
 {
     let mut rest = fields.again();
     while let Some(field) = rest.next() {
@@ -84,7 +84,7 @@ fn are_numbers(fields: &Fields) -> bool
 
 /// How many fields there are, or three where there are more.
 fn count_to_three(fields: &Fields) -> usize
-    ensures { result ≡ min (length fields.now) 3 }
+    ensures { result ≡ min (length fields.now.fields) 3 }
 {
     let mut rest = fields.again();
     let mut count = 0;
@@ -96,25 +96,31 @@ fn count_to_three(fields: &Fields) -> usize
 
 /// The line with another word, by its clock's field and those after the word. Each number is worked out once.
 #[tactic(auto, using(crate::proofs::Shorts::short_is))]
-fn read_short_line(machines: u8, verb: Verb, clock: &[u8], args: &Fields) -> Result<Line, StimKind>
+fn read_short_line(
+    machines: u8,
+    verb: Verb,
+    clock: &[u8],
+    args: &mut Fields,
+) -> Result<Line, StimKind>
     requires some { 1 ≤ machines }
     requires short { spec.fits verb 3 ≡ false }
-    ensures value { result ≡ spec.line_by machines verb clock.now args.now }
+    ensures value { result ≡ spec.line_by machines verb clock.now args.old.fields }
+    ensures left { args.new.left ≡ args.old.left }
     ensures line { IfOk result (IsLineOf machines) }
 {
     short_line(machines, verb, number_of(clock), one_or_two(args))
 }
 
 /// The numbers of one field or two, if there are so many and they are numbers.
-fn one_or_two(fields: &Fields) -> Option<(u64, Option<u64>)>
-    ensures { result ≡ short.one_or_two fields.now }
+fn one_or_two(fields: &mut Fields) -> Option<(u64, Option<u64>)>
+    ensures numbers { result ≡ short.one_or_two fields.old.fields }
+    ensures left { fields.new.left ≡ fields.old.left }
 {
-    let mut rest = fields.again();
-    let first = number_of(rest.next()?)?;
-    let Some(second) = rest.next() else {
+    let first = number_of(fields.next()?)?;
+    let Some(second) = fields.next() else {
         return Some((first, None));
     };
-    if rest.next().is_some() {
+    if fields.next().is_some() {
         return None;
     }
     Some((first, Some(number_of(second)?)))

@@ -16,7 +16,6 @@ use crate::form::read_line;
 use crate::line::Line;
 use crate::number::{in_range, is_number};
 use crate::schedule::Schedule;
-use byte_lines::first_line;
 use std::alloc::Global;
 
 /// The lines of a stimulus of one block, or its first fault. A machine is 0 to 3.
@@ -54,12 +53,12 @@ fn read_lines(alloc: Global, machines: u8, text: &[u8]) -> Result<Vec<Line>, Sti
     let mut rest = Some(text);
     let mut number = 1;
     while let Some(text) = rest {
-        let (line, after) = first_line(text);
-        match reader.read(alloc, &Fields::of_line(line))? {
+        let mut fields = Fields::of_text(text);
+        match reader.read(alloc, &mut fields)? {
             None => {}
             Some(kind) => return Err(StimFault::At { line: number, kind }),
         }
-        rest = after;
+        rest = fields.after_line();
         number += 1;
     }
     Ok(reader.draft.finish())
@@ -87,31 +86,31 @@ impl Reader {
     }
 
     /// One line on, or what is wrong with it. The error is want of memory.
-    fn read(&mut self, alloc: Global, fields: &Fields) -> Result<Option<StimKind>, StimFault>
+    fn read(&mut self, alloc: Global, fields: &mut Fields) -> Result<Option<StimKind>, StimFault>
         ensures said { IfOk result (λ kind. MatchOption kind
-            (after_line self.old fields.now ≡ Ok self.new)
-            (λ k. after_line self.old fields.now ≡ Err k)) }
+            (after_line self.old fields.old.fields ≡ Ok self.new)
+            (λ k. after_line self.old fields.old.fields ≡ Err k)) }
+        ensures left { IfOk result (λ _. fields.new.left ≡ fields.old.left) }
         ensures machines { IfOk result (λ _. self.new.draft.machines ≡ self.old.draft.machines) }
         ensures memory { IfErr result (λ fault. fault ≡ Memory) }
     {
-        let mut rest = fields.again();
-        let Some(first) = rest.next() else {
+        let Some(first) = fields.next() else {
             return Ok(None);
         };
         if self.count >= 1_000_000 {
             return Ok(Some(StimKind::Many));
         }
         if self.count == 0 && first == b"version".as_slice() {
-            return Ok(self.take_version(&rest));
+            return Ok(self.take_version(fields));
         }
-        self.take_line(alloc, first, &rest)
+        self.take_line(alloc, first, fields)
     }
 
     /// The version line, by the fields after its word.
     fn take_version(&mut self, args: &Fields) -> Option<StimKind>
         requires { self.old.count < 1000000 }
-        ensures said { MatchOption result (spec.with_version self.old (spec.version_of args.now) ≡ Ok self.new)
-            (λ k. spec.with_version self.old (spec.version_of args.now) ≡ Err k) }
+        ensures said { MatchOption result (spec.with_version self.old (spec.version_of args.now.fields) ≡ Ok self.new)
+            (λ k. spec.with_version self.old (spec.version_of args.now.fields) ≡ Err k) }
         ensures machines { self.new.draft.machines ≡ self.old.draft.machines }
     {
         match version_of(args) {
@@ -129,12 +128,13 @@ impl Reader {
         &mut self,
         alloc: Global,
         first: &[u8],
-        after: &Fields,
+        after: &mut Fields,
     ) -> Result<Option<StimKind>, StimFault>
         requires { self.old.count < 1000000 }
         ensures said { IfOk result (λ kind. MatchOption kind
-            (spec.with_said self.old (line_of self.old.draft.machines self.old.two (first.now ∷ after.now)) ≡ Ok self.new)
-            (λ k. spec.with_said self.old (line_of self.old.draft.machines self.old.two (first.now ∷ after.now)) ≡ Err k)) }
+            (spec.with_said self.old (line_of self.old.draft.machines self.old.two (first.now ∷ after.old.fields)) ≡ Ok self.new)
+            (λ k. spec.with_said self.old (line_of self.old.draft.machines self.old.two (first.now ∷ after.old.fields)) ≡ Err k)) }
+        ensures left { IfOk result (λ _. after.new.left ≡ after.old.left) }
         ensures machines { IfOk result (λ _. self.new.draft.machines ≡ self.old.draft.machines) }
         ensures memory { IfErr result (λ fault. fault ≡ Memory) }
     {
@@ -151,7 +151,7 @@ impl Reader {
 
 /// Whether the version is 2, by the fields after the word `version`.
 fn version_of(args: &Fields) -> Result<bool, StimKind>
-    ensures { result ≡ spec.version_of args.now }
+    ensures { result ≡ spec.version_of args.now.fields }
 {
     let mut rest = args.again();
     let Some(number) = rest.next() else {
