@@ -119,8 +119,9 @@ impl StimulusDraft {
         let transfer = transfer_of(&line.act);
         let access = access_of(&line.act);
         self.lines.push(line)?;
-        self.transfers = with_transfer(self.transfers, transfer);
-        self.accesses = with_access(accesses_at(self.accesses, same_clock), access);
+        mark(&mut self.transfers, transfer);
+        keep_if(&mut self.accesses, same_clock);
+        mark(&mut self.accesses, access);
         self.clock = clock;
         Ok(())
     }
@@ -167,31 +168,21 @@ fn has_place(taken: &[bool], place: Option<usize>) -> bool
     }
 }
 
-fn with_transfer(taken: [bool; 16], place: Option<usize>) -> [bool; 16]
-    requires { IfSome place (λ p. p < 16) }
-    ensures { result ≡ marked place taken }
+/// Marks a place as taken.
+fn mark(taken: &mut [bool], place: Option<usize>)
+    requires { IfSome place (λ p. p < length taken.old) }
+    ensures { taken.new ≡ marked place taken.old }
 {
-    let mut taken = taken;
     if let Some(place) = place {
         taken[place] = true;
     }
-    taken
 }
 
-fn with_access(taken: [bool; 32], place: Option<usize>) -> [bool; 32]
-    requires { IfSome place (λ p. p < 32) }
-    ensures { result ≡ marked place taken }
+/// Frees all places before the first line of a clock, and none before a later one.
+fn keep_if(taken: &mut [bool; 32], same_clock: bool)
+    ensures { taken.new ≡ still_taken same_clock taken.old }
 {
-    let mut taken = taken;
-    if let Some(place) = place {
-        taken[place] = true;
+    if !same_clock {
+        *taken = [false; 32];
     }
-    taken
-}
-
-/// The accesses that a clock has before its first line, or before a later one.
-fn accesses_at(taken: [bool; 32], same_clock: bool) -> [bool; 32]
-    ensures { result ≡ still_taken same_clock taken }
-{
-    if same_clock { taken } else { [false; 32] }
 }

@@ -21,5 +21,5 @@ invariant_of-self-2 c =
     let le : p.clock ≤ c.args.line.clock = rw (← c.self.view_is) at c.requires.in_order in
     let apart : is_crowded p.lines.items c.args.line ≡ false = rw (← c.self.view_is) at c.requires.apart in
     let fine : IsLineOf p.machines c.args.line = rw (← c.self.view_is) at c.requires.line in
-    rw (c.in_ok-push.ensures.items, c.with_transfer-self-inside.ensures, c.with_access-self-inside.ensures, c.accesses_at.ensures, c.transfer_of-transfer.ensures.place, c.access_of-access.ensures.place)
+    rw (c.in_ok-push.ensures.items, c.mark.ensures, c.mark-2.ensures, c.keep_if.ensures, c.transfer_of-transfer.ensures.place, c.access_of-access.ensures.place)
     (draft_on p.machines p.lines.items p.clock p.transfers p.accesses c.args.line c.self.invariant fine le apart (omega arith) (omega arith))
