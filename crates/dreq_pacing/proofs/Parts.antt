@@ -8,7 +8,7 @@ use Rattle.std.proofs.lemmas.List.Elements.{All-from_recursion}
 use Rattle.std.proofs.lemmas.List.Splits.{slice_split_none, slice_split_at, slice_split-cons_no, slice_split-cons_yes}
 use Rattle.byte_lines.specs.Bytes.{is_blank, newline}
 use Rattle.byte_lines.specs.Lines.{lines_of}
-use Rattle.dreq_pacing.specs.Fields.{Rest, before_comment, before_newline, ends_fields, fields_of, has_bytes, lines_after, number_sign, starts_blank, parted, parts_fields, rest_of, with_field, with_part}
+use Rattle.dreq_pacing.specs.Fields.{Rest, before_comment, before_newline, ends_fields, fields_of, has_bytes, is_over, lines_after, no_fields, number_sign, starts_blank, parted, parts_fields, rest_of, with_field, with_part}
 
 bool_cases : (t : Bool) → (t ≡ true) ⊎ (t ≡ false)
 bool_cases true = inl refl
@@ -158,6 +158,25 @@ part_none (b ∷ bs) (suc i) lt e some none = absurd (let size = length-take (su
 pub nothing_left : (text : List ℕ) → length text ≡ 0 → (rest_of text).fields ≡ []
 nothing_left [] e = refl
 nothing_left (b ∷ bs) e = absurd (omega arith)
+
+-- the part that a byte begins is a field
+some_field : (b : ℕ) (parts : List (List ℕ)) → no_fields (filter has_bytes (onto_first b parts)) ≡ false
+some_field b [] = refl
+some_field b (part ∷ parts) = refl
+
+pub over_is : (text : List ℕ) → starts_blank text ≡ false → no_fields (rest_of text).fields ≡ is_over text
+over_is [] some = refl
+over_is (b ∷ bs) some =
+    elim (bool_cases (ends_fields b)) [
+      | inl found ↦ (ap (λ (line : List ℕ). no_fields (parted line)) (over-none b bs found) ∙ sym found)
+      | inr none ↦ (
+          let word : parts_fields b ≡ false = ap (λ (t : Bool). t || ends_fields b) some ∙ none in
+          let rest = before_newline bs in
+          ap (λ (line : List ℕ). no_fields (fields_of line)) (line-later b bs (not_newline b word))
+          ∙ (ap (λ (line : List ℕ). no_fields (parted line)) (comment-later b rest (not_sign b word))
+          ∙ (ap (λ (parts : List (List ℕ)). no_fields (filter has_bytes parts)) (slice_split-cons_no is_blank b (before_comment rest) some)
+          ∙ (some_field b _ ∙ sym none))))
+    ]
 
 -- the lines of a text are its first line and those after
 pub lines-opened : (text : List ℕ) → lines_of text ≡ before_newline text ∷ lines_after text

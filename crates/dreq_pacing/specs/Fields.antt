@@ -65,3 +65,13 @@ parts_fields b = is_blank b || ends_fields b
 abbrev pub starts_blank : List ℕ → Bool
 starts_blank [] = false
 starts_blank (b ∷ bs) = is_blank b
+
+-- whether there is no field
+abbrev pub no_fields : List (List ℕ) → Bool
+no_fields [] = true
+no_fields (field ∷ fields) = false
+
+-- whether a text begins with a byte that ends a line's fields, or is empty
+abbrev pub is_over : List ℕ → Bool
+is_over [] = true
+is_over (b ∷ bs) = ends_fields b

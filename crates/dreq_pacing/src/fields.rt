@@ -41,6 +41,13 @@ impl<'a> Fields<'a> {
         if field.is_empty() { None } else { Some(field) }
     }
 
+    /// Whether no field of the line is left.
+    pub fn is_done(&self) -> bool
+        ensures { result ≡ spec.no_fields self.now.fields }
+    {
+        is_over(after_blanks(self.rest))
+    }
+
     /// The same fields, to be read once more.
     pub fn again(&self) -> Fields<'a>
         ensures { result ≡ self.now }
@@ -68,6 +75,18 @@ fn after_blanks(text: &[u8]) -> &[u8]
         }
     }
     &[]
+}
+
+/// Whether a text has no field in its first line, where it begins with no blank.
+#[tactic(auto, using(crate::proofs::Parts::over_is))]
+fn is_over(text: &[u8]) -> bool
+    requires { spec.starts_blank text.now ≡ false }
+    ensures { result ≡ spec.no_fields (spec.rest_of text.now).fields }
+{
+    match text {
+        [] => true,
+        [byte, ..] => *byte == b'\n' || *byte == b'#',
+    }
 }
 
 /// What comes before the first byte that parts fields, and what comes from that byte on.

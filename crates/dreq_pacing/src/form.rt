@@ -120,7 +120,7 @@ fn one_or_two(fields: &mut Fields) -> Option<(u64, Option<u64>)>
     let Some(second) = fields.next() else {
         return Some((first, None));
     };
-    if fields.next().is_some() {
+    if !fields.is_done() {
         return None;
     }
     Some((first, Some(number_of(second)?)))
