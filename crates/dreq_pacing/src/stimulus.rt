@@ -132,8 +132,10 @@ impl Reader {
     ) -> Result<Option<StimKind>, StimFault>
         requires { self.old.count < 1000000 }
         ensures said { IfOk result (λ kind. MatchOption kind
-            (spec.with_said self.old (line_of self.old.draft.machines self.old.two (first.now ∷ after.old.fields)) ≡ Ok self.new)
-            (λ k. spec.with_said self.old (line_of self.old.draft.machines self.old.two (first.now ∷ after.old.fields)) ≡ Err k)) }
+            (spec.with_said self.old (line_of self.old.draft.machines self.old.two
+            (first.now ∷ after.old.fields)) ≡ Ok self.new)
+            (λ k. spec.with_said self.old (line_of self.old.draft.machines self.old.two
+            (first.now ∷ after.old.fields)) ≡ Err k)) }
         ensures left { IfOk result (λ _. after.new.left ≡ after.old.left) }
         ensures machines { IfOk result (λ _. self.new.draft.machines ≡ self.old.draft.machines) }
         ensures memory { IfErr result (λ fault. fault ≡ Memory) }
