@@ -1,6 +1,6 @@
 -- The text of the changes, and that of a dump, by its groups.
 use Rattle.std.specs.Prelude.{◌&&◌}
-use Rattle.std.proofs.Common.{◌≡◌, ℕ, ◌+◌, ◌/◌, Bool, true, false, cond, eqb, List, [], ◌∷◌, ◌++◌, zero, suc, length, refl, sym, ap, ◌∙◌, append_assoc, arith, eq-eqb, length-append}
+use Rattle.std.proofs.Common.{◌≡◌, ℕ, ◌+◌, ◌/◌, Bool, true, false, cond, eqb, List, [], ◌∷◌, ◌++◌, zero, suc, length, refl, sym, ap, ◌∙◌, append_assoc, append-nil, arith, eq-eqb, length-append}
 use borrow.Author.Tests.{eqb-true}
 use Rattle.std.specs.Prelude.{replicate, codes}
 use Rattle.std.proofs.lemmas.List.{length-replicate}
@@ -8,8 +8,8 @@ use Rattle.block_core.specs.declared.sample.Sample.{Sample}
 use Rattle.block_core.specs.Sample.{bits_of, same_numbers, values_of}
 use Rattle.vcd_trace.specs.VcdText.{variables, widths, bit_line, vector_line, value_lines, change_lines, changes_over, values_over, dump_text}
 use Rattle.vcd_trace.specs.TwinText.{twin_dump_text}
-use Rattle.vcd_trace.specs.Groups.{bit_lines, bit_changes, same_words, vector_lines, vector_changes, vectors_of}
-use Rattle.vcd_trace.proofs.TextLaws.{change_lines-append, value_lines-append}
+use Rattle.vcd_trace.specs.Groups.{bit_lines, bit_changes, same_rest, same_words, vector_lines, vector_changes, vectors_of}
+use Rattle.vcd_trace.proofs.TextLaws.{bit_changes-same, change_lines-append, value_lines-append}
 
 pub length-bits_of : (k n : ℕ) → length (bits_of k n) ≡ k
 unfolding bits_of
@@ -161,6 +161,40 @@ same_words-none id a b h =
     let sticky : a.sticky ≡ b.sticky = same_numbers-equal a.sticky b.sticky r.1 in
     let same : vectors_of a ≡ vectors_of b = cc in
     ap (λ l. vector_changes id (vectors_of a) l) (sym same) ∙ vector_changes-none id (vectors_of a)
+
+-- samples that agree in all but the levels add the lines of levels alone
+pub same_rest-changes : (a b : Sample) → length (vectors_of a) ≡ 16 → length (vectors_of b) ≡ 16 → same_rest a b ≡ true → changes_over 0 a b ≡ bit_changes 33 32 a.level b.level
+same_rest-changes a b h k e =
+    let d = both_true (eqb a.direction b.direction) (eqb a.flags b.flags && same_words a b) e in
+    let f = both_true (eqb a.flags b.flags) (same_words a b) d.1 in
+    let directions : bit_changes 65 32 a.direction b.direction ≡ [] = ap (λ n. bit_changes 65 32 a.direction n) (sym (eqb-true _ _ d.0)) ∙ bit_changes-same 65 32 a.direction in
+    let flags : bit_changes 97 8 a.flags b.flags ≡ [] = ap (λ n. bit_changes 97 8 a.flags n) (sym (eqb-true _ _ f.0)) ∙ bit_changes-same 97 8 a.flags in
+    let words = same_words-none 105 a b f.1 in
+    let levels = bit_changes 33 32 a.level b.level in
+    changes-groups 0 a b h k
+    ∙ ap (λ x. levels ++ (x ++ (bit_changes 97 8 a.flags b.flags ++ vector_changes 105 (vectors_of a) (vectors_of b)))) directions
+    ∙ ap (λ x. levels ++ (x ++ vector_changes 105 (vectors_of a) (vectors_of b))) flags
+    ∙ ap (λ x. levels ++ x) words
+    ∙ append-nil levels
+
+-- with the levels of the second, the first of such samples is the second
+pub same_rest-equal : (a b : Sample) → same_rest a b ≡ true → record a { level = b.level } ≡ b
+same_rest-equal a b e =
+    let d = both_true (eqb a.direction b.direction) (eqb a.flags b.flags && same_words a b) e in
+    let f = both_true (eqb a.flags b.flags) (same_words a b) d.1 in
+    let g = both_true (same_numbers a.got b.got) (same_numbers a.tx b.tx && (same_numbers a.rx b.rx && same_numbers a.sticky b.sticky)) f.1 in
+    let t = both_true (same_numbers a.tx b.tx) (same_numbers a.rx b.rx && same_numbers a.sticky b.sticky) g.1 in
+    let r = both_true (same_numbers a.rx b.rx) (same_numbers a.sticky b.sticky) t.1 in
+    let direction : a.direction ≡ b.direction = eqb-true _ _ d.0 in
+    let flags : a.flags ≡ b.flags = eqb-true _ _ f.0 in
+    let got : a.got ≡ b.got = same_numbers-equal a.got b.got g.0 in
+    let tx : a.tx ≡ b.tx = same_numbers-equal a.tx b.tx t.0 in
+    let rx : a.rx ≡ b.rx = same_numbers-equal a.rx b.rx r.0 in
+    let sticky : a.sticky ≡ b.sticky = same_numbers-equal a.sticky b.sticky r.1 in
+    let one : Sample = record { level = b.level; direction = a.direction; flags = a.flags; tx = a.tx; rx = a.rx; got = a.got; sticky = a.sticky } in
+    let two : Sample = record { level = b.level; direction = b.direction; flags = b.flags; tx = b.tx; rx = b.rx; got = b.got; sticky = b.sticky } in
+    let same : one ≡ two = cc in
+    same
 
 -- four words of each of four kinds
 pub length-vectors_of : (s : Sample) → length s.tx ≡ 4 → length s.rx ≡ 4 → length s.got ≡ 4 → length s.sticky ≡ 4 → length (vectors_of s) ≡ 16

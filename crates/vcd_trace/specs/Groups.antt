@@ -29,3 +29,7 @@ vectors_of s = s.tx ++ s.rx ++ s.got ++ s.sticky
 -- two samples agree in the values of more than one bit
 abbrev pub same_words : Sample → Sample → Bool
 same_words a b = same_numbers a.got b.got && (same_numbers a.tx b.tx && (same_numbers a.rx b.rx && same_numbers a.sticky b.sticky))
+
+-- two samples agree in all but the levels
+abbrev pub same_rest : Sample → Sample → Bool
+same_rest a b = (a.direction == b.direction) && ((a.flags == b.flags) && same_words a b)

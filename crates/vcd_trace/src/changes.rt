@@ -1,13 +1,53 @@
 //! The values that a clock changes, in the order of their identifiers.
-ghost use Rattle.std.specs.Prelude.{◌≡◌, ℕ, ◌+◌, ◌^◌, ◌<◌, ◌≤◌};
+ghost use Rattle.std.specs.Prelude.{◌≡◌, ℕ, ◌+◌, ◌^◌, ◌<◌, ◌≤◌, OnOk};
 ghost use Rattle.pio_edge.specs.Edge.{Takes, PutCounts};
 ghost use Rattle.vcd_trace.specs.VcdText.{changes_over};
-ghost use Rattle.vcd_trace.specs.Groups.{bit_changes, same_words, vector_changes, vectors_of};
+ghost use Rattle.vcd_trace.specs.Groups.{bit_changes, same_rest, same_words, vector_changes, vectors_of};
 
 use crate::line::{put_bit, put_vector};
 use crate::variable::{DIRECTION, FLAG, LEVEL, VECTOR, vectors_of};
 use block_core::Sample;
 use pio_edge::{Sink, SinkFailed};
+
+/// Puts the lines of the values that are not what they were, after which the last sample is this one.
+// Most clocks change levels alone, which few comparisons tell and one number keeps.
+#[inline(always)]
+pub(crate) fn put_next<S: Sink>(
+    sink: &mut S,
+    last: &mut Sample,
+    now: &Sample,
+) -> Result<(), SinkFailed>
+    ensures bytes { Takes (S.taken sink.old) (changes_over 0 last.old now.now) (S.taken sink.new) result }
+    ensures cause { PutCounts (S.faults sink.old) (S.faults sink.new) result }
+    ensures kept { OnOk result (last.new ≡ now.now) }
+{
+    if has_same_rest(last, now) {
+        put_changed_bits(sink, LEVEL, 32, last.level, now.level)?;
+        last.level = now.level;
+        return Ok(());
+    }
+    put_others(sink, last, now)
+}
+
+// Whether two samples agree in all but the levels.
+#[inline(always)]
+fn has_same_rest(before: &Sample, now: &Sample) -> bool
+    ensures { result ≡ same_rest before.now now.now }
+{
+    before.direction == now.direction && before.flags == now.flags && has_same_words(before, now)
+}
+
+// The same where more than levels may change. A call of its own, which keeps the usual way short.
+#[inline(never)]
+fn put_others<S: Sink>(sink: &mut S, last: &mut Sample, now: &Sample) -> Result<(), SinkFailed>
+    ensures bytes { Takes (S.taken sink.old) (changes_over 0 last.old now.now) (S.taken sink.new) result }
+    ensures cause { PutCounts (S.faults sink.old) (S.faults sink.new) result }
+    ensures kept { OnOk result (last.new ≡ now.now) }
+{
+    put_changes(sink, 0, last, now)?;
+    *last = *now;
+    Ok(())
+}
 
 /// Puts the lines of the values that are not what they were, of variables whose numbers are so much greater.
 // A copy for each scope, so that its numbers are constants and none is tested.

@@ -10,6 +10,7 @@ use itoa::write_digits;
 use pio_edge::{Sink, SinkFailed};
 
 /// The line of a clock.
+#[inline(always)]
 pub(crate) fn put_clock<S: Sink>(sink: &mut S, clock: u64) -> Result<(), SinkFailed>
     ensures bytes { Takes (S.taken sink.old) (clock_line clock) (S.taken sink.new) result }
     ensures cause { PutCounts (S.faults sink.old) (S.faults sink.new) result }

@@ -1,12 +1,12 @@
 //! The value-change trace (IEEE 1364-2005, section 18), line by line into a sink that was lent.
-ghost use Rattle.std.specs.Prelude.{◌≡◌, false, []};
+ghost use Rattle.std.specs.Prelude.{◌≡◌, false, [], Some, OnOk};
 ghost use Rattle.pio_edge.specs.Edge.{Takes, PutCounts, TakesPrefix};
 ghost use Rattle.block_core.specs.Sample.{same_sample};
 ghost use Rattle.vcd_trace.specs.TextForm.{HasPut, added, ended};
 ghost use Rattle.vcd_trace.specs.VcdText.{vcd_form, open_text, step_text, text_of};
 ghost use Rattle.vcd_trace.specs.VcdText as spec;
 
-use crate::changes::put_changes;
+use crate::changes::put_next;
 use crate::dump::put_dump;
 use crate::header::put_header;
 use crate::line::put_clock;
@@ -68,11 +68,8 @@ impl<'a, S: Sink> Trace for VcdTrace<'a, S> {
         if shows_again(&self.last, sample) {
             return Ok(());
         }
-        match put_sample(self.sink, clock, &self.last, sample) {
-            Ok(()) => {
-                self.last = Some(*sample);
-                Ok(())
-            }
+        match put_sample(self.sink, clock, &mut self.last, sample) {
+            Ok(()) => Ok(()),
             Err(SinkFailed) => {
                 self.failed = true;
                 Err(TraceFailed)
@@ -115,21 +112,28 @@ fn shows_again(last: &Option<Sample>, sample: &Sample) -> bool
     }
 }
 
-// What a sample adds after the one that was told last. A call of its own, since a run has no registers for the samples.
+// What a sample adds that isn't the one told last, and which is then that one. A call of its own, since a run has no
+// registers for the samples.
 #[inline(never)]
 fn put_sample<S: Sink>(
     sink: &mut S,
     clock: u64,
-    last: &Option<Sample>,
+    last: &mut Option<Sample>,
     sample: &Sample,
 ) -> Result<(), SinkFailed>
-    ensures bytes { Takes (S.taken sink.old) (added vcd_form clock last.now sample.now)
+    requires { spec.shows_again last.old sample.now ≡ false }
+    ensures bytes { Takes (S.taken sink.old) (added vcd_form clock last.old sample.now)
         (S.taken sink.new) result }
     ensures cause { PutCounts (S.faults sink.old) (S.faults sink.new) result }
+    ensures kept { OnOk result (last.new ≡ Some sample.now) }
 {
     match last {
-        None => put_dump(sink, sample),
         Some(before) => put_step(sink, clock, before, sample),
+        None => {
+            put_dump(sink, sample)?;
+            *last = Some(*sample);
+            Ok(())
+        }
     }
 }
 
@@ -144,22 +148,21 @@ fn put_end<S: Sink>(sink: &mut S, clock: u64, last: Option<Sample>) -> Result<()
     }
 }
 
-// What a clock adds after the one before it.
+// What a clock adds after the one before it, which shows something else. Its sample is then the last one.
 fn put_step<S: Sink>(
     sink: &mut S,
     clock: u64,
-    before: &Sample,
+    last: &mut Sample,
     now: &Sample,
 ) -> Result<(), SinkFailed>
-    ensures bytes { Takes (S.taken sink.old) (step_text clock before.now now.now)
+    requires { same_sample last.old now.now ≡ false }
+    ensures bytes { Takes (S.taken sink.old) (step_text clock last.old now.now)
         (S.taken sink.new) result }
     ensures cause { PutCounts (S.faults sink.old) (S.faults sink.new) result }
+    ensures kept { OnOk result (last.new ≡ now.now) }
 {
-    if is_same(before, now) {
-        return Ok(());
-    }
     put_clock(sink, clock)?;
-    put_changes(sink, 0, before, now)
+    put_next(sink, last, now)
 }
 
 /// Whether a sample shows what the one before shows.

@@ -18,7 +18,10 @@ returns-then-shows_again-clause-ok g c = λ b l h n.
     subst P (sym t.1) (one_put vcd_form repeats_add-nothing b l _ _ _ _ _ h n (sym (ap (with_bytes taken) t.0 ∙ with_bytes-nil taken)))
 
 pub returns-in-Ok-clause-ok : goal.returns-in-Ok-clause-ok
-returns-in-Ok-clause-ok g c = λ b l h n. one_put vcd_form repeats_add-nothing b l _ _ _ _ _ h n c.in-Ok.ensures.bytes
+returns-in-Ok-clause-ok g c = λ b l h n.
+    let a = c.args in
+    let P : Option Sample → Type 0 = λ last. HasPut vcd_form b (told_at a.clock a.sample.now l) false (g.S.Sink.taken c.put_sample.new.sink) last in
+    subst P (sym c.in-Ok.ensures.kept) (one_put vcd_form repeats_add-nothing b l _ _ _ _ _ h n c.in-Ok.ensures.bytes)
 
 pub returns-in-Err-clause-err : goal.returns-in-Err-clause-err
 returns-in-Err-clause-err g c = λ b l h n. one_breaks vcd_form repeats_add-nothing b l _ _ _ _ _ h n c.in-Err.ensures.bytes
