@@ -1,5 +1,6 @@
 pub mod BitLaws
 pub mod ChangesLaws
+pub mod ClockLaws
 pub mod Digits
 pub mod FormLaws
 pub mod HeaderLaws

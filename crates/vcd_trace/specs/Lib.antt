@@ -7,3 +7,4 @@ pub mod Listing
 pub mod Shows
 pub mod Groups
 pub mod Edges
+pub mod ClockText

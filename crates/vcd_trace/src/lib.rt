@@ -3,6 +3,7 @@
 #![tactic(auto)]
 
 mod changes;
+mod clock_line;
 mod dump;
 mod edges;
 mod header;

@@ -21,11 +21,11 @@ pub(crate) fn put_clock<S: Sink>(sink: &mut S, clock: u64) -> Result<(), SinkFai
 }
 
 /// Room for `#`, the 20 digits of the greatest number and the newline.
-const CLOCK_ROOM: usize = 22;
+pub(crate) const CLOCK_ROOM: usize = 22;
 
-// Writes the line of a clock up to the end of the room, and says where it begins.
+/// Writes the line of a clock up to the end of the room, and says where it begins.
 #[inline(always)]
-fn write_clock(line: &mut [u8; CLOCK_ROOM], clock: u64) -> usize
+pub(crate) fn write_clock(line: &mut [u8; CLOCK_ROOM], clock: u64) -> usize
     ensures within { result ≤ CLOCK_ROOM }
     ensures text { drop result line.new ≡ clock_line clock }
 {

@@ -7,6 +7,7 @@ ghost use Rattle.vcd_trace.specs.VcdText.{vcd_form, open_text, step_text, text_o
 ghost use Rattle.vcd_trace.specs.VcdText as spec;
 
 use crate::changes::put_next;
+use crate::clock_line::ClockLine;
 use crate::dump::put_dump;
 use crate::header::put_header;
 use crate::line::put_clock;
@@ -20,6 +21,7 @@ use pio_edge::{Sink, SinkFailed};
 pub struct VcdTrace<'a, S: Sink> {
     sink: &'a mut S,
     last: Option<Sample>,
+    line: ClockLine,
     failed: bool,
 }
 
@@ -33,6 +35,7 @@ impl<'a, S: Sink> VcdTrace<'a, S> {
         VcdTrace {
             sink,
             last: None,
+            line: ClockLine::new(),
             failed: false,
         }
     }
@@ -68,7 +71,7 @@ impl<'a, S: Sink> Trace for VcdTrace<'a, S> {
         if shows_again(&self.last, sample) {
             return Ok(());
         }
-        match put_sample(self.sink, clock, &mut self.last, sample) {
+        match put_sample(self.sink, &mut self.line, clock, &mut self.last, sample) {
             Ok(()) => Ok(()),
             Err(SinkFailed) => {
                 self.failed = true;
@@ -117,6 +120,7 @@ fn shows_again(last: &Option<Sample>, sample: &Sample) -> bool
 #[inline(never)]
 fn put_sample<S: Sink>(
     sink: &mut S,
+    line: &mut ClockLine,
     clock: u64,
     last: &mut Option<Sample>,
     sample: &Sample,
@@ -128,7 +132,7 @@ fn put_sample<S: Sink>(
     ensures kept { OnOk result (last.new ≡ Some sample.now) }
 {
     match last {
-        Some(before) => put_step(sink, clock, before, sample),
+        Some(before) => put_step(sink, line, clock, before, sample),
         None => {
             put_dump(sink, sample)?;
             *last = Some(*sample);
@@ -151,6 +155,7 @@ fn put_end<S: Sink>(sink: &mut S, clock: u64, last: Option<Sample>) -> Result<()
 // What a clock adds after the one before it, which shows something else. Its sample is then the last one.
 fn put_step<S: Sink>(
     sink: &mut S,
+    line: &mut ClockLine,
     clock: u64,
     last: &mut Sample,
     now: &Sample,
@@ -161,7 +166,7 @@ fn put_step<S: Sink>(
     ensures cause { PutCounts (S.faults sink.old) (S.faults sink.new) result }
     ensures kept { OnOk result (last.new ≡ now.now) }
 {
-    put_clock(sink, clock)?;
+    line.put(sink, clock)?;
     put_next(sink, last, now)
 }
 
