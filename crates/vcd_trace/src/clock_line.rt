@@ -1,6 +1,6 @@
 //! The line of a clock that is kept from clock to clock: as long as no digit but the last two changes, only those are
 //! written.
-ghost use Rattle.std.specs.Prelude.{◌≡◌, ◌+◌, ◌<◌, ◌≤◌, ◌^◌};
+ghost use Rattle.std.specs.Prelude.{◌≡◌, ◌+◌, ◌/◌, ◌%◌, ◌<◌, true};
 ghost use Rattle.pio_edge.specs.Edge.{Takes, PutCounts};
 ghost use Rattle.vcd_trace.specs.VcdText.{clock_line};
 
@@ -46,26 +46,51 @@ impl ClockLine {
         ensures bytes { Takes (S.taken sink.old) (clock_line clock) (S.taken sink.new) result }
         ensures cause { PutCounts (S.faults sink.old) (S.faults sink.new) result }
     {
+        if self.turn(clock) {
+            return sink.put(&self.room[self.start..]);
+        }
+        self.put_anew(sink, clock)
+    }
+
+    // Writes the line of a clock where the last two digits alone are other ones, and says whether it has.
+    #[inline(always)]
+    fn turn(&mut self, clock: u64) -> bool
+        ensures { result ≡ true → self.new ≡ clock_line clock }
+    {
+        if clock < self.hundred || clock - self.hundred >= 100 {
+            return false;
+        }
+        let (tens, ones) = digits_of((clock - self.hundred) as u8);
+        self.room[CLOCK_ROOM - 3] = tens;
+        self.room[CLOCK_ROOM - 2] = ones;
+        true
+    }
+
+    // Puts the line of a clock of another hundred. A call of its own, since most clocks are of the same one.
+    #[inline(never)]
+    fn put_anew<S: Sink>(&mut self, sink: &mut S, clock: u64) -> Result<(), SinkFailed>
+        ensures bytes { Takes (S.taken sink.old) (clock_line clock) (S.taken sink.new) result }
+        ensures cause { PutCounts (S.faults sink.old) (S.faults sink.new) result }
+    {
         if clock < 100 {
             return put_clock(sink, clock);
         }
-        self.write(clock);
+        self.start = write_clock(&mut self.room, clock);
+        self.hundred = clock - clock % 100;
         sink.put(&self.room[self.start..])
     }
+}
 
-    // Writes the line of a clock.
-    #[inline(always)]
-    fn write(&mut self, clock: u64)
-        requires { 100 ≤ clock }
-        ensures { self.new ≡ clock_line clock }
-    {
-        if clock >= self.hundred && clock - self.hundred < 100 {
-            let last = (clock - self.hundred) as u8;
-            self.room[CLOCK_ROOM - 3] = b'0' + last / 10;
-            self.room[CLOCK_ROOM - 2] = b'0' + last % 10;
-        } else {
-            self.start = write_clock(&mut self.room, clock);
-            self.hundred = clock - clock % 100;
-        }
-    }
+/// The two digits of each number below 100.
+static PAIRS: [u8; 200] =
+    *b"00010203040506070809101112131415161718192021222324252627282930313233343536373839404142434445464748495051525354555657585960616263646566676869707172737475767778798081828384858687888990919293949596979899";
+
+// The digits of a number below 100.
+#[inline(always)]
+fn digits_of(number: u8) -> (u8, u8)
+    requires { number < 100 }
+    ensures { result ≡ (48 + number / 10, 48 + number % 10) }
+{
+    let place = usize::from(number) * 2;
+    (PAIRS[place], PAIRS[place + 1])
 }

@@ -3,7 +3,7 @@ ghost use Rattle.std.specs.Prelude.{◌≡◌, false, [], Some, OnOk};
 ghost use Rattle.pio_edge.specs.Edge.{Takes, PutCounts, TakesPrefix};
 ghost use Rattle.block_core.specs.Sample.{same_sample};
 ghost use Rattle.vcd_trace.specs.TextForm.{HasPut, added, ended};
-ghost use Rattle.vcd_trace.specs.VcdText.{vcd_form, open_text, step_text, text_of};
+ghost use Rattle.vcd_trace.specs.VcdText.{vcd_form, dump_text, open_text, step_text, text_of};
 ghost use Rattle.vcd_trace.specs.VcdText as spec;
 
 use crate::changes::put_next;
@@ -133,12 +133,24 @@ fn put_sample<S: Sink>(
 {
     match last {
         Some(before) => put_step(sink, line, clock, before, sample),
-        None => {
-            put_dump(sink, sample)?;
-            *last = Some(*sample);
-            Ok(())
-        }
+        None => put_first(sink, last, sample),
     }
+}
+
+// What the first sample adds, which is then the one told last. A call of its own, since it is the only one.
+#[inline(never)]
+fn put_first<S: Sink>(
+    sink: &mut S,
+    last: &mut Option<Sample>,
+    sample: &Sample,
+) -> Result<(), SinkFailed>
+    ensures bytes { Takes (S.taken sink.old) (dump_text sample.now) (S.taken sink.new) result }
+    ensures cause { PutCounts (S.faults sink.old) (S.faults sink.new) result }
+    ensures kept { OnOk result (last.new ≡ Some sample.now) }
+{
+    put_dump(sink, sample)?;
+    *last = Some(*sample);
+    Ok(())
 }
 
 // What the end adds after the sample that was told last.
