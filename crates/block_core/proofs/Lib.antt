@@ -15,6 +15,7 @@ pub mod Beginning
 pub mod TwinRests
 pub mod TwinRuns
 pub mod Passing
+pub mod Prompt
 pub mod Rows
 pub mod TwinRows
 pub mod Showing

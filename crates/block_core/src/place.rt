@@ -58,7 +58,7 @@ pub(crate) fn step<F: Fifo>(
     }
 }
 
-/// A clock of a machine in which the system does nothing. One that it only passes is no call.
+/// A clock of a machine in which the system does nothing. One that it only passes is no call, nor is one with a prompt tick.
 #[inline(always)]
 fn quiet_step<F: Fifo>(
     slot: &mut Slot<F>,
@@ -77,6 +77,9 @@ fn quiet_step<F: Fifo>(
 {
     a_quiet_clock_changes_nothing();
     if slot.pass() {
+        return false;
+    }
+    if slot.act_promptly(view, &mut wanted.outputs) {
         return false;
     }
     act_alone(slot, view, wanted, place, sample)

@@ -178,9 +178,10 @@ impl<F: Fifo> Running<F> {
     pub fn begins_now(&self) -> bool
         ensures { result ≡ list_any spec_stirring.begins_now self.now.state.machines }
     {
-        let (first, second) = (begins_now(&self.first), begins_now(&self.second));
-        let (third, fourth) = (begins_now(&self.third), begins_now(&self.fourth));
-        first | (second | (third | fourth))
+        begins_now(&self.first)
+            || begins_now(&self.second)
+            || begins_now(&self.third)
+            || begins_now(&self.fourth)
     }
 
     /// That the flags of stalls which go on are up. The type keeps it.

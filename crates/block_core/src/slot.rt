@@ -126,6 +126,27 @@ impl<F: Fifo> Slot<F> {
         true
     }
 
+    /// Its clock, where the system does nothing in it and its tick is made promptly (`Machine::tick_promptly`); else nothing is
+    /// done. True where it was done. It wants nothing of its block but pins then, which it writes over those of the machines
+    /// before it, nor of its FIFOs.
+    #[inline(always)]
+    pub fn act_promptly(&mut self, view: &View, outputs: &mut Outputs) -> bool
+        requires tick { spec.has_tick self.old ≡ true }
+        requires clock { self.old.timing.clock < 2 ^ 40 }
+        ensures after { result ≡ true → self.new ≡ slot_after view.now quiet self.old }
+        ensures outputs { result ≡ true → outputs.new ≡ written_by outputs.old (slot_intent view.now quiet self.old) }
+        ensures wants { result ≡ true → wants_of (slot_intent view.now quiet self.old) ≡ no_wants }
+        ensures kept { result ≡ false → self.new ≡ self.old }
+        ensures kept_outputs { result ≡ false → outputs.new ≡ outputs.old }
+    {
+        a_quiet_clock_changes_nothing();
+        if !self.machine.tick_promptly(view, outputs) {
+            return false;
+        }
+        self.divider.step();
+        true
+    }
+
     /// Whether the clock is a tick of it.
     #[inline(always)]
     fn has_tick(&self) -> bool

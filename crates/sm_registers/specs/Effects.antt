@@ -191,12 +191,16 @@ out_to out_destination.Exec value n s r = record (quiet r) { pending = Some (val
 abbrev pub starves : Queues → Bool
 starves q = q.tx_level == 0
 
+-- the bits go out of the OSR, and where they belong
+abbrev pub bits_out_to : OutDestination → ℕ → MachineSetup → Registers → Effect
+bits_out_to destination n s r = out_to destination (shifted_out r.osr n s.out_right).0 n s (with_bits_out n s r)
+
 -- With autopull, OUT stalls where the OSR's count has reached the threshold (section 3.5.4).
 unfoldable pub out_effect : OutDestination → ℕ → MachineSetup → Queues → Registers → Effect
 out_effect destination n s q r =
     if s.autopull && nat_le s.pull_threshold r.out_count
     then record (stall r) { sticky = if starves q then TX_STALL else 0 }
-    else out_to destination (shifted_out r.osr n s.out_right).0 n s (with_bits_out n s r)
+    else bits_out_to destination n s r
 
 -- PUSH does nothing under IfFull while the ISR's count is below the threshold. On a full RX it stalls, or without Block
 -- loses its word (section 3.4.6).

@@ -3,6 +3,7 @@ pub mod Intents
 pub mod Effects
 pub mod Decoding
 pub mod Tick
+pub mod Prompt
 pub mod Ends
 pub mod Ranges
 pub mod State

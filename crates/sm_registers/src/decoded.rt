@@ -1,5 +1,5 @@
 //! What a machine has read: the word at each address, and the pending word, is decoded once.
-ghost use Rattle.std.specs.Prelude.{◌≡◌, ◌≤◌, slice_index};
+ghost use Rattle.std.specs.Prelude.{◌≡◌, ◌≤◌, ◌==◌, slice_index};
 ghost use Rattle.pio_encode.specs.Ranges.{IsInRange};
 ghost use Rattle.pio_encode.specs.Word.{reading_of};
 ghost use Rattle.sm_registers.specs.Decoding.{all_zero};
@@ -58,6 +58,15 @@ impl Decoded {
         if self.readings[usize::from(place)].word != word {
             self.decode(place, word);
         }
+    }
+
+    /// Whether it is this word that was last read at a place.
+    #[inline(always)]
+    pub fn has_read(&self, place: u8, word: u16) -> bool
+        requires { place ≤ 32 }
+        ensures { result ≡ (slice_index self.now.words place == word) }
+    {
+        self.readings[usize::from(place)].word == word
     }
 
     /// What a word at a place means. It is decoded only where another one was last read there.

@@ -14,6 +14,7 @@ mod machine;
 mod moving;
 mod order_laws;
 mod outputs;
+mod prompt;
 mod registers;
 mod shifting;
 mod shown;

@@ -11,6 +11,7 @@ use crate::idle::Idle;
 use crate::idling;
 use crate::idling::refills;
 use crate::outputs::Outputs;
+use crate::prompt::prompt_tick;
 use crate::registers::Registers;
 use crate::shown::Shown;
 use crate::sticky::{RX_UNDER, TX_OVER};
@@ -96,6 +97,32 @@ impl<F: Fifo> Machine<F> {
             outputs,
             wants,
         );
+    }
+
+    /// Makes its next tick where that is prompt: the only tick of an instruction that never waits, of a machine without
+    /// autopull, whose word it has read before. Else it does nothing. True where it made it. Outside the registers such a tick
+    /// does nothing but write pins, over those of the machines before it.
+    #[inline(always)]
+    pub fn tick_promptly(&mut self, view: &View, outputs: &mut Outputs) -> bool
+        ensures state { result ≡ true → self.new ≡ record self.old {
+          registers =
+              (spec_tick.tick_of self.old.setup view.now (queues_of self.old.ports.fifos) self.old.registers).0;
+        } }
+        ensures outputs { result ≡ true → outputs.new ≡ written_by outputs.old
+            (spec_tick.tick_of self.old.setup view.now (queues_of self.old.ports.fifos) self.old.registers).1 }
+        ensures wants { result ≡ true → wants_of
+            (spec_tick.tick_of self.old.setup view.now (queues_of self.old.ports.fifos) self.old.registers).1 ≡ no_wants }
+        ensures kept { result ≡ false → self.new ≡ self.old }
+        ensures kept_outputs { result ≡ false → outputs.new ≡ outputs.old }
+    {
+        prompt_tick(
+            &self.setup,
+            view,
+            &self.fifos,
+            &self.decoded,
+            &mut self.registers,
+            outputs,
+        )
     }
 
     /// Makes its next tick where that only counts a delay, and else does nothing. True where it made it. Outside the registers

@@ -126,6 +126,23 @@ pub(crate) fn out_effect<F: Fifo>(
         wants.sticky = if fifos.tx_level() == 0 { TX_STALL } else { 0 };
         return End::Stalls;
     }
+    put_bits_out(destination, count, setup, registers, outputs)
+}
+
+/// Shifts bits out of the OSR, and puts them where they go.
+#[inline(always)]
+pub(crate) fn put_bits_out(
+    destination: OutDestination,
+    count: u8,
+    setup: &MachineSetup,
+    registers: &mut Registers,
+    outputs: &mut Outputs,
+) -> End
+    requires count { count ≤ 32 }
+    requires placed { registers.old.out_count ≤ 32 }
+    ensures value { effect_by registers.new no_wants result ≡ unwritten (spec.bits_out_to destination count setup.now registers.old) }
+    ensures outputs { outputs.new ≡ written_once outputs.old (spec.bits_out_to destination count setup.now registers.old) }
+{
     let (value, osr) = shift_out(registers.osr, count, setup.out_right);
     registers.osr = osr;
     registers.out_count = (registers.out_count + count).min(32);

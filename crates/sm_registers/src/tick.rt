@@ -107,7 +107,7 @@ fn tick_op<F: Fifo>(
 /// delay.
 #[inline(always)]
 #[tactic(auto, unfolding(crate::specs::Tick::after_effect))]
-fn conclude(
+pub(crate) fn conclude(
     end: End,
     delay: u8,
     setup: &MachineSetup,
@@ -167,7 +167,7 @@ fn refill<F: Fifo>(setup: &MachineSetup, fifos: &Pair<F>, registers: &mut Regist
 
 /// Writes side-set's pins, in the first tick of an instruction alone.
 #[inline(always)]
-fn write_side(side: Option<u8>, begun: bool, setup: &MachineSetup, outputs: &mut Outputs)
+pub(crate) fn write_side(side: Option<u8>, begun: bool, setup: &MachineSetup, outputs: &mut Outputs)
     ensures { outputs.new ≡ written_side side begun setup.now outputs.old }
 {
     match side {

@@ -1,7 +1,10 @@
-use Rattle.std.proofs.Common.{sym, ap}
-use Rattle.sm_registers.specs.Intents.{Intent}
+use Rattle.std.proofs.Common.{◌≡◌, subst, sym, ap}
+use Rattle.sm_registers.specs.declared.wants.Wants.{Wants}
+use Rattle.sm_registers.specs.Intents.{Intent, written_by}
 use Rattle.dreq_pacing.specs.Due.{quiet}
+use Rattle.block_core.specs.Slots.{Slot, slot_after, slot_intent}
 use Rattle.block_core.proofs.Passing.{adds_nothing, uses_nothing}
+use Rattle.block_core.proofs.Prompt.{WantsPins, adds_pins, uses_none}
 use Rattle.block_core.proofs.Showing.{still_shows}
 use Rattle.block_core.proofs.place.quiet_step.Goals as goal
 
@@ -17,3 +20,29 @@ returns-then-pass-clause-sample g c =
     let wants = c.pass.ensures.wants v c.if-pass.true in
     still_shows c.a_quiet_clock_changes_nothing.ensures c.args.place v quiet c.args.slot.now c.pass.new.self c.args.sample.now
     (c.pass.ensures.passed v c.if-pass.true) (sym (uses_nothing v c.args.slot.now wants)) (ap (λ (i : Intent). i.sticky) wants) c.requires.shows
+
+pub returns-then-act_promptly-clause-wanted : goal.returns-then-act_promptly-clause-wanted
+returns-then-act_promptly-clause-wanted g c =
+    let v = c.args.view.now in
+    let w = c.args.wanted.now in
+    let done = c.if-act_promptly.true in
+    let same = c.pass.ensures.kept c.if-pass.false in
+    adds_pins w c.act_promptly.new.outputs (slot_intent v quiet c.args.slot.now)
+    (subst (λ (x : Slot). c.act_promptly.new.outputs ≡ written_by w.outputs (slot_intent v quiet x)) same (c.act_promptly.ensures.outputs done))
+    (subst (λ (x : Slot). WantsPins (slot_intent v quiet x)) same (c.act_promptly.ensures.wants done))
+
+pub returns-then-act_promptly-clause-used : goal.returns-then-act_promptly-clause-used
+returns-then-act_promptly-clause-used g c =
+    let v = c.args.view.now in
+    let same = c.pass.ensures.kept c.if-pass.false in
+    uses_none v c.args.slot.now (subst (λ (x : Slot). WantsPins (slot_intent v quiet x)) same (c.act_promptly.ensures.wants c.if-act_promptly.true))
+
+pub returns-then-act_promptly-clause-sample : goal.returns-then-act_promptly-clause-sample
+returns-then-act_promptly-clause-sample g c =
+    let v = c.args.view.now in
+    let done = c.if-act_promptly.true in
+    let same = c.pass.ensures.kept c.if-pass.false in
+    let wants = subst (λ (x : Slot). WantsPins (slot_intent v quiet x)) same (c.act_promptly.ensures.wants done) in
+    let after = subst (λ (x : Slot). c.act_promptly.new.self ≡ slot_after v quiet x) same (c.act_promptly.ensures.after done) in
+    still_shows c.a_quiet_clock_changes_nothing.ensures c.args.place v quiet c.args.slot.now c.act_promptly.new.self c.args.sample.now
+    after (sym (uses_none v c.args.slot.now wants)) (ap (λ (w : Wants). w.sticky) wants) c.requires.shows

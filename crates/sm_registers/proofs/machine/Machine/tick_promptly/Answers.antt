@@ -1,0 +1,17 @@
+-- A prompt tick keeps the registers in their ranges, and where there is none they stay.
+use Rattle.sm_registers.specs.State.{queues_of}
+use Rattle.sm_registers.proofs.Placed.{placed_either}
+use Rattle.sm_registers.proofs.machine.Machine.tick_promptly.Goals as goal
+
+pub invariant_of-self : goal.invariant_of-self
+invariant_of-self g c =
+    let kept = c.self.invariant.0 in
+    let tick = c.prompt_tick.ensures in (
+      record {
+        placed = placed_either c.prompt_tick.result c.self.inside.setup c.args.view.now (queues_of c.self.inside.fifos) c.self.inside.registers c.prompt_tick.new.registers tick.registers tick.kept kept.placed;
+        fits = kept.fits;
+        tx_room = kept.tx_room;
+        rx_room = kept.rx_room;
+      },
+      c.self.invariant.1,
+    )
