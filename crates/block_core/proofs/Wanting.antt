@@ -93,11 +93,20 @@ directions_are_last d memory clock levels directions flags outside sync a b c e 
     let added = all_added d memory clock levels directions flags outside sync a b c e outside2 pad seen w0 w1 w2 w3 w4 s in
     rw added (law p directions _ below (rw s.sees at writes))
 
-or_false : (x : Bool) → (x || false) ≡ x
-or_false true = refl
-or_false false = refl
+-- what was used before is all, where a place uses nothing
+pub unused : (used : Bool) {now : Bool} → false ≡ now → used ≡ (used || now)
+unused true e = refl
+unused false e = e
+
+-- one place after the other, or all at once
+in_turn : (a b c d : Bool) → (((a || b) || c) || d) ≡ (a || (b || (c || (d || false))))
+in_turn true b c d = refl
+in_turn false true c d = refl
+in_turn false false true d = refl
+in_turn false false false true = refl
+in_turn false false false false = refl
 
 -- whether anything was done at any FIFO
-pub any_used : (d : Due) (memory : List ℕ) (clock levels directions flags outside : ℕ) (sync : Synchroniser) (a b c e : Option Slot) (outside2 pad seen : ℕ) (w0 w1 w2 w3 w4 : Wanted) → IsStep d memory levels directions flags outside sync a b c e outside2 pad seen w0 w1 w2 w3 w4 → (u1 u2 u3 u4 : Bool) → u1 ≡ place_uses_fifos (view memory seen flags) d a → u2 ≡ place_uses_fifos (view memory seen flags) d b → u3 ≡ place_uses_fifos (view memory seen flags) d c → u4 ≡ place_uses_fifos (view memory seen flags) d e → (u1 || (u2 || (u3 || u4))) ≡ uses_fifos_over pad d (run memory clock levels directions flags outside sync a b c e)
+pub any_used : (d : Due) (memory : List ℕ) (clock levels directions flags outside : ℕ) (sync : Synchroniser) (a b c e : Option Slot) (outside2 pad seen : ℕ) (w0 w1 w2 w3 w4 : Wanted) → IsStep d memory levels directions flags outside sync a b c e outside2 pad seen w0 w1 w2 w3 w4 → (u1 u2 u3 u4 : Bool) → u1 ≡ place_uses_fifos (view memory seen flags) d a → u2 ≡ (u1 || place_uses_fifos (view memory seen flags) d b) → u3 ≡ (u2 || place_uses_fifos (view memory seen flags) d c) → u4 ≡ (u3 || place_uses_fifos (view memory seen flags) d e) → u4 ≡ uses_fifos_over pad d (run memory clock levels directions flags outside sync a b c e)
 any_used d memory clock levels directions flags outside sync a b c e outside2 pad seen w0 w1 w2 w3 w4 s u1 u2 u3 u4 f1 f2 f3 f4 =
-    rw (f1, f2, f3, f4, s.sees, or_false (place_uses_fifos _ d e)) refl
+    rw (f4, f3, f2, f1, s.sees) (in_turn (place_uses_fifos _ d a) (place_uses_fifos _ d b) (place_uses_fifos _ d c) (place_uses_fifos _ d e))

@@ -54,9 +54,9 @@ state_of a b c d levels directions flags outside = record {
   outside = outside;
 }
 
--- The sample is that of the state.
+-- The sample, with the pins and flags of the state, is that of the state.
 pub record IsSampleOf (state : BlockState) (sample : Sample) : Type 0 where
-  pub is : sample ≡ sample_of state
+  pub is : record sample { level = state.levels; direction = state.directions; flags = state.flags } ≡ sample_of state
 
 -- No more clocks of two blocks were worked out singly than went by, and both are in the same clock.
 pub record AreTwins (worked first second : ℕ) : Type 0 where

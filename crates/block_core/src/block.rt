@@ -2,7 +2,7 @@
 ghost use Rattle.std.specs.Prelude.{◌≡◌, ℕ, ◌<◌, ◌≤◌, ◌^◌, ◌+◌, false, IfOk};
 ghost use Rattle.dreq_pacing.specs.Due.{quiet};
 ghost use Rattle.dreq_pacing.specs.Ports.{IsFirst};
-ghost use Rattle.block_core.specs.Block.{first_run, next, run_from, wanted_in, uses_fifos_in, level_writes, direction_writes, TakesLastWrites};
+ghost use Rattle.block_core.specs.Block.{first_run, next, pads_in, run_from, wanted_in, uses_fifos_in, level_writes, direction_writes, TakesLastWrites};
 ghost use Rattle.block_core.specs.Resting.{rested};
 ghost use Rattle.block_core.specs.Shown.{sample_of, requests_of, moved_of};
 ghost use Rattle.block_core.specs.Slots.{doing};
@@ -21,18 +21,22 @@ use std::marker::Model;
 #[derive(Drop)]
 pub struct Block<F: Fifo> {
     running: Running<F>,
-    calls: u64,
+    // The clocks that were passed over: all others were worked out singly.
+    leapt: u64,
+    // The pads of the present clock, if the system does nothing in it.
+    pad: u32,
 }
 
 impl<F: Fifo> Model for Block<F> {
-    ghost use Rattle.std.specs.Prelude.{◌≤◌};
-    ghost use Rattle.block_core.specs.Block.{Worked};
+    ghost use Rattle.std.specs.Prelude.{◌≡◌, ◌≤◌, ◌-◌};
+    ghost use Rattle.dreq_pacing.specs.Due.{quiet};
+    ghost use Rattle.block_core.specs.Block.{Worked, pads_in};
 
     ghost Value = { Worked };
 
-    ghost view = { λ b. record { run = b.running; calls = b.calls } };
+    ghost view = { λ b. record { run = b.running; calls = b.running.clock - b.leapt } };
 
-    ghost invariant = { λ b. b.calls ≤ b.running.clock };
+    ghost invariant = { λ b. (b.leapt ≤ b.running.clock) × (b.pad ≡ pads_in quiet b.running.state) };
 }
 
 impl<F: Fifo> Block<F> {
@@ -43,7 +47,8 @@ impl<F: Fifo> Block<F> {
         let pad = pad_of(setup.level, setup.out, setup.high);
         Ok(Block {
             running: Running::new(alloc, setup, pad)?,
-            calls: 0,
+            leapt: 0,
+            pad,
         })
     }
 
@@ -59,7 +64,8 @@ impl<F: Fifo> Block<F> {
             (direction_writes (wanted_in due.now self.old.run)) }
         ensures calls { self.new.calls ≡ self.old.calls + 1 }
     {
-        self.step(Some(due))
+        let pad = self.running.pads(Some(due));
+        self.step(pad, Some(due))
     }
 
     /// The same, in which the system does nothing.
@@ -69,13 +75,14 @@ impl<F: Fifo> Block<F> {
         ensures used { result ≡ uses_fifos_in quiet self.old.run }
         ensures calls { self.new.calls ≡ self.old.calls + 1 }
     {
-        self.step(None)
+        self.step(self.pad, None)
     }
 
-    /// One clock, in which the system does this, where it does anything.
+    /// One clock with its pads, in which the system does this, where it does anything.
     #[inline(always)]
-    fn step(&mut self, due: Option<&Due>) -> bool
-        requires { self.old.run.clock < 2 ^ 40 }
+    fn step(&mut self, pad: u32, due: Option<&Due>) -> bool
+        requires clock { self.old.run.clock < 2 ^ 40 }
+        requires pad { pad ≡ pads_in (doing due) self.old.run.state }
         ensures run { self.new.run ≡ next (doing due.entry) self.old.run }
         ensures used { result ≡ uses_fifos_in (doing due.entry) self.old.run }
         ensures levels { TakesLastWrites self.old.run.state.levels self.new.run.state.levels
@@ -84,9 +91,8 @@ impl<F: Fifo> Block<F> {
             (direction_writes (wanted_in (doing due.entry) self.old.run)) }
         ensures calls { self.new.calls ≡ self.old.calls + 1 }
     {
-        let pad = self.running.pads(due);
         let used = self.running.step(pad, due);
-        self.calls += 1;
+        self.pad = self.running.pads(None);
         used
     }
 
@@ -97,8 +103,7 @@ impl<F: Fifo> Block<F> {
     pub fn plainly_moves_on(&self) -> bool
         ensures { result ≡ plainly_moves_on self.now.run }
     {
-        let pad = self.running.pads(None);
-        if self.running.pads_change(pad) {
+        if self.running.pads_change(self.pad) {
             return true;
         }
         self.running.begins_now()
@@ -114,11 +119,10 @@ impl<F: Fifo> Block<F> {
         a_calm_tick_tells_nothing_new();
         a_quiet_clock_changes_nothing();
         self.running.stalls_are_told();
-        let pad = self.running.pads(None);
-        if self.running.pads_change(pad) {
+        if self.running.pads_change(self.pad) {
             return Some(0);
         }
-        self.running.sooner(None, pad)
+        self.running.sooner(None, self.pad)
     }
 
     /// So many clocks at once, none of which stirs, and in which the system does nothing. After each of them the block is what
@@ -136,8 +140,9 @@ impl<F: Fifo> Block<F> {
         a_calm_tick_tells_nothing_new();
         a_quiet_clock_changes_nothing();
         self.running.stalls_are_told();
-        let pad = self.running.pads(None);
-        self.running.rest(pad, clocks);
+        self.running.rest(self.pad, clocks);
+        self.pad = self.running.pads(None);
+        self.leapt += clocks;
     }
 
     /// What the machines ask of the system, as at the start of the present clock.

@@ -1,5 +1,5 @@
 //! A place of a block: its machine, where one is configured.
-ghost use Rattle.std.specs.Prelude.{◌≡◌, ◌<◌, true, Some, option_map, IfOk};
+ghost use Rattle.std.specs.Prelude.{◌≡◌, ◌<◌, ◌||◌, true, Some, option_map, IfOk};
 ghost use Rattle.block_core.specs.Kept.{IsInTime};
 ghost use Rattle.block_core.specs.Merging.{with_intent};
 ghost use Rattle.block_core.specs.Shown.{Shows, shown_in, moved_in, with_shown};
@@ -29,7 +29,7 @@ pub(crate) fn slot_of<F: Fifo>(
 }
 
 /// A clock of a place, whose machine adds what it wants of the block. The sample, which has what was seen of the place, gets
-/// what is seen of it now. True where anything was done at its FIFOs.
+/// what is seen of it now. True where anything was done at its FIFOs, or at those of the machines before it.
 #[inline(always)]
 #[tactic(auto, using(crate::proofs::Wanting::nothing_added))]
 pub(crate) fn step<F: Fifo>(
@@ -39,6 +39,7 @@ pub(crate) fn step<F: Fifo>(
     wanted: &mut Wanted,
     place: usize,
     sample: &mut Sample,
+    used: bool,
 ) -> bool
     requires time { IsInTime slot.old }
     requires place { place < 4 }
@@ -46,15 +47,15 @@ pub(crate) fn step<F: Fifo>(
     ensures after { slot.new ≡ place_after view.now (doing due.entry) slot.old }
     ensures wanted { wanted.new ≡ with_intent wanted.old
         (place_intent view.now (doing due.entry) slot.old) }
-    ensures used { result ≡ place_uses_fifos view.now (doing due.entry) slot.old }
+    ensures used { result ≡ (used || place_uses_fifos view.now (doing due.entry) slot.old) }
     ensures sample { sample.new ≡ with_shown place (shown_in slot.new) sample.old }
 {
     let Some(slot) = slot else {
-        return false;
+        return used;
     };
     match due {
-        None => quiet_step(slot, view, wanted, place, sample),
-        Some(due) => due_step(slot, view, due, wanted, place, sample),
+        None => quiet_step(slot, view, wanted, place, sample, used),
+        Some(due) => used | due_step(slot, view, due, wanted, place, sample),
     }
 }
 
@@ -66,23 +67,24 @@ fn quiet_step<F: Fifo>(
     wanted: &mut Wanted,
     place: usize,
     sample: &mut Sample,
+    used: bool,
 ) -> bool
     requires time { IsInTime (Some slot.old) }
     requires place { place < 4 }
     requires shows { Shows place (Some slot.old) sample.old }
     ensures after { slot.new ≡ slot_after view.now quiet slot.old }
     ensures wanted { wanted.new ≡ with_intent wanted.old (slot_intent view.now quiet slot.old) }
-    ensures used { result ≡ slot_uses_fifos view.now quiet slot.old }
+    ensures used { result ≡ (used || slot_uses_fifos view.now quiet slot.old) }
     ensures sample { sample.new ≡ with_shown place (shown_in (Some slot.new)) sample.old }
 {
     a_quiet_clock_changes_nothing();
     if slot.pass() {
-        return false;
+        return used;
     }
     if slot.act_promptly(view, &mut wanted.outputs) {
-        return false;
+        return used;
     }
-    act_alone(slot, view, wanted, place, sample)
+    used | act_alone(slot, view, wanted, place, sample)
 }
 
 /// A clock in which the system does nothing and the machine acts. It is one piece of code, which all four call.

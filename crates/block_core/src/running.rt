@@ -39,7 +39,8 @@ pub(crate) struct Running<F: Fifo> {
     outside: u32,
     sync: Sync,
     clock: u64,
-    // What `view` tells, brought up to date by each clock, since a trace asks after each and little of it changes.
+    // What `view` tells of the FIFOs, brought up to date by each clock, since a trace asks after each and little of it changes. Its
+    // pins and flags are none that anybody asks for.
     sample: Sample,
 }
 
@@ -153,16 +154,13 @@ impl<F: Fifo> Running<F> {
         self.sync.step(pad);
         self.wanted.begin();
         let (view, wanted, sample) = (&self.view, &mut self.wanted, &mut self.sample);
-        let first = step(&mut self.first, view, due, wanted, 0, sample);
-        let second = step(&mut self.second, view, due, wanted, 1, sample);
-        let third = step(&mut self.third, view, due, wanted, 2, sample);
-        let fourth = step(&mut self.fourth, view, due, wanted, 3, sample);
+        let first = step(&mut self.first, view, due, wanted, 0, sample, false);
+        let second = step(&mut self.second, view, due, wanted, 1, sample, first);
+        let third = step(&mut self.third, view, due, wanted, 2, sample, second);
+        let fourth = step(&mut self.fourth, view, due, wanted, 3, sample, third);
         self.wanted.merge_flags(&mut self.view.flags);
-        self.sample.level = self.wanted.outputs.levels;
-        self.sample.direction = self.wanted.outputs.directions;
-        self.sample.flags = self.view.flags.up;
         self.clock += 1;
-        first | (second | (third | fourth))
+        fourth
     }
 
     /// Whether these pads, of the present clock, are not those of both clocks before.
@@ -174,7 +172,7 @@ impl<F: Fifo> Running<F> {
     }
 
     /// Whether a machine begins an instruction in the present clock, if no line acts in it.
-    #[inline(never)]
+    #[inline(always)]
     pub fn begins_now(&self) -> bool
         ensures { result ≡ list_any spec_stirring.begins_now self.now.state.machines }
     {
@@ -252,7 +250,12 @@ impl<F: Fifo> Running<F> {
     pub fn view(&self) -> Sample
         ensures { result ≡ sample_of self.now.state }
     {
-        self.sample
+        Sample {
+            level: self.wanted.outputs.levels,
+            direction: self.wanted.outputs.directions,
+            flags: self.view.flags.up,
+            ..self.sample
+        }
     }
 
     /// How many words paced transfers have moved into a machine's TX and out of its RX.

@@ -6,13 +6,14 @@ use Rattle.block_core.specs.Slots.{Slot, slot_after, slot_intent}
 use Rattle.block_core.proofs.Passing.{adds_nothing, uses_nothing}
 use Rattle.block_core.proofs.Prompt.{WantsPins, adds_pins, uses_none}
 use Rattle.block_core.proofs.Showing.{still_shows}
+use Rattle.block_core.proofs.Wanting.{unused}
 use Rattle.block_core.proofs.place.quiet_step.Goals as goal
 
 pub returns-then-pass-clause-wanted : goal.returns-then-pass-clause-wanted
 returns-then-pass-clause-wanted g c = adds_nothing c.args.wanted.now _ (c.pass.ensures.wants c.args.view.now c.if-pass.true)
 
 pub returns-then-pass-clause-used : goal.returns-then-pass-clause-used
-returns-then-pass-clause-used g c = uses_nothing c.args.view.now c.args.slot.now (c.pass.ensures.wants c.args.view.now c.if-pass.true)
+returns-then-pass-clause-used g c = unused c.args.used (uses_nothing c.args.view.now c.args.slot.now (c.pass.ensures.wants c.args.view.now c.if-pass.true))
 
 pub returns-then-pass-clause-sample : goal.returns-then-pass-clause-sample
 returns-then-pass-clause-sample g c =
@@ -35,7 +36,7 @@ pub returns-then-act_promptly-clause-used : goal.returns-then-act_promptly-claus
 returns-then-act_promptly-clause-used g c =
     let v = c.args.view.now in
     let same = c.pass.ensures.kept c.if-pass.false in
-    uses_none v c.args.slot.now (subst (λ (x : Slot). WantsPins (slot_intent v quiet x)) same (c.act_promptly.ensures.wants c.if-act_promptly.true))
+    unused c.args.used (uses_none v c.args.slot.now (subst (λ (x : Slot). WantsPins (slot_intent v quiet x)) same (c.act_promptly.ensures.wants c.if-act_promptly.true)))
 
 pub returns-then-act_promptly-clause-sample : goal.returns-then-act_promptly-clause-sample
 returns-then-act_promptly-clause-sample g c =

@@ -10,7 +10,7 @@ use Rattle.block_core.proofs.block.Block.next_stir.Goals as goal
 pub returns-then-pads_change : goal.returns-then-pads_change
 returns-then-pads_change g c = record {
   first = subst (λ (w : Worked). IsFirst (λ n. moves_on quiet (run_from w.run (λ c. quiet) n)) 0 (Some 0)) c.self.view_is
-      (moves_at_once c.self.inside.running c.pads-pad.result c.pads-pad.ensures (sym c.pads_change.ensures ∙ c.if-pads_change.true));
+      (moves_at_once c.self.inside.running c.self.inside.pad c.self.invariant.1 (sym c.pads_change.ensures ∙ c.if-pads_change.true));
 }
 
 pub returns : goal.returns
@@ -18,6 +18,6 @@ returns g c =
     let laws : CalmLaws = record { counts = c.a_calm_tick_only_counts.ensures.once; tells = c.a_calm_tick_tells_nothing_new.ensures.calm; fifos = c.a_quiet_clock_changes_nothing.ensures } in
     record {
       first = subst (λ (w : Worked). IsFirst (λ n. moves_on quiet (run_from w.run (λ c. quiet) n)) 0 c.sooner.result) c.self.view_is
-          (first_moves laws c.self.inside.running c.pads-pad.result c.sooner.result c.pads-pad.ensures (sym c.pads_change.ensures ∙ c.if-pads_change.false) c.stalls_are_told.ensures
+          (first_moves laws c.self.inside.running c.self.inside.pad c.sooner.result c.self.invariant.1 (sym c.pads_change.ensures ∙ c.if-pads_change.false) c.stalls_are_told.ensures
           (c.sooner.ensures (λ n. false) (λ n le. refl)));
     }

@@ -7,9 +7,9 @@ use Rattle.block_core.proofs.block.Block.plainly_moves_on.Goals as goal
 pub returns-then-pads_change : goal.returns-then-pads_change
 returns-then-pads_change g c =
     subst (λ (w : Worked). true ≡ plainly_moves_on w.run) c.self.view_is
-    (by_pads c.self.inside.running c.pads-pad.result c.pads-pad.ensures (sym c.pads_change.ensures ∙ c.if-pads_change.true))
+    (by_pads c.self.inside.running c.self.inside.pad c.self.invariant.1 (sym c.pads_change.ensures ∙ c.if-pads_change.true))
 
 pub returns : goal.returns
 returns g c =
     subst (λ (w : Worked). c.begins_now.result ≡ plainly_moves_on w.run) c.self.view_is
-    (c.begins_now.ensures ∙ by_machines c.self.inside.running c.pads-pad.result c.pads-pad.ensures (sym c.pads_change.ensures ∙ c.if-pads_change.false))
+    (c.begins_now.ensures ∙ by_machines c.self.inside.running c.self.inside.pad c.self.invariant.1 (sym c.pads_change.ensures ∙ c.if-pads_change.false))
