@@ -39,8 +39,8 @@ pub(crate) struct Running<F: Fifo> {
     outside: u32,
     sync: Sync,
     clock: u64,
-    // What `view` tells of the FIFOs, brought up to date by each clock, since a trace asks after each and little of it changes. Its
-    // pins and flags are none that anybody asks for.
+    // What `view` tells of FIFOs, brought up to date by each clock, since a trace asks after each and little of it changes. Its
+    // pins and flags are never read: those of the state count.
     sample: Sample,
 }
 

@@ -2,6 +2,7 @@
 ghost use Rattle.std.specs.Prelude.{◌≡◌, ℕ, ◌<◌, ◌≤◌, ◌^◌, ◌+◌, Some, length, IsTrue, IsSome, IfOk, if◌then◌else◌, slice_index_or, false, true};
 ghost use Rattle.clock_divider.specs.Timing as timing;
 ghost use Rattle.sm_registers.specs.Intents.{intent_of, no_intent, no_wants, wants_of, written_by};
+ghost use Rattle.sm_registers.specs.Prompt.{is_prompt};
 ghost use Rattle.sm_registers.specs.State as spec_shown;
 ghost use Rattle.sm_registers.specs.declared.view.View as spec_view;
 ghost use Rattle.dreq_pacing.specs.Due.{quiet};
@@ -126,13 +127,13 @@ impl<F: Fifo> Slot<F> {
         true
     }
 
-    /// Its clock, where the system does nothing in it and its tick is made promptly (`Machine::tick_promptly`); else nothing is
-    /// done. True where it was done. It wants nothing of its block but pins then, which it writes over those of the machines
-    /// before it, nor of its FIFOs.
+    /// Its clock, where the system does nothing in it and its tick is prompt; else nothing is done. True where it was done. It
+    /// wants nothing of its block but pins then, which it writes over those of the machines before it, nor of its FIFOs.
     #[inline(always)]
     pub fn act_promptly(&mut self, view: &View, outputs: &mut Outputs) -> bool
         requires tick { spec.has_tick self.old ≡ true }
         requires clock { self.old.timing.clock < 2 ^ 40 }
+        ensures acts { result ≡ is_prompt self.old.machine.setup view.now self.old.machine.registers }
         ensures after { result ≡ true → self.new ≡ slot_after view.now quiet self.old }
         ensures outputs { result ≡ true → outputs.new ≡ written_by outputs.old (slot_intent view.now quiet self.old) }
         ensures wants { result ≡ true → wants_of (slot_intent view.now quiet self.old) ≡ no_wants }

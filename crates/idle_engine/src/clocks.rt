@@ -118,13 +118,13 @@ pub(crate) fn rest<F: Fifo>(block: &mut Block<F>, clock: u64, due: u64, end: u64
     ensures stirs { result < end → result < due → moves_on quiet block.new.run ≡ true }
 {
     what_begins_moves_on();
-    let until = due.min(end);
-    if clock == until {
+    if clock >= end || clock >= due {
         return clock;
     }
     if block.plainly_moves_on() {
         return clock;
     }
+    let until = due.min(end);
     match block.next_stir() {
         Some(0) => clock,
         Some(clocks) => leap(block, clock, clocks.min(until - clock)),

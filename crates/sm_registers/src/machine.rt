@@ -2,6 +2,7 @@
 ghost use Rattle.std.specs.Prelude.{◌≡◌, ℕ, ◌-◌, ◌<◌, false, true, length, IsTrue, IsSome, IfOk};
 ghost use Rattle.sm_registers.specs.Intents.{intent_of, no_wants, wants_of, written_by};
 ghost use Rattle.sm_registers.specs.Idling.{IsIdle, IsSoon, after_ticks, begins_next, idle_of, is_counting, only_counts, stirs_at};
+ghost use Rattle.sm_registers.specs.Prompt.{is_prompt};
 ghost use Rattle.sm_registers.specs.State.{IsKept, first_machine, queues_of, settled_ports, shown_of, uses_fifos};
 ghost use Rattle.sm_registers.specs.State as spec;
 ghost use Rattle.sm_registers.specs.Tick as spec_tick;
@@ -100,10 +101,11 @@ impl<F: Fifo> Machine<F> {
     }
 
     /// Makes its next tick where that is prompt: the only tick of an instruction that never waits, of a machine without
-    /// autopull, whose word it has read before. Else it does nothing. True where it made it. Outside the registers such a tick
-    /// does nothing but write pins, over those of the machines before it.
+    /// autopull. Else it does nothing. True where it made it. Outside the registers such a tick does nothing but write pins,
+    /// over those of the machines before it.
     #[inline(always)]
     pub fn tick_promptly(&mut self, view: &View, outputs: &mut Outputs) -> bool
+        ensures made { result ≡ is_prompt self.old.setup view.now self.old.registers }
         ensures state { result ≡ true → self.new ≡ record self.old {
           registers =
               (spec_tick.tick_of self.old.setup view.now (queues_of self.old.ports.fifos) self.old.registers).0;
@@ -119,7 +121,7 @@ impl<F: Fifo> Machine<F> {
             &self.setup,
             view,
             &self.fifos,
-            &self.decoded,
+            &mut self.decoded,
             &mut self.registers,
             outputs,
         )

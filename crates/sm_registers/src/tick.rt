@@ -7,6 +7,7 @@ ghost use Rattle.sm_registers.specs.Intents.{no_wants, wants_of, written_by};
 ghost use Rattle.sm_registers.specs.Ranges.{IsPlaced};
 ghost use Rattle.sm_registers.specs.State.{queues_of};
 ghost use Rattle.sm_registers.specs.Tick as spec;
+ghost use Rattle.sm_registers.specs.declared.registers.Registers as spec_registers;
 
 use crate::decoded::{Decoded, PENDING};
 use crate::end::End;
@@ -107,7 +108,7 @@ fn tick_op<F: Fifo>(
 /// delay.
 #[inline(always)]
 #[tactic(auto, unfolding(crate::specs::Tick::after_effect))]
-pub(crate) fn conclude(
+fn conclude(
     end: End,
     delay: u8,
     setup: &MachineSetup,
@@ -144,10 +145,21 @@ fn next_pc(setup: &MachineSetup, registers: &Registers) -> u8
 {
     if registers.pending.is_some() {
         registers.pc
-    } else if registers.pc == setup.wrap_top {
+    } else {
+        address_after(setup, registers.pc)
+    }
+}
+
+/// The address after another: the program wraps after `wrap_top`, and the memory after 31.
+#[inline(always)]
+pub(crate) fn address_after(setup: &MachineSetup, pc: u8) -> u8
+    requires { pc < 32 }
+    ensures { (r : spec_registers.Registers) → r.pc ≡ pc → result ≡ spec.next_pc setup.now r }
+{
+    if pc == setup.wrap_top {
         setup.wrap_bottom
     } else {
-        (registers.pc + 1) % 32
+        (pc + 1) % 32
     }
 }
 

@@ -20,11 +20,11 @@ calm_none r n e = record {
   sample = λ k le. sym (ap (λ (x : Run). sample_of x.state) (after_none r k (omega arith)));
 }
 
-pub returns-then-clock-until-clause-run : goal.returns-then-clock-until-clause-run
-returns-then-clock-until-clause-run g c = after_none c.args.block.now.run (c.args.clock - c.args.clock) (omega arith)
+pub returns-then-clock-end-clause-run : goal.returns-then-clock-end-clause-run
+returns-then-clock-end-clause-run g c = after_none c.args.block.now.run (c.args.clock - c.args.clock) (omega arith)
 
-pub returns-then-clock-until-clause-calm : goal.returns-then-clock-until-clause-calm
-returns-then-clock-until-clause-calm g c = calm_none c.args.block.now.run (c.args.clock - c.args.clock) (omega arith)
+pub returns-then-clock-end-clause-calm : goal.returns-then-clock-end-clause-calm
+returns-then-clock-end-clause-calm g c = calm_none c.args.block.now.run (c.args.clock - c.args.clock) (omega arith)
 
 -- a clock that plainly stirs
 pub returns-then-plainly_moves_on-clause-run : goal.returns-then-plainly_moves_on-clause-run

@@ -1,4 +1,5 @@
 -- A prompt tick keeps the registers in their ranges, and where there is none they stay.
+use Rattle.std.proofs.Common.{◌∙◌}
 use Rattle.sm_registers.specs.State.{queues_of}
 use Rattle.sm_registers.proofs.Placed.{placed_either}
 use Rattle.sm_registers.proofs.machine.Machine.tick_promptly.Goals as goal
@@ -13,5 +14,5 @@ invariant_of-self g c =
         tx_room = kept.tx_room;
         rx_room = kept.rx_room;
       },
-      c.self.invariant.1,
+      tick.same ∙ c.self.invariant.1,
     )
