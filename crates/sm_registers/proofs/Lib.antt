@@ -1,4 +1,5 @@
 pub mod Placed
+pub mod Planned
 pub mod Fair
 pub mod Calm
 pub mod Words

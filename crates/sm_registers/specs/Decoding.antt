@@ -1,20 +1,27 @@
 -- What a machine keeps of the words that it has read.
-use Rattle.std.specs.Prelude.{◌≡◌, ℕ, List, replicate}
-use Rattle.pio_encode.specs.declared.rule.SideRule.{SideRule}
+use Rattle.std.specs.Prelude.{◌≡◌, ℕ, ◌+◌, List, [], ◌∷◌, replicate}
 use Rattle.pio_encode.specs.Ranges.{IsInRange}
 use Rattle.pio_encode.specs.Word.{reading_of}
+use Rattle.pin_matrix.specs.declared.machine.MachineSetup.{MachineSetup}
 use Rattle.sm_registers.specs.declared.decoded.Reading.{Reading}
+use Rattle.sm_registers.specs.Plans.{plan_of}
 
--- the side-set rule, and the word that was last read at each of the 32 addresses, and as the pending word
+-- the machine's setup, and the word that was last read at each of the 32 addresses, and as the pending word
 pub record Decoding : Type 0 where
-  pub rule : SideRule
+  pub setup : MachineSetup
   pub words : List ℕ
 
 -- the word 0 at each
 abbrev pub all_zero : List ℕ
 all_zero = replicate 33 0
 
--- the reading of a word under a side-set rule, with its operands in their ranges
-pub record IsReading (rule : SideRule) (r : Reading) : Type 0 where
-  pub op : r.op ≡ reading_of r.word rule
+-- the reading of a word at an address under a setup, with its operands in their ranges, and what is known of its prompt tick
+pub record IsReading (s : MachineSetup) (address : ℕ) (r : Reading) : Type 0 where
+  pub op : r.op ≡ reading_of r.word s.side_rule
   pub act : IsInRange r.op.act
+  pub plan : r.plan ≡ plan_of s address r.op
+
+-- all of them are, from this address on
+unfoldable pub AreReadings : MachineSetup → (address : ℕ) → List Reading → Type 0
+AreReadings s address [] = Unit {0}
+AreReadings s address (r ∷ more) = IsReading s address r × AreReadings s (address + 1) more

@@ -17,9 +17,13 @@ use Rattle.sm_registers.specs.Queues.{Queues}
 use Rattle.sm_registers.specs.Intents.{Intent, First, Late, Delay, no_intent}
 use Rattle.sm_registers.specs.Effects.{Effect, osr_filled, effect_of}
 
--- the address that follows: the program wraps after wrap_top (section 3.5.2), and the memory after 31
+-- the address after another: the program wraps after wrap_top (section 3.5.2), and the memory after 31
+abbrev pub next_after : MachineSetup → (address : ℕ) → ℕ
+next_after s address = if address == s.wrap_top then s.wrap_bottom else (address + 1) % 32
+
+-- that after PC
 abbrev pub next_pc : MachineSetup → Registers → ℕ
-next_pc s r = if r.pc == s.wrap_top then s.wrap_bottom else (r.pc + 1) % 32
+next_pc s r = next_after s r.pc
 
 -- the pending word, else memory at PC
 abbrev pub word_at : Option ℕ → View → ℕ → ℕ

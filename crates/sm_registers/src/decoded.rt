@@ -2,16 +2,19 @@
 ghost use Rattle.std.specs.Prelude.{◌≡◌, ◌≤◌, ◌==◌, slice_index};
 ghost use Rattle.pio_encode.specs.Ranges.{IsInRange};
 ghost use Rattle.pio_encode.specs.Word.{reading_of};
-ghost use Rattle.sm_registers.specs.Decoding.{all_zero};
+ghost use Rattle.sm_registers.specs.Decoding.{IsReading, all_zero};
 
-use pio_encode::{Op, SideRule, decode};
+use crate::plan::Plan;
+use pin_matrix::MachineSetup;
+use pio_encode::{Op, decode};
 use std::marker::Model;
 
-/// A word and what it means under the machine's side-set rule.
+/// A word, what it means under the machine's setup, and what is known of its prompt tick.
 #[derive(Clone, Copy)]
 pub(crate) struct Reading {
     pub word: u16,
     pub op: Op,
+    pub plan: Plan,
 }
 
 /// The place of the pending word, after those of the 32 addresses.
@@ -20,31 +23,29 @@ pub(crate) const PENDING: u8 = 32;
 /// The last word read at each place, with its meaning.
 #[derive(Drop)]
 pub(crate) struct Decoded {
-    rule: SideRule,
+    setup: MachineSetup,
     readings: [Reading; 33],
 }
 
 impl Model for Decoded {
     ghost use Rattle.std.specs.Prelude.{map};
-    ghost use Rattle.std.specs.List.{AllByRecursion};
-    ghost use Rattle.sm_registers.specs.Decoding.{Decoding, IsReading};
+    ghost use Rattle.sm_registers.specs.Decoding.{AreReadings, Decoding};
 
     ghost Value = { Decoding };
 
-    ghost view = { λ d. record { rule = d.rule; words = map (λ r. r.word) d.readings } };
+    ghost view = { λ d. record { setup = d.setup; words = map (λ r. r.word) d.readings } };
 
-    ghost invariant = { λ d. AllByRecursion (IsReading d.rule) d.readings };
+    ghost invariant = { λ d. AreReadings d.setup 0 d.readings };
 }
 
 impl Decoded {
     /// Nothing read so far: the word 0 at each place.
-    pub fn new(rule: &SideRule) -> Decoded
-        ensures { result ≡ record { rule = rule.now; words = all_zero } }
+    pub fn new(setup: &MachineSetup) -> Decoded
+        ensures { result ≡ record { setup = setup.now; words = all_zero } }
     {
-        let op = decode(0, rule);
         Decoded {
-            rule: *rule,
-            readings: [Reading { word: 0, op }; 33],
+            setup: *setup,
+            readings: [read_word(0, 0, setup); 33],
         }
     }
 
@@ -53,7 +54,7 @@ impl Decoded {
     pub fn read(&mut self, place: u8, word: u16)
         requires { place ≤ 32 }
         ensures word { slice_index self.new.words place ≡ word }
-        ensures rule { self.new.rule ≡ self.old.rule }
+        ensures setup { self.new.setup ≡ self.old.setup }
     {
         if self.readings[usize::from(place)].word != word {
             self.decode(place, word);
@@ -72,14 +73,14 @@ impl Decoded {
     /// What a word at a place means. It is decoded only where another one was last read there.
     pub fn meaning(&self, place: u8, word: u16) -> Op
         requires { place ≤ 32 }
-        ensures value { result ≡ reading_of word self.now.rule }
+        ensures value { result ≡ reading_of word self.now.setup.side_rule }
         ensures act { IsInRange result.act }
     {
         let reading = &self.readings[usize::from(place)];
         if reading.word == word {
             reading.op
         } else {
-            decode(word, &self.rule)
+            decode(word, &self.setup.side_rule)
         }
     }
 
@@ -90,19 +91,29 @@ impl Decoded {
     fn decode(&mut self, place: u8, word: u16)
         requires { place ≤ 32 }
         ensures word { slice_index self.new.words place ≡ word }
-        ensures rule { self.new.rule ≡ self.old.rule }
+        ensures setup { self.new.setup ≡ self.old.setup }
     {
-        let op = decode(word, &self.rule);
-        self.readings[usize::from(place)] = Reading { word, op };
+        self.readings[usize::from(place)] = read_word(place, word, &self.setup);
     }
 
-    /// What the word means that was last read at a place.
+    /// The word that was last read at a place, with what it means.
     #[inline(always)]
-    pub fn op(&self, place: u8) -> &Op
+    pub fn reading(&self, place: u8) -> &Reading
         requires { place ≤ 32 }
-        ensures value { result.now ≡ reading_of (slice_index self.now.words place) self.now.rule }
-        ensures act { IsInRange result.now.act }
+        ensures word { result.now.word ≡ slice_index self.now.words place }
+        ensures reading { IsReading self.now.setup place result.now }
     {
-        &self.readings[usize::from(place)].op
+        &self.readings[usize::from(place)]
     }
+}
+
+/// The reading of a word at a place.
+fn read_word(place: u8, word: u16, setup: &MachineSetup) -> Reading
+    requires { place ≤ 32 }
+    ensures word { result.word ≡ word }
+    ensures reading { IsReading setup.now place result }
+{
+    let op = decode(word, &setup.side_rule);
+    let plan = Plan::of(&op, place, setup);
+    Reading { word, op, plan }
 }

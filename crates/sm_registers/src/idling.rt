@@ -29,7 +29,7 @@ pub(crate) fn idle_of<F: Fifo>(
     registers: &Registers,
 ) -> Idle
     requires placed { IsPlaced registers.now }
-    requires rule { decoded.now.rule ≡ setup.now.side_rule }
+    requires setup { decoded.now.setup ≡ setup.now }
     ensures value { result ≡ spec.idle_of setup.now view.now (queues_of fifos.now) registers.now }
 {
     if refills(setup, fifos, registers) {
@@ -59,7 +59,7 @@ fn stalls_again<F: Fifo>(
     registers: &Registers,
 ) -> bool
     requires placed { IsPlaced registers.now }
-    requires rule { decoded.now.rule ≡ setup.now.side_rule }
+    requires setup { decoded.now.setup ≡ setup.now }
     ensures { result ≡ (spec.undelayed setup.now view.now (queues_of fifos.now) registers.now).stalled }
 {
     let (place, word) = current_word(view, registers);

@@ -47,7 +47,7 @@ impl<F: Fifo> Model for Machine<F> {
       ports = record { fifos = m.fifos; got = m.got; sticky = m.sticky };
     } };
 
-    ghost invariant = { λ m. IsKept m.setup m.registers m.fifos × (m.decoded.rule ≡ m.setup.side_rule) };
+    ghost invariant = { λ m. IsKept m.setup m.registers m.fifos × (m.decoded.setup ≡ m.setup) };
 }
 
 impl<F: Fifo> Machine<F> {
@@ -61,7 +61,7 @@ impl<F: Fifo> Machine<F> {
             fifos: Pair::new(alloc, setup.join_tx, setup.join_rx)?,
             got: 0,
             sticky: 0,
-            decoded: Decoded::new(&setup.side_rule),
+            decoded: Decoded::new(setup),
         })
     }
 

@@ -1,28 +1,32 @@
 //! Prompt ticks: each is the only tick of an instruction that never waits. They are most of what a busy machine does.
-ghost use Rattle.std.specs.Prelude.{◌≡◌, ◌<◌, true, false, None, is_some, IfSome};
+ghost use Rattle.std.specs.Prelude.{◌≡◌, ℕ, true, false, None, is_some, IfSome};
+ghost use Rattle.pin_matrix.specs.declared.machine.MachineSetup as spec_setup;
 ghost use Rattle.pio_encode.specs.Ranges.{IsInRange};
 ghost use Rattle.pio_encode.specs.Word.{reading_of};
 ghost use Rattle.sm_registers.specs.Effects as spec_effects;
-ghost use Rattle.sm_registers.specs.Ends.{effect_by, unwritten, written_once};
+ghost use Rattle.sm_registers.specs.Decoding.{IsReading};
+ghost use Rattle.sm_registers.specs.Ends.{effect_by, unwritten, written_once, written_side};
 ghost use Rattle.sm_registers.specs.Intents.{no_wants, wants_of, written_by};
+ghost use Rattle.sm_registers.specs.Plans.{planned};
+ghost use Rattle.sm_registers.specs.Queues.{Queues};
 ghost use Rattle.sm_registers.specs.Prompt.{is_prompt, is_ready, never_waits};
 ghost use Rattle.sm_registers.specs.Ranges.{IsPlaced};
 ghost use Rattle.sm_registers.specs.State.{queues_of};
 ghost use Rattle.sm_registers.specs.Tick as spec;
 ghost use Rattle.sm_registers.specs.declared.registers.Registers as spec_registers;
+ghost use Rattle.sm_registers.specs.declared.view.View as spec_view;
 
-use crate::decoded::Decoded;
+use crate::decoded::{Decoded, Reading};
 use crate::end::End;
 use crate::jump::jmp_effect;
 use crate::moving::{mov_effect, set_effect};
 use crate::outputs::Outputs;
 use crate::registers::Registers;
 use crate::shifting::put_bits_out;
-use crate::tick::{address_after, write_side};
 use crate::view::View;
 use fifo_pair::{Fifo, Pair};
 use pin_matrix::MachineSetup;
-use pio_encode::{Act, Op};
+use pio_encode::Act;
 
 /// Makes a tick where it is prompt, and else does nothing. True where it made it. It wants nothing but pins then.
 #[inline(always)]
@@ -36,14 +40,14 @@ pub(crate) fn prompt_tick<F: Fifo>(
     outputs: &mut Outputs,
 ) -> bool
     requires placed { IsPlaced registers.old }
-    requires rule { decoded.old.rule ≡ setup.now.side_rule }
+    requires setup { decoded.old.setup ≡ setup.now }
     ensures made { result ≡ is_prompt setup.now view.now registers.old }
     ensures registers { result ≡ true → registers.new ≡ (spec.tick_of setup.now view.now (queues_of fifos.now) registers.old).0 }
     ensures outputs { result ≡ true → outputs.new ≡ written_by outputs.old (spec.tick_of setup.now view.now (queues_of fifos.now) registers.old).1 }
     ensures wants { result ≡ true → wants_of (spec.tick_of setup.now view.now (queues_of fifos.now) registers.old).1 ≡ no_wants }
     ensures kept { result ≡ false → registers.new ≡ registers.old }
     ensures kept_outputs { result ≡ false → outputs.new ≡ outputs.old }
-    ensures same { decoded.new.rule ≡ decoded.old.rule }
+    ensures same { decoded.new.setup ≡ decoded.old.setup }
 {
     if !is_ready(setup, registers) {
         return false;
@@ -52,7 +56,7 @@ pub(crate) fn prompt_tick<F: Fifo>(
     if !decoded.has_read(pc, word) {
         return read_and_run(word, setup, view, fifos, decoded, registers, outputs);
     }
-    run_promptly(decoded.op(pc), setup, view, fifos, registers, outputs)
+    run_promptly(decoded.reading(pc), setup, view, fifos, registers, outputs)
 }
 
 /// Runs an instruction that never waits, where another word was last read at its address, and else changes nothing. True where
@@ -69,7 +73,7 @@ fn read_and_run<F: Fifo>(
     outputs: &mut Outputs,
 ) -> bool
     requires placed { IsPlaced registers.old }
-    requires rule { decoded.old.rule ≡ setup.now.side_rule }
+    requires setup { decoded.old.setup ≡ setup.now }
     requires ready { is_ready setup.now registers.old ≡ true }
     ensures made { result ≡ never_waits (reading_of word setup.now.side_rule).act }
     ensures registers { result ≡ true → registers.new
@@ -80,11 +84,11 @@ fn read_and_run<F: Fifo>(
         (spec.tick_word (reading_of word setup.now.side_rule) setup.now view.now (queues_of fifos.now) registers.old).1 ≡ no_wants }
     ensures kept { result ≡ false → registers.new ≡ registers.old }
     ensures kept_outputs { result ≡ false → outputs.new ≡ outputs.old }
-    ensures same { decoded.new.rule ≡ decoded.old.rule }
+    ensures same { decoded.new.setup ≡ decoded.old.setup }
 {
     let pc = registers.pc;
     decoded.read(pc, word);
-    run_promptly(decoded.op(pc), setup, view, fifos, registers, outputs)
+    run_promptly(decoded.reading(pc), setup, view, fifos, registers, outputs)
 }
 
 /// Whether the next tick begins an instruction from memory, and autopull isn't on.
@@ -100,50 +104,110 @@ fn is_ready(setup: &MachineSetup, registers: &Registers) -> bool
 
 /// Runs an instruction that never waits, and else changes nothing. True where it ran it.
 #[inline(always)]
-#[tactic(auto, unfolding(crate::specs::Tick::tick_word, crate::specs::Tick::tick_by, crate::specs::Tick::after_effect, pin_matrix::specs::Pins::merged))]
 fn run_promptly<F: Fifo>(
-    op: &Op,
+    reading: &Reading,
     setup: &MachineSetup,
     view: &View,
     fifos: &Pair<F>,
     registers: &mut Registers,
     outputs: &mut Outputs,
 ) -> bool
-    requires act { IsInRange op.now.act }
+    requires reading { IsReading setup.now registers.old.pc reading.now }
     requires placed { IsPlaced registers.old }
     requires ready { is_ready setup.now registers.old ≡ true }
-    ensures made { result ≡ never_waits op.now.act }
+    ensures made { result ≡ never_waits reading.now.op.act }
     ensures registers { result ≡ true → registers.new
-        ≡ (spec.tick_word op.now setup.now view.now (queues_of fifos.now) registers.old).0 }
+        ≡ (spec.tick_word reading.now.op setup.now view.now (queues_of fifos.now) registers.old).0 }
     ensures outputs { result ≡ true → outputs.new
-        ≡ written_by outputs.old (spec.tick_word op.now setup.now view.now (queues_of fifos.now) registers.old).1 }
-    ensures wants { result ≡ true → wants_of (spec.tick_word op.now setup.now view.now (queues_of fifos.now) registers.old).1 ≡ no_wants }
+        ≡ written_by outputs.old (spec.tick_word reading.now.op setup.now view.now (queues_of fifos.now) registers.old).1 }
+    ensures wants { result ≡ true → wants_of (spec.tick_word reading.now.op setup.now view.now (queues_of fifos.now) registers.old).1 ≡ no_wants }
     ensures kept { result ≡ false → registers.new ≡ registers.old }
     ensures kept_outputs { result ≡ false → outputs.new ≡ outputs.old }
 {
-    let pc = registers.pc;
-    let Some(end) = prompt_effect(op.act, setup, view, fifos, registers, outputs) else {
+    if reading.plan.done {
+        run_known(reading, setup, registers, outputs);
+        return true;
+    }
+    run_left(reading, setup, view, fifos, registers, outputs)
+}
+
+/// Runs an instruction of which all is known, whatever it sees.
+#[inline(always)]
+fn run_known(
+    reading: &Reading,
+    setup: &MachineSetup,
+    registers: &mut Registers,
+    outputs: &mut Outputs,
+)
+    requires reading { IsReading setup.now registers.old.pc reading.now }
+    requires ready { is_ready setup.now registers.old ≡ true }
+    requires done { reading.now.plan.done ≡ true }
+    ensures runs { never_waits reading.now.op.act ≡ true }
+    ensures registers { (v : spec_view.View) (q : Queues) → registers.new ≡ (spec.tick_word reading.now.op setup.now v q registers.old).0 }
+    ensures outputs { (v : spec_view.View) (q : Queues) → outputs.new
+        ≡ written_by outputs.old (spec.tick_word reading.now.op setup.now v q registers.old).1 }
+    ensures wants { (v : spec_view.View) (q : Queues) → wants_of (spec.tick_word reading.now.op setup.now v q registers.old).1 ≡ no_wants }
+{
+    registers.pc = reading.plan.next;
+    registers.delay = reading.op.delay;
+    write_known(reading, setup, outputs);
+}
+
+/// The same of one whose act is still to be done, where it never waits; else nothing changes. True where it ran it.
+#[inline(always)]
+#[tactic(auto, unfolding(crate::specs::Tick::tick_word, crate::specs::Tick::tick_by, crate::specs::Tick::after_effect, pin_matrix::specs::Pins::merged), using(crate::proofs::Planned::next_left, crate::proofs::Planned::left))]
+fn run_left<F: Fifo>(
+    reading: &Reading,
+    setup: &MachineSetup,
+    view: &View,
+    fifos: &Pair<F>,
+    registers: &mut Registers,
+    outputs: &mut Outputs,
+) -> bool
+    requires reading { IsReading setup.now registers.old.pc reading.now }
+    requires placed { IsPlaced registers.old }
+    requires ready { is_ready setup.now registers.old ≡ true }
+    requires left { reading.now.plan.done ≡ false }
+    ensures made { result ≡ never_waits reading.now.op.act }
+    ensures registers { result ≡ true → registers.new
+        ≡ (spec.tick_word reading.now.op setup.now view.now (queues_of fifos.now) registers.old).0 }
+    ensures outputs { result ≡ true → outputs.new
+        ≡ written_by outputs.old (spec.tick_word reading.now.op setup.now view.now (queues_of fifos.now) registers.old).1 }
+    ensures wants { result ≡ true → wants_of (spec.tick_word reading.now.op setup.now view.now (queues_of fifos.now) registers.old).1 ≡ no_wants }
+    ensures kept { result ≡ false → registers.new ≡ registers.old }
+    ensures kept_outputs { result ≡ false → outputs.new ≡ outputs.old }
+{
+    let Some(end) = prompt_effect(reading.op.act, setup, view, fifos, registers, outputs) else {
         return false;
     };
-    end_promptly(end, op.delay, setup, pc, registers);
-    write_side(op.side, false, setup, outputs);
+    end_promptly(end, reading.op.delay, reading.plan.next, registers);
+    write_known(reading, setup, outputs);
     true
 }
 
-/// The registers at the end of an instruction from memory that has not stalled, by PC before it. They have no pending word.
+/// Writes the pins that are known of an instruction.
+#[inline(always)]
+fn write_known(reading: &Reading, setup: &MachineSetup, outputs: &mut Outputs)
+    requires { (address : ℕ) × IsReading setup.now address reading.now }
+    ensures { outputs.new ≡ planned setup.now reading.now.op outputs.old }
+{
+    reading.plan.write(outputs);
+}
+
+/// The registers at the end of an instruction from memory that has not stalled. They have no pending word.
 #[inline(always)]
 #[tactic(auto, unfolding(crate::specs::Tick::after_effect))]
-fn end_promptly(end: End, delay: u8, setup: &MachineSetup, pc: u8, registers: &mut Registers)
-    requires pc { pc < 32 }
+fn end_promptly(end: End, delay: u8, next: u8, registers: &mut Registers)
     requires pending { registers.old.pending ≡ None }
     requires begun { registers.old.begun ≡ false }
-    ensures { (before : spec_registers.Registers) → before.pc ≡ pc → before.pending ≡ None
-        → registers.new ≡ spec.after_effect delay setup.now before (effect_by registers.old no_wants end) }
+    ensures { (setup : spec_setup.MachineSetup) (before : spec_registers.Registers)
+        → next ≡ spec.next_after setup before.pc → before.pending ≡ None
+        → registers.new ≡ spec.after_effect delay setup before (effect_by registers.old no_wants end) }
 {
     match end {
         End::Stalls => registers.begun = true,
         End::GoesOn => {
-            registers.pc = address_after(setup, pc);
+            registers.pc = next;
             registers.delay = delay;
         }
         End::Jumps(address) => {
@@ -151,7 +215,7 @@ fn end_promptly(end: End, delay: u8, setup: &MachineSetup, pc: u8, registers: &m
             registers.delay = delay;
         }
         End::Executes(word) => {
-            registers.pc = address_after(setup, pc);
+            registers.pc = next;
             registers.delay = 0;
             registers.pending = Some(word);
         }

@@ -7,7 +7,6 @@ ghost use Rattle.sm_registers.specs.Intents.{no_wants, wants_of, written_by};
 ghost use Rattle.sm_registers.specs.Ranges.{IsPlaced};
 ghost use Rattle.sm_registers.specs.State.{queues_of};
 ghost use Rattle.sm_registers.specs.Tick as spec;
-ghost use Rattle.sm_registers.specs.declared.registers.Registers as spec_registers;
 
 use crate::decoded::{Decoded, PENDING};
 use crate::end::End;
@@ -35,12 +34,12 @@ pub(crate) fn tick_of<F: Fifo>(
     wants: &mut Wants,
 )
     requires placed { IsPlaced registers.old }
-    requires rule { decoded.old.rule ≡ setup.now.side_rule }
+    requires setup { decoded.old.setup ≡ setup.now }
     requires fresh { wants.old ≡ no_wants }
     ensures registers { registers.new ≡ (spec.tick_of setup.now view.now (queues_of fifos.now) registers.old).0 }
     ensures outputs { outputs.new ≡ written_by outputs.old (spec.tick_of setup.now view.now (queues_of fifos.now) registers.old).1 }
     ensures wants { wants.new ≡ wants_of (spec.tick_of setup.now view.now (queues_of fifos.now) registers.old).1 }
-    ensures same { decoded.new.rule ≡ decoded.old.rule }
+    ensures same { decoded.new.setup ≡ decoded.old.setup }
 {
     if registers.delay > 0 {
         registers.delay -= 1;
@@ -50,7 +49,7 @@ pub(crate) fn tick_of<F: Fifo>(
     let (place, word) = current_word(view, registers);
     decoded.read(place, word);
     tick_op(
-        decoded.op(place),
+        &decoded.reading(place).op,
         setup,
         view,
         fifos,
@@ -145,21 +144,10 @@ fn next_pc(setup: &MachineSetup, registers: &Registers) -> u8
 {
     if registers.pending.is_some() {
         registers.pc
-    } else {
-        address_after(setup, registers.pc)
-    }
-}
-
-/// The address after another: the program wraps after `wrap_top`, and the memory after 31.
-#[inline(always)]
-pub(crate) fn address_after(setup: &MachineSetup, pc: u8) -> u8
-    requires { pc < 32 }
-    ensures { (r : spec_registers.Registers) → r.pc ≡ pc → result ≡ spec.next_pc setup.now r }
-{
-    if pc == setup.wrap_top {
+    } else if registers.pc == setup.wrap_top {
         setup.wrap_bottom
     } else {
-        (pc + 1) % 32
+        (registers.pc + 1) % 32
     }
 }
 
