@@ -35,6 +35,19 @@ impl<W: Write + Drop> OutSink<W> {
         }
     }
 
+    // Puts a piece for which the buffer may have no room left.
+    #[cold]
+    #[inline(never)]
+    fn put_past(&mut self, piece: &[u8]) -> Result<(), SinkFailed>
+        ensures cause { PutCounts self.old.faults self.new.faults result }
+        ensures counted { self.new.faults ≡ call_faults self.old.faults result }
+        ensures appends { OnOk result (Appends (writer_contents W.contents self.old.writer)
+            (writer_contents W.contents self.new.writer) piece.now) }
+    {
+        let passed = self.writer.write_all(piece).is_ok();
+        answer(passed, &mut self.faults)
+    }
+
     /// How many calls failed, up to `u64::MAX`.
     pub fn faults(&self) -> u64
         ensures { result ≡ self.now.faults }
@@ -58,8 +71,17 @@ impl<W: Write + Drop> Sink for OutSink<W> {
         ensures appends { OnOk result (Appends (writer_contents W.contents self.old.writer)
             (writer_contents W.contents self.new.writer) piece.now) }
     {
-        let passed = self.writer.write_all(piece).is_ok();
-        answer(passed, &mut self.faults)
+        // The writer's own test, which then drops out, and with it the room for an error.
+        if piece.len()
+            < self
+                .writer
+                .capacity()
+                .wrapping_sub(self.writer.buffer().len())
+        {
+            let passed = self.writer.write_all(piece).is_ok();
+            return answer(passed, &mut self.faults);
+        }
+        self.put_past(piece)
     }
 
     fn finish(&mut self) -> Result<(), SinkFailed>
