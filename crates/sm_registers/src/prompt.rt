@@ -96,10 +96,8 @@ fn read_and_run<F: Fifo>(
 fn is_ready(setup: &MachineSetup, registers: &Registers) -> bool
     ensures { result ≡ is_ready setup.now registers.now }
 {
-    if registers.delay > 0 || registers.begun || setup.autopull {
-        return false;
-    }
-    registers.pending.is_none()
+    // One test for the three, which few ticks fail.
+    registers.delay == 0 && !(registers.begun | registers.pending.is_some() | setup.autopull)
 }
 
 /// Runs an instruction that never waits, and else changes nothing. True where it ran it.
