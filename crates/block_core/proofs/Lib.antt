@@ -16,6 +16,7 @@ pub mod TwinRests
 pub mod TwinRuns
 pub mod Passing
 pub mod Prompt
+pub mod Simple
 pub mod Rows
 pub mod TwinRows
 pub mod Showing

@@ -18,7 +18,7 @@ use Rattle.sm_registers.specs.State.{queues_of}
 use Rattle.sm_registers.specs.Tick.{tick_of}
 use Rattle.dreq_pacing.specs.declared.due.Due.{Due}
 use Rattle.block_core.specs.Slots.{Slot, first_slot, lined, has_tick, acted, place_after, place_intent}
-use Rattle.block_core.specs.Block.{BlockState, first_state, first_place, stepped, view_of, intents_of, level_writes}
+use Rattle.block_core.specs.Block.{BlockState, Run, TakesLastWrites, first_state, first_place, next_over, stepped, view_of, intents_of, level_writes, direction_writes, wanted_over}
 use Rattle.block_core.specs.Following.{Follows, place_at, intent_in, leaves_level, OthersLeave}
 use Rattle.block_core.proofs.Writes.{two_of}
 
@@ -40,9 +40,12 @@ of_intent : (P : Intent → Type 0) (v : View) (d : Due) → P no_intent → (m 
 unfolding acted
 of_intent P v d none m tick = elim (has_tick (lined d m)) as (λ b. P (cond b (tick_of m.machine.setup v (queues_of m.machine.ports.fifos) m.machine.registers) (m.machine.registers, no_intent)).1) [ true ↦ tick | false ↦ none ]
 
--- what two sections of the block's laws say, as premises here
+-- what three sections of the block's laws say, as premises here
 abbrev pub TicksWritePins : Type 0
 TicksWritePins = (s : MachineSetup) (v : View) (q : Queues) (r : Registers) → WritesPins (tick_of s v q r).1
+
+abbrev pub LastWriteCounts : Type 0
+LastWriteCounts = (p old : ℕ) (ws : List (ℕ × ℕ)) → p < 32 → AllByRecursion IsWrite ws → bit_at (merged old ws) p ≡ last_of p (bit_at old p) ws
 
 abbrev pub TicksWriteOwnPins : Type 0
 TicksWriteOwnPins =
@@ -63,6 +66,20 @@ all_writes : TicksWritePins → IsWrite (0, 0) → (v : View) (d : Due) (places 
 all_writes law none v d [] = tt
 all_writes law none v d (place ∷ places) =
     two_of none (place_intent v d place).level (level_writes (intents_of v d places)) (place_writes law none v d place) (all_writes law none v d places)
+
+all_turns : TicksWritePins → IsWrite (0, 0) → (v : View) (d : Due) (places : List (Option Slot)) → AllByRecursion IsWrite (direction_writes (intents_of v d places))
+all_turns law none v d [] = tt
+all_turns law none v d (place ∷ places) =
+    two_of none (place_intent v d place).direction (direction_writes (intents_of v d places)) (place_turns law none v d place) (all_turns law none v d places)
+
+-- so each pin has the bit of the last of them after a clock
+pub levels_are_last : TicksWritePins → IsWrite (0, 0) → LastWriteCounts → (pad : ℕ) (d : Due) (r after : Run) → after ≡ next_over pad d r → TakesLastWrites r.state.levels after.state.levels (level_writes (wanted_over pad d r))
+unfolding stepped
+levels_are_last law none last pad d r after is p below = rw is (last p r.state.levels _ below (all_writes law none _ d r.state.machines))
+
+pub directions_are_last : TicksWritePins → IsWrite (0, 0) → LastWriteCounts → (pad : ℕ) (d : Due) (r after : Run) → after ≡ next_over pad d r → TakesLastWrites r.state.directions after.state.directions (direction_writes (wanted_over pad d r))
+unfolding stepped
+directions_are_last law none last pad d r after is p below = rw is (last p r.state.directions _ below (all_turns law none _ d r.state.machines))
 
 is_not : (b : Bool) → not b ≡ true → b ≡ false
 is_not true h = cc

@@ -1,23 +1,22 @@
 -- A clock in which a machine has no tick, or only counts a delay, and the system does nothing.
-use Rattle.std.proofs.Common.{◌≡◌, ◌-◌, ◌<◌, nat_lt, Bool, true, false, not, ◌&&◌, Option, Some, None, is_some, cond, slice_index_or, refl, ap, sym, ◌∙◌, subst, arith}
+use Rattle.std.proofs.Common.{◌≡◌, ◌-◌, ◌<◌, nat_lt, Bool, true, false, not, ◌&&◌, None, cond, slice_index_or, refl, ap, sym, ◌∙◌, subst, arith}
 use Rattle.std.proofs.lemmas.Bool.Decides.{nat_tests}
-use Rattle.std.specs.Borrow.{Bor}
 use Rattle.std.specs.Int.Bits.{or_zero_l}
 use Rattle.fifo_pair.specs.Fifos.{Fifos, settled}
 use Rattle.pin_matrix.specs.declared.machine.MachineSetup.{MachineSetup}
 use Rattle.pin_matrix.specs.Pins.{merged}
-use Rattle.sm_registers.specs.Intents.{Intent, Kind, Off, Delay, no_intent}
+use Rattle.sm_registers.specs.Intents.{Intent, Kind, Off, Delay, no_intent, written_by}
+use Rattle.sm_registers.specs.declared.outputs.Outputs.{Outputs}
 use Rattle.sm_registers.specs.declared.registers.Registers.{Registers}
 use Rattle.sm_registers.specs.declared.view.View.{View}
 use Rattle.sm_registers.specs.Idling.{is_counting, only_counts}
 use Rattle.sm_registers.specs.Queues.{Queues}
 use Rattle.sm_registers.specs.State.{queues_of, settled_ports, uses_fifos}
 use Rattle.sm_registers.specs.Tick.{refills, tick_of}
-use Rattle.dreq_pacing.specs.declared.due.Due.{Due}
 use Rattle.dreq_pacing.specs.Due.{quiet}
 use Rattle.block_core.specs.declared.merging.Wanted.{Wanted}
 use Rattle.block_core.specs.Merging.{with_intent}
-use Rattle.block_core.specs.Slots.{Slot, doing, lined, has_tick, acted, settled_slot, slot_after, slot_intent, slot_uses_fifos}
+use Rattle.block_core.specs.Slots.{Slot, lined, has_tick, acted, settled_slot, slot_after, slot_intent, slot_uses_fifos}
 use Rattle.block_core.proofs.Rests.{no_line, no_word, lined_quiet, clock_on}
 use Rattle.block_core.proofs.Wanting.{nothing_added}
 
@@ -77,14 +76,12 @@ any_kind w k = sym (nothing_added w)
 pub adds_nothing : (w : Wanted) (i : Intent) → i ≡ record no_intent { kind = i.kind } → w ≡ with_intent w i
 adds_nothing w i e = subst (λ (x : Intent). w ≡ with_intent w x) (sym e) (any_kind w i.kind)
 
+pub writes_nothing : (o : Outputs) (i : Intent) → i ≡ record no_intent { kind = i.kind } → o ≡ written_by o i
+unfolding merged
+writes_nothing o i e = subst (λ (x : Intent). o ≡ written_by o x) (sym e) refl
+
 pub uses_nothing : (v : View) (s : Slot) → slot_intent v quiet s ≡ record no_intent { kind = (slot_intent v quiet s).kind } → false ≡ slot_uses_fifos v quiet s
 uses_nothing v s e =
     let id = s.machine.setup.id in
     sym (ap (λ (i : Intent). uses_fifos i (slice_index_or quiet.word id None) (slice_index_or quiet.read id false)) e
     ∙ rw (no_word id, no_line id) refl)
-
--- where nothing is due, the system does nothing
-pub none_due : (due : Option (Bor Due)) (none : Bool) → is_some due ≡ not none → none ≡ true → doing due ≡ quiet
-none_due None none e h = refl
-none_due (Some d) true e h = cc
-none_due (Some d) false e h = cc

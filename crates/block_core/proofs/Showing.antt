@@ -44,50 +44,45 @@ still_shows law place v d s t x after unused silent h =
 
 -- what a sample of a state has of each place, and what it is the sample of after what is seen of that place is new
 module _ {a b c d : Option Slot} {levels directions flags outside : ℕ} {s : Sample} (kept : IsSampleOf (state_of a b c d levels directions flags outside) s) where
-  -- a sample with these pins and flags
-  abbrev with_pins : Sample → Sample
-  with_pins x = record x { level = levels; direction = directions; flags = flags }
-
-  -- what is seen of a place hangs on none of them
-  pins_apart : (place : ℕ) (slot : Option Slot) → Shows place slot (with_pins s) → Shows place slot s
-  unfolding with_shown
-  pins_apart place slot h = ap (λ (x : Sample). record x { level = s.level; direction = s.direction; flags = s.flags }) h
-
   pub shows_first : Shows 0 a s
   unfolding sample_of with_shown
-  shows_first = pins_apart 0 a (subst (Shows 0 a) (sym kept.is) refl)
+  shows_first = subst (Shows 0 a) (sym kept.is) refl
 
   pub shows_second : Shows 1 b s
   unfolding sample_of with_shown
-  shows_second = pins_apart 1 b (subst (Shows 1 b) (sym kept.is) refl)
+  shows_second = subst (Shows 1 b) (sym kept.is) refl
 
   pub shows_third : Shows 2 c s
   unfolding sample_of with_shown
-  shows_third = pins_apart 2 c (subst (Shows 2 c) (sym kept.is) refl)
+  shows_third = subst (Shows 2 c) (sym kept.is) refl
 
   pub shows_fourth : Shows 3 d s
   unfolding sample_of with_shown
-  shows_fourth = pins_apart 3 d (subst (Shows 3 d) (sym kept.is) refl)
+  shows_fourth = subst (Shows 3 d) (sym kept.is) refl
 
   pub first_new : (x : Option Slot) (t : Sample) → t ≡ with_shown 0 (shown_in x) s → IsSampleOf (state_of x b c d levels directions flags outside) t
   unfolding sample_of with_shown
-  first_new x t e = record { is = ap with_pins e ∙ ap (with_shown 0 (shown_in x)) kept.is }
+  first_new x t e = record { is = e ∙ ap (with_shown 0 (shown_in x)) kept.is }
 
   pub second_new : (x : Option Slot) (t : Sample) → t ≡ with_shown 1 (shown_in x) s → IsSampleOf (state_of a x c d levels directions flags outside) t
   unfolding sample_of with_shown
-  second_new x t e = record { is = ap with_pins e ∙ ap (with_shown 1 (shown_in x)) kept.is }
+  second_new x t e = record { is = e ∙ ap (with_shown 1 (shown_in x)) kept.is }
 
   pub third_new : (x : Option Slot) (t : Sample) → t ≡ with_shown 2 (shown_in x) s → IsSampleOf (state_of a b x d levels directions flags outside) t
   unfolding sample_of with_shown
-  third_new x t e = record { is = ap with_pins e ∙ ap (with_shown 2 (shown_in x)) kept.is }
+  third_new x t e = record { is = e ∙ ap (with_shown 2 (shown_in x)) kept.is }
 
   pub fourth_new : (x : Option Slot) (t : Sample) → t ≡ with_shown 3 (shown_in x) s → IsSampleOf (state_of a b c x levels directions flags outside) t
   unfolding sample_of with_shown
-  fourth_new x t e = record { is = ap with_pins e ∙ ap (with_shown 3 (shown_in x)) kept.is }
+  fourth_new x t e = record { is = e ∙ ap (with_shown 3 (shown_in x)) kept.is }
 
-  pub pins_new : (l r f o : ℕ) → IsSampleOf (state_of a b c d l r f o) s
+  pub pins_new : (l r f o : ℕ) → IsSampleOf (state_of a b c d l r f o) (record s { level = l; direction = r; flags = f })
   unfolding sample_of
   pins_new l r f o = record { is = ap (λ (x : Sample). record x { level = l; direction = r; flags = f }) kept.is }
+
+  pub outputs_new : (l r : ℕ) → IsSampleOf (state_of a b c d l r flags outside) (record s { level = l; direction = r })
+  unfolding sample_of
+  outputs_new l r = record { is = ap (λ (x : Sample). record x { level = l; direction = r }) kept.is }
 
   -- over a rest it stays
   pub sample_rested : (n : ℕ) (a' b' c' d' : Option Slot) → a' ≡ rested_place n a → b' ≡ rested_place n b → c' ≡ rested_place n c → d' ≡ rested_place n d → IsSampleOf (state_of a' b' c' d' levels directions flags outside) s

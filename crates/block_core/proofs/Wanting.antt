@@ -1,10 +1,8 @@
 -- What four machines want of their block, merged one after the other, and the clock that comes of it.
-use Rattle.std.proofs.Common.{◌≡◌, ℕ, ◌+◌, ◌<◌, Bool, true, false, ◌||◌, Option, List, [], ◌∷◌, map, refl}
+use Rattle.std.proofs.Common.{◌≡◌, ℕ, ◌+◌, Bool, true, false, ◌||◌, Option, List, [], ◌∷◌, map, refl}
 use Rattle.std.specs.Int.Bits.{or_zero_r}
-use Rattle.std.specs.List.{AllByRecursion}
-use Rattle.std.specs.Int.{bit_at}
 use Rattle.irq_flags.specs.Flags.{merged_flags}
-use Rattle.pin_matrix.specs.Pins.{IsWrite, merged, last_of}
+use Rattle.pin_matrix.specs.Pins.{merged}
 use Rattle.pin_matrix.specs.Pads as pads
 use Rattle.pin_matrix.specs.Pads.{Synchroniser, seen_of}
 use Rattle.sm_registers.specs.declared.view.View.{View}
@@ -12,9 +10,8 @@ use Rattle.sm_registers.specs.Intents.{Intent, no_intent}
 use Rattle.dreq_pacing.specs.declared.due.Due.{Due}
 use Rattle.block_core.specs.declared.merging.Wanted.{Wanted}
 use Rattle.block_core.specs.Slots.{Slot, place_after, place_intent, place_uses_fifos}
-use Rattle.block_core.specs.Block.{Run, next_over, stepped, outside_after, wanted_over, uses_fifos_over, TakesLastWrites, level_writes, direction_writes, any_of}
+use Rattle.block_core.specs.Block.{Run, next_over, stepped, outside_after, wanted_over, uses_fifos_over, level_writes, direction_writes, any_of}
 use Rattle.block_core.specs.Merging.{nothing_wanted, with_intent}
-use Rattle.block_core.proofs.Writes.{levels_are_writes, directions_are_writes}
 
 -- a machine that wants nothing adds nothing
 pub nothing_added : (w : Wanted) → with_intent w no_intent ≡ w
@@ -33,10 +30,6 @@ run memory clock levels directions flags outside sync a b c e = record {
   state = record { machines = a ∷ b ∷ c ∷ e ∷ []; levels = levels; directions = directions; flags = flags; outside = outside };
   synchroniser = sync;
 }
-
--- the law of writes: the last counts
-abbrev pub LastWriteCounts : Type 0
-LastWriteCounts = (p old : ℕ) (ws : List (ℕ × ℕ)) → p < 32 → AllByRecursion IsWrite ws → bit_at (merged old ws) p ≡ last_of p (bit_at old p) ws
 
 -- the clock up to its pins and flags, place by place
 pub record IsStep (d : Due) (memory : List ℕ) (levels directions flags outside : ℕ) (sync : Synchroniser) (a b c e : Option Slot) (outside2 pad seen : ℕ) (w0 w1 w2 w3 w4 : Wanted) : Type 0 where
@@ -77,21 +70,6 @@ next_run d memory clock levels directions flags outside sync a b c e outside2 pa
       s.sees,
       s.driven,
     ) refl
-
--- each pin has the bit of the last write
-pub levels_are_last : (d : Due) (memory : List ℕ) (clock levels directions flags outside : ℕ) (sync : Synchroniser) (a b c e : Option Slot) (outside2 pad seen : ℕ) (w0 w1 w2 w3 w4 : Wanted) → IsStep d memory levels directions flags outside sync a b c e outside2 pad seen w0 w1 w2 w3 w4 → LastWriteCounts → IsWrite (0, 0) → AllByRecursion IsWrite (place_intent (view memory seen flags) d a).level → AllByRecursion IsWrite (place_intent (view memory seen flags) d b).level → AllByRecursion IsWrite (place_intent (view memory seen flags) d c).level → AllByRecursion IsWrite (place_intent (view memory seen flags) d e).level → TakesLastWrites levels w4.outputs.levels (level_writes (wanted_over pad d (run memory clock levels directions flags outside sync a b c e)))
-levels_are_last d memory clock levels directions flags outside sync a b c e outside2 pad seen w0 w1 w2 w3 w4 s law none ha hb hc he p below =
-    let v = view memory seen flags in
-    let writes = levels_are_writes none (place_intent v d a) (place_intent v d b) (place_intent v d c) (place_intent v d e) ha hb hc he in
-    let added = all_added d memory clock levels directions flags outside sync a b c e outside2 pad seen w0 w1 w2 w3 w4 s in
-    rw added (law p levels _ below (rw s.sees at writes))
-
-pub directions_are_last : (d : Due) (memory : List ℕ) (clock levels directions flags outside : ℕ) (sync : Synchroniser) (a b c e : Option Slot) (outside2 pad seen : ℕ) (w0 w1 w2 w3 w4 : Wanted) → IsStep d memory levels directions flags outside sync a b c e outside2 pad seen w0 w1 w2 w3 w4 → LastWriteCounts → IsWrite (0, 0) → AllByRecursion IsWrite (place_intent (view memory seen flags) d a).direction → AllByRecursion IsWrite (place_intent (view memory seen flags) d b).direction → AllByRecursion IsWrite (place_intent (view memory seen flags) d c).direction → AllByRecursion IsWrite (place_intent (view memory seen flags) d e).direction → TakesLastWrites directions w4.outputs.directions (direction_writes (wanted_over pad d (run memory clock levels directions flags outside sync a b c e)))
-directions_are_last d memory clock levels directions flags outside sync a b c e outside2 pad seen w0 w1 w2 w3 w4 s law none ha hb hc he p below =
-    let v = view memory seen flags in
-    let writes = directions_are_writes none (place_intent v d a) (place_intent v d b) (place_intent v d c) (place_intent v d e) ha hb hc he in
-    let added = all_added d memory clock levels directions flags outside sync a b c e outside2 pad seen w0 w1 w2 w3 w4 s in
-    rw added (law p directions _ below (rw s.sees at writes))
 
 -- what was used before is all, where a place uses nothing
 pub unused : (used : Bool) {now : Bool} → false ≡ now → used ≡ (used || now)

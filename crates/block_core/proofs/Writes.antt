@@ -4,21 +4,12 @@ use Rattle.std.proofs.lemmas.Bool.{and_parts}
 use Rattle.std.proofs.lemmas.Bool.Decides.{nat_tests}
 use Rattle.std.specs.List.{AllByRecursion, list_all}
 use Rattle.pin_matrix.specs.Pins.{IsWrite}
-use Rattle.sm_registers.specs.Intents.{Intent, two_writes}
-use Rattle.block_core.specs.Block.{level_writes, direction_writes}
+use Rattle.sm_registers.specs.Intents.{two_writes}
 
 pub two_of : IsWrite (0, 0) → (writes : List (ℕ × ℕ)) (rest : List (ℕ × ℕ)) → AllByRecursion IsWrite writes → AllByRecursion IsWrite rest → AllByRecursion IsWrite (two_writes writes ++ rest)
 two_of none [] rest h k = (none, (none, k))
 two_of none (w ∷ []) rest h k = (h.0, (none, k))
 two_of none (w ∷ x ∷ more) rest h k = (h.0, (h.1.0, k))
-
-pub levels_are_writes : IsWrite (0, 0) → (a b c d : Intent) → AllByRecursion IsWrite a.level → AllByRecursion IsWrite b.level → AllByRecursion IsWrite c.level → AllByRecursion IsWrite d.level → AllByRecursion IsWrite (level_writes (a ∷ b ∷ c ∷ d ∷ []))
-levels_are_writes none a b c d ha hb hc hd =
-    two_of none a.level (level_writes (b ∷ c ∷ d ∷ [])) ha (two_of none b.level (level_writes (c ∷ d ∷ [])) hb (two_of none c.level (level_writes (d ∷ [])) hc (two_of none d.level [] hd tt)))
-
-pub directions_are_writes : IsWrite (0, 0) → (a b c d : Intent) → AllByRecursion IsWrite a.direction → AllByRecursion IsWrite b.direction → AllByRecursion IsWrite c.direction → AllByRecursion IsWrite d.direction → AllByRecursion IsWrite (direction_writes (a ∷ b ∷ c ∷ d ∷ []))
-directions_are_writes none a b c d ha hb hc hd =
-    two_of none a.direction (direction_writes (b ∷ c ∷ d ∷ [])) ha (two_of none b.direction (direction_writes (c ∷ d ∷ [])) hb (two_of none c.direction (direction_writes (d ∷ [])) hc (two_of none d.direction [] hd tt)))
 
 -- no pin is written where no write passes the test for a pin
 is_zero : (n : ℕ) → (n == 0) ≡ true → n ≡ 0

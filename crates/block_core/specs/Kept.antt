@@ -1,5 +1,5 @@
 -- What a block keeps true of its fields, which no contract names.
-use Rattle.std.specs.Prelude.{◌≡◌, ℕ, ◌+◌, ◌^◌, ◌<◌, ◌≤◌, Option, Some, None, List, [], ◌∷◌}
+use Rattle.std.specs.Prelude.{◌≡◌, ℕ, ◌+◌, ◌^◌, ◌<◌, ◌≤◌, Bool, ◌&&◌, Option, Some, None, is_none, List, [], ◌∷◌}
 use Rattle.std.specs.List.{AllByRecursion}
 use Rattle.sm_registers.specs.Told.{IsKnown}
 use Rattle.sm_registers.specs.declared.view.View.{View}
@@ -54,9 +54,13 @@ state_of a b c d levels directions flags outside = record {
   outside = outside;
 }
 
--- The sample, with the pins and flags of the state, is that of the state.
+-- no machine is configured at any of three places
+abbrev pub are_empty : {A : Type 0} → (b c d : Option A) → Bool
+are_empty b c d = is_none b && (is_none c && is_none d)
+
+-- The sample is that of the state.
 pub record IsSampleOf (state : BlockState) (sample : Sample) : Type 0 where
-  pub is : record sample { level = state.levels; direction = state.directions; flags = state.flags } ≡ sample_of state
+  pub is : sample ≡ sample_of state
 
 -- No more clocks of two blocks were worked out singly than went by, and both are in the same clock.
 pub record AreTwins (worked first second : ℕ) : Type 0 where

@@ -6,6 +6,7 @@
 --   acted           its registers after the clock, and what it wants of its block
 --   slot_after      after the clock
 --   passes          that it only counts in a clock
+--   is_simple       that it only counts in a clock, or has a prompt tick
 --   doing           what the system does, where it does anything
 use Rattle.std.specs.Prelude.{ℕ, ◌+◌, Bool, true, false, not, ◌&&◌, ◌||◌, Option, Some, None, if◌then◌else◌, slice_index_or}
 use Rattle.std.specs.Borrow.{Bor}
@@ -16,6 +17,7 @@ use Rattle.sm_registers.specs.declared.registers.Registers.{Registers}
 use Rattle.sm_registers.specs.declared.view.View.{View}
 use Rattle.sm_registers.specs.Intents.{Intent, no_intent}
 use Rattle.sm_registers.specs.Idling.{is_counting}
+use Rattle.sm_registers.specs.Prompt.{is_prompt}
 use Rattle.sm_registers.specs.Tick.{tick_of}
 use Rattle.sm_registers.specs.State.{MachineState, first_machine, queues_of, settled_ports, uses_fifos}
 use Rattle.dreq_pacing.specs.declared.due.Due.{Due}
@@ -101,6 +103,12 @@ slot_intent v d s = (acted v (lined d s)).1
 abbrev pub passes : Slot → Bool
 passes s =
     not (has_tick s) || is_counting s.machine.setup (queues_of s.machine.ports.fifos) s.machine.registers
+
+-- the clock is a simple one: it has no tick, one that only counts a delay or a prompt one, if no line acts in it; an empty place
+-- has none
+abbrev pub is_simple : View → Option Slot → Bool
+is_simple v None = false
+is_simple v (Some s) = passes s || is_prompt s.machine.setup v s.machine.registers
 
 -- the same of a place in the block, where a machine is configured or not
 abbrev pub place_after : View → Due → Option Slot → Option Slot

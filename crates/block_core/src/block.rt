@@ -153,8 +153,9 @@ impl<F: Fifo> Block<F> {
     }
 
     /// The sample of the last clock, or the values that a run begins with.
-    pub fn view(&self) -> Sample
-        ensures { result ≡ sample_of self.now.run.state }
+    #[inline(always)]
+    pub fn view(&self) -> &Sample
+        ensures { result.now ≡ sample_of self.now.run.state }
     {
         self.running.view()
     }

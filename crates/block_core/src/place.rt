@@ -1,10 +1,12 @@
 //! A place of a block: its machine, where one is configured.
-ghost use Rattle.std.specs.Prelude.{◌≡◌, ◌<◌, ◌||◌, true, Some, option_map, IfOk};
+ghost use Rattle.std.specs.Prelude.{◌≡◌, ◌<◌, ◌||◌, true, false, Some, option_map, IfOk};
+ghost use Rattle.sm_registers.specs.Intents.{no_wants, wants_of, written_by};
 ghost use Rattle.block_core.specs.Kept.{IsInTime};
+ghost use Rattle.block_core.specs.Kept as kept;
 ghost use Rattle.block_core.specs.Merging.{with_intent};
 ghost use Rattle.block_core.specs.Shown.{Shows, shown_in, moved_in, with_shown};
 ghost use Rattle.dreq_pacing.specs.Due.{quiet};
-ghost use Rattle.block_core.specs.Slots.{doing, first_slot, has_tick, place_after, place_intent, place_uses_fifos, slot_after, slot_intent, slot_uses_fifos};
+ghost use Rattle.block_core.specs.Slots.{doing, first_slot, has_tick, is_simple, place_after, place_intent, place_uses_fifos, slot_after, slot_intent, slot_uses_fifos};
 
 use crate::Sample;
 use crate::merging::Wanted;
@@ -12,7 +14,7 @@ use crate::slot::Slot;
 use dreq_pacing::Due;
 use fifo_pair::{Fifo, a_quiet_clock_changes_nothing};
 use pin_matrix::MachineSetup;
-use sm_registers::{Shown, View, Wants};
+use sm_registers::{Outputs, Shown, View, Wants};
 use std::alloc::{AllocError, Global};
 
 /// The place of a setup's machine.
@@ -25,6 +27,39 @@ pub(crate) fn slot_of<F: Fifo>(
     match setup {
         Some(setup) => Ok(Some(Slot::new(alloc, setup)?)),
         None => Ok(None),
+    }
+}
+
+/// Whether three places of a setup are empty.
+pub(crate) fn are_empty(
+    second: &Option<MachineSetup>,
+    third: &Option<MachineSetup>,
+    fourth: &Option<MachineSetup>,
+) -> bool
+    ensures { result ≡ kept.are_empty second.now third.now fourth.now }
+{
+    second.is_none() && third.is_none() && fourth.is_none()
+}
+
+/// A clock of a place in which the system does nothing, where it is a simple one of its machine (`Slot::simple_clock`); else nothing
+/// is done, as in an empty place. True where it was done.
+#[inline(always)]
+pub(crate) fn simple_step<F: Fifo>(
+    slot: &mut Option<Slot<F>>,
+    view: &View,
+    outputs: &mut Outputs,
+) -> bool
+    requires { IsInTime slot.old }
+    ensures simple { result ≡ is_simple view.now slot.old }
+    ensures after { result ≡ true → slot.new ≡ place_after view.now quiet slot.old }
+    ensures outputs { result ≡ true → outputs.new ≡ written_by outputs.old (place_intent view.now quiet slot.old) }
+    ensures wants { result ≡ true → wants_of (place_intent view.now quiet slot.old) ≡ no_wants }
+    ensures kept { result ≡ false → slot.new ≡ slot.old }
+    ensures kept_outputs { result ≡ false → outputs.new ≡ outputs.old }
+{
+    match slot {
+        Some(slot) => slot.simple_clock(view, outputs),
+        None => false,
     }
 }
 

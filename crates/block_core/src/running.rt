@@ -1,5 +1,5 @@
 //! A block in a run over pads that are given: its machines and what they share, but not where the pads come from.
-ghost use Rattle.std.specs.Prelude.{◌≡◌, ℕ, ◌<◌, ◌≤◌, ◌^◌, ◌+◌, ◌||◌, Bool, false, IfOk};
+ghost use Rattle.std.specs.Prelude.{◌≡◌, ℕ, ◌<◌, ◌≤◌, ◌^◌, ◌+◌, ◌||◌, Bool, true, false, IfOk};
 ghost use Rattle.std.specs.List.{list_any};
 ghost use Rattle.dreq_pacing.specs.Due.{quiet};
 ghost use Rattle.dreq_pacing.specs.Ports.{IsFirst};
@@ -14,11 +14,11 @@ ghost use Rattle.block_core.specs.Stirring as spec_stirring;
 
 use crate::Sample;
 use crate::merging::{Wanted, outside_after};
-use crate::place::{moved, shown, slot_of, step};
+use crate::place::{are_empty, moved, shown, simple_step, slot_of, step};
 use crate::resting::{begins_now, rest, sooner};
 use crate::slot::Slot;
 use dreq_pacing::{Due, Requests};
-use fifo_pair::Fifo;
+use fifo_pair::{Fifo, a_quiet_clock_changes_nothing};
 use irq_flags::Flags;
 use pin_matrix::{Setup, Sync, no_write_changes_nothing, pad_of, the_last_write_counts};
 use sm_registers::{Outputs, View, a_calm_tick_tells_nothing_new, writes_are_of_pins};
@@ -39,14 +39,16 @@ pub(crate) struct Running<F: Fifo> {
     outside: u32,
     sync: Sync,
     clock: u64,
-    // What `view` tells of FIFOs, brought up to date by each clock, since a trace asks after each and little of it changes. Its
-    // pins and flags are never read: those of the state count.
+    // Whether the places after the first are empty, as in most blocks, so that a clock asks for none of them.
+    alone: bool,
+    // What `view` tells, brought up to date by each clock, since a trace asks after each and little of it changes.
     sample: Sample,
 }
 
 impl<F: Fifo> Model for Running<F> {
     ghost use Rattle.block_core.specs.Block.{Run};
-    ghost use Rattle.block_core.specs.Kept.{AreInStep, IsSampleOf, state_of};
+    ghost use Rattle.std.specs.Prelude.{◌≡◌};
+    ghost use Rattle.block_core.specs.Kept.{AreInStep, IsSampleOf, are_empty, state_of};
 
     ghost Value = { Run };
 
@@ -58,7 +60,8 @@ impl<F: Fifo> Model for Running<F> {
     } };
 
     ghost invariant = { λ b. AreInStep b.view.memory b.clock b.first b.second b.third b.fourth
-        × IsSampleOf (state_of b.first b.second b.third b.fourth b.wanted.outputs.levels b.wanted.outputs.directions b.view.flags.up b.outside) b.sample };
+        × IsSampleOf (state_of b.first b.second b.third b.fourth b.wanted.outputs.levels b.wanted.outputs.directions b.view.flags.up b.outside) b.sample
+        × (b.alone ≡ are_empty b.second b.third b.fourth) };
 }
 
 impl<F: Fifo> Running<F> {
@@ -67,6 +70,7 @@ impl<F: Fifo> Running<F> {
         ensures { IfOk result (λ running. running ≡ first_run_over pad setup.now) }
     {
         let [first, second, third, fourth] = &setup.machines;
+        let alone = are_empty(second, third, fourth);
         Ok(Running {
             first: slot_of(alloc, first)?,
             second: slot_of(alloc, second)?,
@@ -88,6 +92,7 @@ impl<F: Fifo> Running<F> {
             outside: setup.high,
             sync: Sync::new(pad, setup.bypass),
             clock: 0,
+            alone,
             sample: Sample {
                 level: setup.level,
                 direction: setup.out,
@@ -146,8 +151,46 @@ impl<F: Fifo> Running<F> {
     {
         the_last_write_counts();
         no_write_changes_nothing();
-        a_calm_tick_tells_nothing_new();
         writes_are_of_pins();
+        match due {
+            None if self.simple_step(pad) => false,
+            _ => self.step_all(pad, due),
+        }
+    }
+
+    /// The same where the system does nothing and the clock is a simple one of the only machine (`Slot::simple_clock`); else nothing
+    /// is done. True where it was done, and then nobody did anything at a FIFO.
+    #[inline(always)]
+    fn simple_step(&mut self, pad: u32) -> bool
+        requires { self.old.clock < 2 ^ 40 }
+        ensures run { result ≡ true → self.new ≡ next_over pad quiet self.old }
+        ensures used { result ≡ true → uses_fifos_over pad quiet self.old ≡ false }
+        ensures kept { result ≡ false → self.new ≡ self.old }
+    {
+        a_calm_tick_tells_nothing_new();
+        a_quiet_clock_changes_nothing();
+        if !self.alone {
+            return false;
+        }
+        self.view.seen = self.sync.seen(pad);
+        if !simple_step(&mut self.first, &self.view, &mut self.wanted.outputs) {
+            return false;
+        }
+        self.sync.step(pad);
+        self.sample.level = self.wanted.outputs.levels;
+        self.sample.direction = self.wanted.outputs.directions;
+        self.clock += 1;
+        true
+    }
+
+    /// The same of any machines, whatever they do. It is code of its own, which keeps that of most clocks short.
+    #[inline(never)]
+    fn step_all(&mut self, pad: u32, due: Option<&Due>) -> bool
+        requires { self.old.clock < 2 ^ 40 }
+        ensures run { self.new ≡ next_over pad (doing due.entry) self.old }
+        ensures used { result ≡ uses_fifos_over pad (doing due.entry) self.old }
+    {
+        a_calm_tick_tells_nothing_new();
         self.outside = outside_after(self.outside, due);
         let seen = self.sync.seen(pad);
         self.view.seen = seen;
@@ -159,6 +202,9 @@ impl<F: Fifo> Running<F> {
         let third = step(&mut self.third, view, due, wanted, 2, sample, second);
         let fourth = step(&mut self.fourth, view, due, wanted, 3, sample, third);
         self.wanted.merge_flags(&mut self.view.flags);
+        self.sample.level = self.wanted.outputs.levels;
+        self.sample.direction = self.wanted.outputs.directions;
+        self.sample.flags = self.view.flags.up;
         self.clock += 1;
         fourth
     }
@@ -247,15 +293,11 @@ impl<F: Fifo> Running<F> {
     }
 
     /// What the last clock shows, or the values that a run begins with.
-    pub fn view(&self) -> Sample
-        ensures { result ≡ sample_of self.now.state }
+    #[inline(always)]
+    pub fn view(&self) -> &Sample
+        ensures { result.now ≡ sample_of self.now.state }
     {
-        Sample {
-            level: self.wanted.outputs.levels,
-            direction: self.wanted.outputs.directions,
-            flags: self.view.flags.up,
-            ..self.sample
-        }
+        &self.sample
     }
 
     /// How many words paced transfers have moved into a machine's TX and out of its RX.

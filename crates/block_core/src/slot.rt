@@ -148,6 +148,24 @@ impl<F: Fifo> Slot<F> {
         true
     }
 
+    /// Its clock, where the system does nothing in it and it is a simple one: it has no tick, or one that only counts a delay, or
+    /// a prompt one. Else nothing is done. True where it was done. It wants nothing of its block but pins then, nor of its FIFOs.
+    #[inline(always)]
+    pub fn simple_clock(&mut self, view: &View, outputs: &mut Outputs) -> bool
+        requires { self.old.timing.clock < 2 ^ 40 }
+        ensures simple { result ≡ spec.is_simple view.now (Some self.old) }
+        ensures after { result ≡ true → self.new ≡ slot_after view.now quiet self.old }
+        ensures outputs { result ≡ true → outputs.new ≡ written_by outputs.old (slot_intent view.now quiet self.old) }
+        ensures wants { result ≡ true → wants_of (slot_intent view.now quiet self.old) ≡ no_wants }
+        ensures kept { result ≡ false → self.new ≡ self.old }
+        ensures kept_outputs { result ≡ false → outputs.new ≡ outputs.old }
+    {
+        if self.pass() {
+            return true;
+        }
+        self.act_promptly(view, outputs)
+    }
+
     /// Whether the clock is a tick of it.
     #[inline(always)]
     fn has_tick(&self) -> bool

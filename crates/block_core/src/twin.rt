@@ -180,7 +180,7 @@ impl<F: Fifo> Twin<F> {
     pub fn view(&self) -> (Sample, Sample)
         ensures { result ≡ (sample_of self.now.twin.first.state, sample_of self.now.twin.second.state) }
     {
-        (self.first.view(), self.second.view())
+        (*self.first.view(), *self.second.view())
     }
 }
 

@@ -66,6 +66,18 @@ passes-more quiet_due quiet_transfers start lines c n in_clock calm still before
       transfers = ap (λ (k : ℕ). (hosted_at start lines k).transfers) (add-suc c n) ∙ does.1;
     }
 
+-- where no clock goes by, nothing has changed
+pub after_none : (r : Run) (n : ℕ) → n ≡ 0 → r ≡ run_from r (λ c. quiet) n
+unfolding run_from
+after_none r zero e = refl
+after_none r (suc n) e = absurd (omega arith)
+
+pub calm_none : (r : Run) (n : ℕ) → n ≡ 0 → IsCalm r n
+calm_none r n e = record {
+  requests = λ k le. sym (ap (λ (x : Run). requests_of x.state) (after_none r k (omega arith)));
+  sample = λ k le. sym (ap (λ (x : Run). sample_of x.state) (after_none r k (omega arith)));
+}
+
 -- what is calm for some clocks is calm for fewer
 fewer : (r : Run) (n : ℕ) → IsCalm r (suc n) → IsCalm r n
 fewer r n calm = record { requests = λ k le. calm.requests k (omega arith); sample = λ k le. calm.sample k (omega arith) }

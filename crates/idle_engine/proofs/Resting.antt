@@ -1,5 +1,5 @@
 -- Clocks in which the ports rest have no line, and the clock that is due stays while nothing acts.
-use Rattle.std.proofs.Common.{◌≡◌, ℕ, ◌+◌, ◌<◌, ◌≤◌, ◌||◌, ◌⊎◌, inl, inr, Bool, true, false, List, refl, arith, sym, subst}
+use Rattle.std.proofs.Common.{◌≡◌, ℕ, ◌+◌, ◌<◌, ◌≤◌, ◌^◌, ◌||◌, ◌⊎◌, inl, inr, Bool, true, false, List, refl, arith, sym, subst}
 use Rattle.std.proofs.Math.Nat.{eq-or-lt_of_le}
 use Rattle.std.proofs.lemmas.Bool.{cases_lt}
 use Rattle.dreq_pacing.specs.declared.line.Line.{Line}
@@ -7,7 +7,7 @@ use Rattle.dreq_pacing.specs.declared.due.Requests.{Requests}
 use Rattle.dreq_pacing.specs.Transfers.{Transfers}
 use Rattle.dreq_pacing.specs.Lines.{NoneBetween, has_line}
 use Rattle.dreq_pacing.specs.Ports.{acts_in, moves_in}
-use Rattle.idle_engine.specs.Resting.{Rests, IsDue}
+use Rattle.idle_engine.specs.Resting.{Rests, IsDue, IsUntil}
 
 first_false : (a b : Bool) → (a || b) ≡ false → a ≡ false
 first_false false b h = refl
@@ -41,3 +41,28 @@ pub due_later : (lines : List Line) (before after : Requests) (t : Transfers) (f
 due_later lines before after t from later due d same le within =
     subst (λ (q : Requests). IsDue lines q t later due) (sym same)
     (record { ahead = within; rests = λ c low below. d.rests c (omega arith) below; acts = d.acts })
+
+-- the clock that is due, or the end
+pub until_end : (lines : List Line) (requests : Requests) (t : Transfers) (end from due until : ℕ) → IsDue lines requests t from due → from ≤ end → end ≤ 10 ^ 12 → (due ≤ end → until ≡ due) → (end ≤ due → until ≡ end) → IsUntil lines requests t end from until
+until_end lines requests t end from due until d le within is_due is_end =
+    let ahead = d.ahead in
+    elim (cases_lt due end) [
+      | inl lt ↦ (let same : until ≡ due = is_due (omega arith) in record {
+        ahead = omega arith;
+        within = omega arith;
+        rests = λ c low below. d.rests c low (omega arith);
+        acts = λ early. subst (λ k. acts_in lines k requests t ≡ true) (sym same) (d.acts (omega arith));
+      })
+      | inr ge ↦ (let same : until ≡ end = is_end ge in record {
+        ahead = omega arith;
+        within = omega arith;
+        rests = λ c low below. d.rests c low (omega arith);
+        acts = λ early. absurd (omega arith);
+      })
+    ]
+
+-- the same, seen from a later clock, while the machines ask for the same
+pub until_later : (lines : List Line) (before after : Requests) (t : Transfers) (end from later until : ℕ) → IsUntil lines before t end from until → after ≡ before → from ≤ later → later ≤ until → IsUntil lines after t end later until
+until_later lines before after t end from later until d same le within =
+    subst (λ (q : Requests). IsUntil lines q t end later until) (sym same)
+    (record { ahead = within; within = d.within; rests = λ c low below. d.rests c (omega arith) below; acts = d.acts })

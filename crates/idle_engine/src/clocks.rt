@@ -6,7 +6,7 @@ ghost use Rattle.dreq_pacing.specs.Ports.{asked, due_in, transfers_after};
 ghost use Rattle.block_core.specs.Block.{next, run_from, uses_fifos_in};
 ghost use Rattle.block_core.specs.Shown.{requests_of};
 ghost use Rattle.block_core.specs.Stirring.{moves_on};
-ghost use Rattle.idle_engine.specs.Resting.{IsDue, IsCalm};
+ghost use Rattle.idle_engine.specs.Resting.{IsDue, IsUntil, IsCalm};
 
 use block_core::{
     Block, a_rest_shows_nothing_new, unused_fifos_ask_as_before, what_begins_moves_on,
@@ -14,20 +14,22 @@ use block_core::{
 use dreq_pacing::{HostPorts, Requests, a_clock_without_acts_does_nothing};
 use fifo_pair::Fifo;
 
-/// Works out one clock. `due` is the clock in which the system does something next, so before it the ports aren't asked; the
-/// result is that clock as seen from the next one.
+/// Works out one clock of a run that ends before `end`. The system does nothing up to `until`, so before that clock the ports
+/// aren't asked; the result is that clock as seen from the next one.
 #[inline]
 pub(crate) fn step<F: Fifo>(
     block: &mut Block<F>,
     ports: &mut HostPorts,
     clock: u64,
-    due: u64,
+    until: u64,
+    end: u64,
 ) -> u64
     requires clock { block.old.run.clock ≡ clock }
-    requires within { clock < 2 ^ 40 }
+    requires inside { clock < end }
+    requires within { end ≤ 10 ^ 12 }
     requires next { ports.old.next ≤ clock }
     requires between { NoneBetween ports.old.lines ports.old.next clock }
-    requires due { IsDue ports.old.lines (requests_of block.old.run.state) ports.old.transfers clock due }
+    requires until { IsUntil ports.old.lines (requests_of block.old.run.state) ports.old.transfers end clock until }
     ensures run { block.new.run
         ≡ next (due_in ports.old.lines clock (requests_of block.old.run.state) ports.old.transfers) block.old.run }
     ensures transfers { ports.new.transfers
@@ -35,55 +37,75 @@ pub(crate) fn step<F: Fifo>(
     ensures lines { ports.new.lines ≡ ports.old.lines }
     ensures next { ports.new.next ≤ clock + 1 }
     ensures between { NoneBetween ports.new.lines ports.new.next (clock + 1) }
-    ensures due { IsDue ports.new.lines (requests_of block.new.run.state) ports.new.transfers (clock + 1) result }
+    ensures until { IsUntil ports.new.lines (requests_of block.new.run.state) ports.new.transfers end (clock + 1) result }
     ensures calls { block.new.calls ≡ block.old.calls + 1 }
 {
     a_clock_without_acts_does_nothing();
     unused_fifos_ask_as_before();
-    if clock < due {
-        quiet_step(block, ports, clock, due)
+    if clock < until {
+        quiet_step(block, ports, clock, until, end)
     } else {
-        asked_step(block, ports, clock)
+        asked_step(block, ports, clock, end)
     }
 }
 
-/// Works out a clock in which the system does nothing. The clock that is due stays where nobody did anything at a FIFO.
+/// Works out a clock in which the system does nothing. It rests up to the same clock where nobody did anything at a FIFO.
 #[inline(always)]
-fn quiet_step<F: Fifo>(block: &mut Block<F>, ports: &HostPorts, clock: u64, due: u64) -> u64
+fn quiet_step<F: Fifo>(
+    block: &mut Block<F>,
+    ports: &HostPorts,
+    clock: u64,
+    until: u64,
+    end: u64,
+) -> u64
     requires time { block.old.run.clock < 2 ^ 40 }
-    requires within { clock < 2 ^ 40 }
+    requires within { end ≤ 10 ^ 12 }
     requires next { ports.now.next ≤ clock }
     requires between { NoneBetween ports.now.lines ports.now.next (clock + 1) }
-    requires before { clock < due }
-    requires due { IsDue ports.now.lines (requests_of block.old.run.state) ports.now.transfers clock due }
+    requires before { clock < until }
+    requires until { IsUntil ports.now.lines (requests_of block.old.run.state) ports.now.transfers end clock until }
     ensures run { block.new.run ≡ next quiet block.old.run }
-    ensures due { IsDue ports.now.lines (requests_of block.new.run.state) ports.now.transfers (clock + 1) result }
+    ensures until { IsUntil ports.now.lines (requests_of block.new.run.state) ports.now.transfers end (clock + 1) result }
     ensures calls { block.new.calls ≡ block.old.calls + 1 }
 {
     unused_fifos_ask_as_before();
     if block.quiet_clock() {
-        next_due(ports, clock + 1, &block.requests())
+        rests_until(ports, clock + 1, &block.requests(), end)
     } else {
-        due
+        until
     }
 }
 
 /// Works out a clock for which the ports are asked.
 #[inline(never)]
-fn asked_step<F: Fifo>(block: &mut Block<F>, ports: &mut HostPorts, clock: u64) -> u64
+fn asked_step<F: Fifo>(block: &mut Block<F>, ports: &mut HostPorts, clock: u64, end: u64) -> u64
     requires clock { block.old.run.clock ≡ clock }
-    requires within { clock < 2 ^ 40 }
+    requires inside { clock < end }
+    requires within { end ≤ 10 ^ 12 }
     requires next { ports.old.next ≤ clock }
     requires between { NoneBetween ports.old.lines ports.old.next clock }
     ensures run { block.new.run
         ≡ next (due_in ports.old.lines clock (requests_of block.old.run.state) ports.old.transfers) block.old.run }
     ensures ports { ports.new ≡ asked clock (requests_of block.old.run.state) ports.old }
-    ensures due { IsDue ports.new.lines (requests_of block.new.run.state) ports.new.transfers (clock + 1) result }
+    ensures until { IsUntil ports.new.lines (requests_of block.new.run.state) ports.new.transfers end (clock + 1) result }
     ensures calls { block.new.calls ≡ block.old.calls + 1 }
 {
     let due = ports.at(clock, &block.requests());
     block.clock(&due);
-    next_due(ports, clock + 1, &block.requests())
+    rests_until(ports, clock + 1, &block.requests(), end)
+}
+
+/// The clock up to which the system does nothing, while the machines ask for this, in a run that ends before `end`.
+#[inline(never)]
+#[tactic(auto, using(crate::proofs::Resting::until_end))]
+pub(crate) fn rests_until(ports: &HostPorts, clock: u64, requests: &Requests, end: u64) -> u64
+    requires clock { clock ≤ end }
+    requires within { end ≤ 10 ^ 12 }
+    requires next { ports.now.next ≤ clock }
+    requires between { NoneBetween ports.now.lines ports.now.next clock }
+    ensures { IsUntil ports.now.lines requests.now ports.now.transfers end clock result }
+{
+    next_due(ports, clock, requests).min(end)
 }
 
 /// The first clock from this one on in which the system does something, while the machines ask for this; past all runs where
@@ -102,29 +124,39 @@ pub(crate) fn next_due(ports: &HostPorts, clock: u64, requests: &Requests) -> u6
 }
 
 /// Passes over the clocks from this one on in which nothing can move, and gives the first that it leaves: one that stirs, or
-/// that is due, or the end.
-#[inline]
-pub(crate) fn rest<F: Fifo>(block: &mut Block<F>, clock: u64, due: u64, end: u64) -> u64
+/// that up to which the system does nothing.
+#[inline(always)]
+pub(crate) fn rest<F: Fifo>(block: &mut Block<F>, clock: u64, until: u64) -> u64
     requires clock { block.old.run.clock ≡ clock }
-    requires within { end ≤ 10 ^ 12 }
-    requires end { clock ≤ end }
-    requires due { clock ≤ due }
+    requires within { until ≤ 10 ^ 12 }
+    requires ahead { clock ≤ until }
     ensures from { clock ≤ result }
-    ensures end { result ≤ end }
-    ensures due { result ≤ due }
+    ensures until { result ≤ until }
     ensures run { block.new.run ≡ run_from block.old.run (λ c. quiet) (result - clock) }
     ensures calm { IsCalm block.old.run (result - clock) }
     ensures calls { block.new.calls ≡ block.old.calls }
-    ensures stirs { result < end → result < due → moves_on quiet block.new.run ≡ true }
+    ensures stirs { result < until → moves_on quiet block.new.run ≡ true }
 {
     what_begins_moves_on();
-    if clock >= end || clock >= due {
+    if clock >= until || block.plainly_moves_on() {
         return clock;
     }
-    if block.plainly_moves_on() {
-        return clock;
-    }
-    let until = due.min(end);
+    pass_over(block, clock, until)
+}
+
+/// The same where there is a clock to pass over, if it doesn't stir. It is code of its own, since a busy block seldom rests.
+#[inline(never)]
+fn pass_over<F: Fifo>(block: &mut Block<F>, clock: u64, until: u64) -> u64
+    requires clock { block.old.run.clock ≡ clock }
+    requires within { until ≤ 10 ^ 12 }
+    requires ahead { clock < until }
+    ensures from { clock ≤ result }
+    ensures until { result ≤ until }
+    ensures run { block.new.run ≡ run_from block.old.run (λ c. quiet) (result - clock) }
+    ensures calm { IsCalm block.old.run (result - clock) }
+    ensures calls { block.new.calls ≡ block.old.calls }
+    ensures stirs { result < until → moves_on quiet block.new.run ≡ true }
+{
     match block.next_stir() {
         Some(0) => clock,
         Some(clocks) => leap(block, clock, clocks.min(until - clock)),

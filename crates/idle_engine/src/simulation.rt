@@ -5,7 +5,7 @@ ghost use Rattle.block_core.specs.Hosted.{hosted_at, samples};
 ghost use Rattle.block_core.specs.Stirring.{stirring};
 ghost use Rattle.idle_engine.specs.Stops.{StopsAt};
 
-use crate::clocks::{next_due, rest, step};
+use crate::clocks::{rest, rests_until, step};
 use block_core::Block;
 use dreq_pacing::{HostPorts, Schedule, a_clock_without_acts_does_nothing};
 use fifo_pair::Fifo;
@@ -44,13 +44,13 @@ pub fn simulate<F: Fifo, T: Trace, L: Ledger>(
     a_clock_without_acts_does_nothing();
     trace.begin()?;
     let mut ports = HostPorts::new(schedule);
-    let mut due = next_due(&ports, 0, &block.requests());
+    let mut until = rests_until(&ports, 0, &block.requests(), clocks);
     let mut clock = 0;
     'clocks: while clock < clocks {
-        due = step(block, &mut ports, clock, due);
+        until = step(block, &mut ports, clock, until, clocks);
         steps.count();
-        trace.sample(clock, &block.view())?;
-        clock = rest(block, clock + 1, due, clocks);
+        trace.sample(clock, block.view())?;
+        clock = rest(block, clock + 1, until);
     }
     trace.end(clocks)
 }

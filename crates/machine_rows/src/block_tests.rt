@@ -59,7 +59,7 @@ fn unseen<F: Fifo>(
     for clock in 0..clocks_of(row) {
         let due = ports.at(clock, &block.requests());
         block.clock(&due);
-        if !are_seen(row, &block.view(), block.next_stir(), clock) {
+        if !are_seen(row, block.view(), block.next_stir(), clock) {
             return Ok(Some(clock));
         }
     }

@@ -8,6 +8,6 @@ pub returns-clause-seen : goal.returns-clause-seen
 unfolding sample_of
 returns-clause-seen g c =
     let start = first_run c.args.setup.now in
-    seen_in_run start c.in_ok-block.block.run c.view.result.level c.args.setup.now.spans c.as_slice.result.now c.args.schedule.now c.args.clocks _
+    seen_in_run start c.in_ok-block.block.run c.view.result.now.level c.args.setup.now.spans c.as_slice.result.now c.args.schedule.now c.args.clocks _
     (ap (λ b. b.run) c.in_ok-block.ensures) (ap (λ s. s.level) c.view.ensures) c.as_slice.ensures.list
     (c.meter_run.ensures.measured _ _ c.in_ok-meter.ensures)

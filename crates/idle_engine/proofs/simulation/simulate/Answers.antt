@@ -6,7 +6,7 @@ use Rattle.block_core.specs.Block.{Run}
 use Rattle.block_core.specs.Hosted.{hosted_at, samples}
 use Rattle.block_core.specs.Stirring.{stirring}
 use Rattle.vcd_trace.specs.Told.{IsNext, held_to}
-use Rattle.idle_engine.specs.Resting.{IsDue}
+use Rattle.idle_engine.specs.Resting.{IsUntil}
 use Rattle.idle_engine.proofs.Held.{next-held, told_at-held}
 use Rattle.idle_engine.proofs.Counting.{counted}
 use Rattle.idle_engine.proofs.Resting.{none_before}
@@ -52,7 +52,7 @@ clocks-init g c =
       transfers = ap (λ (p : Ports). p.transfers) c.new-ports.ensures;
       next = search rules;
       between = λ k from to. search rules;
-      due = subst (λ (q : Requests). IsDue c.new-ports.result.lines q c.new-ports.result.transfers 0 c.next_due-due.result) c.requests.ensures c.next_due-due.ensures;
+      until = subst (λ (q : Requests). IsUntil c.new-ports.result.lines q c.new-ports.result.transfers c.args.clocks 0 c.rests_until-until.result) c.requests.ensures c.rests_until-until.ensures;
       stirs = λ some. absurd (omega arith);
       last = 0;
       before = omega arith;
@@ -73,8 +73,8 @@ returns-in_err-sample-clause-err g c =
     let start = c.args.block.now.run in
     let lines = c.args.schedule.now in
     let n = c.clocks.clock in
-    let run = run-next start lines c.clocks.ports.lines n c.clocks.block.run c.step-due.new.block.run c.clocks.ports.transfers inv.run inv.in_clock inv.lines inv.transfers c.step-due.ensures.run in
-    let s = shown-run start lines n c.step-due.new.block.run c.view.result run c.view.ensures in
+    let run = run-next start lines c.clocks.ports.lines n c.clocks.block.run c.step-until.new.block.run c.clocks.ports.transfers inv.run inv.in_clock inv.lines inv.transfers c.step-until.ensures.run in
+    let s = shown-run start lines n c.step-until.new.block.run c.view.result.now run c.view.ensures in
     on_err c.from_residual-in_err-sample.result (record {
       count = n + 1;
       within = omega arith;
@@ -83,14 +83,14 @@ returns-in_err-sample-clause-err g c =
       run = run;
       breaks = λ b r.
           subst (λ (l : List Sample). g.T.Trace.broken c.sample.new.self b l false)
-          (told_at-held start lines inv.last n c.view.result inv.held s)
+          (told_at-held start lines inv.last n c.view.result.now inv.held s)
           (c.in_err-sample.ensures.err b (samples start lines inv.last) (inv.told b r) (next-held start lines inv.last n inv.before inv.first));
     })
 
 -- the clock after the one that was worked out
 pub rest-clock-requires-clause-clock : goal.rest-clock-requires-clause-clock
 rest-clock-requires-clause-clock g c =
-    ap (λ (r : Run). r.clock) c.step-due.ensures.run ∙ clock-next _ c.clocks.block.run ∙ ap (λ (k : ℕ). k + 1) c.clocks.invariant.in_clock
+    ap (λ (r : Run). r.clock) c.step-until.ensures.run ∙ clock-next _ c.clocks.block.run ∙ ap (λ (k : ℕ). k + 1) c.clocks.invariant.in_clock
 
 pub clocks-preserved : goal.clocks-preserved
 clocks-preserved g c =
@@ -99,32 +99,32 @@ clocks-preserved g c =
     let lines = c.args.schedule.now in
     let n = c.clocks.clock in
     let later = c.rest-clock.result in
-    let worked = c.step-due.new.block.run in
+    let worked = c.step-until.new.block.run in
     let quiet_due = c.a_clock_without_acts_does_nothing.ensures.due in
     let quiet_transfers = c.a_clock_without_acts_does_nothing.ensures.transfers in
-    let run = run-next start lines c.clocks.ports.lines n c.clocks.block.run worked c.clocks.ports.transfers inv.run inv.in_clock inv.lines inv.transfers c.step-due.ensures.run in
-    let s = shown-run start lines n worked c.view.result run c.view.ensures in
-    let in_clock = ap (λ (r : Run). r.clock) c.step-due.ensures.run ∙ clock-next _ c.clocks.block.run ∙ ap (λ (k : ℕ). k + 1) inv.in_clock in
-    let transfers = transfers-next start lines c.clocks.ports.lines n c.clocks.block.run c.clocks.ports.transfers c.step-due.new.ports.transfers inv.run inv.in_clock inv.lines inv.transfers c.step-due.ensures.transfers in
-    let own = c.step-due.ensures.lines ∙ inv.lines in
-    let due = c.step-due.ensures.due in
-    let after = after_rest quiet_due quiet_transfers start lines c.step-due.new.ports.lines n later c.step-due.result c.args.clocks worked c.rest-clock.new.block.run c.step-due.new.ports.transfers run in_clock transfers own due c.rest-clock.ensures.from c.rest-clock.ensures.due c.requires.within c.rest-clock.ensures.run c.rest-clock.ensures.calm c.rest-clock.ensures.stirs in
+    let run = run-next start lines c.clocks.ports.lines n c.clocks.block.run worked c.clocks.ports.transfers inv.run inv.in_clock inv.lines inv.transfers c.step-until.ensures.run in
+    let s = shown-run start lines n worked c.view.result.now run c.view.ensures in
+    let in_clock = ap (λ (r : Run). r.clock) c.step-until.ensures.run ∙ clock-next _ c.clocks.block.run ∙ ap (λ (k : ℕ). k + 1) inv.in_clock in
+    let transfers = transfers-next start lines c.clocks.ports.lines n c.clocks.block.run c.clocks.ports.transfers c.step-until.new.ports.transfers inv.run inv.in_clock inv.lines inv.transfers c.step-until.ensures.transfers in
+    let own = c.step-until.ensures.lines ∙ inv.lines in
+    let rests = c.step-until.ensures.until in
+    let after = after_rest quiet_due quiet_transfers start lines c.step-until.new.ports.lines n later c.step-until.result c.args.clocks worked c.rest-clock.new.block.run c.step-until.new.ports.transfers run in_clock transfers own rests c.rest-clock.ensures.from c.rest-clock.ensures.until c.rest-clock.ensures.run c.rest-clock.ensures.calm c.rest-clock.ensures.stirs in
     record {
       run = after.run;
       in_clock = after.in_clock;
-      within = c.rest-clock.ensures.end;
+      within = omega (arith, c.rest-clock.ensures.until, rests.within);
       lines = own;
       transfers = after.transfers;
-      next = omega (arith, c.step-due.ensures.next, c.rest-clock.ensures.from);
-      between = λ k from below. none_before c.step-due.new.ports.lines _ c.step-due.new.ports.transfers c.step-due.new.ports.next (n + 1) c.step-due.result c.step-due.ensures.between due.rests k from (omega (arith, c.rest-clock.ensures.due));
-      due = after.due;
+      next = omega (arith, c.step-until.ensures.next, c.rest-clock.ensures.from);
+      between = λ k from below. none_before c.step-until.new.ports.lines _ c.step-until.new.ports.transfers c.step-until.new.ports.next (n + 1) c.step-until.result c.step-until.ensures.between rests.rests k from (omega (arith, c.rest-clock.ensures.until));
+      until = after.rests;
       stirs = λ some. after.stirs;
       last = n + 1;
       before = c.rest-clock.ensures.from;
       first = λ e. absurd (omega arith);
       held = after.held;
       working = search rules;
-      told = λ b r. subst (λ (l : List Sample). g.T.Trace.holds c.sample.new.self b l false) (told_at-held start lines inv.last n c.view.result inv.held s) (c.in_ok-sample.ensures.ok b (samples start lines inv.last) (inv.told b r) (next-held start lines inv.last n inv.before inv.first));
+      told = λ b r. subst (λ (l : List Sample). g.T.Trace.holds c.sample.new.self b l false) (told_at-held start lines inv.last n c.view.result.now inv.held s) (c.in_ok-sample.ensures.ok b (samples start lines inv.last) (inv.told b r) (next-held start lines inv.last n inv.before inv.first));
       count = search rules;
       name = search rules;
       steps = search rules;

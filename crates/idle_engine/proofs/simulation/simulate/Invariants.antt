@@ -4,7 +4,7 @@ use Rattle.block_core.specs.Hosted.{hosted_at, samples}
 use Rattle.block_core.specs.Shown.{requests_of}
 use Rattle.block_core.specs.Stirring.{stirring, stirs_in}
 use Rattle.vcd_trace.specs.Told.{held_to}
-use Rattle.idle_engine.specs.Resting.{IsDue}
+use Rattle.idle_engine.specs.Resting.{IsUntil}
 use Rattle.idle_engine.proofs.simulation.simulate.Given as goal
 
 -- The block and the transfers are at this clock, which stirs unless it is the first or the end. The trace was told of the clocks
@@ -19,7 +19,7 @@ invariant-clocks g l =
       transfers : l.ports.transfers ≡ (hosted_at l.fn.block.run l.fn.schedule l.clock).transfers;
       next : l.ports.next ≤ l.clock;
       between : NoneBetween l.ports.lines l.ports.next l.clock;
-      due : IsDue l.ports.lines (requests_of l.block.run.state) l.ports.transfers l.clock l.due;
+      until : IsUntil l.ports.lines (requests_of l.block.run.state) l.ports.transfers l.clocks l.clock l.until;
       stirs : 0 < l.clock → l.clock < l.clocks → stirs_in l.fn.schedule (hosted_at l.fn.block.run l.fn.schedule l.clock) ≡ true;
       last : ℕ;
       before : last ≤ l.clock;

@@ -1,4 +1,6 @@
+use Rattle.std.proofs.Common.{◌∙◌}
 use Rattle.block_core.proofs.Showing.{first_sample}
+use Rattle.block_core.proofs.Simple.{empty_first}
 use Rattle.block_core.proofs.Steps.{first_in_step}
 use Rattle.block_core.proofs.Told.{first_told}
 use Rattle.block_core.proofs.running.Running.new.Goals as goal
@@ -16,4 +18,5 @@ invariant_of-result g c = (
     fourth = first_in_step _ _ c.in_ok-slot_of-4.ensures;
   },
   first_sample _ _ _ _ _ _ _ _ _ _ _ c.in_ok-slot_of.ensures c.in_ok-slot_of-2.ensures c.in_ok-slot_of-3.ensures c.in_ok-slot_of-4.ensures,
+  c.are_empty-alone.ensures ∙ empty_first _ _ _ _ _ _ c.in_ok-slot_of-2.ensures c.in_ok-slot_of-3.ensures c.in_ok-slot_of-4.ensures,
 )

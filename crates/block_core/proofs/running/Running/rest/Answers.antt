@@ -5,6 +5,7 @@ use Rattle.block_core.specs.Resting.{rested}
 use Rattle.block_core.specs.Stirring.{machines_stir_over}
 use Rattle.block_core.proofs.PlacesRest.{are_calm, in_step_rested, rested_run}
 use Rattle.block_core.proofs.Showing.{sample_rested}
+use Rattle.block_core.proofs.Simple.{empty_rested}
 use Rattle.block_core.proofs.Told.{told_rested}
 use Rattle.block_core.proofs.running.Running.rest.Goals as goal
 
@@ -50,4 +51,5 @@ invariant_of-self g c =
         fourth = in_step_rested _ _ _ _ kept.fourth c.rest-4.ensures;
       },
       sample_rested c.self.invariant.1 _ _ _ _ _ c.rest.ensures c.rest-2.ensures c.rest-3.ensures c.rest-4.ensures,
+      c.self.invariant.2 ∙ empty_rested _ _ _ _ _ _ _ c.rest-2.ensures c.rest-3.ensures c.rest-4.ensures,
     )

@@ -1,115 +1,32 @@
-use Rattle.std.proofs.Common.{refl}
+use Rattle.std.proofs.Common.{◌≡◌, ap, ◌∙◌}
+use Rattle.block_core.specs.Block.{next_over}
 use Rattle.block_core.specs.Slots.{doing}
-use Rattle.block_core.proofs.OwnPlace.{place_writes, place_turns}
-use Rattle.block_core.proofs.Showing.{shows_first, shows_second, shows_third, shows_fourth, first_new, second_new, third_new, fourth_new, pins_new}
-use Rattle.block_core.proofs.Steps.{in_step_after}
-use Rattle.block_core.proofs.Told.{place_told}
-use Rattle.block_core.proofs.Wanting.{next_run, any_used, levels_are_last, directions_are_last}
+use Rattle.block_core.proofs.OwnPlace.{levels_are_last, directions_are_last}
+use Rattle.block_core.proofs.running.Running.step.Given.{Over}
 use Rattle.block_core.proofs.running.Running.step.Goals as goal
+use Rattle.block_core.proofs.running.Running.step.Goals.{in_default-via-in-None+else-simple_step, in_default-via-in_default}
 
-pub step-first-requires-clause-shows : goal.step-first-requires-clause-shows
-step-first-requires-clause-shows g c =
-    shows_first c.self.invariant.1
+pub returns-in-None-clause-levels : goal.returns-in-None-clause-levels
+returns-in-None-clause-levels g c =
+    rw c.in-None.is
+    (levels_are_last c.writes_are_of_pins.ensures c.no_write_changes_nothing.ensures.write c.the_last_write_counts.ensures.pin c.args.pad _ c.args.self.now c.simple_step.new.self (c.simple_step.ensures.run c.if-simple_step.true))
 
-pub step-second-requires-clause-shows : goal.step-second-requires-clause-shows
-step-second-requires-clause-shows g c =
-    let one = first_new c.self.invariant.1 _ _ c.step-first.ensures.sample in
-    shows_second one
+pub returns-in-None-clause-directions : goal.returns-in-None-clause-directions
+returns-in-None-clause-directions g c =
+    rw c.in-None.is
+    (directions_are_last c.writes_are_of_pins.ensures c.no_write_changes_nothing.ensures.write c.the_last_write_counts.ensures.pin c.args.pad _ c.args.self.now c.simple_step.new.self (c.simple_step.ensures.run c.if-simple_step.true))
 
-pub step-third-requires-clause-shows : goal.step-third-requires-clause-shows
-step-third-requires-clause-shows g c =
-    let one = first_new c.self.invariant.1 _ _ c.step-first.ensures.sample in
-    let two = second_new one _ _ c.step-second.ensures.sample in
-    shows_third two
+-- the block is as it was where no simple clock was done
+same : (g : Over) (c : goal.After-step_all g) → c.in_default.self ≡ c.args.self.now
+same g c = elim c.in_default.branch [
+  | in_default-via-in-None+else-simple_step w ↦ w.self-is ∙ w.simple_step.ensures.kept w.if-simple_step.false
+  | in_default-via-in_default w ↦ w.self-is
+]
 
-pub step-fourth-requires-clause-shows : goal.step-fourth-requires-clause-shows
-step-fourth-requires-clause-shows g c =
-    let one = first_new c.self.invariant.1 _ _ c.step-first.ensures.sample in
-    let two = second_new one _ _ c.step-second.ensures.sample in
-    let three = third_new two _ _ c.step-third.ensures.sample in
-    shows_fourth three
+pub returns-in_default-clause-levels : goal.returns-in_default-clause-levels
+returns-in_default-clause-levels g c =
+    levels_are_last c.writes_are_of_pins.ensures c.no_write_changes_nothing.ensures.write c.the_last_write_counts.ensures.pin c.args.pad (doing c.args.due) c.args.self.now c.step_all.new.self (c.step_all.ensures.run ∙ ap (next_over c.args.pad (doing c.args.due)) (same g c))
 
-pub invariant_of-self : goal.invariant_of-self
-invariant_of-self g c =
-    let kept = c.self.invariant.0 in
-    let law = c.a_calm_tick_tells_nothing_new.ensures in
-    let one = first_new c.self.invariant.1 _ _ c.step-first.ensures.sample in
-    let two = second_new one _ _ c.step-second.ensures.sample in
-    let three = third_new two _ _ c.step-third.ensures.sample in
-    let four = fourth_new three _ _ c.step-fourth.ensures.sample in (
-      record {
-        told = (
-          place_told law.after law.more _ _ _ _ _ refl kept.told.0 c.step-first.ensures.after,
-          (
-            place_told law.after law.more _ _ _ _ _ refl kept.told.1.0 c.step-second.ensures.after,
-            (
-              place_told law.after law.more _ _ _ _ _ refl kept.told.1.1.0 c.step-third.ensures.after,
-              (place_told law.after law.more _ _ _ _ _ refl kept.told.1.1.1.0 c.step-fourth.ensures.after, tt),
-            ),
-          ),
-        );
-        first = in_step_after _ _ _ _ _ kept.first c.step-first.ensures.after;
-        second = in_step_after _ _ _ _ _ kept.second c.step-second.ensures.after;
-        third = in_step_after _ _ _ _ _ kept.third c.step-third.ensures.after;
-        fourth = in_step_after _ _ _ _ _ kept.fourth c.step-fourth.ensures.after;
-      },
-      pins_new four _ _ _ _,
-    )
-
-pub returns-clause-run : goal.returns-clause-run
-returns-clause-run g c =
-    let b = c.self.inside in
-    let next = next_run (doing c.args.due) b.view.memory b.clock b.wanted.outputs.levels b.wanted.outputs.directions b.view.flags.up b.outside b.sync b.first b.second b.third b.fourth c.outside_after-self-inside.result c.args.pad c.seen-seen.result c.begin.new.self c.step-first.new.wanted c.step-second.new.wanted c.step-third.new.wanted c.step-fourth.new.wanted _ _ _ _ _ _ (record {
-      driven = c.outside_after-self-inside.ensures;
-      sees = c.seen-seen.ensures;
-      start = c.begin.ensures;
-      first = c.step-first.ensures.wanted;
-      second = c.step-second.ensures.wanted;
-      third = c.step-third.ensures.wanted;
-      fourth = c.step-fourth.ensures.wanted;
-    })
-    c.merge_flags.ensures c.step.ensures c.step-first.ensures.after c.step-second.ensures.after c.step-third.ensures.after c.step-fourth.ensures.after in
-    rw (← c.self.view_is) next
-
-pub returns-clause-used : goal.returns-clause-used
-returns-clause-used g c =
-    let b = c.self.inside in
-    let any = any_used (doing c.args.due) b.view.memory b.clock b.wanted.outputs.levels b.wanted.outputs.directions b.view.flags.up b.outside b.sync b.first b.second b.third b.fourth c.outside_after-self-inside.result c.args.pad c.seen-seen.result c.begin.new.self c.step-first.new.wanted c.step-second.new.wanted c.step-third.new.wanted c.step-fourth.new.wanted (record {
-      driven = c.outside_after-self-inside.ensures;
-      sees = c.seen-seen.ensures;
-      start = c.begin.ensures;
-      first = c.step-first.ensures.wanted;
-      second = c.step-second.ensures.wanted;
-      third = c.step-third.ensures.wanted;
-      fourth = c.step-fourth.ensures.wanted;
-    }) _ _ _ _
-    c.step-first.ensures.used c.step-second.ensures.used c.step-third.ensures.used c.step-fourth.ensures.used in
-    rw (← c.self.view_is) any
-
-pub returns-clause-levels : goal.returns-clause-levels
-returns-clause-levels g c =
-    let b = c.self.inside in
-    let last = levels_are_last (doing c.args.due) b.view.memory b.clock b.wanted.outputs.levels b.wanted.outputs.directions b.view.flags.up b.outside b.sync b.first b.second b.third b.fourth c.outside_after-self-inside.result c.args.pad c.seen-seen.result c.begin.new.self c.step-first.new.wanted c.step-second.new.wanted c.step-third.new.wanted c.step-fourth.new.wanted (record {
-      driven = c.outside_after-self-inside.ensures;
-      sees = c.seen-seen.ensures;
-      start = c.begin.ensures;
-      first = c.step-first.ensures.wanted;
-      second = c.step-second.ensures.wanted;
-      third = c.step-third.ensures.wanted;
-      fourth = c.step-fourth.ensures.wanted;
-    }) c.the_last_write_counts.ensures.pin c.no_write_changes_nothing.ensures.write (place_writes c.writes_are_of_pins.ensures c.no_write_changes_nothing.ensures.write _ (doing c.args.due) b.first) (place_writes c.writes_are_of_pins.ensures c.no_write_changes_nothing.ensures.write _ (doing c.args.due) b.second) (place_writes c.writes_are_of_pins.ensures c.no_write_changes_nothing.ensures.write _ (doing c.args.due) b.third) (place_writes c.writes_are_of_pins.ensures c.no_write_changes_nothing.ensures.write _ (doing c.args.due) b.fourth) in
-    rw (← c.self.view_is) last
-
-pub returns-clause-directions : goal.returns-clause-directions
-returns-clause-directions g c =
-    let b = c.self.inside in
-    let last = directions_are_last (doing c.args.due) b.view.memory b.clock b.wanted.outputs.levels b.wanted.outputs.directions b.view.flags.up b.outside b.sync b.first b.second b.third b.fourth c.outside_after-self-inside.result c.args.pad c.seen-seen.result c.begin.new.self c.step-first.new.wanted c.step-second.new.wanted c.step-third.new.wanted c.step-fourth.new.wanted (record {
-      driven = c.outside_after-self-inside.ensures;
-      sees = c.seen-seen.ensures;
-      start = c.begin.ensures;
-      first = c.step-first.ensures.wanted;
-      second = c.step-second.ensures.wanted;
-      third = c.step-third.ensures.wanted;
-      fourth = c.step-fourth.ensures.wanted;
-    }) c.the_last_write_counts.ensures.pin c.no_write_changes_nothing.ensures.write (place_turns c.writes_are_of_pins.ensures c.no_write_changes_nothing.ensures.write _ (doing c.args.due) b.first) (place_turns c.writes_are_of_pins.ensures c.no_write_changes_nothing.ensures.write _ (doing c.args.due) b.second) (place_turns c.writes_are_of_pins.ensures c.no_write_changes_nothing.ensures.write _ (doing c.args.due) b.third) (place_turns c.writes_are_of_pins.ensures c.no_write_changes_nothing.ensures.write _ (doing c.args.due) b.fourth) in
-    rw (← c.self.view_is) last
+pub returns-in_default-clause-directions : goal.returns-in_default-clause-directions
+returns-in_default-clause-directions g c =
+    directions_are_last c.writes_are_of_pins.ensures c.no_write_changes_nothing.ensures.write c.the_last_write_counts.ensures.pin c.args.pad (doing c.args.due) c.args.self.now c.step_all.new.self (c.step_all.ensures.run ∙ ap (next_over c.args.pad (doing c.args.due)) (same g c))

@@ -1,0 +1,88 @@
+use Rattle.std.proofs.Common.{refl, ◌∙◌}
+use Rattle.block_core.specs.Slots.{doing}
+use Rattle.block_core.proofs.Showing.{shows_first, shows_second, shows_third, shows_fourth, first_new, second_new, third_new, fourth_new, pins_new}
+use Rattle.block_core.proofs.Steps.{in_step_after}
+use Rattle.block_core.proofs.Told.{place_told}
+use Rattle.block_core.proofs.Simple.{empty_after}
+use Rattle.block_core.proofs.Wanting.{next_run, any_used}
+use Rattle.block_core.proofs.running.Running.step_all.Goals as goal
+
+pub step-first-requires-clause-shows : goal.step-first-requires-clause-shows
+step-first-requires-clause-shows g c =
+    shows_first c.self.invariant.1
+
+pub step-second-requires-clause-shows : goal.step-second-requires-clause-shows
+step-second-requires-clause-shows g c =
+    let one = first_new c.self.invariant.1 _ _ c.step-first.ensures.sample in
+    shows_second one
+
+pub step-third-requires-clause-shows : goal.step-third-requires-clause-shows
+step-third-requires-clause-shows g c =
+    let one = first_new c.self.invariant.1 _ _ c.step-first.ensures.sample in
+    let two = second_new one _ _ c.step-second.ensures.sample in
+    shows_third two
+
+pub step-fourth-requires-clause-shows : goal.step-fourth-requires-clause-shows
+step-fourth-requires-clause-shows g c =
+    let one = first_new c.self.invariant.1 _ _ c.step-first.ensures.sample in
+    let two = second_new one _ _ c.step-second.ensures.sample in
+    let three = third_new two _ _ c.step-third.ensures.sample in
+    shows_fourth three
+
+pub invariant_of-self : goal.invariant_of-self
+invariant_of-self g c =
+    let kept = c.self.invariant.0 in
+    let law = c.a_calm_tick_tells_nothing_new.ensures in
+    let one = first_new c.self.invariant.1 _ _ c.step-first.ensures.sample in
+    let two = second_new one _ _ c.step-second.ensures.sample in
+    let three = third_new two _ _ c.step-third.ensures.sample in
+    let four = fourth_new three _ _ c.step-fourth.ensures.sample in (
+      record {
+        told = (
+          place_told law.after law.more _ _ _ _ _ refl kept.told.0 c.step-first.ensures.after,
+          (
+            place_told law.after law.more _ _ _ _ _ refl kept.told.1.0 c.step-second.ensures.after,
+            (
+              place_told law.after law.more _ _ _ _ _ refl kept.told.1.1.0 c.step-third.ensures.after,
+              (place_told law.after law.more _ _ _ _ _ refl kept.told.1.1.1.0 c.step-fourth.ensures.after, tt),
+            ),
+          ),
+        );
+        first = in_step_after _ _ _ _ _ kept.first c.step-first.ensures.after;
+        second = in_step_after _ _ _ _ _ kept.second c.step-second.ensures.after;
+        third = in_step_after _ _ _ _ _ kept.third c.step-third.ensures.after;
+        fourth = in_step_after _ _ _ _ _ kept.fourth c.step-fourth.ensures.after;
+      },
+      pins_new four _ _ _ _,
+      c.self.invariant.2 ∙ empty_after _ _ _ _ _ _ _ _ c.step-second.ensures.after c.step-third.ensures.after c.step-fourth.ensures.after,
+    )
+
+pub returns-clause-run : goal.returns-clause-run
+returns-clause-run g c =
+    let b = c.self.inside in
+    let next = next_run (doing c.args.due) b.view.memory b.clock b.wanted.outputs.levels b.wanted.outputs.directions b.view.flags.up b.outside b.sync b.first b.second b.third b.fourth c.outside_after-self-inside.result c.args.pad c.seen-seen.result c.begin.new.self c.step-first.new.wanted c.step-second.new.wanted c.step-third.new.wanted c.step-fourth.new.wanted _ _ _ _ _ _ (record {
+      driven = c.outside_after-self-inside.ensures;
+      sees = c.seen-seen.ensures;
+      start = c.begin.ensures;
+      first = c.step-first.ensures.wanted;
+      second = c.step-second.ensures.wanted;
+      third = c.step-third.ensures.wanted;
+      fourth = c.step-fourth.ensures.wanted;
+    })
+    c.merge_flags.ensures c.step.ensures c.step-first.ensures.after c.step-second.ensures.after c.step-third.ensures.after c.step-fourth.ensures.after in
+    rw (← c.self.view_is) next
+
+pub returns-clause-used : goal.returns-clause-used
+returns-clause-used g c =
+    let b = c.self.inside in
+    let any = any_used (doing c.args.due) b.view.memory b.clock b.wanted.outputs.levels b.wanted.outputs.directions b.view.flags.up b.outside b.sync b.first b.second b.third b.fourth c.outside_after-self-inside.result c.args.pad c.seen-seen.result c.begin.new.self c.step-first.new.wanted c.step-second.new.wanted c.step-third.new.wanted c.step-fourth.new.wanted (record {
+      driven = c.outside_after-self-inside.ensures;
+      sees = c.seen-seen.ensures;
+      start = c.begin.ensures;
+      first = c.step-first.ensures.wanted;
+      second = c.step-second.ensures.wanted;
+      third = c.step-third.ensures.wanted;
+      fourth = c.step-fourth.ensures.wanted;
+    }) _ _ _ _
+    c.step-first.ensures.used c.step-second.ensures.used c.step-third.ensures.used c.step-fourth.ensures.used in
+    rw (← c.self.view_is) any
