@@ -21,6 +21,20 @@ pub(crate) fn square_wave(spans: Spans) -> Setup {
     setup
 }
 
+/// `mov osr, y`, `set x, 31`, `out pins, 1`, `jmp x--, 2`.
+const SHIFT: [u16; 4] = [0xa0e2, 0xe03f, 0x6001, 0x0042];
+
+/// One machine that shifts the 32 bits of Y to pin 0, over and over.
+pub(crate) fn shifted_word(spans: Spans) -> Setup {
+    let mut setup = Setup::of(memory_of(&SHIFT), spans);
+    setup.out = 1;
+    let mut machine = looped(0, 0, 3);
+    machine.y = 0x0f33_a5c9;
+    machine.out = Mapping { base: 0, count: 1 };
+    setup.place(machine);
+    setup
+}
+
 /// Side-set on one pin, where an instruction says so.
 const OPTIONAL_SIDE_SET: SideRule = SideRule {
     bits: 1,

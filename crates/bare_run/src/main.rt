@@ -13,7 +13,7 @@ use block_core::Block;
 use dreq_pacing::{Schedule, read_stimulus};
 use fifo_pair::RingFifo;
 use idle_engine::simulate;
-use loads::{delays, four_machines, i2c, square_wave, uart, waiting};
+use loads::{delays, four_machines, i2c, shifted_word, square_wave, uart, waiting};
 use no_trace::NoTrace;
 use pin_matrix::{Setup, Spans};
 use pio_edge::{FileShelf, Shelf};
@@ -76,6 +76,7 @@ fn setup_of(alloc: Global, name: &str) -> Option<Setup> {
     let spans = Spans::empty(alloc);
     match name {
         "square" => Some(square_wave(spans)),
+        "shift" => Some(shifted_word(spans)),
         "waiting" => Some(waiting(spans)),
         "four" => Some(four_machines(spans)),
         "uart" => Some(uart(spans)),
