@@ -9,6 +9,7 @@ ghost use Rattle.block_core.specs.Slots.{doing};
 ghost use Rattle.block_core.specs.Stirring.{moves_on, plainly_moves_on};
 
 use crate::Sample;
+use crate::news::News;
 use crate::running::Running;
 use dreq_pacing::{Due, Requests};
 use fifo_pair::{Fifo, a_quiet_clock_changes_nothing};
@@ -68,14 +69,21 @@ impl<F: Fifo> Block<F> {
         self.step(pad, Some(due))
     }
 
-    /// The same, in which the system does nothing.
-    pub fn quiet_clock(&mut self) -> bool
+    /// The same, in which the system does nothing, and what it may have changed.
+    #[inline(always)]
+    pub fn quiet_clock(&mut self) -> News
         requires { self.old.run.clock < 2 ^ 40 }
         ensures run { self.new.run ≡ next quiet self.old.run }
-        ensures used { result ≡ uses_fifos_in quiet self.old.run }
+        ensures fifos { result.fifos ≡ uses_fifos_in quiet self.old.run }
+        ensures sample { result.sample ≡ false → sample_of self.new.run.state ≡ sample_of self.old.run.state }
         ensures calls { self.new.calls ≡ self.old.calls + 1 }
     {
-        self.step(self.pad, None)
+        let news = self.running.quiet_step(self.pad);
+        // The pads change with the pins alone.
+        if news.sample {
+            self.pad = self.running.pads(None);
+        }
+        news
     }
 
     /// One clock with its pads, in which the system does this, where it does anything.

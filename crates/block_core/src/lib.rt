@@ -5,6 +5,7 @@ mod block;
 mod following;
 mod laws;
 mod merging;
+mod news;
 mod place;
 mod resting;
 mod running;
@@ -23,6 +24,7 @@ pub use laws::{
     each_pin_gets_the_last_write, pads_are_seen_two_clocks_late, ticks_follow_the_divider,
     unused_fifos_ask_as_before, what_begins_moves_on, words_go_through_in_order,
 };
+pub use news::News;
 pub use sample::Sample;
 pub use twin::Twin;
 pub use twin_laws::{

@@ -1,5 +1,5 @@
 //! A block in a run over pads that are given: its machines and what they share, but not where the pads come from.
-ghost use Rattle.std.specs.Prelude.{◌≡◌, ℕ, ◌<◌, ◌≤◌, ◌^◌, ◌+◌, ◌||◌, Bool, true, false, IfOk};
+ghost use Rattle.std.specs.Prelude.{◌≡◌, ℕ, ◌<◌, ◌≤◌, ◌^◌, ◌+◌, ◌||◌, Bool, true, false, Some, is_some, IfOk};
 ghost use Rattle.std.specs.List.{list_any};
 ghost use Rattle.dreq_pacing.specs.Due.{quiet};
 ghost use Rattle.dreq_pacing.specs.Ports.{IsFirst};
@@ -14,6 +14,7 @@ ghost use Rattle.block_core.specs.Stirring as spec_stirring;
 
 use crate::Sample;
 use crate::merging::{Wanted, outside_after};
+use crate::news::News;
 use crate::place::{are_empty, moved, shown, simple_step, slot_of, step};
 use crate::resting::{begins_now, rest, sooner};
 use crate::slot::Slot;
@@ -153,37 +154,61 @@ impl<F: Fifo> Running<F> {
         no_write_changes_nothing();
         writes_are_of_pins();
         match due {
-            None if self.simple_step(pad) => false,
+            None if self.simple_step(pad).is_some() => false,
             _ => self.step_all(pad, due),
         }
     }
 
-    /// The same where the system does nothing and the clock is a simple one of the only machine (`Slot::simple_clock`); else nothing
-    /// is done. True where it was done, and then nobody did anything at a FIFO.
+    /// The same where the system does nothing, and what it may have changed.
     #[inline(always)]
-    fn simple_step(&mut self, pad: u32) -> bool
+    pub fn quiet_step(&mut self, pad: u32) -> News
         requires { self.old.clock < 2 ^ 40 }
-        ensures run { result ≡ true → self.new ≡ next_over pad quiet self.old }
-        ensures used { result ≡ true → uses_fifos_over pad quiet self.old ≡ false }
-        ensures kept { result ≡ false → self.new ≡ self.old }
+        ensures run { self.new ≡ next_over pad quiet self.old }
+        ensures fifos { result.fifos ≡ uses_fifos_over pad quiet self.old }
+        ensures sample { result.sample ≡ false → sample_of self.new.state ≡ sample_of self.old.state }
+    {
+        match self.simple_step(pad) {
+            Some(sample) => News {
+                fifos: false,
+                sample,
+            },
+            None => News {
+                fifos: self.step_all(pad, None),
+                sample: true,
+            },
+        }
+    }
+
+    /// The same where the clock is a simple one of the only machine (`Slot::simple_clock`); else nothing is done. It tells whether
+    /// the sample is another one, where it was done, and then nobody did anything at a FIFO.
+    #[inline(always)]
+    fn simple_step(&mut self, pad: u32) -> Option<bool>
+        requires { self.old.clock < 2 ^ 40 }
+        ensures run { is_some result ≡ true → self.new ≡ next_over pad quiet self.old }
+        ensures used { is_some result ≡ true → uses_fifos_over pad quiet self.old ≡ false }
+        ensures sample { result ≡ Some false → sample_of self.new.state ≡ sample_of self.old.state }
+        ensures kept { is_some result ≡ false → self.new ≡ self.old }
     {
         a_calm_tick_tells_nothing_new();
         a_quiet_clock_changes_nothing();
         if !self.alone {
-            return false;
+            return None;
         }
         self.view.seen = self.sync.seen(pad);
         if !simple_step(&mut self.first, &self.view, &mut self.wanted.outputs) {
-            return false;
+            return None;
         }
         self.sync.step(pad);
-        self.sample.level = self.wanted.outputs.levels;
-        self.sample.direction = self.wanted.outputs.directions;
         self.clock += 1;
-        true
+        let pins = self.wanted.outputs;
+        let before = self.sample;
+        self.sample.level = pins.levels;
+        self.sample.direction = pins.directions;
+        Some((pins.levels != before.level) | (pins.directions != before.direction))
     }
 
     /// The same of any machines, whatever they do. It is code of its own, which keeps that of most clocks short.
+    #[cold]
     #[inline(never)]
     fn step_all(&mut self, pad: u32, due: Option<&Due>) -> bool
         requires { self.old.clock < 2 ^ 40 }

@@ -7,22 +7,20 @@ use Rattle.dreq_pacing.specs.Transfers.{Transfers}
 use Rattle.dreq_pacing.specs.Ports.{acts_in}
 use Rattle.block_core.specs.Block.{Run, run_from}
 use Rattle.block_core.specs.Shown.{requests_of}
-use Rattle.block_core.specs.Hosted.{Hosted, hosted_at, samples}
+use Rattle.block_core.specs.Hosted.{Hosted, hosted_at, sample_at}
 use Rattle.block_core.specs.Stirring.{moves_on, stirs_in}
-use Rattle.vcd_trace.specs.Told.{held_to}
 use Rattle.idle_engine.specs.Resting.{IsUntil, IsCalm}
 use Rattle.idle_engine.proofs.Resting.{until_later}
 use Rattle.idle_engine.proofs.Calm.{QuietDue, QuietTransfers, clock-from, passes, same-sample, acting, moving}
-use Rattle.idle_engine.proofs.Held.{held-over}
 
 -- What is so in the clock after them, where clock b was worked out before: block and transfers are at this clock, the clock up
--- to which the system rests is the same, the samples of the clocks between are held, and it stirs.
+-- to which the system rests is the same, the clocks between show what the one before them shows, and it stirs.
 pub record IsAfterRest (start : Run) (lines own : List Line) (b later until clocks : ℕ) (now : Run) (t : Transfers) : Type 0 where
   pub run : now ≡ (hosted_at start lines later).run
   pub in_clock : now.clock ≡ later
   pub transfers : t ≡ (hosted_at start lines later).transfers
   pub rests : IsUntil own (requests_of now.state) t clocks later until
-  pub held : held_to later (samples start lines (b + 1)) ≡ samples start lines later
+  pub same : (k : ℕ) → b + 1 ≤ k → k < later → sample_at start lines k ≡ sample_at start lines b
   pub stirs : later < clocks → stirs_in lines (hosted_at start lines later) ≡ true
 
 -- a clock in which the system acts, or the block moves on, stirs
@@ -65,7 +63,8 @@ after_rest quiet_due quiet_transfers start lines own b later until clocks before
       in_clock = at;
       transfers = transfers;
       rests = rests;
-      held = subst (λ (k : ℕ). held_to k (samples start lines (b + 1)) ≡ samples start lines k) whole
-          (held-over start lines b n (same-sample quiet_due quiet_transfers start lines b until n clock-h calm-h d-h.rests (omega arith)));
+      same = λ k from below. (let e : b + 1 + (k - (b + 1)) ≡ k = omega arith in
+          subst (λ (j : ℕ). sample_at start lines j ≡ sample_at start lines b) e
+          (same-sample quiet_due quiet_transfers start lines b until n clock-h calm-h d-h.rests (omega arith) (k - (b + 1)) (omega arith)));
       stirs = λ below. stirs_then quiet_due lines own (hosted_at start lines later) later until clocks now t run at transfers is_own rests below moves;
     }

@@ -1,5 +1,5 @@
 -- One clock of a run beside its ports.
-use Rattle.std.proofs.Common.{◌≡◌, ℕ, ◌+◌, List, refl, ap, ◌∙◌, sym, subst, add-one, suc}
+use Rattle.std.proofs.Common.{◌≡◌, ℕ, ◌+◌, ◌-◌, ◌<◌, List, refl, ap, ◌∙◌, sym, subst, arith, add-one, suc}
 use Rattle.dreq_pacing.specs.declared.line.Line.{Line}
 use Rattle.dreq_pacing.specs.declared.due.Due.{Due}
 use Rattle.dreq_pacing.specs.Transfers.{Transfers}
@@ -52,3 +52,12 @@ shown-run start lines n after s e v =
     let one : n + 1 ≡ suc n = add-one n in
     let at : after ≡ (hosted_at start lines (suc n)).run = subst (λ (k : ℕ). after ≡ (hosted_at start lines k).run) one e in
     v ∙ ap (λ (r : Run). sample_of r.state) at
+
+-- a clock after which the run shows what it showed before has the sample of the clock before
+pub shows-again : (start : Run) (lines : List Line) (n : ℕ) (before after : Run) → before ≡ (hosted_at start lines n).run → after ≡ (hosted_at start lines (n + 1)).run → 0 < n → sample_of after.state ≡ sample_of before.state → sample_at start lines n ≡ sample_at start lines (n - 1)
+shows-again start lines n before after is_before is_after some same =
+    let one : n ≡ n - 1 + 1 = omega arith in
+    let earlier : before ≡ (hosted_at start lines (n - 1 + 1)).run = is_before ∙ ap (λ (k : ℕ). (hosted_at start lines k).run) one in
+    sym (shown-run start lines n after (sample_of after.state) is_after refl)
+    ∙ same
+    ∙ shown-run start lines (n - 1) before (sample_of before.state) earlier refl

@@ -4,7 +4,7 @@ ghost use Rattle.dreq_pacing.specs.Lines.{NoneBetween};
 ghost use Rattle.dreq_pacing.specs.Due.{quiet};
 ghost use Rattle.dreq_pacing.specs.Ports.{asked, due_in, transfers_after};
 ghost use Rattle.block_core.specs.Block.{next, run_from, uses_fifos_in};
-ghost use Rattle.block_core.specs.Shown.{requests_of};
+ghost use Rattle.block_core.specs.Shown.{requests_of, sample_of};
 ghost use Rattle.block_core.specs.Stirring.{moves_on};
 ghost use Rattle.idle_engine.specs.Resting.{IsDue, IsUntil, IsCalm};
 
@@ -15,7 +15,7 @@ use dreq_pacing::{HostPorts, Requests, a_clock_without_acts_does_nothing};
 use fifo_pair::Fifo;
 
 /// Works out one clock of a run that ends before `end`. The system does nothing up to `until`, so before that clock the ports
-/// aren't asked; the result is that clock as seen from the next one.
+/// aren't asked; the result is that clock as seen from the next one, and whether the sample may be another one.
 #[inline]
 pub(crate) fn step<F: Fifo>(
     block: &mut Block<F>,
@@ -23,7 +23,7 @@ pub(crate) fn step<F: Fifo>(
     clock: u64,
     until: u64,
     end: u64,
-) -> u64
+) -> (u64, bool)
     requires clock { block.old.run.clock ≡ clock }
     requires inside { clock < end }
     requires within { end ≤ 10 ^ 12 }
@@ -37,7 +37,8 @@ pub(crate) fn step<F: Fifo>(
     ensures lines { ports.new.lines ≡ ports.old.lines }
     ensures next { ports.new.next ≤ clock + 1 }
     ensures between { NoneBetween ports.new.lines ports.new.next (clock + 1) }
-    ensures until { IsUntil ports.new.lines (requests_of block.new.run.state) ports.new.transfers end (clock + 1) result }
+    ensures until { IsUntil ports.new.lines (requests_of block.new.run.state) ports.new.transfers end (clock + 1) result.0 }
+    ensures sample { result.1 ≡ false → sample_of block.new.run.state ≡ sample_of block.old.run.state }
     ensures calls { block.new.calls ≡ block.old.calls + 1 }
 {
     a_clock_without_acts_does_nothing();
@@ -45,7 +46,7 @@ pub(crate) fn step<F: Fifo>(
     if clock < until {
         quiet_step(block, ports, clock, until, end)
     } else {
-        asked_step(block, ports, clock, end)
+        (asked_step(block, ports, clock, end), true)
     }
 }
 
@@ -57,7 +58,7 @@ fn quiet_step<F: Fifo>(
     clock: u64,
     until: u64,
     end: u64,
-) -> u64
+) -> (u64, bool)
     requires time { block.old.run.clock < 2 ^ 40 }
     requires within { end ≤ 10 ^ 12 }
     requires next { ports.now.next ≤ clock }
@@ -65,18 +66,24 @@ fn quiet_step<F: Fifo>(
     requires before { clock < until }
     requires until { IsUntil ports.now.lines (requests_of block.old.run.state) ports.now.transfers end clock until }
     ensures run { block.new.run ≡ next quiet block.old.run }
-    ensures until { IsUntil ports.now.lines (requests_of block.new.run.state) ports.now.transfers end (clock + 1) result }
+    ensures until { IsUntil ports.now.lines (requests_of block.new.run.state) ports.now.transfers end (clock + 1) result.0 }
+    ensures sample { result.1 ≡ false → sample_of block.new.run.state ≡ sample_of block.old.run.state }
     ensures calls { block.new.calls ≡ block.old.calls + 1 }
 {
     unused_fifos_ask_as_before();
-    if block.quiet_clock() {
-        rests_until(ports, clock + 1, &block.requests(), end)
+    let news = block.quiet_clock();
+    if news.fifos {
+        (
+            rests_until(ports, clock + 1, &block.requests(), end),
+            news.sample,
+        )
     } else {
-        until
+        (until, news.sample)
     }
 }
 
 /// Works out a clock for which the ports are asked.
+#[cold]
 #[inline(never)]
 fn asked_step<F: Fifo>(block: &mut Block<F>, ports: &mut HostPorts, clock: u64, end: u64) -> u64
     requires clock { block.old.run.clock ≡ clock }
@@ -96,6 +103,7 @@ fn asked_step<F: Fifo>(block: &mut Block<F>, ports: &mut HostPorts, clock: u64, 
 }
 
 /// The clock up to which the system does nothing, while the machines ask for this, in a run that ends before `end`.
+#[cold]
 #[inline(never)]
 #[tactic(auto, using(crate::proofs::Resting::until_end))]
 pub(crate) fn rests_until(ports: &HostPorts, clock: u64, requests: &Requests, end: u64) -> u64
@@ -145,6 +153,7 @@ pub(crate) fn rest<F: Fifo>(block: &mut Block<F>, clock: u64, until: u64) -> u64
 }
 
 /// The same where there is a clock to pass over, if it doesn't stir. It is code of its own, since a busy block seldom rests.
+#[cold]
 #[inline(never)]
 fn pass_over<F: Fifo>(block: &mut Block<F>, clock: u64, until: u64) -> u64
     requires clock { block.old.run.clock ≡ clock }

@@ -1,12 +1,14 @@
 //! A run of a block beside a stimulus. Clocks in which nothing can move are passed over.
 ghost use Rattle.std.specs.Prelude.{◌≡◌, ℕ, ◌+◌, ◌≤◌, ◌^◌, false, true, is_err, Option, List, OnOk, OnErr};
 ghost use Rattle.pio_edge.specs.Edge.{PutCounts};
+ghost use Rattle.block_core.specs.declared.sample.Sample.{Sample as Values};
 ghost use Rattle.block_core.specs.Hosted.{hosted_at, samples};
 ghost use Rattle.block_core.specs.Stirring.{stirring};
+ghost use Rattle.vcd_trace.specs.Told.{IsNext, told_at};
 ghost use Rattle.idle_engine.specs.Stops.{StopsAt};
 
 use crate::clocks::{rest, rests_until, step};
-use block_core::Block;
+use block_core::{Block, Sample};
 use dreq_pacing::{HostPorts, Schedule, a_clock_without_acts_does_nothing};
 use fifo_pair::Fifo;
 use std::sync::ledger::Ledger;
@@ -47,10 +49,35 @@ pub fn simulate<F: Fifo, T: Trace, L: Ledger>(
     let mut until = rests_until(&ports, 0, &block.requests(), clocks);
     let mut clock = 0;
     'clocks: while clock < clocks {
-        until = step(block, &mut ports, clock, until, clocks);
+        let (rests, is_new) = step(block, &mut ports, clock, until, clocks);
+        until = rests;
         steps.count();
-        trace.sample(clock, block.view())?;
+        tell(trace, clock, block.view(), is_new | (clock == 0))?;
         clock = rest(block, clock + 1, until);
     }
     trace.end(clocks)
+}
+
+/// Tells a trace the sample after a clock, where that may be a new one.
+#[inline(always)]
+fn tell<T: Trace>(
+    trace: &mut T,
+    clock: u64,
+    sample: &Sample,
+    is_new: bool,
+) -> Result<(), TraceFailed>
+    requires { T.has_failed trace.old ≡ false }
+    ensures again { is_new ≡ false → trace.new ≡ trace.old }
+    ensures ok { is_new ≡ true → OnOk result ((b : Option (List ℕ)) (l : List Values) → T.holds trace.old b l false
+        → IsNext l clock → T.holds trace.new b (told_at clock sample.now l) false) }
+    ensures err { OnErr result ((b : Option (List ℕ)) (l : List Values) → T.holds trace.old b l false
+        → IsNext l clock → T.broken trace.new b (told_at clock sample.now l) false) }
+    ensures cause { PutCounts (T.faults trace.old) (T.faults trace.new) result }
+    ensures failed { T.has_failed trace.new ≡ is_err result }
+    ensures same { T.name trace.new ≡ T.name trace.old }
+{
+    if is_new {
+        return trace.sample(clock, sample);
+    }
+    Ok(())
 }
