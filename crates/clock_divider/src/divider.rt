@@ -1,6 +1,6 @@
 //! A divider of 16 whole and 8 fractional bits. Times are in clocks, and within them in 1/256 clocks.
 //! A clock costs no division: the divider keeps the time that is left until its next tick.
-ghost use Rattle.std.specs.Prelude.{◌≡◌, ◌+◌, ◌*◌, ◌^◌, ◌<◌, ◌≤◌, ◌↔◌, IsTrue, IsNone, IfSome};
+ghost use Rattle.std.specs.Prelude.{◌≡◌, ◌+◌, ◌*◌, ◌^◌, ◌<◌, ◌≤◌, ◌↔◌, true, IsTrue, IsNone, IfSome};
 ghost use Rattle.clock_divider.specs.Timing.{Timing, period_of, first, stepped, after_steps, resumed};
 ghost use Rattle.clock_divider.specs.Ticks.{IsTickClock, is_tick, tick_count};
 
@@ -65,6 +65,17 @@ impl Divider {
         } else {
             self.left - 256
         };
+        self.clock += 1;
+    }
+
+    /// One clock on from a tick, which asks for no test.
+    #[inline(always)]
+    pub fn step_from_tick(&mut self)
+        requires tick { is_tick self.old.restarted self.old.period self.old.clock ≡ true }
+        requires clock { self.old.clock < 2 ^ 40 }
+        ensures { self.new ≡ stepped self.old }
+    {
+        self.left = self.left + self.period - 256;
         self.clock += 1;
     }
 

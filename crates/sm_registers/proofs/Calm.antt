@@ -1,5 +1,6 @@
 -- Ticks that change nothing, and ticks that see only what they read.
 use Rattle.std.proofs.Common.{◌≡◌, ℕ, ◌+◌, ◌-◌, ◌*◌, ◌/◌, ◌%◌, ◌^◌, ◌<◌, ◌==◌, nat_lt, nat_le, min, Bool, true, false, cond, not, ◌&&◌, if◌then◌else◌, Option, Some, None, is_some, [], ◌∷◌, refl, sym, ap, ◌∙◌, rules, arith}
+use Rattle.std.proofs.lemmas.Bool.{and_parts}
 use Rattle.std.proofs.lemmas.Bool.Decides.{nat_tests}
 use Rattle.pio_encode.specs.declared.act.Act.{Act}
 use Rattle.pio_encode.specs.declared.act.Act.TheVariants.{Jmp, Wait, In, Out, Push, Pull, Mov, Irq, Set, Nothing}
@@ -28,7 +29,9 @@ use Rattle.sm_registers.specs.declared.view.View.{View}
 use Rattle.sm_registers.specs.Queues.{Queues}
 use Rattle.sm_registers.specs.Intents.{Intent, Kind, First, Late, Delay, no_intent}
 use Rattle.sm_registers.specs.Laws.{IsAlike, bit_of, read_of, jmp_reads, wait_reads, in_reads, mov_reads, irq_reads}
-use Rattle.sm_registers.specs.Effects.{Effect, quiet, stall, has_polarity, waited_flag, jmp_effect, wait_effect, in_effect, autopushed, out_to, out_effect, push_effect, pulled, pull_effect, mov_to, mov_effect, operated, irq_effect, set_effect, effect_of}
+use Rattle.sm_registers.specs.Idling.{is_unmet, stays, undelayed, waits_again}
+use Rattle.sm_registers.specs.Effects.{Effect, quiet, stall, has_polarity, waited_bit, waited_flag, jmp_effect, wait_effect, in_effect, autopushed, out_to, out_effect, push_effect, pulled, pull_effect, mov_to, mov_effect, operated, irq_effect, set_effect, effect_of}
+use Rattle.sm_registers.specs.Rules.{current_act}
 use Rattle.sm_registers.specs.Tick.{current_word, after_effect, refills, refilled, osr_filled_from, side_writes, tick_delay, tick_by, tick_word, tick_of}
 
 -- without a refill the registers stay
@@ -296,3 +299,53 @@ late_stall_waits s v q r begun left h stalled =
     (still_effect op.act s v q r begun).same (sym (ap (λ x. x.1.stalled) here) ∙ stalled) in
     here ∙ ap (λ x. tick_by op s q r x) same ∙ still_tick op s q r e.sticky begun h
     ∙ ap (λ c. (r, record no_intent { sticky = c; kind = Late; stalled = true })) (sym (ap (λ x. x.1.sticky) here))
+
+-- a WAIT whose bit hasn't the polarity only stalls
+is_false : (b : Bool) → not b ≡ true → b ≡ false
+is_false false h = refl
+is_false true h = cc
+
+unmet_effect : (act : Act) (s : MachineSetup) (v : View) (q : Queues) (r : Registers) → is_unmet act s v ≡ true → effect_of act s v q r ≡ stall r
+unfolding effect_of wait_effect
+unmet_effect (Wait polarity source index) s v q r h = rw (is_false (has_polarity polarity (waited_bit source index s v)) h) refl
+unmet_effect (Jmp c address) s v q r h = cc
+unmet_effect (In source n) s v q r h = cc
+unmet_effect (Out destination n) s v q r h = cc
+unmet_effect (Push if_full block) s v q r h = cc
+unmet_effect (Pull if_empty block) s v q r h = cc
+unmet_effect (Mov destination operation source) s v q r h = cc
+unmet_effect (Irq clear waits index) s v q r h = cc
+unmet_effect (Set destination value) s v q r h = cc
+unmet_effect Nothing s v q r h = cc
+
+pub unmet_waits : (s : MachineSetup) (v : View) (q : Queues) (r : Registers) → waits_again s v r ≡ true → tick_of s v q r ≡ (r, record no_intent { kind = Late; stalled = true })
+unfolding tick_of tick_word tick_by
+unmet_waits s v q r h =
+    let op : Op = reading_of (current_word v r) s.side_rule in
+    let e : Effect = effect_of op.act s v q r in
+    let a = and_parts (not s.autopull) (r.delay == 0 && (r.begun && is_unmet op.act s v)) h in
+    let b = and_parts (r.delay == 0) (r.begun && is_unmet op.act s v) a.1 in
+    let c = and_parts r.begun (is_unmet op.act s v) b.1 in
+    let left : r.delay ≡ 0 = is_zero r.delay b.0 in
+    let none : nat_lt 0 r.delay ≡ false = grind (arith, nat_tests) in
+    let here : tick_of s v q r ≡ tick_by op s q r e = rw none refl in
+    let stalls : e ≡ stall r = unmet_effect op.act s v q r c.1 in
+    let empty : refills s q r ≡ false = rw (is_false s.autopull a.0) refl in
+    late_stall_waits s v q r c.0 left empty (ap (λ x. x.1.stalled) here ∙ ap (λ (x : Effect). x.stalled) stalls)
+    ∙ ap (λ k. (r, record no_intent { sticky = k; kind = Late; stalled = true })) (ap (λ x. x.1.sticky) here ∙ ap (λ (x : Effect). x.sticky) stalls)
+  where
+    is_zero : (n : ℕ) → (n == 0) ≡ true → n ≡ 0
+    is_zero n h = grind (arith, nat_tests)
+
+-- so does the instruction as soon as no delay is left
+pub unmet_stays : (s : MachineSetup) (v : View) (q : Queues) (r : Registers) → waits_again s v r ≡ true → stays s v q r ≡ true
+unfolding reading_of
+unmet_stays s v q r h =
+    let a = and_parts (not s.autopull) (r.delay == 0 && (r.begun && is_unmet (current_act v r) s v)) h in
+    let b = and_parts (r.delay == 0) (r.begun && is_unmet (current_act v r) s v) a.1 in
+    let c = and_parts r.begun (is_unmet (current_act v r) s v) b.1 in
+    both r.begun (undelayed s v q r).stalled c.0 (ap (λ (e : Effect). e.stalled) (unmet_effect (current_act v r) s v q (record r { delay = 0 }) c.1))
+  where
+    both : (a b : Bool) → a ≡ true → b ≡ true → (a && b) ≡ true
+    both true b h k = k
+    both false b h k = cc

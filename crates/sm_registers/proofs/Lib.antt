@@ -12,3 +12,4 @@ pub mod Autopull
 pub mod OwnPins
 pub mod Stirs
 pub mod Told
+pub mod BlindTicks

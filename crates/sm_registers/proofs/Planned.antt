@@ -83,10 +83,10 @@ side_none s o = elim s.side_rule.pindirs as (λ b. o ≡ record { levels = writt
 ]
 
 -- what is_ready says
-record IsReady (s : MachineSetup) (r : Registers) : Type 0 where
-  autopull : s.autopull ≡ false
-  begun : r.begun ≡ false
-  pending : r.pending ≡ None
+pub record IsReady (s : MachineSetup) (r : Registers) : Type 0 where
+  pub autopull : s.autopull ≡ false
+  pub begun : r.begun ≡ false
+  pub pending : r.pending ≡ None
 
 ready_by : (autopull at_rest begun some : Bool) → (not autopull && (at_rest && (not begun && not some))) ≡ true → (autopull ≡ false) × ((begun ≡ false) × (some ≡ false))
 ready_by false true false false h = (refl, (refl, refl))
@@ -99,7 +99,7 @@ none_some : (x : Option ℕ) → is_some x ≡ false → x ≡ None
 none_some None h = refl
 none_some (Some n) h = cc
 
-ready : (s : MachineSetup) (r : Registers) → is_ready s r ≡ true → IsReady s r
+pub ready : (s : MachineSetup) (r : Registers) → is_ready s r ≡ true → IsReady s r
 ready s r h = let parts = ready_by s.autopull (r.delay == 0) r.begun (is_some r.pending) h in record {
   autopull = parts.0;
   begun = parts.1.0;

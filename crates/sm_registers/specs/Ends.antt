@@ -1,9 +1,10 @@
 -- What the code of an instruction leaves, as the effect that the definitions speak of.
 --   effect_by       the effect of an instruction that writes no pin
+--   is_plain        it is finished, and leaves no word pending
 --   unwritten       an effect without its writes to pins
 --   written_once    the outputs after an effect's writes
 --   written_side    the outputs after side-set's
-use Rattle.std.specs.Prelude.{ℕ, Bool, if◌then◌else◌, Option, Some}
+use Rattle.std.specs.Prelude.{ℕ, Bool, if◌then◌else◌, true, false, Option, Some}
 use Rattle.pin_matrix.specs.Pins.{written}
 use Rattle.pin_matrix.specs.declared.machine.MachineSetup.{MachineSetup}
 use Rattle.sm_registers.specs.declared.end.End.{End}
@@ -24,6 +25,13 @@ effect_by r w Stalls = wanting w (stall r)
 effect_by r w GoesOn = wanting w (quiet r)
 effect_by r w (Jumps address) = wanting w (record (quiet r) { jump = Some address })
 effect_by r w (Executes word) = wanting w (record (quiet r) { pending = Some word })
+
+-- an instruction that ends so is finished, and leaves no word pending
+abbrev pub is_plain : End → Bool
+is_plain Stalls = false
+is_plain GoesOn = true
+is_plain (Jumps address) = true
+is_plain (Executes word) = false
 
 -- all of it but what is written to pins
 abbrev pub unwritten : Effect → Effect

@@ -8,11 +8,16 @@
 --   stirs_at           whether the tick after so many others stirs
 --   begins_next        the next tick begins an instruction
 --   undelayed          what the current instruction does, without the delay that is left
+--   is_unmet           it is a WAIT whose bit hasn't the polarity
+--   waits_again        the next tick only waits once more
 --   stays              a stall that nothing but the outside ends
 --   idle_of            the ticks until one stirs
 --   IsIdle             what this number means
 --   IsSoon             it is below 32
 use Rattle.std.specs.Prelude.{◌≡◌, ℕ, zero, suc, ◌-◌, ◌<◌, ◌==◌, nat_lt, Bool, true, false, not, ◌&&◌, ◌||◌, if◌then◌else◌}
+use Rattle.pio_encode.specs.declared.act.Act.{Act}
+use Rattle.pio_encode.specs.declared.act.Act.TheVariants.{Wait}
+use Rattle.pio_encode.specs.Word.{reading_of}
 use Rattle.pin_matrix.specs.declared.machine.MachineSetup.{MachineSetup}
 use Rattle.sm_registers.specs.declared.idle.Idle.{Idle}
 use Rattle.sm_registers.specs.declared.idle.Idle.TheVariants.{Ticks, Never}
@@ -20,9 +25,9 @@ use Rattle.sm_registers.specs.Intents.{Intent, Kind, Off, First, Late, Delay, no
 use Rattle.sm_registers.specs.declared.registers.Registers.{Registers}
 use Rattle.sm_registers.specs.declared.view.View.{View}
 use Rattle.sm_registers.specs.Queues.{Queues}
-use Rattle.sm_registers.specs.Effects.{Effect, effect_of}
+use Rattle.sm_registers.specs.Effects.{Effect, effect_of, has_polarity, waited_bit}
 use Rattle.sm_registers.specs.Rules.{current_act}
-use Rattle.sm_registers.specs.Tick.{refills, tick_of}
+use Rattle.sm_registers.specs.Tick.{current_word, refills, tick_of}
 
 -- the tick is the first of its instruction
 abbrev pub begins : Kind → Bool
@@ -71,6 +76,16 @@ begins_next r = (r.delay == 0) && not r.begun
 -- what the current instruction does as soon as no delay is left
 abbrev pub undelayed : MachineSetup → View → Queues → Registers → Effect
 undelayed s v q r = effect_of (current_act v r) s v q (record r { delay = 0 })
+
+-- a WAIT whose bit hasn't the polarity
+abbrev pub is_unmet : Act → MachineSetup → View → Bool
+is_unmet (Wait polarity source index) s v = not (has_polarity polarity (waited_bit source index s v))
+is_unmet act s v = false
+
+-- no delay is left, and a WAIT that stalled before does so again; autopull, which may refill the OSR in it, is off
+abbrev pub waits_again : MachineSetup → View → Registers → Bool
+waits_again s v r =
+    not s.autopull && (r.delay == 0 && (r.begun && is_unmet (reading_of (current_word v r) s.side_rule).act s v))
 
 -- its instruction stalled before, and stalls again
 abbrev pub stays : MachineSetup → View → Queues → Registers → Bool

@@ -4,6 +4,7 @@ pub mod Effects
 pub mod Decoding
 pub mod Tick
 pub mod Prompt
+pub mod Blind
 pub mod Plans
 pub mod Ends
 pub mod Ranges

@@ -1,5 +1,7 @@
 //! How long a machine idles: the ticks before the next one that stirs, found without making any of them.
 ghost use Rattle.std.specs.Prelude.{◌≡◌};
+ghost use Rattle.pio_encode.specs.Ranges.{IsInRange};
+ghost use Rattle.pio_encode.specs.Word.{reading_of};
 ghost use Rattle.sm_registers.specs.Idling as spec;
 ghost use Rattle.sm_registers.specs.Ends.{effect_by};
 ghost use Rattle.sm_registers.specs.Ranges.{IsPlaced};
@@ -16,9 +18,11 @@ use crate::outputs::Outputs;
 use crate::registers::Registers;
 use crate::tick::current_word;
 use crate::view::View;
+use crate::waiting::waited_bit;
 use crate::wants::Wants;
 use fifo_pair::{Fifo, Pair};
 use pin_matrix::MachineSetup;
+use pio_encode::{Act, decode};
 
 /// The ticks before the next one that stirs, of a machine that sees the same in each.
 pub(crate) fn idle_of<F: Fifo>(
@@ -34,11 +38,61 @@ pub(crate) fn idle_of<F: Fifo>(
 {
     if refills(setup, fifos, registers) {
         Idle::Ticks(0)
+    } else if waits_again(setup, view, decoded, registers) {
+        Idle::Never
     } else if registers.begun && stalls_again(setup, view, fifos, decoded, registers) {
         Idle::Never
     } else {
         Idle::Ticks(registers.delay)
     }
+}
+
+/// Whether the next tick only waits once more: a WAIT stalled before, and its bit hasn't the polarity yet. Autopull is off.
+#[inline(always)]
+#[tactic(auto, unfolding(pio_encode::specs::Word::reading_of))]
+pub(crate) fn waits_again(
+    setup: &MachineSetup,
+    view: &View,
+    decoded: &Decoded,
+    registers: &Registers,
+) -> bool
+    requires placed { IsPlaced registers.now }
+    requires setup { decoded.now.setup ≡ setup.now }
+    ensures { result ≡ spec.waits_again setup.now view.now registers.now }
+{
+    if !registers.begun || setup.autopull || registers.delay > 0 {
+        return false;
+    }
+    let (place, word) = current_word(view, registers);
+    if decoded.has_read(place, word) {
+        return is_unmet(&decoded.reading(place).op.act, setup, view);
+    }
+    is_unmet_anew(word, setup, view)
+}
+
+/// Whether an act is a WAIT whose bit hasn't the polarity.
+#[inline(always)]
+fn is_unmet(act: &Act, setup: &MachineSetup, view: &View) -> bool
+    requires { IsInRange act.now }
+    ensures { result ≡ spec.is_unmet act.now setup.now view.now }
+{
+    match *act {
+        Act::Wait {
+            polarity,
+            source,
+            index,
+        } => waited_bit(source, index, setup, view) != polarity,
+        _ => false,
+    }
+}
+
+/// The same of a word that has to be decoded. A call of its own, since a word that stalled was read.
+#[cold]
+#[inline(never)]
+fn is_unmet_anew(word: u16, setup: &MachineSetup, view: &View) -> bool
+    ensures { result ≡ spec.is_unmet (reading_of word setup.now.side_rule).act setup.now view.now }
+{
+    is_unmet(&decode(word, &setup.side_rule).act, setup, view)
 }
 
 /// Whether autopull is due and TX has a word.

@@ -1,8 +1,12 @@
 //! JMP (RP2040 Datasheet, section 3.4.2).
-ghost use Rattle.std.specs.Prelude.{◌≡◌, ◌<◌};
+ghost use Rattle.std.specs.Prelude.{◌≡◌, ◌<◌, true, Some, None, if◌then◌else◌};
+ghost use Rattle.pin_matrix.specs.declared.machine.MachineSetup as spec_setup;
+ghost use Rattle.pio_encode.specs.declared.act.Condition.TheVariants as condition;
 ghost use Rattle.sm_registers.specs.Effects as spec;
-ghost use Rattle.sm_registers.specs.Ends.{effect_by};
+ghost use Rattle.sm_registers.specs.Ends.{effect_by, is_plain};
 ghost use Rattle.sm_registers.specs.Intents.{no_wants};
+ghost use Rattle.sm_registers.specs.declared.registers.Registers as spec_registers;
+ghost use Rattle.sm_registers.specs.declared.view.View as spec_view;
 
 use crate::end::End;
 use crate::registers::Registers;
@@ -24,6 +28,46 @@ pub(crate) fn jmp_effect(
 {
     let is_taken = jumps(condition, setup, view, registers);
     count_down(condition, registers);
+    jump_where(is_taken, address)
+}
+
+/// JMP `x--`, which looks at nothing but X.
+#[inline(always)]
+#[tactic(auto, unfolding(crate::specs::Effects::jmp_effect))]
+pub(crate) fn count_x(address: u8, registers: &mut Registers) -> End
+    ensures effect { (s : spec_setup.MachineSetup) (v : spec_view.View) → effect_by registers.new no_wants result
+        ≡ spec.jmp_effect condition.XDecrement address s v registers.old }
+    ensures pending { registers.new.pending ≡ registers.old.pending }
+    ensures begun { registers.new.begun ≡ registers.old.begun }
+    ensures plain { is_plain result ≡ true }
+{
+    let is_taken = registers.x != 0;
+    registers.x = registers.x.wrapping_sub(1);
+    jump_where(is_taken, address)
+}
+
+/// JMP `y--`, which looks at nothing but Y.
+#[inline(always)]
+#[tactic(auto, unfolding(crate::specs::Effects::jmp_effect))]
+pub(crate) fn count_y(address: u8, registers: &mut Registers) -> End
+    ensures effect { (s : spec_setup.MachineSetup) (v : spec_view.View) → effect_by registers.new no_wants result
+        ≡ spec.jmp_effect condition.YDecrement address s v registers.old }
+    ensures pending { registers.new.pending ≡ registers.old.pending }
+    ensures begun { registers.new.begun ≡ registers.old.begun }
+    ensures plain { is_plain result ≡ true }
+{
+    let is_taken = registers.y != 0;
+    registers.y = registers.y.wrapping_sub(1);
+    jump_where(is_taken, address)
+}
+
+/// How a JMP ends, by whether it is taken.
+#[inline(always)]
+fn jump_where(is_taken: bool, address: u8) -> End
+    ensures plain { is_plain result ≡ true }
+    ensures effect { (r : spec_registers.Registers) → effect_by r no_wants result
+        ≡ record (spec.quiet r) { jump = if is_taken then Some address else None } }
+{
     if is_taken {
         End::Jumps(address)
     } else {

@@ -1,6 +1,7 @@
 //! One state machine of the RP2040's PIO: its registers, its FIFOs, and what one tick does to them.
 #![tactic(auto)]
 
+mod blind;
 mod decoded;
 mod end;
 mod fifo_laws;
@@ -32,9 +33,10 @@ pub use fifo_laws::{
 };
 pub use idle::Idle;
 pub use laws::{
-    a_calm_tick_only_counts, a_delay_only_counts, a_first_tick_stirs, a_late_stall_only_waits,
-    a_machine_idles_until_it_stirs, a_tick_sees_what_it_reads, a_tick_writes_its_own_pins,
-    moves_are_fair, no_word_is_lost, ranges_are_kept, writes_are_of_pins,
+    a_blind_tick_sees_nothing, a_calm_tick_only_counts, a_delay_only_counts, a_first_tick_stirs,
+    a_late_stall_only_waits, a_machine_idles_until_it_stirs, a_tick_sees_what_it_reads,
+    a_tick_writes_its_own_pins, a_wait_that_goes_on_does_nothing, moves_are_fair, no_word_is_lost,
+    ranges_are_kept, writes_are_of_pins,
 };
 pub use machine::Machine;
 pub use order_laws::{

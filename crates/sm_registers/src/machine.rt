@@ -1,15 +1,16 @@
 //! A state machine with its FIFOs. In a clock it ticks or doesn't, and then settles what it and the system want.
-ghost use Rattle.std.specs.Prelude.{◌≡◌, ℕ, ◌-◌, ◌<◌, false, true, length, IsTrue, IsSome, IfOk};
+ghost use Rattle.std.specs.Prelude.{◌≡◌, ◌==◌, ℕ, ◌-◌, ◌<◌, false, true, Some, is_some, length, IsTrue, IsSome, IfOk};
 ghost use Rattle.sm_registers.specs.Intents.{intent_of, no_wants, wants_of, written_by};
-ghost use Rattle.sm_registers.specs.Idling.{IsIdle, IsSoon, after_ticks, begins_next, idle_of, is_counting, only_counts, stirs_at};
-ghost use Rattle.sm_registers.specs.Prompt.{is_prompt};
+ghost use Rattle.sm_registers.specs.Idling.{IsIdle, IsSoon, after_ticks, begins_next, idle_of, is_counting, only_counts, stirs_at, waits_again};
+ghost use Rattle.sm_registers.specs.Blind.{is_blind};
+ghost use Rattle.sm_registers.specs.Prompt.{is_prompt, is_ready};
 ghost use Rattle.sm_registers.specs.State.{IsKept, first_machine, queues_of, settled_ports, shown_of, uses_fifos};
 ghost use Rattle.sm_registers.specs.State as spec;
 ghost use Rattle.sm_registers.specs.Tick as spec_tick;
 
+use crate::blind::blind_tick;
 use crate::decoded::Decoded;
 use crate::idle::Idle;
-use crate::idling;
 use crate::idling::refills;
 use crate::outputs::Outputs;
 use crate::prompt::prompt_tick;
@@ -19,6 +20,7 @@ use crate::sticky::{RX_UNDER, TX_OVER};
 use crate::tick::tick_of;
 use crate::view::View;
 use crate::wants::Wants;
+use crate::{idling, prompt};
 use fifo_pair::{Fifo, Pair};
 use pin_matrix::MachineSetup;
 use std::alloc::{AllocError, Global};
@@ -127,6 +129,53 @@ impl<F: Fifo> Machine<F> {
         )
     }
 
+    /// Whether its next tick begins an instruction from memory, on a machine without autopull.
+    #[inline(always)]
+    pub fn is_ready(&self) -> bool
+        ensures { result ≡ is_ready self.now.setup self.now.registers }
+    {
+        prompt::is_ready(&self.setup, &self.registers)
+    }
+
+    /// Makes its next tick, which is ready, where that is blind, and else does nothing: the instruction has no act beside its
+    /// pins and PC, or counts X or Y down, or is an OUT to pins. Such a tick is prompt, and it doesn't matter what pins and flags
+    /// the view has (`a_blind_tick_sees_nothing`). Where it made it, it tells whether the outputs may be other ones. The next
+    /// tick is ready then, if no delay is left.
+    #[inline(always)]
+    pub fn tick_blindly(&mut self, view: &View, outputs: &mut Outputs) -> Option<bool>
+        requires { is_ready self.old.setup self.old.registers ≡ true }
+        ensures made { is_some result ≡ is_blind self.old.setup view.now self.old.registers }
+        ensures state { is_some result ≡ true → self.new ≡ record self.old {
+          registers =
+              (spec_tick.tick_of self.old.setup view.now (queues_of self.old.ports.fifos) self.old.registers).0;
+        } }
+        ensures outputs { is_some result ≡ true → outputs.new ≡ written_by outputs.old
+            (spec_tick.tick_of self.old.setup view.now (queues_of self.old.ports.fifos) self.old.registers).1 }
+        ensures wants { is_some result ≡ true → wants_of
+            (spec_tick.tick_of self.old.setup view.now (queues_of self.old.ports.fifos) self.old.registers).1 ≡ no_wants }
+        ensures changes { result ≡ Some false → outputs.new ≡ outputs.old }
+        ensures ready { is_some result ≡ true → is_ready self.new.setup self.new.registers ≡ (self.new.registers.delay == 0) }
+        ensures kept { is_some result ≡ false → self.new ≡ self.old }
+        ensures kept_outputs { is_some result ≡ false → outputs.new ≡ outputs.old }
+    {
+        blind_tick(
+            &self.setup,
+            view,
+            &self.fifos,
+            &mut self.decoded,
+            &mut self.registers,
+            outputs,
+        )
+    }
+
+    /// Whether no tick of a delay is left.
+    #[inline(always)]
+    pub fn has_no_delay(&self) -> bool
+        ensures { result ≡ (self.now.registers.delay == 0) }
+    {
+        self.registers.delay == 0
+    }
+
     /// Makes its next tick where that only counts a delay, and else does nothing. True where it made it. Outside the registers
     /// such a tick does nothing (`a_delay_only_counts`).
     #[inline(always)]
@@ -143,6 +192,14 @@ impl<F: Fifo> Machine<F> {
         }
         self.registers.delay -= 1;
         true
+    }
+
+    /// Whether its next tick only waits once more, seeing this: it changes nothing (`a_wait_that_goes_on_does_nothing`).
+    #[inline(always)]
+    pub fn waits_again(&self, view: &View) -> bool
+        ensures { result ≡ waits_again self.now.setup view.now self.now.registers }
+    {
+        idling::waits_again(&self.setup, view, &self.decoded, &self.registers)
     }
 
     /// Whether its next tick begins an instruction. Such a tick stirs, whatever it sees (`a_first_tick_stirs`).

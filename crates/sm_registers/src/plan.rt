@@ -1,22 +1,39 @@
 //! What is known of a prompt tick from its word and the machine's setup: it is worked out when the word is decoded.
-ghost use Rattle.std.specs.Prelude.{◌≡◌, ◌≤◌, ℕ};
+ghost use Rattle.std.specs.Prelude.{◌≡◌, ◌≤◌, ℕ, false};
 ghost use Rattle.pin_matrix.specs.Pins.{IsWrite, written};
 ghost use Rattle.sm_registers.specs.Plans as spec;
-ghost use Rattle.sm_registers.specs.Plans.{mask_of, writes_some};
+ghost use Rattle.sm_registers.specs.Plans.{mask_of, turns_some, writes_some};
 ghost use Rattle.sm_registers.specs.Tick.{next_after};
 
 use crate::mask::Mask;
 use crate::outputs::Outputs;
 use pin_matrix::{MachineSetup, writes_of};
-use pio_encode::{Act, Condition, Op, SetDestination};
+use pio_encode::{Act, Condition, Op, OutDestination, SetDestination};
+
+/// What is left of an act, beside its pins and PC, where that looks at nothing but registers.
+#[derive(Clone, Copy)]
+pub(crate) enum Left {
+    /// JMP `x--` to this address.
+    CountX { target: u8 },
+    /// JMP `y--` to this address.
+    CountY { target: u8 },
+    /// OUT of so many bits to pins.
+    OutPins { count: u8 },
+    /// Any other act.
+    More,
+}
 
 /// What is known of it.
 #[derive(Clone, Copy)]
 pub(crate) struct Plan {
     /// Whether its pins and PC are all that it does; else its act is still to be done.
     pub done: bool,
+    /// What is left of its act, where that looks at nothing but registers.
+    pub left: Left,
     /// Whether it writes pins.
     pub writes: bool,
+    /// Whether it writes directions, as few do.
+    pub turns: bool,
     /// PC after it, where no act that is still to be done jumps.
     pub next: u8,
     /// The levels that it writes, but for an act that is still to be done.
@@ -35,25 +52,37 @@ impl Plan {
         let directions = direction_write(op, setup);
         Plan {
             done: is_done(op),
+            left: left_of(op),
             next: next_of(op, address, setup),
             writes: !(levels.0 == 0 && directions.0 == 0),
+            turns: directions.0 != 0,
             levels: Mask::of(levels),
             directions: Mask::of(directions),
         }
     }
 
-    /// Writes the pins that are known.
+    /// Writes the pins that are known. False only where the outputs stay.
     #[inline(always)]
-    pub fn write(&self, outputs: &mut Outputs)
-        ensures { (levels directions : ℕ × ℕ) → IsWrite levels → IsWrite directions
+    pub fn write(&self, outputs: &mut Outputs) -> bool
+        ensures changes { result ≡ false → outputs.new ≡ outputs.old }
+        ensures outputs { (levels directions : ℕ × ℕ) → IsWrite levels → IsWrite directions
             → self.now.levels ≡ mask_of levels → self.now.directions ≡ mask_of directions
-            → self.now.writes ≡ writes_some levels directions
+            → self.now.writes ≡ writes_some levels directions → self.now.turns ≡ turns_some directions
             → outputs.new ≡ record { levels = written outputs.old.levels levels; directions = written outputs.old.directions directions } }
     {
-        if self.writes {
-            outputs.levels = self.levels.apply(outputs.levels);
-            outputs.directions = self.directions.apply(outputs.directions);
+        if !self.writes {
+            return false;
         }
+        let levels = self.levels.apply(outputs.levels);
+        let changes = levels != outputs.levels;
+        outputs.levels = levels;
+        if !self.turns {
+            return changes;
+        }
+        let directions = self.directions.apply(outputs.directions);
+        let turned = directions != outputs.directions;
+        outputs.directions = directions;
+        changes | turned
     }
 }
 
@@ -76,6 +105,27 @@ fn is_done(op: &Op) -> bool
             ..
         } => op.side.is_none(),
         _ => false,
+    }
+}
+
+/// What is left of its act, where that looks at nothing but registers.
+fn left_of(op: &Op) -> Left
+    ensures { result ≡ spec.left_of op.now.act }
+{
+    match op.act {
+        Act::Jmp {
+            condition: Condition::XDecrement,
+            address,
+        } => Left::CountX { target: address },
+        Act::Jmp {
+            condition: Condition::YDecrement,
+            address,
+        } => Left::CountY { target: address },
+        Act::Out {
+            destination: OutDestination::Pins,
+            count,
+        } => Left::OutPins { count },
+        _ => Left::More,
     }
 }
 

@@ -5,7 +5,7 @@ ghost use Rattle.pio_encode.specs.Ranges.{IsInRange};
 ghost use Rattle.pio_encode.specs.Word.{reading_of};
 ghost use Rattle.sm_registers.specs.Effects as spec_effects;
 ghost use Rattle.sm_registers.specs.Decoding.{IsReading};
-ghost use Rattle.sm_registers.specs.Ends.{effect_by, unwritten, written_once, written_side};
+ghost use Rattle.sm_registers.specs.Ends.{effect_by, is_plain, unwritten, written_once, written_side};
 ghost use Rattle.sm_registers.specs.Intents.{no_wants, wants_of, written_by};
 ghost use Rattle.sm_registers.specs.Plans.{planned};
 ghost use Rattle.sm_registers.specs.Queues.{Queues};
@@ -93,7 +93,7 @@ fn read_and_run<F: Fifo>(
 
 /// Whether the next tick begins an instruction from memory, and autopull isn't on.
 #[inline(always)]
-fn is_ready(setup: &MachineSetup, registers: &Registers) -> bool
+pub(crate) fn is_ready(setup: &MachineSetup, registers: &Registers) -> bool
     ensures { result ≡ is_ready setup.now registers.now }
 {
     // One test for the three, which few ticks fail.
@@ -123,24 +123,27 @@ fn run_promptly<F: Fifo>(
     ensures kept_outputs { result ≡ false → outputs.new ≡ outputs.old }
 {
     if reading.plan.done {
-        run_known(reading, setup, registers, outputs);
+        let _changes = run_known(reading, setup, registers, outputs);
         return true;
     }
     run_left(reading, setup, view, fifos, registers, outputs)
 }
 
-/// Runs an instruction of which all is known, whatever it sees.
+/// Runs an instruction of which all is known, whatever it sees. False only where the outputs stay.
 #[inline(always)]
-fn run_known(
+pub(crate) fn run_known(
     reading: &Reading,
     setup: &MachineSetup,
     registers: &mut Registers,
     outputs: &mut Outputs,
-)
+) -> bool
     requires reading { IsReading setup.now registers.old.pc reading.now }
     requires ready { is_ready setup.now registers.old ≡ true }
     requires done { reading.now.plan.done ≡ true }
     ensures runs { never_waits reading.now.op.act ≡ true }
+    ensures changes { result ≡ false → outputs.new ≡ outputs.old }
+    ensures pending { registers.new.pending ≡ registers.old.pending }
+    ensures begun { registers.new.begun ≡ registers.old.begun }
     ensures registers { (v : spec_view.View) (q : Queues) → registers.new ≡ (spec.tick_word reading.now.op setup.now v q registers.old).0 }
     ensures outputs { (v : spec_view.View) (q : Queues) → outputs.new
         ≡ written_by outputs.old (spec.tick_word reading.now.op setup.now v q registers.old).1 }
@@ -148,7 +151,7 @@ fn run_known(
 {
     registers.pc = reading.plan.next;
     registers.delay = reading.op.delay;
-    write_known(reading, setup, outputs);
+    write_known(reading, setup, outputs)
 }
 
 /// The same of one whose act is still to be done, where it never waits; else nothing changes. True where it ran it.
@@ -179,26 +182,29 @@ fn run_left<F: Fifo>(
         return false;
     };
     end_promptly(end, reading.op.delay, reading.plan.next, registers);
-    write_known(reading, setup, outputs);
+    let _changes = write_known(reading, setup, outputs);
     true
 }
 
-/// Writes the pins that are known of an instruction.
+/// Writes the pins that are known of an instruction. False only where the outputs stay.
 #[inline(always)]
-fn write_known(reading: &Reading, setup: &MachineSetup, outputs: &mut Outputs)
+pub(crate) fn write_known(reading: &Reading, setup: &MachineSetup, outputs: &mut Outputs) -> bool
     requires { (address : ℕ) × IsReading setup.now address reading.now }
-    ensures { outputs.new ≡ planned setup.now reading.now.op outputs.old }
+    ensures outputs { outputs.new ≡ planned setup.now reading.now.op outputs.old }
+    ensures changes { result ≡ false → outputs.new ≡ outputs.old }
 {
-    reading.plan.write(outputs);
+    reading.plan.write(outputs)
 }
 
 /// The registers at the end of an instruction from memory that has not stalled. They have no pending word.
 #[inline(always)]
 #[tactic(auto, unfolding(crate::specs::Tick::after_effect))]
-fn end_promptly(end: End, delay: u8, next: u8, registers: &mut Registers)
+pub(crate) fn end_promptly(end: End, delay: u8, next: u8, registers: &mut Registers)
     requires pending { registers.old.pending ≡ None }
     requires begun { registers.old.begun ≡ false }
-    ensures { (setup : spec_setup.MachineSetup) (before : spec_registers.Registers)
+    ensures still_pending { is_plain end ≡ true → registers.new.pending ≡ registers.old.pending }
+    ensures still_begun { is_plain end ≡ true → registers.new.begun ≡ registers.old.begun }
+    ensures after { (setup : spec_setup.MachineSetup) (before : spec_registers.Registers)
         → next ≡ spec.next_after setup before.pc → before.pending ≡ None
         → registers.new ≡ spec.after_effect delay setup before (effect_by registers.old no_wants end) }
 {

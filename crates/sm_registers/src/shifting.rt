@@ -1,7 +1,8 @@
 //! IN and OUT: bits into the ISR and out of the OSR (RP2040 Datasheet, sections 3.4.4, 3.4.5 and 3.5.4).
-ghost use Rattle.std.specs.Prelude.{◌≡◌, ◌≤◌, Some};
+ghost use Rattle.std.specs.Prelude.{◌≡◌, ◌≤◌, true, Some};
+ghost use Rattle.pio_encode.specs.declared.act.OutDestination.TheVariants as variants;
 ghost use Rattle.sm_registers.specs.Effects as spec;
-ghost use Rattle.sm_registers.specs.Ends.{effect_by, unwritten, written_once};
+ghost use Rattle.sm_registers.specs.Ends.{effect_by, is_plain, unwritten, written_once};
 ghost use Rattle.sm_registers.specs.Intents.{no_wants};
 ghost use Rattle.sm_registers.specs.State.{queues_of};
 
@@ -142,6 +143,9 @@ pub(crate) fn put_bits_out(
     requires placed { registers.old.out_count ≤ 32 }
     ensures value { effect_by registers.new no_wants result ≡ unwritten (spec.bits_out_to destination count setup.now registers.old) }
     ensures outputs { outputs.new ≡ written_once outputs.old (spec.bits_out_to destination count setup.now registers.old) }
+    ensures plain { destination ≡ variants.Pins → is_plain result ≡ true }
+    ensures pending { registers.new.pending ≡ registers.old.pending }
+    ensures begun { registers.new.begun ≡ registers.old.begun }
 {
     let (value, osr) = shift_out(registers.osr, count, setup.out_right);
     registers.osr = osr;
@@ -161,6 +165,9 @@ fn out_to(
 ) -> End
     ensures value { effect_by registers.new no_wants result ≡ unwritten (spec.out_to destination value count setup.now registers.old) }
     ensures outputs { outputs.new ≡ written_once outputs.old (spec.out_to destination value count setup.now registers.old) }
+    ensures plain { destination ≡ variants.Pins → is_plain result ≡ true }
+    ensures pending { registers.new.pending ≡ registers.old.pending }
+    ensures begun { registers.new.begun ≡ registers.old.begun }
 {
     match destination {
         OutDestination::Pins => outputs.write_levels(writes_of(&setup.out, value)),

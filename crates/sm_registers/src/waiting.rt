@@ -39,7 +39,8 @@ pub(crate) fn wait_effect(
 }
 
 /// What it looks at; a pin is counted from the input base.
-fn waited_bit(source: WaitSource, index: u8, setup: &MachineSetup, view: &View) -> bool
+#[inline(always)]
+pub(crate) fn waited_bit(source: WaitSource, index: u8, setup: &MachineSetup, view: &View) -> bool
     requires { index < 32 }
     ensures { result ≡ spec.waited_bit source index setup.now view.now }
 {

@@ -17,7 +17,7 @@ pub returns-clause-outputs : goal.returns-clause-outputs
 returns-clause-outputs c = λ v q.
     let op = c.args.reading.now.op in
     let done : is_done op.side op.act ≡ true = sym (ap (λ (p : Plan). p.done) c.requires.reading.plan) ∙ c.requires.done in
-    c.write_known.ensures ∙ (known op c.args.setup.now v q c.args.registers.now c.args.outputs.now c.requires.ready done).outputs
+    c.write_known.ensures.outputs ∙ (known op c.args.setup.now v q c.args.registers.now c.args.outputs.now c.requires.ready done).outputs
 
 pub returns-clause-wants : goal.returns-clause-wants
 returns-clause-wants c = λ v q.
