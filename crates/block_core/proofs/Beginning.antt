@@ -1,17 +1,18 @@
 -- A clock in which the pads change, or a machine begins an instruction, moves the block on.
-use Rattle.std.proofs.Common.{◌≡◌, ℕ, Bool, true, false, ◌&&◌, ◌||◌, Option, Some, None, List, [], ◌∷◌, map, cond, refl, ap, sym, ◌∙◌, subst}
+use Rattle.std.proofs.Common.{◌≡◌, ℕ, ◌==◌, Bool, true, false, not, ◌&&◌, ◌||◌, Option, Some, None, is_some, List, [], ◌∷◌, map, cond, refl, ap, sym, ◌∙◌, subst}
 use Rattle.std.specs.List.{list_any}
 use Rattle.pin_matrix.specs.declared.machine.MachineSetup.{MachineSetup}
 use Rattle.sm_registers.specs.declared.registers.Registers.{Registers}
 use Rattle.sm_registers.specs.declared.view.View.{View}
 use Rattle.sm_registers.specs.Intents.{no_intent}
 use Rattle.sm_registers.specs.Idling.{stirs, begins_next}
+use Rattle.sm_registers.specs.Prompt as prompt
 use Rattle.sm_registers.specs.Queues.{Queues}
 use Rattle.sm_registers.specs.State.{queues_of}
 use Rattle.sm_registers.specs.Tick.{tick_of}
 use Rattle.dreq_pacing.specs.Due.{quiet}
 use Rattle.block_core.specs.Block.{Run, pads_in, view_of, seen_in, seen_over}
-use Rattle.block_core.specs.Slots.{Slot, has_tick, acted, place_intent}
+use Rattle.block_core.specs.Slots.{Slot, has_tick, acted, is_ready, place_intent}
 use Rattle.block_core.specs.Stirring.{machines_stir, machines_stir_over, pads_change, pads_change_over, moves_on, begins_now, plainly_moves_on}
 use Rattle.block_core.specs.Twin.{TwinRun, twin_pads_in, twin_pads_change, twin_moves_on, plainly_twin_moves_on}
 use Rattle.block_core.proofs.Rests.{lined_quiet}
@@ -101,3 +102,24 @@ pub twin_by_machines : (t : TwinRun) (pad : ℕ) → pad ≡ twin_pads_in quiet 
 unfolding plainly_twin_moves_on
 twin_by_machines t pad is h =
     sym (ap (λ p. p || (list_any begins_now t.first.state.machines || list_any begins_now t.second.state.machines)) (ap (λ p. twin_pads_change p t) (sym is) ∙ h))
+
+-- a machine that is ready begins
+ready_begins : (s : Slot) → is_ready (Some s) ≡ true → begins_now (Some s) ≡ true
+ready_begins s h =
+    let r = s.machine.registers in
+    let parts = both (has_tick s) (prompt.is_ready s.machine.setup r) h in
+    let rests = both (r.delay == 0) (not r.begun && not (is_some r.pending)) (both (not s.machine.setup.autopull) ((r.delay == 0) && (not r.begun && not (is_some r.pending))) parts.1).1 in
+    and_true (has_tick s) (begins_next r) parts.0 (and_true (r.delay == 0) (not r.begun) rests.0 (both (not r.begun) (not (is_some r.pending)) rests.1).0)
+  where
+    and_true : (a b : Bool) → a ≡ true → b ≡ true → (a && b) ≡ true
+    and_true true b h k = k
+    and_true false b h k = cc
+
+pub first_begins : (place : Option Slot) (others : List (Option Slot)) → is_ready place ≡ true → list_any begins_now (place ∷ others) ≡ true
+first_begins None others h = cc
+first_begins (Some s) others h = or_left (begins_now (Some s)) (list_any begins_now others) (ready_begins s h)
+
+-- a block in which one begins plainly moves on
+pub by_beginning : (r : Run) (pad : ℕ) → pad ≡ pads_in quiet r.state → list_any begins_now r.state.machines ≡ true → true ≡ plainly_moves_on r
+unfolding plainly_moves_on
+by_beginning r pad is h = sym (or_right (pads_change quiet r) (list_any begins_now r.state.machines) h)

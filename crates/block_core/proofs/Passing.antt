@@ -16,7 +16,7 @@ use Rattle.sm_registers.specs.Tick.{refills, tick_of}
 use Rattle.dreq_pacing.specs.Due.{quiet}
 use Rattle.block_core.specs.declared.merging.Wanted.{Wanted}
 use Rattle.block_core.specs.Merging.{with_intent}
-use Rattle.block_core.specs.Slots.{Slot, lined, has_tick, acted, settled_slot, slot_after, slot_intent, slot_uses_fifos}
+use Rattle.block_core.specs.Slots.{Slot, lined, only_waiting, has_tick, acted, settled_slot, slot_after, slot_intent, slot_uses_fifos}
 use Rattle.block_core.proofs.Rests.{no_line, no_word, lined_quiet, clock_on}
 use Rattle.block_core.proofs.Wanting.{nothing_added}
 
@@ -75,6 +75,14 @@ any_kind w k = sym (nothing_added w)
 
 pub adds_nothing : (w : Wanted) (i : Intent) → i ≡ record no_intent { kind = i.kind } → w ≡ with_intent w i
 adds_nothing w i e = subst (λ (x : Intent). w ≡ with_intent w x) (sym e) (any_kind w i.kind)
+
+-- the same of a tick that only waits once more
+waiting_adds : (w : Wanted) → w ≡ with_intent w only_waiting
+unfolding with_intent merged
+waiting_adds w = sym (nothing_added w)
+
+pub waiting_adds_nothing : (w : Wanted) (i : Intent) → i ≡ only_waiting → w ≡ with_intent w i
+waiting_adds_nothing w i e = waiting_adds w ∙ ap (with_intent w) (sym e)
 
 pub writes_nothing : (o : Outputs) (i : Intent) → i ≡ record no_intent { kind = i.kind } → o ≡ written_by o i
 unfolding merged

@@ -1,12 +1,12 @@
 -- What a block keeps true of its fields, which no contract names.
-use Rattle.std.specs.Prelude.{◌≡◌, ℕ, ◌+◌, ◌^◌, ◌<◌, ◌≤◌, Bool, ◌&&◌, Option, Some, None, is_none, List, [], ◌∷◌}
+use Rattle.std.specs.Prelude.{◌≡◌, ℕ, ◌+◌, ◌^◌, ◌<◌, ◌≤◌, Bool, true, ◌&&◌, Option, Some, None, is_none, List, [], ◌∷◌}
 use Rattle.std.specs.List.{AllByRecursion}
 use Rattle.sm_registers.specs.Told.{IsKnown}
 use Rattle.sm_registers.specs.declared.view.View.{View}
 use Rattle.block_core.specs.declared.sample.Sample.{Sample}
 use Rattle.block_core.specs.Block.{BlockState}
 use Rattle.block_core.specs.Shown.{sample_of}
-use Rattle.block_core.specs.Slots.{Slot}
+use Rattle.block_core.specs.Slots.{Slot, is_ready}
 
 -- a place's divider is in this clock, and its transfers moved at most a word in each
 abbrev pub IsInStep : ℕ → Option Slot → Type 0
@@ -57,6 +57,10 @@ state_of a b c d levels directions flags outside = record {
 -- no machine is configured at any of three places
 abbrev pub are_empty : {A : Type 0} → (b c d : Option A) → Bool
 are_empty b c d = is_none b && (is_none c && is_none d)
+
+-- where the block knows that a machine is ready, that is the only one
+abbrev pub IsKnownReady : (ready alone : Bool) → (first : Option Slot) → Type 0
+IsKnownReady ready alone first = ready ≡ true → (alone ≡ true) × (is_ready first ≡ true)
 
 -- The sample is that of the state.
 pub record IsSampleOf (state : BlockState) (sample : Sample) : Type 0 where

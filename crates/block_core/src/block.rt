@@ -5,7 +5,6 @@ ghost use Rattle.dreq_pacing.specs.Ports.{IsFirst};
 ghost use Rattle.block_core.specs.Block.{first_run, next, pads_in, run_from, wanted_in, uses_fifos_in, level_writes, direction_writes, TakesLastWrites};
 ghost use Rattle.block_core.specs.Resting.{rested};
 ghost use Rattle.block_core.specs.Shown.{sample_of, requests_of, moved_of};
-ghost use Rattle.block_core.specs.Slots.{doing};
 ghost use Rattle.block_core.specs.Stirring.{moves_on, plainly_moves_on};
 
 use crate::Sample;
@@ -66,7 +65,9 @@ impl<F: Fifo> Block<F> {
         ensures calls { self.new.calls ≡ self.old.calls + 1 }
     {
         let pad = self.running.pads(Some(due));
-        self.step(pad, Some(due))
+        let used = self.running.step(pad, Some(due));
+        self.pad = self.running.pads(None);
+        used
     }
 
     /// The same, in which the system does nothing, and what it may have changed.
@@ -86,24 +87,6 @@ impl<F: Fifo> Block<F> {
         news
     }
 
-    /// One clock with its pads, in which the system does this, where it does anything.
-    #[inline(always)]
-    fn step(&mut self, pad: u32, due: Option<&Due>) -> bool
-        requires clock { self.old.run.clock < 2 ^ 40 }
-        requires pad { pad ≡ pads_in (doing due) self.old.run.state }
-        ensures run { self.new.run ≡ next (doing due.entry) self.old.run }
-        ensures used { result ≡ uses_fifos_in (doing due.entry) self.old.run }
-        ensures levels { TakesLastWrites self.old.run.state.levels self.new.run.state.levels
-            (level_writes (wanted_in (doing due.entry) self.old.run)) }
-        ensures directions { TakesLastWrites self.old.run.state.directions self.new.run.state.directions
-            (direction_writes (wanted_in (doing due.entry) self.old.run)) }
-        ensures calls { self.new.calls ≡ self.old.calls + 1 }
-    {
-        let used = self.running.step(pad, due);
-        self.pad = self.running.pads(None);
-        used
-    }
-
     /// Whether the present clock stirs, if the system does nothing in it, by what is known without asking a machine what it
     /// sees: the pads change, or a machine begins an instruction. Such a clock moves the block on
     /// (`what_begins_moves_on`); whether others do is told by `next_stir`.
@@ -111,6 +94,9 @@ impl<F: Fifo> Block<F> {
     pub fn plainly_moves_on(&self) -> bool
         ensures { result ≡ plainly_moves_on self.now.run }
     {
+        if self.running.is_ready() {
+            return true;
+        }
         if self.running.pads_change(self.pad) {
             return true;
         }

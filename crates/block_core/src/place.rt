@@ -1,11 +1,13 @@
 //! A place of a block: its machine, where one is configured.
-ghost use Rattle.std.specs.Prelude.{◌≡◌, ◌<◌, ◌||◌, true, false, Some, option_map, IfOk};
+ghost use Rattle.std.specs.Prelude.{◌≡◌, ◌<◌, ◌||◌, true, false, Some, is_some, option_map, IfOk};
 ghost use Rattle.sm_registers.specs.Intents.{no_wants, wants_of, written_by};
 ghost use Rattle.block_core.specs.Kept.{IsInTime};
 ghost use Rattle.block_core.specs.Kept as kept;
 ghost use Rattle.block_core.specs.Merging.{with_intent};
 ghost use Rattle.block_core.specs.Shown.{Shows, shown_in, moved_in, with_shown};
 ghost use Rattle.dreq_pacing.specs.Due.{quiet};
+ghost use Rattle.sm_registers.specs.declared.view.View as spec_view;
+ghost use Rattle.block_core.specs.Slots as spec;
 ghost use Rattle.block_core.specs.Slots.{doing, first_slot, has_tick, is_simple, place_after, place_intent, place_uses_fifos, slot_after, slot_intent, slot_uses_fifos};
 
 use crate::Sample;
@@ -63,6 +65,46 @@ pub(crate) fn simple_step<F: Fifo>(
     }
 }
 
+/// A clock of a place whose machine is ready, in which the system does nothing, where its tick is blind (`Slot::act_blindly`); else
+/// nothing is done. Where it was done, it tells whether the outputs may be other ones, and `ready` gets whether the machine is ready
+/// again.
+#[inline(always)]
+pub(crate) fn blind_step<F: Fifo>(
+    slot: &mut Option<Slot<F>>,
+    view: &View,
+    outputs: &mut Outputs,
+    ready: &mut bool,
+) -> Option<bool>
+    requires time { IsInTime slot.old }
+    requires ready { spec.is_ready slot.old ≡ true }
+    ensures after { is_some result ≡ true → (v : spec_view.View) → view.now.memory ≡ v.memory → slot.new ≡ place_after v quiet slot.old }
+    ensures outputs { is_some result ≡ true → (v : spec_view.View) → view.now.memory ≡ v.memory
+        → outputs.new ≡ written_by outputs.old (place_intent v quiet slot.old) }
+    ensures wants { is_some result ≡ true → (v : spec_view.View) → view.now.memory ≡ v.memory
+        → wants_of (place_intent v quiet slot.old) ≡ no_wants }
+    ensures changes { result ≡ Some false → outputs.new ≡ outputs.old }
+    ensures again { is_some result ≡ true → ready.new ≡ spec.is_ready slot.new }
+    ensures kept { is_some result ≡ false → slot.new ≡ slot.old }
+    ensures kept_outputs { is_some result ≡ false → outputs.new ≡ outputs.old }
+    ensures kept_ready { is_some result ≡ false → ready.new ≡ ready.old }
+{
+    match slot {
+        Some(slot) => slot.act_blindly(view, outputs, ready),
+        None => unreachable!(),
+    }
+}
+
+/// Whether the machine of a place is ready in the present clock.
+#[inline(always)]
+pub(crate) fn is_ready<F: Fifo>(slot: &Option<Slot<F>>) -> bool
+    ensures { result ≡ spec.is_ready slot.now }
+{
+    match slot {
+        Some(slot) => slot.is_ready(),
+        None => false,
+    }
+}
+
 /// A clock of a place, whose machine adds what it wants of the block. The sample, which has what was seen of the place, gets
 /// what is seen of it now. True where anything was done at its FIFOs, or at those of the machines before it.
 #[inline(always)]
@@ -94,7 +136,8 @@ pub(crate) fn step<F: Fifo>(
     }
 }
 
-/// A clock of a machine in which the system does nothing. One that it only passes is no call, nor is one with a prompt tick.
+/// A clock of a machine in which the system does nothing. One that it only passes is no call, nor is one with a prompt tick, or
+/// with a tick that only waits once more.
 #[inline(always)]
 fn quiet_step<F: Fifo>(
     slot: &mut Slot<F>,
@@ -117,6 +160,9 @@ fn quiet_step<F: Fifo>(
         return used;
     }
     if slot.act_promptly(view, &mut wanted.outputs) {
+        return used;
+    }
+    if slot.wait_on(view) {
         return used;
     }
     used | act_alone(slot, view, wanted, place, sample)

@@ -15,7 +15,7 @@ ghost use Rattle.block_core.specs.Stirring as spec_stirring;
 use crate::Sample;
 use crate::merging::{Wanted, outside_after};
 use crate::news::News;
-use crate::place::{are_empty, moved, shown, simple_step, slot_of, step};
+use crate::place::{are_empty, blind_step, is_ready, moved, shown, simple_step, slot_of, step};
 use crate::resting::{begins_now, rest, sooner};
 use crate::slot::Slot;
 use dreq_pacing::{Due, Requests};
@@ -42,6 +42,8 @@ pub(crate) struct Running<F: Fifo> {
     clock: u64,
     // Whether the places after the first are empty, as in most blocks, so that a clock asks for none of them.
     alone: bool,
+    // Whether it is known that the only machine is ready in the present clock, so that a clock asks nothing of it.
+    ready: bool,
     // What `view` tells, brought up to date by each clock, since a trace asks after each and little of it changes.
     sample: Sample,
 }
@@ -49,7 +51,7 @@ pub(crate) struct Running<F: Fifo> {
 impl<F: Fifo> Model for Running<F> {
     ghost use Rattle.block_core.specs.Block.{Run};
     ghost use Rattle.std.specs.Prelude.{◌≡◌};
-    ghost use Rattle.block_core.specs.Kept.{AreInStep, IsSampleOf, are_empty, state_of};
+    ghost use Rattle.block_core.specs.Kept.{AreInStep, IsKnownReady, IsSampleOf, are_empty, state_of};
 
     ghost Value = { Run };
 
@@ -62,7 +64,8 @@ impl<F: Fifo> Model for Running<F> {
 
     ghost invariant = { λ b. AreInStep b.view.memory b.clock b.first b.second b.third b.fourth
         × IsSampleOf (state_of b.first b.second b.third b.fourth b.wanted.outputs.levels b.wanted.outputs.directions b.view.flags.up b.outside) b.sample
-        × (b.alone ≡ are_empty b.second b.third b.fourth) };
+        × (b.alone ≡ are_empty b.second b.third b.fourth)
+        × IsKnownReady b.ready b.alone b.first };
 }
 
 impl<F: Fifo> Running<F> {
@@ -94,6 +97,7 @@ impl<F: Fifo> Running<F> {
             sync: Sync::new(pad, setup.bypass),
             clock: 0,
             alone,
+            ready: false,
             sample: Sample {
                 level: setup.level,
                 direction: setup.out,
@@ -180,9 +184,49 @@ impl<F: Fifo> Running<F> {
     }
 
     /// The same where the clock is a simple one of the only machine (`Slot::simple_clock`); else nothing is done. It tells whether
-    /// the sample is another one, where it was done, and then nobody did anything at a FIFO.
+    /// the sample may be another one, where it was done, and then nobody did anything at a FIFO.
     #[inline(always)]
     fn simple_step(&mut self, pad: u32) -> Option<bool>
+        requires { self.old.clock < 2 ^ 40 }
+        ensures run { is_some result ≡ true → self.new ≡ next_over pad quiet self.old }
+        ensures used { is_some result ≡ true → uses_fifos_over pad quiet self.old ≡ false }
+        ensures sample { result ≡ Some false → sample_of self.new.state ≡ sample_of self.old.state }
+        ensures kept { is_some result ≡ false → self.new ≡ self.old }
+    {
+        match self.blind_step(pad) {
+            Some(changes) => Some(changes),
+            None => self.plain_step(pad),
+        }
+    }
+
+    /// The same where it is known that the only machine is ready, and its tick is blind (`Slot::act_blindly`). What the machine
+    /// sees isn't worked out then.
+    #[inline(always)]
+    fn blind_step(&mut self, pad: u32) -> Option<bool>
+        requires { self.old.clock < 2 ^ 40 }
+        ensures run { is_some result ≡ true → self.new ≡ next_over pad quiet self.old }
+        ensures used { is_some result ≡ true → uses_fifos_over pad quiet self.old ≡ false }
+        ensures sample { result ≡ Some false → sample_of self.new.state ≡ sample_of self.old.state }
+        ensures kept { is_some result ≡ false → self.new ≡ self.old }
+    {
+        a_calm_tick_tells_nothing_new();
+        a_quiet_clock_changes_nothing();
+        if !self.ready {
+            return None;
+        }
+        let outputs = &mut self.wanted.outputs;
+        let Some(changes) = blind_step(&mut self.first, &self.view, outputs, &mut self.ready) else {
+            return None;
+        };
+        self.sync.step(pad);
+        self.clock += 1;
+        self.sample.show_pins(&self.wanted.outputs, changes);
+        Some(changes)
+    }
+
+    /// The same of any simple clock.
+    #[inline(always)]
+    fn plain_step(&mut self, pad: u32) -> Option<bool>
         requires { self.old.clock < 2 ^ 40 }
         ensures run { is_some result ≡ true → self.new ≡ next_over pad quiet self.old }
         ensures used { is_some result ≡ true → uses_fifos_over pad quiet self.old ≡ false }
@@ -198,6 +242,7 @@ impl<F: Fifo> Running<F> {
         if !simple_step(&mut self.first, &self.view, &mut self.wanted.outputs) {
             return None;
         }
+        self.ready = is_ready(&self.first);
         self.sync.step(pad);
         self.clock += 1;
         let pins = self.wanted.outputs;
@@ -216,6 +261,7 @@ impl<F: Fifo> Running<F> {
         ensures used { result ≡ uses_fifos_over pad (doing due.entry) self.old }
     {
         a_calm_tick_tells_nothing_new();
+        self.ready = false;
         self.outside = outside_after(self.outside, due);
         let seen = self.sync.seen(pad);
         self.view.seen = seen;
@@ -240,6 +286,14 @@ impl<F: Fifo> Running<F> {
         ensures { result ≡ pads_change_over pad self.now }
     {
         !self.sync.settled(pad)
+    }
+
+    /// Whether it is known that the only machine is ready in the present clock. It then begins an instruction.
+    #[inline(always)]
+    pub fn is_ready(&self) -> bool
+        ensures { result ≡ true → list_any spec_stirring.begins_now self.now.state.machines ≡ true }
+    {
+        self.ready
     }
 
     /// Whether a machine begins an instruction in the present clock, if no line acts in it.
@@ -286,6 +340,7 @@ impl<F: Fifo> Running<F> {
             machines_stir_over pad quiet (rested k self.old) ≡ false }
         ensures { self.new ≡ rested clocks self.old }
     {
+        self.ready = false;
         self.view.seen = self.sync.seen(pad);
         rest(&mut self.first, &self.view, clocks);
         rest(&mut self.second, &self.view, clocks);

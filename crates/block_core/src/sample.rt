@@ -1,8 +1,8 @@
 //! What is seen of a block after a clock: 88 values, in the order in which a trace writes them.
-ghost use Rattle.std.specs.Prelude.{◌≡◌, ◌<◌};
+ghost use Rattle.std.specs.Prelude.{◌≡◌, ◌<◌, false};
 ghost use Rattle.block_core.specs.Shown.{with_shown};
 
-use sm_registers::Shown;
+use sm_registers::{Outputs, Shown};
 
 /// The state of a block after one clock, as a trace shows it (choice of this profile).
 ///
@@ -26,6 +26,18 @@ pub struct Sample {
 }
 
 impl Sample {
+    /// Puts in the pins, which are other ones only where that is said; all else stays.
+    #[inline(always)]
+    pub(crate) fn show_pins(&mut self, outputs: &Outputs, changes: bool)
+        requires { changes ≡ false → (self.old.level ≡ outputs.now.levels) × (self.old.direction ≡ outputs.now.directions) }
+        ensures { self.new ≡ record self.old { level = outputs.now.levels; direction = outputs.now.directions } }
+    {
+        if changes {
+            self.level = outputs.levels;
+            self.direction = outputs.directions;
+        }
+    }
+
     /// Puts in what is seen of a place; all else stays.
     #[tactic(auto, unfolding(crate::specs::Shown::with_shown))]
     pub(crate) fn show(&mut self, place: usize, seen: &Shown)

@@ -1,7 +1,9 @@
 //! One machine in a run of its block, with its divider.
-ghost use Rattle.std.specs.Prelude.{◌≡◌, ℕ, ◌<◌, ◌≤◌, ◌^◌, ◌+◌, Some, length, IsTrue, IsSome, IfOk, if◌then◌else◌, slice_index_or, false, true};
+ghost use Rattle.std.specs.Prelude.{◌≡◌, ℕ, ◌<◌, ◌≤◌, ◌^◌, ◌+◌, Some, is_some, length, IsTrue, IsSome, IfOk, if◌then◌else◌, slice_index_or, false, true};
 ghost use Rattle.clock_divider.specs.Timing as timing;
 ghost use Rattle.sm_registers.specs.Intents.{intent_of, no_intent, no_wants, wants_of, written_by};
+ghost use Rattle.sm_registers.specs.Blind.{is_blind};
+ghost use Rattle.sm_registers.specs.Idling.{waits_again};
 ghost use Rattle.sm_registers.specs.Prompt.{is_prompt};
 ghost use Rattle.sm_registers.specs.State as spec_shown;
 ghost use Rattle.sm_registers.specs.declared.view.View as spec_view;
@@ -10,14 +12,15 @@ ghost use Rattle.dreq_pacing.specs.Ports.{IsFirst};
 ghost use Rattle.block_core.specs.Resting.{rested_slot, stirs_after};
 ghost use Rattle.block_core.specs.Stirring.{begins_now};
 ghost use Rattle.block_core.specs.Slots as spec;
-ghost use Rattle.block_core.specs.Slots.{doing, lined, acted, settled_slot, slot_after, slot_intent, slot_uses_fifos, used_by};
+ghost use Rattle.block_core.specs.Slots.{doing, lined, acted, only_waiting, settled_slot, slot_after, slot_intent, slot_uses_fifos, used_by};
 
 use clock_divider::Divider;
 use dreq_pacing::Due;
 use fifo_pair::{Fifo, a_quiet_clock_changes_nothing};
 use pin_matrix::MachineSetup;
 use sm_registers::{
-    Idle, Machine, Outputs, Shown, View, Wants, a_calm_tick_only_counts, a_delay_only_counts,
+    Idle, Machine, Outputs, Shown, View, Wants, a_blind_tick_sees_nothing, a_calm_tick_only_counts,
+    a_delay_only_counts, a_wait_that_goes_on_does_nothing,
 };
 use std::alloc::{AllocError, Global};
 use std::marker::Model;
@@ -142,6 +145,71 @@ impl<F: Fifo> Slot<F> {
     {
         a_quiet_clock_changes_nothing();
         if !self.machine.tick_promptly(view, outputs) {
+            return false;
+        }
+        self.divider.step();
+        true
+    }
+
+    /// Its clock, where the system does nothing in it, its tick is ready, and that is blind; else nothing is done. Where it was
+    /// done, it tells whether the outputs may be other ones, and `ready` gets whether it is ready again. It wants nothing of its
+    /// block but pins then, nor of its FIFOs, and it doesn't matter what pins and flags the view has.
+    #[inline(always)]
+    pub fn act_blindly(
+        &mut self,
+        view: &View,
+        outputs: &mut Outputs,
+        ready: &mut bool,
+    ) -> Option<bool>
+        requires ready { spec.is_ready (Some self.old) ≡ true }
+        requires clock { self.old.timing.clock < 2 ^ 40 }
+        ensures blind { is_some result ≡ is_blind self.old.machine.setup view.now self.old.machine.registers }
+        ensures after { is_some result ≡ true → (v : spec_view.View) → view.now.memory ≡ v.memory → self.new ≡ slot_after v quiet self.old }
+        ensures outputs { is_some result ≡ true → (v : spec_view.View) → view.now.memory ≡ v.memory
+            → outputs.new ≡ written_by outputs.old (slot_intent v quiet self.old) }
+        ensures wants { is_some result ≡ true → (v : spec_view.View) → view.now.memory ≡ v.memory
+            → wants_of (slot_intent v quiet self.old) ≡ no_wants }
+        ensures changes { result ≡ Some false → outputs.new ≡ outputs.old }
+        ensures again { is_some result ≡ true → ready.new ≡ spec.is_ready (Some self.new) }
+        ensures kept { is_some result ≡ false → self.new ≡ self.old }
+        ensures kept_outputs { is_some result ≡ false → outputs.new ≡ outputs.old }
+        ensures kept_ready { is_some result ≡ false → ready.new ≡ ready.old }
+    {
+        a_blind_tick_sees_nothing();
+        a_quiet_clock_changes_nothing();
+        match self.machine.tick_blindly(view, outputs) {
+            Some(changes) => {
+                self.divider.step_from_tick();
+                *ready = self.divider.ticks_now() && self.machine.has_no_delay();
+                Some(changes)
+            }
+            None => None,
+        }
+    }
+
+    /// Whether its tick in the present clock is ready, if no line acts in it: it begins an instruction from memory, on a machine
+    /// without autopull.
+    #[inline(always)]
+    pub fn is_ready(&self) -> bool
+        ensures { result ≡ spec.is_ready (Some self.now) }
+    {
+        self.has_tick() && self.machine.is_ready()
+    }
+
+    /// Its clock, where the system does nothing in it and its tick only waits once more; else nothing is done. True where it was
+    /// done. It wants nothing then, and all but its divider stays.
+    #[inline(always)]
+    pub fn wait_on(&mut self, view: &View) -> bool
+        requires tick { spec.has_tick self.old ≡ true }
+        requires clock { self.old.timing.clock < 2 ^ 40 }
+        ensures waits { result ≡ waits_again self.old.machine.setup view.now self.old.machine.registers }
+        ensures after { result ≡ true → self.new ≡ slot_after view.now quiet self.old }
+        ensures wants { result ≡ true → slot_intent view.now quiet self.old ≡ only_waiting }
+        ensures kept { result ≡ false → self.new ≡ self.old }
+    {
+        a_wait_that_goes_on_does_nothing();
+        a_quiet_clock_changes_nothing();
+        if !self.machine.waits_again(view) {
             return false;
         }
         self.divider.step();

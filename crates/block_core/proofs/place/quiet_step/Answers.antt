@@ -1,9 +1,10 @@
-use Rattle.std.proofs.Common.{◌≡◌, subst, sym, ap}
+use Rattle.std.proofs.Common.{◌≡◌, subst, sym, ap, ◌∙◌}
+use Rattle.sm_registers.specs.declared.outputs.Outputs.{Outputs}
 use Rattle.sm_registers.specs.declared.wants.Wants.{Wants}
-use Rattle.sm_registers.specs.Intents.{Intent, written_by}
+use Rattle.sm_registers.specs.Intents.{Intent, wants_of, written_by}
 use Rattle.dreq_pacing.specs.Due.{quiet}
-use Rattle.block_core.specs.Slots.{Slot, slot_after, slot_intent}
-use Rattle.block_core.proofs.Passing.{adds_nothing, uses_nothing}
+use Rattle.block_core.specs.Slots.{Slot, only_waiting, slot_after, slot_intent}
+use Rattle.block_core.proofs.Passing.{adds_nothing, uses_nothing, waiting_adds_nothing}
 use Rattle.block_core.proofs.Prompt.{WantsPins, adds_pins, uses_none}
 use Rattle.block_core.proofs.Showing.{still_shows}
 use Rattle.block_core.proofs.Wanting.{unused}
@@ -47,3 +48,29 @@ returns-then-act_promptly-clause-sample g c =
     let after = subst (λ (x : Slot). c.act_promptly.new.self ≡ slot_after v quiet x) same (c.act_promptly.ensures.after done) in
     still_shows c.a_quiet_clock_changes_nothing.ensures c.args.place v quiet c.args.slot.now c.act_promptly.new.self c.args.sample.now
     after (sym (uses_none v c.args.slot.now wants)) (ap (λ (w : Wants). w.sticky) wants) c.requires.shows
+
+pub returns-then-wait_on-clause-wanted : goal.returns-then-wait_on-clause-wanted
+returns-then-wait_on-clause-wanted g c =
+    let v = c.args.view.now in
+    let w = c.args.wanted.now in
+    let same = c.act_promptly.ensures.kept c.if-act_promptly.false ∙ c.pass.ensures.kept c.if-pass.false in
+    let waits = subst (λ (x : Slot). slot_intent v quiet x ≡ only_waiting) same (c.wait_on.ensures.wants c.if-wait_on.true) in
+    ap (λ (o : Outputs). record w { outputs = o }) (c.act_promptly.ensures.kept_outputs c.if-act_promptly.false)
+    ∙ waiting_adds_nothing w (slot_intent v quiet c.args.slot.now) waits
+
+pub returns-then-wait_on-clause-used : goal.returns-then-wait_on-clause-used
+returns-then-wait_on-clause-used g c =
+    let v = c.args.view.now in
+    let same = c.act_promptly.ensures.kept c.if-act_promptly.false ∙ c.pass.ensures.kept c.if-pass.false in
+    let waits = subst (λ (x : Slot). slot_intent v quiet x ≡ only_waiting) same (c.wait_on.ensures.wants c.if-wait_on.true) in
+    unused c.args.used (uses_none v c.args.slot.now (ap wants_of waits))
+
+pub returns-then-wait_on-clause-sample : goal.returns-then-wait_on-clause-sample
+returns-then-wait_on-clause-sample g c =
+    let v = c.args.view.now in
+    let done = c.if-wait_on.true in
+    let same = c.act_promptly.ensures.kept c.if-act_promptly.false ∙ c.pass.ensures.kept c.if-pass.false in
+    let waits = subst (λ (x : Slot). slot_intent v quiet x ≡ only_waiting) same (c.wait_on.ensures.wants done) in
+    let after = subst (λ (x : Slot). c.wait_on.new.self ≡ slot_after v quiet x) same (c.wait_on.ensures.after done) in
+    still_shows c.a_quiet_clock_changes_nothing.ensures c.args.place v quiet c.args.slot.now c.wait_on.new.self c.args.sample.now
+    after (sym (uses_none v c.args.slot.now (ap wants_of waits))) (ap (λ (i : Intent). i.sticky) waits) c.requires.shows

@@ -1,8 +1,13 @@
 use Rattle.std.proofs.Common.{◌≡◌, true, sym, ◌∙◌, subst}
 use Rattle.block_core.specs.Block.{Worked}
 use Rattle.block_core.specs.Stirring.{plainly_moves_on}
-use Rattle.block_core.proofs.Beginning.{by_pads, by_machines}
+use Rattle.block_core.proofs.Beginning.{by_beginning, by_pads, by_machines}
 use Rattle.block_core.proofs.block.Block.plainly_moves_on.Goals as goal
+
+pub returns-then-is_ready : goal.returns-then-is_ready
+returns-then-is_ready g c =
+    subst (λ (w : Worked). true ≡ plainly_moves_on w.run) c.self.view_is
+    (by_beginning c.self.inside.running c.self.inside.pad c.self.invariant.1 (c.is_ready.ensures c.if-is_ready.true))
 
 pub returns-then-pads_change : goal.returns-then-pads_change
 returns-then-pads_change g c =

@@ -19,4 +19,5 @@ invariant_of-result g c = (
   },
   first_sample _ _ _ _ _ _ _ _ _ _ _ c.in_ok-slot_of.ensures c.in_ok-slot_of-2.ensures c.in_ok-slot_of-3.ensures c.in_ok-slot_of-4.ensures,
   c.are_empty-alone.ensures ∙ empty_first _ _ _ _ _ _ c.in_ok-slot_of-2.ensures c.in_ok-slot_of-3.ensures c.in_ok-slot_of-4.ensures,
+  λ h. cc,
 )

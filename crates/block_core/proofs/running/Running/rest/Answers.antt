@@ -52,4 +52,5 @@ invariant_of-self g c =
       },
       sample_rested c.self.invariant.1 _ _ _ _ _ c.rest.ensures c.rest-2.ensures c.rest-3.ensures c.rest-4.ensures,
       c.self.invariant.2 ∙ empty_rested _ _ _ _ _ _ _ c.rest-2.ensures c.rest-3.ensures c.rest-4.ensures,
+      λ h. cc,
     )

@@ -55,6 +55,7 @@ invariant_of-self g c =
       },
       pins_new four _ _ _ _,
       c.self.invariant.2 ∙ empty_after _ _ _ _ _ _ _ _ c.step-second.ensures.after c.step-third.ensures.after c.step-fourth.ensures.after,
+      λ h. cc,
     )
 
 pub returns-clause-run : goal.returns-clause-run

@@ -7,8 +7,8 @@ use Rattle.block_core.proofs.Simple.{AllEmpty, IsSimple, all_empty, same_pins, s
 use Rattle.block_core.proofs.Steps.{in_step_after}
 use Rattle.block_core.proofs.Told.{place_told}
 use Rattle.block_core.proofs.Wanting.{view}
-use Rattle.block_core.proofs.running.Running.simple_step.Given.{Over}
-use Rattle.block_core.proofs.running.Running.simple_step.Goals as goal
+use Rattle.block_core.proofs.running.Running.plain_step.Given.{Over}
+use Rattle.block_core.proofs.running.Running.plain_step.Goals as goal
 
 -- the other places are empty, and the machine's clock is a simple one
 empty : (g : Over) (c : goal.After-struct_known-4-1 g) → AllEmpty c.self.inside.second c.self.inside.third c.self.inside.fourth
@@ -54,6 +54,7 @@ invariant_of-self-2 g c =
       },
       outputs_new (first_new c.self.invariant.1 _ _ shows) _ _,
       c.self.invariant.2,
+      λ h. (c.if-not-self.false, sym c.is_ready-self-inside.ensures ∙ h),
     )
 
 pub returns-clause-run : goal.returns-clause-run
