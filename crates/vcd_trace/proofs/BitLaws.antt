@@ -1,5 +1,5 @@
 -- Laws of the changed bits of a word, taken one by one from the lowest on.
-use Rattle.std.proofs.Common.{◌≡◌, ℕ, ◌+◌, ◌-◌, ◌*◌, ◌/◌, ◌%◌, ◌^◌, ◌<◌, ◌≤◌, ◌++◌, zero, suc, sym, ap, ◌∙◌, inl, inr, bit_and, bit_xor, w32, arith}
+use Rattle.std.proofs.Common.{◌≡◌, ◌≢◌, ℕ, ◌+◌, ◌-◌, ◌*◌, ◌/◌, ◌%◌, ◌^◌, ◌<◌, ◌≤◌, ◌++◌, zero, suc, sym, ap, ◌∙◌, inl, inr, bit_and, bit_xor, w32, arith}
 use Rattle.std.specs.Int.{bit_at, trailing_zeros}
 use Rattle.std.specs.Int.Bits.{and_self}
 use Rattle.std.proofs.Math.Nat.{mod_self}
@@ -65,6 +65,21 @@ cleared_high n p i at below h =
     let beyond : 1 + p ≤ i = omega arith in
     ap (λ x. bit_at x i) (cleared n p at below) ∙ bit_at_cat_high high (1 + p) 0 i (pow_pos (1 + p)) beyond
     ∙ sym (ap (λ x. bit_at x i) (lowest_apart n p at below) ∙ bit_at_cat_high high (1 + p) (2 ^ p) i (pow_below p (1 + p) (omega arith)) beyond)
+
+-- the lowest 1 is cleared, and every other bit stays
+pub cleared_lowest : (n : ℕ) → 0 < n → n < 2 ^ 32 → bit_at (bit_and n (n - 1)) (trailing_zeros w32 n) ≡ 0
+cleared_lowest n h f =
+    let lowest = bit_at-trailing_zeros w32 n h f in
+    cleared_low n (trailing_zeros w32 n) (trailing_zeros w32 n) lowest.1 lowest.2 (omega arith)
+
+pub cleared_other : (n i : ℕ) → 0 < n → n < 2 ^ 32 → i ≢ trailing_zeros w32 n → bit_at (bit_and n (n - 1)) i ≡ bit_at n i
+cleared_other n i h f other =
+    let p : ℕ = trailing_zeros w32 n in
+    let lowest = bit_at-trailing_zeros w32 n h f in
+    elim (cases_lt i p) [
+      | inl below ↦ cleared_low n p i lowest.1 lowest.2 (omega arith) ∙ sym (lowest.2 i below)
+      | inr above ↦ cleared_high n p i lowest.1 lowest.2 (omega arith)
+    ]
 
 -- a lowest bit that stays has no line
 lowest_stays : (id more a now : ℕ) → bit_at a 0 ≡ bit_at now 0 → bit_changes id (suc more) a now ≡ bit_changes (id + 1) more (a / 2) (now / 2)

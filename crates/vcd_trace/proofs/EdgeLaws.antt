@@ -1,28 +1,50 @@
 -- Counts of edges, pin by pin and clock by clock.
-use Rattle.std.proofs.Common.{◌≡◌, ◌≢◌, ℕ, zero, suc, ◌+◌, ◌-◌, ◌<◌, ◌⊎◌, List, [], ◌∷◌, ◌++◌, length, refl, sym, ap, ◌∙◌, subst, inl, inr, min, arith}
+use Rattle.std.proofs.Common.{◌≡◌, ℕ, zero, suc, ◌+◌, ◌-◌, ◌%◌, ◌^◌, ◌<◌, ◌≤◌, List, [], ◌∷◌, ◌++◌, length, cond, eqb, refl, sym, ap, ◌∙◌, subst, inl, inr, min, bit_and, bit_xor, w32, arith}
+use Rattle.std.specs.Int.{bit_at, trailing_zeros}
 use Rattle.std.specs.Prelude.{slice_index_or, slice_set, replicate}
 use Rattle.std.proofs.lemmas.Bool.{cases_eq}
 use Rattle.std.proofs.lemmas.Bool.Decides.{nat_tests}
 use Rattle.std.proofs.lemmas.List.{get_or-set_same, get_or-set_other, get_or-replicate}
+use Rattle.std.proofs.lemmas.Nat.Bits.{bit_at_xor, bit_at-lt, bit_at-zero, bit_at-trailing_zeros}
+use Rattle.vcd_trace.proofs.BitLaws.{cleared_lowest, cleared_other}
 use Rattle.vcd_trace.specs.Edges.{Counts, no_edges, HasGrown, HasCounted, edge_of, edges_in, levels_after, most}
 use Rattle.vcd_trace.specs.Told.{held_to, last_of}
 use Rattle.block_core.specs.declared.sample.Sample.{Sample}
 
--- a list after one place is set, at another place or at this one
-pub set_other : (xs : List ℕ) (k g p : ℕ) → p ≢ k → slice_index_or (slice_set xs k g) p 0 ≡ slice_index_or xs p 0
-set_other xs k g p n = get_or-set_other xs k p g 0 n
+-- a bit differs exactly where its pin has an edge
+differing : (x y : ℕ) → x < 2 → y < 2 → (x + y) % 2 ≡ cond (eqb x y) 0 1
+differing x y h k = grind (arith, nat_tests)
 
-pub next_new : (xs old : List ℕ) (k g p before level : ℕ) → k < length xs → p < k + 1
-    → g ≡ min (slice_index_or xs k 0 + edge_of k before level) most
-    → (p < k → slice_index_or xs p 0 ≡ min (slice_index_or old p 0 + edge_of p before level) most)
-    → slice_index_or xs k 0 ≡ slice_index_or old k 0
-    → slice_index_or (slice_set xs k g) p 0 ≡ min (slice_index_or old p 0 + edge_of p before level) most
-next_new xs old k g p before level fits low grown new same = on (cases_eq p k) where
-  on : (p ≡ k) ⊎ (p ≢ k) → slice_index_or (slice_set xs k g) p 0 ≡ min (slice_index_or old p 0 + edge_of p before level) most
-  on (inl e) =
-      let P : ℕ → Type 0 = λ q. slice_index_or (slice_set xs k g) q 0 ≡ min (slice_index_or old q 0 + edge_of q before level) most in
-      subst P (sym e) (get_or-set_same xs k g 0 fits ∙ grown ∙ ap (λ n. min (n + edge_of k before level) most) same)
-  on (inr n) = set_other xs k g p n ∙ new (omega arith)
+pub changed_edge : (pin before level : ℕ) → bit_at (bit_xor before level) pin ≡ edge_of pin before level
+changed_edge pin before level =
+    bit_at_xor before level pin ∙ differing (bit_at before pin) (bit_at level pin) (bit_at-lt before pin) (bit_at-lt level pin)
+
+-- a count that is set stays within the most, and so do the others
+pub set_within : (xs : List ℕ) (k g p : ℕ) → k < length xs → g ≤ most → slice_index_or xs p 0 ≤ most → slice_index_or (slice_set xs k g) p 0 ≤ most
+set_within xs k g p fits h was =
+    elim (cases_eq p k) [
+      | inl e ↦ subst (λ q. slice_index_or (slice_set xs k g) q 0 ≤ most) (sym e) (omega (arith, get_or-set_same xs k g 0 fits, h))
+      | inr other ↦ omega (arith, get_or-set_other xs k p g 0 other, was)
+    ]
+
+-- what is counted for the lowest bit is no longer left, and the other pins stay as they were
+pub counted_left : (xs : List ℕ) (n g p : ℕ) → 0 < n → n < 2 ^ 32 → trailing_zeros w32 n < length xs
+    → g ≡ min (slice_index_or xs (trailing_zeros w32 n) 0 + 1) most
+    → min (slice_index_or (slice_set xs (trailing_zeros w32 n) g) p 0 + bit_at (bit_and n (n - 1)) p) most ≡ min (slice_index_or xs p 0 + bit_at n p) most
+counted_left xs n g p some fits long grown =
+    let k : ℕ = trailing_zeros w32 n in
+    let is_set : bit_at n k ≡ 1 = (bit_at-trailing_zeros w32 n some fits).1 in
+    let P : ℕ → Type 0 = λ q. min (slice_index_or (slice_set xs k g) q 0 + bit_at (bit_and n (n - 1)) q) most ≡ min (slice_index_or xs q 0 + bit_at n q) most in
+    elim (cases_eq p k) [
+      | inl e ↦ subst P (sym e) (omega (arith, get_or-set_same xs k g 0 long, cleared_lowest n some fits, is_set, grown))
+      | inr other ↦ omega (arith, get_or-set_other xs k p g 0 other, cleared_other n p some fits other)
+    ]
+
+-- once no bit is left, each count is all that it should be
+pub uncounted_none : (count pin n all : ℕ) → n ≡ 0 → count ≤ most → min (count + bit_at n pin) most ≡ all → count ≡ all
+uncounted_none count pin n all none within left =
+    let zero : bit_at n pin ≡ 0 = ap (λ x. bit_at x pin) none ∙ bit_at-zero pin in
+    omega arith
 
 -- edges of samples in a row
 pub edges-append : (pin before : ℕ) (xs ys : List Sample) → edges_in pin before (xs ++ ys) ≡ edges_in pin before xs + edges_in pin (levels_after before xs) ys
@@ -96,6 +118,19 @@ held_counted t levels clock l h = record {
 
 twice_least : (n e m : ℕ) → min (min n m + e) m ≡ min (n + e) m
 twice_least n e m = grind arith
+
+-- a sample with the last levels has no edges
+pub same_counted : (t : Counts) (levels : ℕ) (l : List Sample) (s : Sample) → HasCounted levels l t → s.level ≡ t.last → HasCounted levels (l ++ s ∷ []) t
+unfolding edges_in levels_after
+same_counted t levels l s h same = record {
+  first = h.first;
+  last = sym same ∙ sym (levels-append levels l (s ∷ []));
+  edges = λ pin low.
+      let none : edge_of pin (levels_after levels l) s.level ≡ 0 = subst (λ k. edge_of pin k s.level ≡ 0) (same ∙ h.last) (no_edge pin s.level) in
+      let all = edges-append pin levels l (s ∷ []) in
+      let sum : edges_in pin levels l ≡ edges_in pin levels (l ++ s ∷ []) = omega arith in
+      h.edges pin low ∙ ap (λ n. min n most) sum;
+}
 
 pub sample_counted : (t u : Counts) (levels : ℕ) (l : List Sample) (s : Sample) → HasCounted levels l t → u.first ≡ t.first → u.last ≡ s.level
     → HasGrown t.last s.level t.counts u.counts → HasCounted levels (l ++ s ∷ []) u

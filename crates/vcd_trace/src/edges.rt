@@ -64,8 +64,10 @@ impl Trace for EdgeTrace {
     }
 
     fn sample(&mut self, _clock: u64, sample: &Sample) -> Result<(), TraceFailed> {
-        self.counts = counted(&self.counts, self.last, sample.level);
-        self.last = sample.level;
+        if sample.level != self.last {
+            count(&mut self.counts, self.last, sample.level);
+            self.last = sample.level;
+        }
         Ok(())
     }
 
@@ -78,25 +80,16 @@ impl Trace for EdgeTrace {
     }
 }
 
-/// The counts after a clock, by the output levels before and after it.
-fn counted(counts: &[u64; 32], before: u32, level: u32) -> [u64; 32]
-    ensures { HasGrown before level counts.now result }
+/// Counts the edges of a clock, by the output levels before and after it.
+// A call of its own, since most clocks change no level.
+#[inline(never)]
+fn count(counts: &mut [u64; 32], before: u32, level: u32)
+    ensures { HasGrown before level counts.old counts.new }
 {
-    let mut counts = *counts;
-    for pin in 0..32_usize {
-        counts[pin] = grown(counts[pin], before, level, pin);
-    }
-    counts
-}
-
-/// A pin's count after a clock.
-fn grown(count: u64, before: u32, level: u32, pin: usize) -> u64
-    requires { pin < 32 }
-    ensures { result ≡ min (count + edge_of pin before level) most }
-{
-    if (before >> pin) & 1 == (level >> pin) & 1 {
-        count
-    } else {
-        count.saturating_add(1)
+    let mut changed = before ^ level;
+    while changed != 0 {
+        let pin = changed.trailing_zeros() as usize;
+        counts[pin] = counts[pin].saturating_add(1);
+        changed &= changed - 1;
     }
 }
