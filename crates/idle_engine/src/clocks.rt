@@ -146,7 +146,7 @@ pub(crate) fn rest<F: Fifo>(block: &mut Block<F>, clock: u64, until: u64) -> u64
     ensures stirs { result < until → moves_on quiet block.new.run ≡ true }
 {
     what_begins_moves_on();
-    if clock >= until || block.plainly_moves_on() {
+    if block.plainly_moves_on() || clock >= until {
         return clock;
     }
     pass_over(block, clock, until)
