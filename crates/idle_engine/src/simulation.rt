@@ -20,7 +20,8 @@ use vcd_trace::{Trace, TraceFailed};
 ///
 /// The block is in clock 0, and the clocks are up to 10^12. One step is one clock worked out singly, by a call of
 /// `Block::clock` or `Block::quiet_clock`: clock 0, and each later one that stirs. The trace isn't told of the others, which
-/// repeat the sample before them. Where the trace fails, the run stops after the clock whose sample it was told.
+/// repeat the sample before them, nor of one of these that is known to repeat it. Where the trace fails, the run stops after
+/// the clock whose sample it was told.
 pub fn simulate<F: Fifo, T: Trace, L: Ledger>(
     block: &mut Block<F>,
     schedule: &Schedule,
