@@ -1,0 +1,208 @@
+"""What the pages say of the repository itself: its crates and their storeys, names, paths, counts, what a change costs.
+
+`crosscheck/pages` asks `findings`, and `crosscheck/pages --costs` prints the rows of `costs`, to put into docs/ARCHITECTURE.md.
+"""
+
+import re
+from pathlib import Path
+
+TOP = Path(__file__).resolve().parent.parent
+CODE = re.compile(r"^```.*?^```$", re.M | re.S)
+SPAN = re.compile(r"`([^`\n]+)`")
+NAME = re.compile(r"(?<![\w-])[a-z][a-z0-9]*(?:_[a-z0-9]+)+\b")
+# Names that are no name of this repository: directives of a later pioasm, which FAULTS and SPECIFICATION refuse.
+FOREIGN = {"clock_div", "mov_status"}
+NUMBERS = "zero one two three four five six seven eight nine ten eleven twelve thirteen fourteen fifteen sixteen seventeen eighteen nineteen twenty".split()
+
+
+def text_of(name):
+    return (TOP / name).read_text()
+
+
+def line_of(text, at):
+    return text.count("\n", 0, at) + 1
+
+
+class Crates:
+    """What crates.txt says: the storeys in order, each with its crates, and what each crate uses of the repository."""
+
+    def __init__(self):
+        self.storeys, self.uses, self.storey_of = {}, {}, {}
+        for line in text_of("crates.txt").splitlines():
+            heading = re.match(r"# (\w[\w ]*): ", line)
+            if heading and heading[1] != "NAME":
+                self.storeys[heading[1]] = []
+            elif re.match(r"\w+:", line):
+                name, _, uses = line.partition(":")
+                self.uses[name] = uses.split()
+                self.storey_of[name] = list(self.storeys)[-1]
+                self.storeys[self.storey_of[name]].append(name)
+        self.order = list(self.uses)
+        for name, uses in self.uses.items():
+            self.uses[name] = [it for it in uses if it in self.uses]
+
+    def above(self, name):
+        """This crate and every crate that uses it, or one that does."""
+        found = {name}
+        for it in self.order:
+            if found & set(self.uses[it]):
+                found.add(it)
+        return found
+
+
+def paid():
+    """The CPU seconds of each crate for proof, tests and edits, by the table of docs/CONTRIBUTING.md."""
+    rows = re.findall(r"^\| `(\w+)` \| (\d+) \| (\d+) \| (\d+) \|$", text_of("docs/CONTRIBUTING.md"), re.M)
+    return {name: tuple(map(int, seconds)) for name, *seconds in rows}
+
+
+def costs():
+    """The rows of "What a change proves again": CPU minutes and crates, dearest first in each storey."""
+    crates, seconds = Crates(), paid()
+    for storey, names in crates.storeys.items():
+        found = []
+        for name in names:
+            again = crates.above(name)
+            found.append((round(sum(sum(seconds.get(it, (0,))) for it in again) / 60), len(again), name))
+        found.sort(key=lambda it: (-it[0], it[2]))
+        yield f"| {storey} | " + ", ".join(f"`{name}` {minutes} ({count})" for minutes, count, name in found) + " |"
+
+
+def of_crates(crates):
+    folders = {it.parent.name for it in TOP.glob("crates/*/src")}
+    for name in sorted(folders ^ set(crates.order)):
+        yield "crates.txt", 1, f"{name} is in only one of crates.txt and crates/"
+    for number, name in enumerate(crates.order):
+        for it in crates.uses[name]:
+            if crates.order.index(it) > number:
+                yield "crates.txt", 1, f"{name} uses {it}, which comes after it"
+    page = text_of("docs/ARCHITECTURE.md")
+    parts = re.split(r"^### ", page, flags=re.M)[1:]
+    told = {part.partition("\n")[0]: re.findall(r"^\| `(\w+)` \|", part.partition("\n## ")[0], re.M) for part in parts}
+    if list(told) != list(crates.storeys):
+        yield "docs/ARCHITECTURE.md", 1, f"its storeys are {', '.join(told)}, and those of crates.txt {', '.join(crates.storeys)}"
+    for storey, names in crates.storeys.items():
+        if storey in told and told[storey] != names:
+            yield "docs/ARCHITECTURE.md", 1, f"its crates of {storey} aren't those of crates.txt, in their order: {' '.join(names)}"
+    for name in crates.order:
+        own = TOP / "crates" / name / "README.md"
+        if not own.is_file() or not re.match(rf"# `?{name}`?\n", own.read_text()):
+            yield f"crates/{name}/README.md", 1, "isn't there, or isn't headed by the crate's name"
+        if name not in paid():
+            yield "docs/CONTRIBUTING.md", 1, f"the table of what the gate costs has no row of {name}"
+
+
+def of_names(crates):
+    """Names in code marks that are nowhere in the repository; folders of crates that aren't there."""
+    known = set(FOREIGN)
+    for path in TOP.rglob("*"):
+        inside = path.relative_to(TOP).parts
+        if path.is_file() and path.suffix != ".md" and not {".git", "out", "dist", "docs", "__pycache__"} & set(inside):
+            known.add(path.stem)
+            known.update(re.findall(r"[A-Za-z_]\w*", path.read_text(errors="replace")))
+    pages = [TOP / "README.md", *TOP.glob("docs/*.md"), *TOP.glob("crates/*/README.md"), *TOP.glob("*/README.md"), *TOP.glob("examples/*/*.md")]
+    for path in pages:
+        page, text = str(path.relative_to(TOP)), path.read_text()
+        prose = CODE.sub(lambda it: "\n" * it[0].count("\n"), text)
+        for it in re.finditer(r"\bcrates/(\w+)", prose):
+            if it[1] != "NAME" and it[1] not in crates.uses:
+                yield page, line_of(prose, it.start()), f"no crate has the name {it[1]}"
+        # (that page names what the SDK has)
+        for it in SPAN.finditer(prose) if page != "docs/FROM_THE_SDK.md" else ():
+            for name in NAME.findall(it[1]):
+                if name not in known:
+                    yield page, line_of(prose, it.start()), f"{name} is nowhere in the repository"
+
+
+def of_paths(crates):
+    """Files that docs/ARCHITECTURE.md and docs/PROVING_A_PROGRAM.md send a reader to."""
+    for page in ("docs/ARCHITECTURE.md", "docs/PROVING_A_PROGRAM.md"):
+        text, folder = text_of(page), None
+        for it in SPAN.finditer(text):
+            path = it[1].removeprefix("crates/")
+            crate, slash, rest = path.partition("/")
+            at = line_of(text, it.start())
+            if slash and crate in crates.uses:
+                found = TOP / "crates" / path.rstrip("/")
+                folder = found if path.endswith("/") else found.parent
+                if not found.exists():
+                    yield page, at, f"{path} isn't there"
+            elif re.fullmatch(r"\w+\.(antt|rt)", path) and page == "docs/ARCHITECTURE.md" and folder:
+                if not (folder / path).is_file() and not list(TOP.glob(f"crates/*/*/{path}")):
+                    yield page, at, f"{path} isn't there"
+
+
+def of_borders(crates):
+    """The lemmas that proofs cite across a border, by the table of docs/ARCHITECTURE.md."""
+    cited = {}
+    for path in TOP.glob("crates/*/*/**/*"):
+        if path.suffix in (".antt", ".rt") and "out" not in path.parts:
+            own = path.relative_to(TOP).parts[1]
+            for of, lemmas in re.findall(r"\bRattle\.(\w+)\.proofs\.(\w+)", path.read_text()):
+                if of != own and of in crates.uses:
+                    cited.setdefault((of, lemmas), set()).add(own)
+    page, told = "docs/ARCHITECTURE.md", {}
+    for names, of, users in re.findall(r"^\| ((?:`[A-Z]\w+`(?:, | and )?)+) of `(\w+)`.*\| (.*) \|$", text_of(page), re.M):
+        for name in re.findall(r"\w+", names.replace(" and ", " ")):
+            told[of, name] = set(re.findall(r"\w+", users))
+    for of, names in sorted({(of, frozenset(name for it, name in told if it == of)) for of, _ in told}):
+        found = set().union(*(cited.get((of, name), set()) for name in names))
+        wanted = set().union(*(told[of, name] for name in names))
+        if found != wanted:
+            yield page, 1, f"the lemmas {', '.join(sorted(names))} of {of} are cited by {', '.join(sorted(found))}"
+    for of, name in sorted(set(cited) - set(told)):
+        yield page, 1, f"the lemmas {name} of {of}, which {', '.join(sorted(cited[of, name]))} cite, have no row"
+
+
+def of_counts(crates):
+    page, text = "docs/CONTRIBUTING.md", text_of("docs/CONTRIBUTING.md")
+    seconds = paid()
+    sums = [sum(it[kind] for it in seconds.values()) for kind in range(3)]
+    told = re.search(r"^\| all \| (\d+) \| (\d+) \| (\d+) \|$", text, re.M)
+    if not told or sums != [int(it) for it in told.groups()]:
+        yield page, 1, f"the columns of what the gate costs come to {sums}"
+    minutes = [round(sum(sums) / 60), *(round(it / 60) for it in sums)]
+    said = re.search(r"comes to (\d+) CPU minutes: (\d+) for proofs, (\d+) for tests and (\d+) for edits", text)
+    if not said or minutes != [int(it) for it in said.groups()]:
+        yield page, 1, f"the table comes to {minutes[0]} CPU minutes: {minutes[1]}, {minutes[2]} and {minutes[3]}"
+    edits = {it.stem for it in TOP.glob("crates/*/must-fail/*.edit")}
+    count = len(list(TOP.glob("crates/*/must-fail/*.edit")))
+    for it in re.finditer(r"\b(\d+) edits\b", text):
+        if int(it[1]) != count:
+            yield page, line_of(text, it.start()), f"there are {count} edits"
+    part = re.search(r"^## (\w+) wrong programs\n(.*?)^## ", text, re.M | re.S)
+    rows = [it for it in part[2].splitlines() if it.startswith("| ") and not it.startswith(("| A program", "| |"))] if part else []
+    if not part or len(rows) >= len(NUMBERS) or part[1].lower() != NUMBERS[len(rows)]:
+        yield page, 1, f"the wrong programs are {len(rows)}"
+    for row in part[2].splitlines() if part else ():
+        names = row.rpartition(" | ")[2]
+        for name in re.findall(r"`(\w+)`", names) if "the test" not in names else ():
+            if name not in edits:
+                yield page, 1, f"no edit has the name {name}"
+    page, text = "docs/ARCHITECTURE.md", text_of("docs/ARCHITECTURE.md")
+    beside = sorted(it for it in crates.order if crates.storey_of[it] != "Tests" and any("#[test]" in path.read_text() for path in TOP.glob(f"crates/{it}/src/*.rt")))
+    alone = re.search(r"([^.\n]*) alone have tests beside their code", text)
+    if not alone or sorted(re.findall(r"`(\w+)`", alone[1])) != beside:
+        yield page, 1, f"the crates with tests beside their code are {', '.join(beside)}"
+    part = text.partition("## What a change proves again")[2]
+    for row in costs():
+        if row not in part:
+            yield page, line_of(text, len(text) - len(part)), f"of what a change proves again the row is\n{row}"
+
+
+def of_version(crates):
+    version = text_of("VERSION").strip()
+    for path in [TOP / "README.md", *TOP.glob("docs/*.md"), *TOP.glob("packaging/*.md")]:
+        text = path.read_text()
+        for it in re.finditer(r"piotool[-_](\d+\.\d+\.\d+)", text):
+            if it[1] != version:
+                yield str(path.relative_to(TOP)), line_of(text, it.start()), f"the version is {version}"
+    if not re.search(rf"^## {re.escape(version)}$", text_of("CHANGELOG.md"), re.M):
+        yield "CHANGELOG.md", 1, f"has no part {version}"
+
+
+def findings():
+    """What is wrong: the page, its line, and what it is."""
+    crates = Crates()
+    for ask in (of_crates, of_names, of_paths, of_borders, of_counts, of_version):
+        yield from ask(crates)
