@@ -76,6 +76,8 @@ def of_crates(crates):
         for it in crates.uses[name]:
             if crates.order.index(it) > number:
                 yield "crates.txt", 1, f"{name} uses {it}, which comes after it"
+            if crates.storey_of[it] == "Language" and crates.storey_of[name] not in ("Language", "Commands", "Tests"):
+                yield "crates.txt", 1, f"{name} uses {it}, which is of the language"
     page = text_of("docs/ARCHITECTURE.md")
     parts = re.split(r"^### ", page, flags=re.M)[1:]
     told = {part.partition("\n")[0]: re.findall(r"^\| `(\w+)` \|", part.partition("\n## ")[0], re.M) for part in parts}
