@@ -182,6 +182,13 @@ def of_counts(crates):
             if name not in edits:
                 yield page, 1, f"no edit has the name {name}"
     page, text = "docs/ARCHITECTURE.md", text_of("docs/ARCHITECTURE.md")
+    if f"a house of {NUMBERS[len(crates.storeys)]} storeys" not in text:
+        yield page, 1, f"the storeys are {len(crates.storeys)}"
+    for name in crates.storeys["Tests"]:
+        own = text_of(f"crates/{name}/README.md").split("\n\n")[1]
+        tried = re.search(r"the tests of (.*?), run over.*above all (\w+)", own.replace("\n", " "))
+        if tried and tried[2] != NUMBERS[len(re.findall(r"`\w+`", tried[1]))]:
+            yield f"crates/{name}/README.md", 3, f"it has the tests of {len(re.findall(r'`', tried[1])) // 2} crates"
     beside = sorted(it for it in crates.order if crates.storey_of[it] != "Tests" and any("#[test]" in path.read_text() for path in TOP.glob(f"crates/{it}/src/*.rt")))
     alone = re.search(r"([^.\n]*) alone have tests beside their code", text)
     if not alone or sorted(re.findall(r"`(\w+)`", alone[1])) != beside:
