@@ -1,0 +1,12 @@
+# Keeps the verdicts in the file CHECKED where there is one, all are proved, and each span opens; else it fails.
+execute_process(COMMAND ${PIOTOOL} check --source from_the_sdk.pio --config from_the_sdk.toml
+    OUTPUT_VARIABLE verdicts RESULT_VARIABLE status)
+message("${verdicts}")
+if(NOT status EQUAL 0)
+    message(FATAL_ERROR "piotool ended with ${status}")
+elseif(verdicts STREQUAL "")
+    message(FATAL_ERROR "no span is declared")
+elseif(verdicts MATCHES "opens no")
+    message(FATAL_ERROR "a span never opens: look at its pins and edges")
+endif()
+file(WRITE ${CHECKED} "${verdicts}")

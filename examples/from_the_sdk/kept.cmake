@@ -1,0 +1,11 @@
+# Fails where the kept table of SPAN doesn't prove it, or isn't the one that piotool works out now.
+set(files --source from_the_sdk.pio --config from_the_sdk.toml --span ${SPAN})
+execute_process(COMMAND ${PIOTOOL} recheck ${files} --table from_the_sdk.${SPAN}.table RESULT_VARIABLE status)
+if(NOT status EQUAL 0)
+    message(FATAL_ERROR "piotool ended with ${status}")
+endif()
+file(READ from_the_sdk.${SPAN}.table kept)
+execute_process(COMMAND ${PIOTOOL} table ${files} OUTPUT_VARIABLE now)
+if(NOT now STREQUAL kept)
+    message(FATAL_ERROR "the table of ${SPAN} has changed")
+endif()
