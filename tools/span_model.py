@@ -233,15 +233,19 @@ def is_taken(condition, x, y):
 
 @dataclass
 class Ages:
-    """The least and the greatest age of the open spans at each context that has some, and the loops on which spans stay open."""
+    """The least and the greatest age of the open spans at each context that has some; in and after a loop on which a span stays
+    open there is no greatest.
+    """
 
     least: dict = field(default_factory=dict)
     most: dict = field(default_factory=dict)
     looping: set = field(default_factory=set)
 
-    def at(self, context):
-        """The ages at a context, or None."""
-        return (self.least[context], self.most[context]) if context in self.least else None
+    def at(self, context, cap):
+        """The ages at a context, up to a cap, or None."""
+        if context not in self.least:
+            return None
+        return min(self.least[context], cap), cap if context in self.looping else min(self.most[context], cap)
 
 
 class Graph:
@@ -275,7 +279,7 @@ class Graph:
             age, _, context = heapq.heappop(ahead)
             if context in least:
                 continue
-            least[context] = min(age, self.bounds.cap)
+            least[context] = age
             for course in self.rows[context]:
                 if course.after and course.carried() is not None:
                     heapq.heappush(ahead, (age + course.carried(), course.after.order(), course.after))
@@ -300,8 +304,6 @@ class Graph:
                 if waiting[course.after] == 0:
                     ready.append(course.after)
         self.ages.looping = {context for context, number in waiting.items() if number > 0}
-        for context in least:
-            most[context] = self.bounds.cap if context in self.ages.looping else min(most[context], self.bounds.cap)
 
     def causes(self, course):
         """The causes that a course has from the ages at its context, each with the place of its tick."""
@@ -339,7 +341,8 @@ class Graph:
 
     def ages_within(self, course):
         """The ages in each tick of a course, grown, before its edges."""
-        ages, found, cap = self.ages.at(course.before), [], self.bounds.cap
+        cap, found = self.bounds.cap, []
+        ages = self.ages.at(course.before, cap)
         for tick in course.ticks:
             if ages and not tick.is_late:
                 ages = tuple(min(age + 1, cap) for age in ages)
@@ -384,6 +387,6 @@ def table(memory, setups, level, span):
     lines = []
     for context in sorted(graph.rows, key=Context.order):
         registers = ("any" if value is None else value for value in (context.x, context.y))
-        fields = [context.address, *registers, context.from_level, context.to_level, *(graph.ages.at(context) or "-")]
+        fields = [context.address, *registers, context.from_level, context.to_level, *(graph.ages.at(context, graph.bounds.cap) or "-")]
         lines.append(" ".join(map(str, fields)))
     return "\n".join(["pio table 1", *lines, "end"]) + "\n"
