@@ -19,6 +19,14 @@ def read_text(path):
         raise Fault(f"{path}: not UTF-8") from None
 
 
+def write_text(path, text):
+    """Writes a file."""
+    try:
+        Path(path).write_bytes(text.encode("utf-8"))
+    except OSError as fault:
+        raise Fault(f"{path}: {fault.strerror}") from None
+
+
 def piotool(*words):
     """A call of the piotool on the path: its status, its output, and its line on standard error."""
     try:

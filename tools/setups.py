@@ -5,7 +5,8 @@ from dataclasses import dataclass
 
 from calls import Fault, read_text
 
-NUMBERS = {"machine": 3, "from_pin": 31, "to_pin": 31, "min": 2**24 - 1, "max": 2**24 - 1}
+MOST = 2**24 - 1  # the greatest bound
+NUMBERS = {"machine": 3, "from_pin": 31, "to_pin": 31, "min": MOST, "max": MOST}
 WORDS = {"from_edge": ("rise", "fall"), "to_edge": ("rise", "fall"), "unit": ("ticks", "clocks")}
 
 
