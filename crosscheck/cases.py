@@ -1,10 +1,8 @@
 """Random inputs: most are right or nearly right, and some are spoiled in a place or two."""
 
-import span_model
 from block_model import ALL_ONES
 from config_model import MACHINE_KEYS, PIN_KEYS, Program
 
-MOST = 2**24 - 1  # the greatest bound of a span
 NAMES = ["a", "b", "c", "loop", "next", "prev", "A", "_z", "k1", "word", "end"]
 
 
@@ -174,143 +172,6 @@ def as_tables(spans):
     """The tables of spans in a configuration."""
     quoted = [{key: f'"{value}"' if isinstance(value, str) else value for key, value in span.items()} for span in spans]
     return "".join("[[span]]\n" + "".join(f"{key} = {value}\n" for key, value in span.items()) for span in quoted)
-
-
-class Timed(Run):
-    """A block with spans, as an author of firmware may write it: pulses, delays, counted loops, and some waits."""
-
-    def __init__(self, random):
-        self.style = random.choice(["plain", "plain", "waiting", "data", "wild"])
-        self.numbers = random.choice([1, 1, 1, 2, 2, 3])
-        super().__init__(random)
-        self.spans = [self.span(number) for number in range(random.randrange(1, 5))]
-        self.config += as_tables(
-            {**span, "stalls": [f"l{address - self.setups[span['machine']]['at']}" for address in span["stalls"]]} for span in self.spans
-        )
-
-    def host(self):
-        """No stimulus: no verdict depends on one."""
-
-    def load(self):
-        """One or two programs, whose words all have labels."""
-        random, at = self.random, random_place(self.random)
-        for number in range(random.choice([1, 1, 1, 2])):
-            length = random.randrange(1, 11)
-            if at + length > 32:
-                break
-            bits = random.choice([0, 0, 1, 1, 1, 2, 3])
-            opt, pindirs = bits < 5 and random.random() < 0.4, random.random() < 0.1
-            self.source += f".program {self.program}{number}\n"
-            if bits or opt:
-                self.source += f".side_set {bits}{' opt' * opt}{' pindirs' * pindirs}\n"
-            first = random.choice([0, 0, random.randrange(length)])
-            last = random.choice([length - 1, length - 1, random.randrange(length)])
-            pulse = dict(zip(random.sample(range(length), min(2, length)), (0xE001, 0xE000))) if random.random() < 0.7 else {}
-            for place in range(length):
-                word = self.timed_word(length, bits, opt)
-                word = pulse[place] | word & 0x1F00 if place in pulse else word
-                self.memory[at + place] = word + (at if word >> 13 == 0 else 0)
-                self.source += ".wrap_target\n" * (place == first) + f"l{place}: .word {word}\n" + ".wrap\n" * (place == last)
-            self.config += f'[[load]]\nprogram = "{self.program}{number}"\nat = {at}\n'
-            rule = {"side_bits": bits, "side_opt": int(opt), "side_pindirs": pindirs and bits + opt > 0}
-            self.programs.append(rule | {"wrap_bottom": at + first, "wrap_top": at + last, "at": at, "length": length})
-            at += length + random.choice([0, 0, 1])
-
-    def timed_word(self, length, bits, opt):
-        """A word of a kind that the case's style has."""
-        random = self.random
-        styles = {
-            "plain": [0, 0, 0, 5, 7, 7, 7, 7, 7],
-            "waiting": [0, 0, 0, 1, 1, 2, 3, 4, 4, 5, 6, 7, 7, 7, 7],
-            "data": [0, 0, 0, 3, 3, 3, 5, 5, 7, 7, 7],
-            "wild": [0, 1, 2, 3, 4, 5, 6, 7],
-        }
-        kind, operands = random.choice(styles[self.style]), random.randrange(256)
-        if self.style != "wild":
-            operands = {
-                0: lambda: random.choice([0, 0, 1, 2, 2, 2, 3, 4, 4, 5, 6, 7]) << 5 | random.randrange(length),
-                1: lambda: random.randrange(2) << 7 | random.randrange(3) << 5 | random.randrange(4),
-                2: lambda: random.choice([0, 1, 3]) << 5 | random.randrange(32),
-                3: lambda: random.choice([0, 0, 0, 1, 2, 3, 4]) << 5 | random.choice([1, 1, 8]),
-                4: lambda: random.randrange(8) << 5,
-                5: lambda: random.choice([0, 1, 1, 2, 2, 6, 7]) << 5 | random.choice([0, 0, 0, 1, 2]) << 3 | random.choice([1, 2, 3, 7]),
-                6: lambda: random.randrange(4) << 5 | random.randrange(8),
-                7: lambda: random.choice([0, 0, 0, 0, 1, 1, 2, 4]) << 5 | random.choice([0, 1, 1, 2, 3, random.randrange(32)]),
-            }[kind]()
-        elif kind == 0:
-            operands = operands & ~31 | random.randrange(length)
-        delay = random.choice([0, 0, 0, 1, 2, random.randrange(32)]) % (1 << (5 - bits - opt))
-        side = random.randrange(1 << bits) << (5 - bits - opt)
-        enable = 16 if opt and random.random() < 0.5 else 0
-        return kind << 13 | (delay | (side | enable if enable or not opt else 0)) << 8 | operands
-
-    def add_machine(self, number):
-        """A machine with few pins and small registers; those after the first mostly keep off its pins."""
-        random = self.random
-        if len(self.setups) == self.numbers:
-            return
-        program, place = random.choice(list(enumerate(self.programs)))
-        start = random.choice([0, random.randrange(place["length"])])
-        keys = {key: False if limits is None else limits[0] for key, limits in MACHINE_KEYS.items()}
-        base = 0 if not self.setups or random.random() < 0.3 else 8 * len(self.setups)
-        keys |= {key: base + random.choice([0, 0, 1, 2]) for key in ("out_base", "set_base", "side_base")}
-        keys |= {"out_count": random.choice([0, 1, 1, 2, 5]), "set_count": random.choice([0, 1, 1, 1, 2, 5])}
-        keys |= {"autopull": random.random() < 0.3, "autopush": random.random() < 0.3, "in_right": True, "out_right": True}
-        keys |= {"push_threshold": random.choice([8, 32]), "pull_threshold": random.choice([8, 32])}
-        keys |= {"x": random.choice([0, 1, 3, 31, 32, 2**32 - 1]), "y": random.choice([0, 2, 31, 100])}
-        keys |= {"divider": random.choice([1, 1, 2, 3, 7, 0, 65535]), "fraction": random.choice([0, 0, 128, random.randrange(256)])}
-        keys["fraction"] *= keys["divider"] != 0
-        self.config += f'[[machine]]\nid = {number}\nprogram = "{self.program}{program}"\nstart = "l{start}"\n'
-        self.config += "".join(f"{key} = {str(value).lower()}\n" for key, value in keys.items())
-        self.setups[number] = keys | place | {"start": place["at"] + start}
-
-    def span(self, number):
-        """A span of some edges, mostly of one that the machine may make, with bounds that are near the ages of the model, or any."""
-        tries = 1 if self.random.random() < 0.1 else 12
-        for _ in range(tries):
-            span = self.any_span(number)
-            graph = span_model.graph_of(self.memory, self.setups, self.pins["level"], span | {"min": 0, "max": MOST})
-            if graph.ends():
-                break
-        return span | dict(zip(("min", "max"), self.bounds(span, graph.ends() or (0, 5))))
-
-    def any_span(self, number):
-        """A span of some edges, without bounds."""
-        random = self.random
-        machine = next(iter(self.setups)) if random.random() < 0.8 else random.choice(list(self.setups))
-        setup = self.setups[machine]
-        pins = sorted({(setup[base] + place) % 32 for base in ("out_base", "set_base", "side_base") for place in (0, 1)})
-        unit = random.choice(["ticks", "ticks", "clocks"])
-        labels = range(setup["at"], setup["at"] + setup["length"])
-        few = random.choice([0, 0, 1, 3, len(labels)]) if unit == "ticks" else 0
-        from_pin, edges = random.choice(pins), ["rise", "fall"]
-        return {
-            "name": f"s{number}",
-            "machine": machine,
-            "from_pin": from_pin,
-            "from_edge": random.choice(edges),
-            "to_pin": random.choice([from_pin, from_pin, random.choice(pins)]),
-            "to_edge": random.choice(edges),
-            "unit": unit,
-            "stalls": random.sample(labels, min(few, len(labels))),
-        }
-
-    def bounds(self, span, ages):
-        """Bounds that just hold, or just don't; or any."""
-        random, kind = self.random, self.random.random()
-        if kind < 0.1:
-            return 0, MOST
-        if kind < 0.25:
-            return sorted(random.choice([0, 1, random.randrange(40), random.randrange(MOST)]) for _ in range(2))
-        period = 256 * (self.setups[span["machine"]]["divider"] or 65536) + self.setups[span["machine"]]["fraction"]
-        least, most = ages if span["unit"] == "ticks" else (age * period // 256 for age in ages)
-        near = least + random.choice([0, 0, 0, 1, 1, -1]), most + random.choice([0, 0, 0, -1, 1])
-        return sorted(min(max(bound, 0), MOST) for bound in near)
-
-
-def random_place(random):
-    """Where the first program lies."""
-    return random.choice([0, 0, 0, random.randrange(20)])
 
 
 class SerialLine:

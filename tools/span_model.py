@@ -95,8 +95,13 @@ def bounds_of(span, setup):
     """The bounds of a span in ticks."""
     if span["unit"] == "ticks":
         return Bounds(span["min"], span["max"])
-    period = 256 * (setup["divider"] or 65536) + setup["fraction"]
+    period = period_of(setup)
     return Bounds(-(-256 * span["min"] // period), 256 * span["max"] // period)
+
+
+def period_of(setup):
+    """The period of a machine's ticks, in 256ths of a clock."""
+    return 256 * (setup["divider"] or 65536) + setup["fraction"]
 
 
 def mapping(base, count):
