@@ -117,9 +117,9 @@ class Timed(Run):
         for _ in range(1 if self.random.random() < 0.1 else 12):
             span = self.any_span(number)
             graph = span_model.graph_of(self.memory, self.setups, self.pins["level"], span | {"min": 0, "max": MOST})
-            if graph.ends():
+            if graph.ages_at_ends():
                 break
-        return span | dict(zip(("min", "max"), self.bounds(span, graph.ends() or (0, 5))))
+        return span | dict(zip(("min", "max"), self.bounds(span, graph.ages_at_ends() or (0, 5))))
 
     def any_span(self, number):
         """A span of some edges, without bounds."""
@@ -150,6 +150,6 @@ class Timed(Run):
         if kind < 0.25:
             return sorted(random.choice([0, 1, random.randrange(40), random.randrange(MOST)]) for _ in range(2))
         period = span_model.period_of(self.setups[span["machine"]])
-        least, most = ages if span["unit"] == "ticks" else (age * period // 256 for age in ages)
+        least, most = ages if span["unit"] == "ticks" else (ages[0] * period // 256, -(-ages[1] * period // 256))
         near = least + random.choice([0, 0, 0, 1, 1, -1]), most + random.choice([0, 0, 0, -1, 1])
         return sorted(min(max(bound, 0), MOST) for bound in near)

@@ -134,7 +134,7 @@ class Machine:
         side, delay = self.side_and_delay(word)
         courses = []
         for write in self.writes(word):
-            for x, y, address in self.ends(word, context):
+            for x, y, address in self.after(word, context):
                 paths = [[({**write, **side}, False)]]
                 if self.may_wait(word):
                     paths.append([(side, False), (write, True)])
@@ -154,9 +154,9 @@ class Machine:
     def side_and_delay(self, word):
         """The levels that side-set writes, by pin, and the ticks of the delay."""
         bits, has_enable = self.setup["side_bits"], int(self.setup["side_opt"])
-        field_, delay_bits = word >> 8 & 31, 5 - bits - has_enable
-        value, delay = field_ >> delay_bits & (1 << bits) - 1, field_ & (1 << delay_bits) - 1
-        if self.setup["side_pindirs"] or has_enable and not field_ & 16:
+        shared, delay_bits = word >> 8 & 31, 5 - bits - has_enable
+        value, delay = shared >> delay_bits & (1 << bits) - 1, shared & (1 << delay_bits) - 1
+        if self.setup["side_pindirs"] or has_enable and not shared & 16:
             return {}, delay
         return {pin: value >> place & 1 for place, pin in enumerate(mapping(self.setup["side_base"], bits))}, delay
 
@@ -173,23 +173,17 @@ class Machine:
 
     def may_wait(self, word):
         """Whether the instruction may stall."""
-        kind, high, low = word >> 13, word >> 5 & 7, word & 31
-        return (
-            kind == WAIT
-            and high & 3 != 3
-            or kind == PUSH_PULL
-            and not low
-            and high & 1 == 1
-            or kind == IRQ
-            and high == 1
-            or kind == OUT
-            and self.setup["autopull"]
-            or kind == IN
-            and self.setup["autopush"]
-            and high not in (4, 5)
-        )
+        high, low = word >> 5 & 7, word & 31
+        waits = {
+            WAIT: high & 3 != 3,
+            IN: self.setup["autopush"] and high not in (4, 5),
+            OUT: self.setup["autopull"],
+            PUSH_PULL: low == 0 and high & 1 == 1,
+            IRQ: high == 1,
+        }
+        return waits.get(word >> 13, False)
 
-    def ends(self, word, context):
+    def after(self, word, context):
         """What is known after the instruction: X, Y and the address, of each way on."""
         x, y = self.register_after(word, TO_X, context), self.register_after(word, TO_Y, context)
         return [(x, y, address) for address in self.addresses_after(word, context)]
@@ -336,7 +330,7 @@ class Graph:
                 return context, cause
         return None
 
-    def ends(self):
+    def ages_at_ends(self):
         """The least and the greatest age at a to-edge, or None where no open span comes to one."""
         ages = []
         for context, courses in self.rows.items():
