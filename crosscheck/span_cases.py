@@ -1,0 +1,155 @@
+"""Random blocks with spans, as an author of firmware may write them: pulses, delays, counted loops, and some waits."""
+
+import span_model
+from cases import Run, as_tables
+from config_model import MACHINE_KEYS
+
+MOST = 2**24 - 1  # the greatest bound of a span
+SET_PINS_1, SET_PINS_0, SIDE_AND_DELAY = 0xE001, 0xE000, 0x1F00
+# How often each kind of instruction comes, by the style of a case.
+STYLES = {
+    "plain": [0, 0, 0, 5, 7, 7, 7, 7, 7],
+    "waiting": [0, 0, 0, 1, 1, 2, 3, 4, 4, 5, 6, 7, 7, 7, 7],
+    "data": [0, 0, 0, 3, 3, 3, 5, 5, 7, 7, 7],
+    "wild": [0, 1, 2, 3, 4, 5, 6, 7],
+}
+
+
+class Timed(Run):
+    """A source and a configuration with spans, and what they come to: memory, setups, pins, spans whose stalls are addresses."""
+
+    def __init__(self, random):
+        self.style = random.choice(["plain", "plain", "waiting", "data", "wild"])
+        self.machines = random.choice([1, 1, 1, 2, 2, 3])
+        super().__init__(random)
+        self.spans = [self.span(number) for number in range(random.randrange(1, 5))]
+        self.config += as_tables(span | {"stalls": self.labels(span)} for span in self.spans)
+
+    def labels(self, span):
+        """The labels of a span's stalls."""
+        return [f"l{address - self.setups[span['machine']]['at']}" for address in span["stalls"]]
+
+    def host(self):
+        """No stimulus: no verdict depends on one."""
+
+    # The programs.
+
+    def load(self):
+        """One or two programs."""
+        at = self.random.choice([0, 0, 0, self.random.randrange(20)])
+        for number in range(self.random.choice([1, 1, 1, 2])):
+            length = self.random.randrange(1, 11)
+            if at + length <= 32:
+                self.load_program(number, at, length)
+                at += length + self.random.choice([0, 0, 1])
+
+    def load_program(self, number, at, length):
+        """A program whose words all have labels; two of them mostly set pins to 1 and to 0."""
+        random, bits = self.random, self.random.choice([0, 0, 1, 1, 1, 2, 3])
+        opt, pindirs = bits < 5 and random.random() < 0.4, random.random() < 0.1
+        first = random.choice([0, 0, random.randrange(length)])
+        last = random.choice([length - 1, length - 1, random.randrange(length)])
+        pulse = dict(zip(random.sample(range(length), min(2, length)), (SET_PINS_1, SET_PINS_0)))
+        pulse = pulse if random.random() < 0.7 else {}
+        self.source += f".program {self.program}{number}\n"
+        if bits or opt:
+            self.source += f".side_set {bits}{' opt' * opt}{' pindirs' * pindirs}\n"
+        for place in range(length):
+            word = self.timed_word(length, bits, opt)
+            word = pulse[place] | word & SIDE_AND_DELAY if place in pulse else word
+            self.memory[at + place] = word + (at if word >> 13 == 0 else 0)
+            self.source += ".wrap_target\n" * (place == first) + f"l{place}: .word {word}\n" + ".wrap\n" * (place == last)
+        self.config += f'[[load]]\nprogram = "{self.program}{number}"\nat = {at}\n'
+        rule = {"side_bits": bits, "side_opt": int(opt), "side_pindirs": pindirs and bits + opt > 0}
+        self.programs.append(rule | {"wrap_bottom": at + first, "wrap_top": at + last, "at": at, "length": length})
+
+    def timed_word(self, length, bits, opt):
+        """A word of a kind that the case's style has; its jumps stay in the program."""
+        random, kind = self.random, self.random.choice(STYLES[self.style])
+        operands = random.randrange(256) if self.style == "wild" else self.usual_operands(kind)
+        if kind == 0:
+            operands = operands & ~31 | random.randrange(length)
+        delay = random.choice([0, 0, 0, 1, 2, random.randrange(32)]) % (1 << (5 - bits - opt))
+        side = random.randrange(1 << bits) << (5 - bits - opt)
+        enable = 16 if opt and random.random() < 0.5 else 0
+        return kind << 13 | (delay | (side | enable if enable or not opt else 0)) << 8 | operands
+
+    def usual_operands(self, kind):
+        """Operands that a program has more often than any."""
+        random, choice = self.random, self.random.choice
+        return [
+            lambda: choice([0, 0, 1, 2, 2, 2, 3, 4, 4, 5, 6, 7]) << 5,
+            lambda: random.randrange(2) << 7 | random.randrange(3) << 5 | random.randrange(4),
+            lambda: choice([0, 1, 3]) << 5 | random.randrange(32),
+            lambda: choice([0, 0, 0, 1, 2, 3, 4]) << 5 | choice([1, 1, 8]),
+            lambda: random.randrange(8) << 5,
+            lambda: choice([0, 1, 1, 2, 2, 6, 7]) << 5 | choice([0, 0, 0, 1, 2]) << 3 | choice([1, 2, 3, 7]),
+            lambda: random.randrange(4) << 5 | random.randrange(8),
+            lambda: choice([0, 0, 0, 0, 1, 1, 2, 4]) << 5 | choice([0, 1, 1, 2, 3, random.randrange(32)]),
+        ][kind]()
+
+    # The machines.
+
+    def add_machine(self, number):
+        """A machine with few pins and small registers; those after the first mostly keep off its pins."""
+        random = self.random
+        if len(self.setups) == self.machines:
+            return
+        program, place = random.choice(list(enumerate(self.programs)))
+        start = random.choice([0, random.randrange(place["length"])])
+        keys = {key: False if limits is None else limits[0] for key, limits in MACHINE_KEYS.items()}
+        base = 0 if not self.setups or random.random() < 0.3 else 8 * len(self.setups)
+        keys |= {key: base + random.choice([0, 0, 1, 2]) for key in ("out_base", "set_base", "side_base")}
+        keys |= {"out_count": random.choice([0, 1, 1, 2, 5]), "set_count": random.choice([0, 1, 1, 1, 2, 5])}
+        keys |= {"autopull": random.random() < 0.3, "autopush": random.random() < 0.3, "in_right": True, "out_right": True}
+        keys |= {"push_threshold": random.choice([8, 32]), "pull_threshold": random.choice([8, 32])}
+        keys |= {"x": random.choice([0, 1, 3, 31, 32, 2**32 - 1]), "y": random.choice([0, 2, 31, 100])}
+        keys |= {"divider": random.choice([1, 1, 2, 3, 7, 0, 65535]), "fraction": random.choice([0, 0, 128, random.randrange(256)])}
+        keys["fraction"] *= keys["divider"] != 0
+        self.config += f'[[machine]]\nid = {number}\nprogram = "{self.program}{program}"\nstart = "l{start}"\n'
+        self.config += "".join(f"{key} = {str(value).lower()}\n" for key, value in keys.items())
+        self.setups[number] = keys | place | {"start": place["at"] + start}
+
+    # The spans.
+
+    def span(self, number):
+        """A span, mostly of edges that the machine may make, with bounds that just hold, or just don't; or with any."""
+        for _ in range(1 if self.random.random() < 0.1 else 12):
+            span = self.any_span(number)
+            graph = span_model.graph_of(self.memory, self.setups, self.pins["level"], span | {"min": 0, "max": MOST})
+            if graph.ages_at_ends():
+                break
+        return span | dict(zip(("min", "max"), self.bounds(span, graph.ages_at_ends() or (0, 5))))
+
+    def any_span(self, number):
+        """A span of some edges, without bounds."""
+        random = self.random
+        machine = next(iter(self.setups)) if random.random() < 0.8 else random.choice(list(self.setups))
+        setup = self.setups[machine]
+        pins = sorted({(setup[base] + place) % 32 for base in ("out_base", "set_base", "side_base") for place in (0, 1)})
+        unit = random.choice(["ticks", "ticks", "clocks"])
+        addresses = range(setup["at"], setup["at"] + setup["length"])
+        stalls = random.choice([0, 0, 1, 3, len(addresses)]) if unit == "ticks" else 0
+        from_pin, edges = random.choice(pins), ["rise", "fall"]
+        return {
+            "name": f"s{number}",
+            "machine": machine,
+            "from_pin": from_pin,
+            "from_edge": random.choice(edges),
+            "to_pin": random.choice([from_pin, from_pin, random.choice(pins)]),
+            "to_edge": random.choice(edges),
+            "unit": unit,
+            "stalls": random.sample(addresses, min(stalls, len(addresses))),
+        }
+
+    def bounds(self, span, ages):
+        """Bounds near these ages, the least and the greatest at a to-edge; or any."""
+        random, kind = self.random, self.random.random()
+        if kind < 0.1:
+            return 0, MOST
+        if kind < 0.25:
+            return sorted(random.choice([0, 1, random.randrange(40), random.randrange(MOST)]) for _ in range(2))
+        period = span_model.period_of(self.setups[span["machine"]])
+        least, most = ages if span["unit"] == "ticks" else (ages[0] * period // 256, -(-ages[1] * period // 256))
+        near = least + random.choice([0, 0, 0, 1, 1, -1]), most + random.choice([0, 0, 0, -1, 1])
+        return sorted(min(max(bound, 0), MOST) for bound in near)

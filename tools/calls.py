@@ -1,0 +1,51 @@
+"""What the scripts share: one-line faults, files that are read, and calls of piotool."""
+
+import subprocess
+import sys
+from pathlib import Path
+
+
+class Fault(Exception):
+    """A mistake in a file or a call, as its one line tells it."""
+
+
+def read_text(path):
+    """The text of a file."""
+    try:
+        return Path(path).read_bytes().decode("utf-8")
+    except OSError as fault:
+        raise Fault(f"{path}: {fault.strerror}") from None
+    except UnicodeDecodeError:
+        raise Fault(f"{path}: not UTF-8") from None
+
+
+def write_text(path, text):
+    """Writes a file."""
+    try:
+        Path(path).write_bytes(text.encode("utf-8"))
+    except OSError as fault:
+        raise Fault(f"{path}: {fault.strerror}") from None
+
+
+def piotool(*words):
+    """A call of the piotool on the path: its status, its output, and its line on standard error."""
+    try:
+        ended = subprocess.run(["piotool", *map(str, words)], stdin=subprocess.DEVNULL, capture_output=True)
+    except OSError as fault:
+        raise Fault(f"piotool: {fault.strerror}; it has to be on the path") from None
+    told = ended.stderr.decode("utf-8", "replace").partition("\n")[0]
+    return ended.returncode, ended.stdout.decode("utf-8", "replace"), told
+
+
+def run_script(name, work):
+    """Ends the script with the status that its work gives; a fault is one line and status 1."""
+    try:
+        status = work()
+        sys.stdout.flush()
+    except Fault as fault:
+        print(f"{name}: {fault}", file=sys.stderr)
+        status = 1
+    except BrokenPipeError:
+        sys.stderr.close()
+        status = 1
+    sys.exit(status)

@@ -1,0 +1,84 @@
+"""Reads configurations: the spans that they declare, and the periods of their machines."""
+
+import tomllib
+from dataclasses import dataclass
+
+from calls import Fault, read_text
+
+MOST = 2**24 - 1  # the greatest bound
+NUMBERS = {"machine": 3, "from_pin": 31, "to_pin": 31, "min": MOST, "max": MOST}
+WORDS = {"from_edge": ("rise", "fall"), "to_edge": ("rise", "fall"), "unit": ("ticks", "clocks")}
+
+
+@dataclass(frozen=True)
+class Span:
+    """A span as a configuration declares it."""
+
+    name: str
+    machine: int
+    from_pin: int
+    from_edge: str
+    to_pin: int
+    to_edge: str
+    unit: str
+    min: int
+    max: int
+    stalls: tuple
+
+    def bounds(self):
+        """The declared bounds as a text, as `2..7 ticks`."""
+        return f"{self.min} {self.unit}" if self.min == self.max else f"{self.min}..{self.max} {self.unit}"
+
+
+def read_tables(path):
+    """The tables of a configuration, as Python's own reader of TOML gives them."""
+    try:
+        tables = {"load": [], "machine": [], "span": [], "pins": {}} | tomllib.loads(read_text(path))
+    except tomllib.TOMLDecodeError as fault:
+        raise Fault(f"{path}: {fault}") from None
+    for key in ("load", "machine", "span"):
+        if not isinstance(tables[key], list) or not all(isinstance(table, dict) for table in tables[key]):
+            raise Fault(f"{path}: {key} is no array of tables")
+    if not isinstance(tables["pins"], dict) or not isinstance(tables["pins"].get("level", []), list):
+        raise Fault(f"{path}: pins is no table, or its level no array")
+    return tables
+
+
+def spans_of(path, tables):
+    """The spans of a configuration, in order."""
+    return [span_of(path, f"span[{place}]", table) for place, table in enumerate(tables["span"])]
+
+
+def span_of(path, at, table):
+    """The span that a table declares."""
+    table = {"unit": "ticks", "stalls": []} | table
+    for key, most in NUMBERS.items():
+        if type(table.get(key)) is not int or not 0 <= table[key] <= most:
+            raise Fault(f"{path}: {at}.{key} is no number from 0 to {most}")
+    for key, words in WORDS.items():
+        if not isinstance(table.get(key), str) or table[key] not in words:
+            raise Fault(f"{path}: {at}.{key} is neither {words[0]} nor {words[1]}")
+    stalls = table["stalls"]
+    if not isinstance(table.get("name"), str) or not isinstance(stalls, list) or not all(isinstance(it, str) for it in stalls):
+        raise Fault(f"{path}: {at} has no name, or stalls that are no names")
+    keys = ("name", *NUMBERS, *WORDS)
+    return Span(**{key: table[key] for key in keys}, stalls=tuple(stalls))
+
+
+def span_named(path, spans, name):
+    """The first span of this name."""
+    for span in spans:
+        if span.name == name:
+            return span
+    raise Fault(f"{path}: no span is called {name!r}")
+
+
+def period_of(path, tables, machine):
+    """The period of a machine's ticks, in 256ths of a clock."""
+    for table in tables["machine"]:
+        if table.get("id") == machine:
+            whole, fraction = table.get("divider", 1), table.get("fraction", 0)
+            if type(whole) is not int or type(fraction) is not int:
+                raise Fault(f"{path}: the divider of machine {machine} is no number")
+            return 256 * (whole or 65536) + fraction
+    raise Fault(f"{path}: machine {machine} isn't configured")

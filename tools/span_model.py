@@ -1,0 +1,391 @@
+"""A model of the timing checker, from its written rules (docs/SPECIFICATION.md): which verdict a span gets, and on which way.
+
+It shares no code and no form with the program. The contexts that a machine may come to are the nodes of a graph, and each course
+of an instruction is an edge that says how many ticks it adds to the age of an open span, whether it ends it, and whether it opens
+one. The least age at a node is then the length of a shortest way, found by Dijkstra's algorithm. The greatest is that of a longest
+one: without bound at and after a loop on which a span stays open, since each instruction takes a tick, and else found in the order
+of the nodes. It proves nothing.
+
+A setup has the keys of a configuration and the places of its program: start, wrap_bottom, wrap_top, side_bits, side_opt,
+side_pindirs. A span has the keys of a configuration; stalls are addresses.
+"""
+
+import heapq
+from dataclasses import dataclass, field
+
+CAUSES = ("U1", "U2", "U3", "U4")
+JMP, WAIT, IN, OUT, PUSH_PULL, MOV, IRQ, SET = range(8)
+TO_PINS, TO_X, TO_Y, TO_PC = 0, 1, 2, 5
+OUT_EXEC, MOV_EXEC = 7, 4
+
+
+@dataclass(frozen=True)
+class Context:
+    """A place with what is known there: registers that aren't known are None."""
+
+    address: int
+    x: object
+    y: object
+    from_level: int
+    to_level: int
+
+    def order(self):
+        """The place in the order of contexts; a register that isn't known comes after 31."""
+        x, y = (32 if value is None else value for value in (self.x, self.y))
+        return self.address, x, y, self.from_level, self.to_level
+
+    def __str__(self):
+        x, y = ("any" if value is None else value for value in (self.x, self.y))
+        return f"{self.address} x {x} y {y} from {self.from_level} to {self.to_level}"
+
+
+@dataclass(frozen=True)
+class Tick:
+    """A tick of a course: the levels after it, its edges, and whether it is late."""
+
+    levels: tuple
+    begins: bool
+    ends: bool
+    is_late: bool = False
+
+
+@dataclass(frozen=True)
+class Course:
+    """A way through one instruction. Without a context after it no address is known."""
+
+    before: Context
+    ticks: tuple
+    after: object
+
+    @property
+    def waits(self):
+        return any(tick.is_late for tick in self.ticks)
+
+    def counted(self, first=0):
+        """How many ticks count, from this one on."""
+        return sum(not tick.is_late for tick in self.ticks[first:])
+
+    def carried(self):
+        """The ticks that an open age gains by the whole course, or None where the course ends the span."""
+        return None if any(tick.ends for tick in self.ticks) else self.counted()
+
+    def opened(self):
+        """The age at the end of a span that the course opens and doesn't end, or None."""
+        for place in reversed(range(len(self.ticks))):
+            if self.ticks[place].begins:
+                return self.counted(place + 1)
+            if self.ticks[place].ends:
+                return None
+        return None
+
+
+@dataclass(frozen=True)
+class Bounds:
+    """The least and the greatest number of ticks; more than one above the greatest isn't told apart."""
+
+    least: int
+    most: int
+
+    @property
+    def cap(self):
+        return self.most + 1
+
+
+def bounds_of(span, setup):
+    """The bounds of a span in ticks."""
+    if span["unit"] == "ticks":
+        return Bounds(span["min"], span["max"])
+    period = period_of(setup)
+    return Bounds(-(-256 * span["min"] // period), 256 * span["max"] // period)
+
+
+def period_of(setup):
+    """The period of a machine's ticks, in 256ths of a clock."""
+    return 256 * (setup["divider"] or 65536) + setup["fraction"]
+
+
+def mapping(base, count):
+    """The pins of a mapping, in order."""
+    return [(base + place) % 32 for place in range(count)]
+
+
+def held(setup):
+    """The pins whose level a machine's mappings hold."""
+    pins = mapping(setup["out_base"], setup["out_count"]) + mapping(setup["set_base"], setup["set_count"])
+    return set(pins + ([] if setup["side_pindirs"] else mapping(setup["side_base"], setup["side_bits"])))
+
+
+class Machine:
+    """One machine beside one span's pins: the courses of each context."""
+
+    def __init__(self, memory, setup, span):
+        self.memory, self.setup = memory, setup
+        self.pins = span["from_pin"], span["to_pin"]
+        self.wanted = tuple(int(span[edge] == "rise") for edge in ("from_edge", "to_edge"))
+
+    def start(self, level):
+        """The first context, from the output levels of the pins at the start."""
+        known = [self.setup[name] if self.setup[name] < 32 else None for name in ("x", "y")]
+        return Context(self.setup["start"], *known, *(level >> pin & 1 for pin in self.pins))
+
+    def courses(self, context):
+        """The courses of the instruction at a context."""
+        word = self.memory[context.address]
+        side, delay = self.side_and_delay(word)
+        courses = []
+        for write in self.writes(word):
+            for x, y, address in self.after(word, context):
+                paths = [[({**write, **side}, False)]]
+                if self.may_wait(word):
+                    paths.append([(side, False), (write, True)])
+                courses += [self.course(context, path + [({}, False)] * delay, x, y, address) for path in paths]
+        return list(dict.fromkeys(courses))
+
+    def course(self, context, writes, x, y, address):
+        """The course of these writes, tick by tick."""
+        levels, ticks = (context.from_level, context.to_level), []
+        for write, is_late in writes:
+            after = tuple(write.get(pin, level) for pin, level in zip(self.pins, levels))
+            edges = (old != new == wanted for old, new, wanted in zip(levels, after, self.wanted))
+            ticks.append(Tick(after, *edges, is_late))
+            levels = after
+        return Course(context, tuple(ticks), None if address is None else Context(address, x, y, *levels))
+
+    def side_and_delay(self, word):
+        """The levels that side-set writes, by pin, and the ticks of the delay."""
+        bits, has_enable = self.setup["side_bits"], int(self.setup["side_opt"])
+        shared, delay_bits = word >> 8 & 31, 5 - bits - has_enable
+        value, delay = shared >> delay_bits & (1 << bits) - 1, shared & (1 << delay_bits) - 1
+        if self.setup["side_pindirs"] or has_enable and not shared & 16:
+            return {}, delay
+        return {pin: value >> place & 1 for place, pin in enumerate(mapping(self.setup["side_base"], bits))}, delay
+
+    def writes(self, word):
+        """What the instruction itself may write, by pin: one or more possibilities."""
+        kind, high = word >> 13, word >> 5 & 7
+        if kind == SET and high == TO_PINS:
+            pins = mapping(self.setup["set_base"], self.setup["set_count"])
+            return [{pin: word >> place & 1 for place, pin in enumerate(pins)}]
+        if high != TO_PINS or not (kind == OUT or kind == MOV and is_move(word)):
+            return [{}]
+        free = sorted(set(self.pins) & set(mapping(self.setup["out_base"], self.setup["out_count"])))
+        return [{pin: number >> place & 1 for place, pin in enumerate(free)} for number in range(1 << len(free))]
+
+    def may_wait(self, word):
+        """Whether the instruction may stall."""
+        high, low = word >> 5 & 7, word & 31
+        waits = {
+            WAIT: high & 3 != 3,
+            IN: self.setup["autopush"] and high not in (4, 5),
+            OUT: self.setup["autopull"],
+            PUSH_PULL: low == 0 and high & 1 == 1,
+            IRQ: high == 1,
+        }
+        return waits.get(word >> 13, False)
+
+    def after(self, word, context):
+        """What is known after the instruction: X, Y and the address, of each way on."""
+        x, y = self.register_after(word, TO_X, context), self.register_after(word, TO_Y, context)
+        return [(x, y, address) for address in self.addresses_after(word, context)]
+
+    def register_after(self, word, which, context):
+        """What is known of X or Y after the instruction."""
+        kind, high = word >> 13, word >> 5 & 7
+        old = context.x if which == TO_X else context.y
+        if kind == JMP and high == (2 if which == TO_X else 4):
+            return old - 1 if old else None
+        if high != which or kind not in (OUT, MOV, SET) or kind == MOV and not is_move(word):
+            return old
+        if kind == SET:
+            return word & 31
+        if kind == MOV and word >> 3 & 3 == 0:
+            return {1: context.x, 2: context.y, 3: 0}.get(word & 7)
+        return None
+
+    def addresses_after(self, word, context):
+        """The addresses that may come next; None where none is known."""
+        kind, high = word >> 13, word >> 5 & 7
+        if kind == OUT and high in (TO_PC, OUT_EXEC) or kind == MOV and high in (TO_PC, MOV_EXEC) and is_move(word):
+            return [None]
+        bottom, top = self.setup["wrap_bottom"], self.setup["wrap_top"]
+        after = bottom if context.address == top else (context.address + 1) % 32
+        if kind != JMP:
+            return [after]
+        taken = is_taken(high, context.x, context.y)
+        return [address for address, may in ((word & 31, taken is not False), (after, taken is not True)) if may]
+
+
+def is_move(word):
+    """Whether a word of MOV's kind has no reserved field."""
+    return word >> 5 & 7 != 3 and word >> 3 & 3 != 3 and word & 7 != 4
+
+
+def is_taken(condition, x, y):
+    """Whether a JMP is taken, or None where it may go both ways."""
+    if condition == 0:
+        return True
+    if condition in (1, 2, 3, 4):
+        register = x if condition in (1, 2) else y
+        return None if register is None else (register == 0) == (condition in (1, 3))
+    return x != y if condition == 5 and None not in (x, y) else None
+
+
+@dataclass
+class Ages:
+    """The least and the greatest age of the open spans at each context that has some; in and after a loop on which a span stays
+    open there is no greatest.
+    """
+
+    least: dict = field(default_factory=dict)
+    most: dict = field(default_factory=dict)
+    looping: set = field(default_factory=set)
+
+    def at(self, context, cap):
+        """The ages at a context, up to a cap, or None."""
+        if context not in self.least:
+            return None
+        return min(self.least[context], cap), cap if context in self.looping else min(self.most[context], cap)
+
+
+class Graph:
+    """The contexts that a machine may come to, with their courses and ages."""
+
+    def __init__(self, machine, level, bounds, stalls):
+        self.bounds, self.stalls = bounds, stalls
+        self.start, self.rows = machine.start(level), {}
+        ahead = [self.start]
+        while ahead:
+            context = ahead.pop()
+            if context not in self.rows:
+                self.rows[context] = machine.courses(context)
+                ahead += [course.after for course in self.rows[context] if course.after]
+        self.ages = Ages()
+        self.find_least()
+        self.find_most()
+
+    def all_courses(self):
+        """Every course after which an address is known."""
+        return (course for courses in self.rows.values() for course in courses if course.after)
+
+    def find_least(self):
+        """Dijkstra's algorithm from all the courses that open a span."""
+        ahead = [
+            (course.opened(), course.after.order(), course.after) for course in self.all_courses() if course.opened() is not None
+        ]
+        heapq.heapify(ahead)
+        least = self.ages.least
+        while ahead:
+            age, _, context = heapq.heappop(ahead)
+            if context in least:
+                continue
+            least[context] = age
+            for course in self.rows[context]:
+                if course.after and course.carried() is not None:
+                    heapq.heappush(ahead, (age + course.carried(), course.after.order(), course.after))
+
+    def find_most(self):
+        """The longest ways, in an order in which each context comes after those that lead to it; none such is in or after a loop."""
+        least, most = self.ages.least, self.ages.most
+        carrying = {context: [it for it in self.rows[context] if it.after and it.carried() is not None] for context in least}
+        waiting = dict.fromkeys(least, 0)
+        for courses in carrying.values():
+            for course in courses:
+                waiting[course.after] += 1
+        for course in self.all_courses():
+            if course.opened() is not None:
+                most[course.after] = max(most.get(course.after, 0), course.opened())
+        ready = [context for context, number in waiting.items() if number == 0]
+        while ready:
+            context = ready.pop()
+            for course in carrying[context]:
+                most[course.after] = max(most.get(course.after, 0), most[context] + course.carried())
+                waiting[course.after] -= 1
+                if waiting[course.after] == 0:
+                    ready.append(course.after)
+        self.ages.looping = {context for context, number in waiting.items() if number > 0}
+
+    def causes(self, course):
+        """The causes that a course has from the ages at its context, each with the place of its tick."""
+        if course.after is None:
+            return [("U4", 0)]
+        found = []
+        for place, (tick, ages) in enumerate(zip(course.ticks, self.ages_within(course))):
+            if ages and ages[1] > self.bounds.most:
+                found.append(("U1", place))
+            if ages and tick.ends and ages[0] < self.bounds.least:
+                found.append(("U2", place))
+            if ages and tick.is_late and course.before.address not in self.stalls:
+                found.append(("U3", place))
+        return found
+
+    def cause(self, context):
+        """The first cause of a context, or None."""
+        found = {cause for course in self.rows[context] for cause, _ in self.causes(course)}
+        return "U4" if "U4" in found else min(found, default=None)
+
+    def first_bad(self):
+        """The first bad context with its cause, or None."""
+        for context in sorted(self.rows, key=Context.order):
+            if cause := self.cause(context):
+                return context, cause
+        return None
+
+    def ages_at_ends(self):
+        """The least and the greatest age at a to-edge, or None where no open span comes to one."""
+        ages = []
+        for context, courses in self.rows.items():
+            for course in courses:
+                ages += [it for tick, it in zip(course.ticks, self.ages_within(course)) if tick.ends and it]
+        return (min(least for least, _ in ages), max(most for _, most in ages)) if ages else None
+
+    def ages_within(self, course):
+        """The ages in each tick of a course, grown, before its edges."""
+        cap, found = self.bounds.cap, []
+        ages = self.ages.at(course.before, cap)
+        for tick in course.ticks:
+            if ages and not tick.is_late:
+                ages = tuple(min(age + 1, cap) for age in ages)
+            found.append(ages)
+            if tick.ends:
+                ages = None
+            if tick.begins:
+                ages = (0, ages[1] if ages else 0)
+        return found
+
+    def opens(self):
+        """Whether some course has a from-edge."""
+        return any(tick.begins for courses in self.rows.values() for course in courses for tick in course.ticks)
+
+
+def sharing(setups, span):
+    """The least other machine whose mappings hold a pin of the span, or None."""
+    pins = {span["from_pin"], span["to_pin"]}
+    return next((number for number in sorted(setups) if number != span["machine"] and held(setups[number]) & pins), None)
+
+
+def graph_of(memory, setups, level, span):
+    """The graph of a span's machine."""
+    setup = setups[span["machine"]]
+    return Graph(Machine(memory, setup, span), level, bounds_of(span, setup), set(span["stalls"]))
+
+
+def verdict(memory, setups, level, span):
+    """The verdict on a span, as `check` writes it after the span's name."""
+    other = sharing(setups, span)
+    if other is not None:
+        return f"unproved by machine {other}: U5"
+    graph = graph_of(memory, setups, level, span)
+    if bad := graph.first_bad():
+        return f"unproved at {bad[0]}: {bad[1]}"
+    return f"proved opens {'yes' if graph.opens() else 'no'}"
+
+
+def table(memory, setups, level, span):
+    """The table of a span that is proved, as `table` writes it."""
+    graph = graph_of(memory, setups, level, span)
+    lines = []
+    for context in sorted(graph.rows, key=Context.order):
+        registers = ("any" if value is None else value for value in (context.x, context.y))
+        fields = [context.address, *registers, context.from_level, context.to_level, *(graph.ages.at(context, graph.bounds.cap) or "-")]
+        lines.append(" ".join(map(str, fields)))
+    return "\n".join(["pio table 1", *lines, "end"]) + "\n"

@@ -1,0 +1,90 @@
+"""Reads the one-bit values of the traces that `piotool run` and `piotool pair` write."""
+
+import re
+from bisect import bisect_right
+from dataclasses import dataclass, field
+
+from calls import Fault, read_text
+
+VAR = re.compile(r"\$var wire ([0-9]+) (\S+) ([pdftrws])([0-9]+) \$end")
+BIT = re.compile(r"([01])(\S+)")
+WIDE = re.compile(r"b[01]+ \S+")
+TIME = re.compile(r"#([0-9]+)")
+# The second block's values have the same names as the first one's in a trace of `pair`; here they have these.
+SECOND = {"p": "q", "d": "e", "f": "g"}
+
+
+@dataclass
+class Bit:
+    """A value of one bit: the clocks in which the trace tells it, in order, and what it is from each of them on."""
+
+    clocks: list = field(default_factory=list)
+    values: list = field(default_factory=list)
+
+    def at(self, clock):
+        """The value in the sample of a clock."""
+        place = bisect_right(self.clocks, clock)
+        return self.values[place - 1] if place else 0
+
+    def changes(self, first, last):
+        """The clocks after first and before last in which the value changes, each with the new value."""
+        return [(when, value) for when, value in self.edges(0) if first < when < last]
+
+    def edges(self, before):
+        """The clocks in which the value differs from the one before, each with the new value; before clock 0 it is given."""
+        found = []
+        for when, value in zip(self.clocks, self.values):
+            if value != before:
+                found.append((when, value))
+            before = value
+        return found
+
+
+@dataclass
+class Trace:
+    """The one-bit values of a trace by name, in its order, and its number of clocks."""
+
+    bits: dict
+    clocks: int
+
+
+def read_trace(path):
+    """The trace in a file."""
+    lines = read_text(path).splitlines()
+    bits, by_id, head = read_names(path, lines)
+    clock = 0
+    for number, line in enumerate(lines[head:], head + 1):
+        if time := TIME.fullmatch(line):
+            clock = int(time[1])
+        elif (bit := BIT.fullmatch(line)) and bit[2] in by_id:
+            by_id[bit[2]].clocks.append(clock)
+            by_id[bit[2]].values.append(int(bit[1]))
+        elif line not in ("$dumpvars", "$end") and not WIDE.fullmatch(line):
+            raise Fault(f"{path}: line {number}: no line of a trace")
+    if not TIME.fullmatch(lines[-1]):
+        raise Fault(f"{path}: the trace is cut short: its last line has no clock")
+    return Trace(bits, clock)
+
+
+def read_names(path, lines):
+    """The one-bit values by name and by identifier, and how many lines the head has."""
+    bits, by_id, names = {}, {}, {}
+    for number, line in enumerate(lines, 1):
+        if var := VAR.fullmatch(line):
+            if var[1] == "1":
+                bits[names.get(var[3], var[3]) + var[4]] = by_id[var[2]] = Bit()
+        elif line.startswith("$scope module "):
+            names = SECOND if line.split()[2] == "pio1" else {}
+        elif line == "$enddefinitions $end" and number < len(lines):
+            return bits, by_id, number
+        elif line not in ("$timescale 1 ns $end", "$upscope $end"):
+            break
+    raise Fault(f"{path}: no trace that piotool writes")
+
+
+def bits_named(path, trace, names):
+    """The one-bit values of these names; the names are a text with commas between them."""
+    for name in names.split(","):
+        if name not in trace.bits:
+            raise Fault(f"{path}: no value of one bit is called {name!r}")
+    return {name: trace.bits[name] for name in names.split(",")}
