@@ -1,10 +1,10 @@
 """A model of the timing checker, from its written rules (docs/SPECIFICATION.md): which verdict a span gets, and on which way.
 
-It shares no code and no form with the program. The contexts that a machine may come to are the nodes of a graph, and each course
-of an instruction is an edge that says how many ticks it adds to the age of an open span, whether it ends it, and whether it opens
-one. The least age at a node is then the length of a shortest way, found by Dijkstra's algorithm. The greatest is that of a longest
-one: without bound at and after a loop on which a span stays open, since each instruction takes a tick, and else found in the order
-of the nodes. It proves nothing.
+It shares no code and no form with the program. The contexts that a machine may come to are the nodes of a graph, and each
+course of an instruction is an edge that says how many ticks it adds to the age of an open span, whether it ends it, and
+whether it opens one. The least age at a node is then the length of a shortest way, found by Dijkstra's algorithm. The
+greatest is that of a longest one: without bound at and after a loop on which a span stays open, since each instruction takes
+a tick, and else found in the order of the nodes. It proves nothing.
 
 A setup has the keys of a configuration and the places of its program: start, wrap_bottom, wrap_top, side_bits, side_opt,
 side_pindirs. A span has the keys of a configuration; stalls are addresses.
@@ -385,6 +385,7 @@ def table(memory, setups, level, span):
     lines = []
     for context in sorted(graph.rows, key=Context.order):
         registers = ("any" if value is None else value for value in (context.x, context.y))
-        fields = [context.address, *registers, context.from_level, context.to_level, *(graph.ages.at(context, graph.bounds.cap) or "-")]
+        levels, ages = (context.from_level, context.to_level), graph.ages.at(context, graph.bounds.cap)
+        fields = [context.address, *registers, *levels, *(ages or "-")]
         lines.append(" ".join(map(str, fields)))
     return "\n".join(["pio table 1", *lines, "end"]) + "\n"

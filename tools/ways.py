@@ -10,8 +10,8 @@ MOST_STATES = 300_000
 class Way:
     """A way to a bad tick: the courses to a loop, those of the loop once, and those after it; without a loop all are in `last`.
 
-    `opens` is the place of the tick with the from-edge in the first course, or None where the count doesn't matter; `tick` is the
-    place of the bad tick in the last course. `greatest` is the greatest count there, where that was looked for.
+    `opens` is the place of the tick with the from-edge in the first course, or None where the count doesn't matter; `tick` is
+    that of the bad tick in the last course. `greatest` is the greatest count there, where that was looked for.
     """
 
     cause: str
