@@ -3,7 +3,8 @@
 from collections import deque
 from dataclasses import dataclass, field
 
-MOST_STATES = 300_000
+# So many ages are looked at for the shortest way on which a count passes `max`.
+MOST_STATES = 100_000
 
 
 @dataclass
