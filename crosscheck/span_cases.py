@@ -16,7 +16,7 @@ STYLES = {
 
 
 class Timed(Run):
-    """A source and a configuration with spans, and what they come to: memory, setups, pins, spans whose stalls are addresses."""
+    """A source and a configuration with spans, and what they come to: memory, setups, pins, and spans with stall addresses."""
 
     def __init__(self, random):
         self.style = random.choice(["plain", "plain", "waiting", "data", "wild"])
@@ -104,8 +104,8 @@ class Timed(Run):
         keys |= {"autopull": random.random() < 0.3, "autopush": random.random() < 0.3, "in_right": True, "out_right": True}
         keys |= {"push_threshold": random.choice([8, 32]), "pull_threshold": random.choice([8, 32])}
         keys |= {"x": random.choice([0, 1, 3, 31, 32, 2**32 - 1]), "y": random.choice([0, 2, 31, 100])}
-        keys |= {"divider": random.choice([1, 1, 2, 3, 7, 0, 65535]), "fraction": random.choice([0, 0, 128, random.randrange(256)])}
-        keys["fraction"] *= keys["divider"] != 0
+        keys["divider"] = random.choice([1, 1, 2, 3, 7, 0, 65535])
+        keys["fraction"] = random.choice([0, 0, 128, random.randrange(256)]) * (keys["divider"] != 0)
         self.config += f'[[machine]]\nid = {number}\nprogram = "{self.program}{program}"\nstart = "l{start}"\n'
         self.config += "".join(f"{key} = {str(value).lower()}\n" for key, value in keys.items())
         self.setups[number] = keys | place | {"start": place["at"] + start}

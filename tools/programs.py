@@ -41,7 +41,7 @@ class Program:
 
 @dataclass
 class Block:
-    """A block as it is set up: memory with the line and the label of each word, the machines' setups, the levels at the start."""
+    """A block as it is set up: memory, the line and the label of each word, the machines' setups, the levels at the start."""
 
     memory: list
     lines: dict
@@ -118,7 +118,8 @@ def setup_of(program, at, table):
     start = program.labels[table["start"]] if "start" in table else 0
     bottom, top = program.wrap
     keys = {key: table.get(key, default) for key, default in DEFAULTS.items()}
-    return keys | program.rule | {"start": at + start, "wrap_bottom": at + bottom, "wrap_top": at + top, "at": at, "program": program}
+    places = {"start": at + start, "wrap_bottom": at + bottom, "wrap_top": at + top}
+    return keys | program.rule | places | {"at": at, "program": program}
 
 
 def span_as_model(span, block):

@@ -30,12 +30,17 @@ class Span:
         return f"{self.min} {self.unit}" if self.min == self.max else f"{self.min}..{self.max} {self.unit}"
 
 
-def read_tables(path):
-    """The tables of a configuration, as Python's own reader of TOML gives them."""
+def tables_of(path, text):
+    """The tables of a configuration's text, as Python's own reader of TOML gives them. A byte order mark is no part of it."""
     try:
-        tables = {"load": [], "machine": [], "span": [], "pins": {}} | tomllib.loads(read_text(path))
+        return {"load": [], "machine": [], "span": [], "pins": {}} | tomllib.loads(text.removeprefix("\ufeff"))
     except tomllib.TOMLDecodeError as fault:
         raise Fault(f"{path}: {fault}") from None
+
+
+def read_tables(path):
+    """The tables of a configuration, each of the right type."""
+    tables = tables_of(path, read_text(path))
     for key in ("load", "machine", "span"):
         if not isinstance(tables[key], list) or not all(isinstance(table, dict) for table in tables[key]):
             raise Fault(f"{path}: {key} is no array of tables")

@@ -1,19 +1,19 @@
 """A model of the timing checker, from its written rules (docs/SPECIFICATION.md): which verdict a span gets, and on which way.
 
-It shares no code and no form with the program. The contexts that a machine may come to are the nodes of a graph, and each course
-of an instruction is an edge that says how many ticks it adds to the age of an open span, whether it ends it, and whether it opens
-one. The least age at a node is then the length of a shortest way, found by Dijkstra's algorithm. The greatest is that of a longest
-one: without bound at and after a loop on which a span stays open, since each instruction takes a tick, and else found in the order
-of the nodes. It proves nothing.
+It shares no code and no form with the program. The contexts that a machine may come to are the nodes of a graph, and each
+course of an instruction is an edge that says how many ticks it adds to the age of an open span, whether it ends it, and
+whether it opens one. The least age at a node is then the length of a shortest way, found by Dijkstra's algorithm. The
+greatest is that of a longest one: without bound at and after a loop on which a span stays open, since each instruction takes
+a tick, and else found in the order of the nodes. It proves nothing.
 
 A setup has the keys of a configuration and the places of its program: start, wrap_bottom, wrap_top, side_bits, side_opt,
 side_pindirs. A span has the keys of a configuration; stalls are addresses.
 """
 
 import heapq
+from collections import Counter
 from dataclasses import dataclass, field
 
-CAUSES = ("U1", "U2", "U3", "U4")
 JMP, WAIT, IN, OUT, PUSH_PULL, MOV, IRQ, SET = range(8)
 TO_PINS, TO_X, TO_Y, TO_PC = 0, 1, 2, 5
 OUT_EXEC, MOV_EXEC = 7, 4
@@ -59,15 +59,20 @@ class Course:
 
     @property
     def waits(self):
+        """Whether the instruction waits on this way."""
         return any(tick.is_late for tick in self.ticks)
 
-    def counted(self, first=0):
-        """How many ticks count, from this one on."""
-        return sum(not tick.is_late for tick in self.ticks[first:])
+    def counted(self, first=0, end=None):
+        """How many ticks count, from the place first on and before the place end."""
+        return sum(not tick.is_late for tick in self.ticks[first:end])
 
     def carried(self):
         """The ticks that an open age gains by the whole course, or None where the course ends the span."""
         return None if any(tick.ends for tick in self.ticks) else self.counted()
+
+    def is_carrying(self):
+        """Whether a span stays open over the course, and an address is known after it."""
+        return self.after is not None and self.carried() is not None
 
     def opened(self):
         """The age at the end of a span that the course opens and doesn't end, or None."""
@@ -88,6 +93,7 @@ class Bounds:
 
     @property
     def cap(self):
+        """The age at which counting ends."""
         return self.most + 1
 
 
@@ -258,20 +264,18 @@ class Graph:
             context = ahead.pop()
             if context not in self.rows:
                 self.rows[context] = machine.courses(context)
-                ahead += [course.after for course in self.rows[context] if course.after]
+                ahead += [course.after for course in self.rows[context] if course.after is not None]
         self.ages = Ages()
         self.find_least()
         self.find_most()
 
     def all_courses(self):
         """Every course after which an address is known."""
-        return (course for courses in self.rows.values() for course in courses if course.after)
+        return (course for courses in self.rows.values() for course in courses if course.after is not None)
 
     def find_least(self):
         """Dijkstra's algorithm from all the courses that open a span."""
-        ahead = [
-            (course.opened(), course.after.order(), course.after) for course in self.all_courses() if course.opened() is not None
-        ]
+        ahead = [(it.opened(), it.after.order(), it.after) for it in self.all_courses() if it.opened() is not None]
         heapq.heapify(ahead)
         least = self.ages.least
         while ahead:
@@ -280,29 +284,26 @@ class Graph:
                 continue
             least[context] = age
             for course in self.rows[context]:
-                if course.after and course.carried() is not None:
+                if course.is_carrying():
                     heapq.heappush(ahead, (age + course.carried(), course.after.order(), course.after))
 
     def find_most(self):
-        """The longest ways, in an order in which each context comes after those that lead to it; none such is in or after a loop."""
-        least, most = self.ages.least, self.ages.most
-        carrying = {context: [it for it in self.rows[context] if it.after and it.carried() is not None] for context in least}
-        waiting = dict.fromkeys(least, 0)
-        for courses in carrying.values():
-            for course in courses:
-                waiting[course.after] += 1
+        """The longest ways: a context is ready when all that lead to it are done, so those in and after a loop never are."""
+        most = self.ages.most
+        carrying = {context: [it for it in self.rows[context] if it.is_carrying()] for context in self.ages.least}
+        missing = Counter(course.after for courses in carrying.values() for course in courses)
         for course in self.all_courses():
             if course.opened() is not None:
                 most[course.after] = max(most.get(course.after, 0), course.opened())
-        ready = [context for context, number in waiting.items() if number == 0]
+        ready = [context for context in carrying if not missing[context]]
         while ready:
             context = ready.pop()
             for course in carrying[context]:
                 most[course.after] = max(most.get(course.after, 0), most[context] + course.carried())
-                waiting[course.after] -= 1
-                if waiting[course.after] == 0:
+                missing[course.after] -= 1
+                if not missing[course.after]:
                     ready.append(course.after)
-        self.ages.looping = {context for context, number in waiting.items() if number > 0}
+        self.ages.looping = {context for context in carrying if missing[context]}
 
     def causes(self, course):
         """The causes that a course has from the ages at its context, each with the place of its tick."""
@@ -332,10 +333,8 @@ class Graph:
 
     def ages_at_ends(self):
         """The least and the greatest age at a to-edge, or None where no open span comes to one."""
-        ages = []
-        for context, courses in self.rows.items():
-            for course in courses:
-                ages += [it for tick, it in zip(course.ticks, self.ages_within(course)) if tick.ends and it]
+        pairs = (pair for course in self.all_courses() for pair in zip(course.ticks, self.ages_within(course)))
+        ages = [ages for tick, ages in pairs if tick.ends and ages]
         return (min(least for least, _ in ages), max(most for _, most in ages)) if ages else None
 
     def ages_within(self, course):
@@ -386,6 +385,7 @@ def table(memory, setups, level, span):
     lines = []
     for context in sorted(graph.rows, key=Context.order):
         registers = ("any" if value is None else value for value in (context.x, context.y))
-        fields = [context.address, *registers, context.from_level, context.to_level, *(graph.ages.at(context, graph.bounds.cap) or "-")]
+        levels, ages = (context.from_level, context.to_level), graph.ages.at(context, graph.bounds.cap)
+        fields = [context.address, *registers, *levels, *(ages or "-")]
         lines.append(" ".join(map(str, fields)))
     return "\n".join(["pio table 1", *lines, "end"]) + "\n"

@@ -3,15 +3,16 @@
 from collections import deque
 from dataclasses import dataclass, field
 
-MOST_STATES = 300_000
+# So many ages are looked at for the shortest way on which a count passes `max`.
+MOST_STATES = 100_000
 
 
 @dataclass
 class Way:
-    """A way to a bad tick: the courses to the loop, those of the loop once, those after it; without a loop they are all in `last`.
+    """A way to a bad tick: the courses to a loop, those of the loop once, and those after it; without a loop all are in `last`.
 
-    `opens` is the place of the tick with the from-edge in the first course, or None where the count doesn't matter; `tick` is the
-    place of the bad tick in the last course.
+    `opens` is the place of the tick with the from-edge in the first course, or None where the count doesn't matter; `tick` is
+    that of the bad tick in the last course. `greatest` is the greatest count there, where that was looked for.
     """
 
     cause: str
@@ -22,20 +23,20 @@ class Way:
     loop: list = field(default_factory=list)
     greatest: object = None
 
+    def length(self):
+        """The number of courses."""
+        return len(self.first) + len(self.loop) + len(self.last)
+
 
 def way_to(graph, context, cause):
-    """The way to a bad context."""
+    """The shortest way to a bad context, which has this cause."""
     if cause == "U4":
-        return Way("U4", path_from(graph, [graph.start], context, is_kept=lambda course: True) + graph.rows[context][:1], 0)
-    return min(candidates(graph, context, cause), key=length_of)
+        return Way(cause, path_from(graph, graph.start, context, lambda course: True) + graph.rows[context][:1], 0)
+    return min(ways_to(graph, context, cause), key=Way.length)
 
 
-def length_of(way):
-    return len(way.first) + len(way.loop) + len(way.last)
-
-
-def candidates(graph, context, cause):
-    """A way for each course and tick at which the cause comes."""
+def ways_to(graph, context, cause):
+    """A way to the first tick of each course at which the cause comes."""
     for course in graph.rows[context]:
         tick = next((tick for found, tick in graph.causes(course) if found == cause), None)
         if tick is None:
@@ -48,7 +49,7 @@ def candidates(graph, context, cause):
 
 
 def opened_within(course, tick):
-    """The tick before this one at which the course opens a span that is still open, or None."""
+    """The place of the tick before this one at which the course opens a span that is still open, or None."""
     for place in reversed(range(tick)):
         if course.ticks[place].begins:
             return place
@@ -59,87 +60,77 @@ def opened_within(course, tick):
 
 def is_bad(graph, course, cause, tick, opens):
     """Whether a span that is opened at a tick of the course has the cause at a later one."""
-    count = sum(not it.is_late for it in course.ticks[opens + 1 : tick + 1])
+    count = course.counted(opens + 1, tick + 1)
     return cause == "U3" or (count > graph.bounds.most if cause == "U1" else count < graph.bounds.least)
 
 
 def way_from_outside(graph, course, cause, tick):
     """A way to a bad tick from a from-edge in an earlier course."""
-    context = course.before
-    steps = sum(not it.is_late for it in course.ticks[: tick + 1])
-    shortest = shortest_way(graph, context)
-    if cause != "U1" or graph.ages.least[context] + steps > graph.bounds.most:
+    context, rest = course.before, course.counted(0, tick + 1)
+    shortest = way_of_ages(graph, context, graph.ages.least)
+    if cause != "U1" or graph.ages.least[context] + rest > graph.bounds.most:
         return Way(cause, [*shortest, course], tick, opens=opening_tick(shortest[0]))
     if context in graph.ages.looping:
         return looping_way(graph, course, tick)
-    way = long_way(graph, context, graph.bounds.most + 1 - steps)
-    return Way(cause, [*way, course], tick, opens=opening_tick(way[0]), greatest=graph.ages.most[context] + steps)
+    way = long_way(graph, context, graph.bounds.most + 1 - rest)
+    return Way(cause, [*way, course], tick, opens=opening_tick(way[0]), greatest=graph.ages.most[context] + rest)
 
 
 def opening_tick(course):
-    """The last tick of a course with a from-edge."""
+    """The place of the last tick of a course with a from-edge."""
     return max(place for place, tick in enumerate(course.ticks) if tick.begins)
 
 
-def is_carrying(course):
-    """Whether a span stays open over the course, and an address is known after it."""
-    return course.after is not None and course.carried() is not None
-
-
-def shortest_way(graph, context):
-    """The courses from a from-edge to a context with the least age."""
-    return way_of_ages(graph, context, graph.ages.least)
-
-
 def way_of_ages(graph, context, ages):
-    """The courses from a from-edge to a context with its age in these, which are the least or the greatest ones."""
+    """The courses from a from-edge to a context that give its age in these, the least ages or the greatest ones."""
     before = {}
     for course in graph.all_courses():
         before.setdefault(course.after, []).append(course)
-    way, age = [], ages[context]
-    while not way or way[0].opened() != age:
+    way = []
+    while True:
         age = ages[context]
         course = next(
             it
             for it in before[context]
-            if it.opened() == age or is_carrying(it) and it.before in ages and ages[it.before] + it.carried() == age
+            if it.opened() == age or it.is_carrying() and it.before in ages and ages[it.before] + it.carried() == age
         )
         way.insert(0, course)
+        if course.opened() == age:
+            return way
         context = course.before
-    return way
 
 
 def long_way(graph, context, wanted):
-    """The courses from a from-edge to a context that isn't after a loop: the least age that is wanted or more.
+    """The courses from a from-edge to a context that isn't after a loop, with the least age that is as much as wanted.
 
-    Where there are too many ages on the way to it, the greatest one.
+    Where there are too many ages on the ways to it, those that give the greatest age.
     """
-    before, ahead = {}, [(course.after, course.opened(), course, None) for course in graph.all_courses() if course.opened() is not None]
-    while ahead:
-        if len(before) > MOST_STATES:
-            return way_of_ages(graph, context, graph.ages.most)
-        place, age, course, origin = ahead.pop()
-        if (place, age) in before or place in graph.ages.looping:
-            continue
-        before[place, age] = course, origin
-        ahead += [(it.after, age + it.carried(), it, (place, age)) for it in graph.rows[place] if is_carrying(it)]
-    state = context, min(age for place, age in before if place == context and age >= wanted)
-    way = []
+    before, ahead = {}, [(course, course.opened(), None) for course in graph.all_courses() if course.opened() is not None]
+    while ahead and len(before) < MOST_STATES:
+        course, age, origin = ahead.pop()
+        state = course.after, age
+        if state not in before and course.after not in graph.ages.looping:
+            before[state] = course, origin
+            ahead += [(it, age + it.carried(), state) for it in graph.rows[course.after] if it.is_carrying()]
+    if ahead:
+        return way_of_ages(graph, context, graph.ages.most)
+    state, way = min((state for state in before if state[0] == context and state[1] >= wanted), key=lambda state: state[1]), []
     while state:
         course, state = before[state]
         way.insert(0, course)
     return way
 
 
-def path_from(graph, starts, goal, is_kept):
-    """The fewest courses from one of the contexts to another."""
-    before, ahead = dict.fromkeys(starts), deque(starts)
+def path_from(graph, start, goal, is_kept):
+    """The fewest courses from one context to another, of those that are kept; or None."""
+    before, ahead = {start: None}, deque([start])
     while ahead and goal not in before:
-        context = ahead.popleft()
-        for course in graph.rows[context]:
-            if course.after is not None and is_kept(course) and course.after not in before:
+        for course in graph.rows[ahead.popleft()]:
+            if course.after is not None and course.after not in before and is_kept(course):
                 before[course.after] = course
                 ahead.append(course.after)
+    if goal not in before:
+        return None
     path = []
     while before[goal]:
         path.insert(0, before[goal])
@@ -147,41 +138,38 @@ def path_from(graph, starts, goal, is_kept):
     return path
 
 
+def is_carrying(course):
+    """Whether a span stays open over the course."""
+    return course.is_carrying()
+
+
 def loop_through(graph, context):
-    """The fewest courses from a context to itself on which a span stays open, or none."""
-    first = [course for course in graph.rows[context] if is_carrying(course)]
-    if any(course.after == context for course in first):
-        return [course for course in first if course.after == context][:1]
+    """The fewest courses from a context to itself on which a span stays open, or None."""
     loops = []
-    for course in first:
-        try:
-            loops.append([course, *path_from(graph, [course.after], context, is_carrying)])
-        except KeyError:
-            continue
-    return min(loops, key=len, default=[])
+    for course in filter(is_carrying, graph.rows[context]):
+        path = path_from(graph, course.after, context, is_carrying)
+        if path is not None:
+            loops.append([course, *path])
+    return min(loops, key=len, default=None)
 
 
-def distances_to(graph, context):
-    """The contexts from which an open span may come to a context, with the fewest courses, nearest first."""
+def nearest_before(graph, context):
+    """The contexts in and after loops from which an open span may come to a context, the nearest first."""
     before = {}
-    for course in graph.all_courses():
-        if is_carrying(course):
-            before.setdefault(course.after, []).append(course.before)
-    found, ahead = {context: 0}, deque([context])
+    for course in filter(is_carrying, graph.all_courses()):
+        before.setdefault(course.after, []).append(course.before)
+    found, ahead = {context: None}, deque([context])
     while ahead:
-        place = ahead.popleft()
-        for earlier in before.get(place, []):
+        for earlier in before.get(ahead.popleft(), []):
             if earlier not in found and earlier in graph.ages.looping:
-                found[earlier] = found[place] + 1
+                found[earlier] = None
                 ahead.append(earlier)
-    return found
+    return list(found)
 
 
 def looping_way(graph, course, tick):
-    """A way with the loop that is nearest to the bad course."""
-    for context in distances_to(graph, course.before):
-        if loop := loop_through(graph, context):
-            first = shortest_way(graph, context)
-            last = [*path_from(graph, [context], course.before, is_carrying), course]
-            return Way("U1", last, tick, opening_tick(first[0]), first, loop)
-    raise AssertionError("a context after a loop has a loop before it")
+    """A way to a bad tick with the loop that is nearest to it; the course is in or after a loop."""
+    context, loop = next((it, loop) for it in nearest_before(graph, course.before) if (loop := loop_through(graph, it)))
+    first = way_of_ages(graph, context, graph.ages.least)
+    last = [*path_from(graph, context, course.before, is_carrying), course]
+    return Way("U1", last, tick, opening_tick(first[0]), first, loop)
