@@ -8,7 +8,7 @@ use Rattle.pin_matrix.specs.Pins.{merged}
 use Rattle.sm_registers.specs.Intents.{Intent, Kind, Off, Delay, no_intent, written_by}
 use Rattle.sm_registers.specs.declared.outputs.Outputs.{Outputs}
 use Rattle.sm_registers.specs.declared.registers.Registers.{Registers}
-use Rattle.sm_registers.specs.declared.view.View.{View}
+use Rattle.sm_registers.specs.View.{View}
 use Rattle.sm_registers.specs.Idling.{is_counting, only_counts}
 use Rattle.sm_registers.specs.Queues.{Queues}
 use Rattle.sm_registers.specs.State.{queues_of, settled_ports, uses_fifos}

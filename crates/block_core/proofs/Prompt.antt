@@ -3,7 +3,7 @@ use Rattle.std.proofs.Common.{◌≡◌, true, false, cond, refl, ap, sym, ◌�
 use Rattle.std.specs.Int.Bits.{or_zero_l, or_zero_r}
 use Rattle.sm_registers.specs.declared.outputs.Outputs.{Outputs}
 use Rattle.sm_registers.specs.declared.registers.Registers.{Registers}
-use Rattle.sm_registers.specs.declared.view.View.{View}
+use Rattle.sm_registers.specs.View.{View}
 use Rattle.sm_registers.specs.declared.wants.Wants.{Wants}
 use Rattle.sm_registers.specs.Intents.{Intent, no_intent, no_wants, wants_of, written_by}
 use Rattle.sm_registers.specs.State.{queues_of, settled_ports}

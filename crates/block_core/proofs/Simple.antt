@@ -7,7 +7,7 @@ use Rattle.pin_matrix.specs.declared.machine.MachineSetup.{MachineSetup}
 use Rattle.pin_matrix.specs.Pads as pads
 use Rattle.pin_matrix.specs.Pads.{Synchroniser, seen_of}
 use Rattle.sm_registers.specs.declared.outputs.Outputs.{Outputs}
-use Rattle.sm_registers.specs.declared.view.View.{View}
+use Rattle.sm_registers.specs.View.{View}
 use Rattle.sm_registers.specs.declared.wants.Wants.{Wants}
 use Rattle.sm_registers.specs.Intents.{written_by}
 use Rattle.dreq_pacing.specs.declared.due.Due.{Due}

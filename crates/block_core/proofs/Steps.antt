@@ -2,7 +2,7 @@
 use Rattle.std.proofs.Common.{◌≡◌, ℕ, ◌+◌, ◌≤◌, ◌<◌, ◌^◌, Bool, true, false, Option, Some, None, option_map, cond, slice_index_or, ◌∙◌, refl, subst, sym, ap, arith}
 use Rattle.clock_divider.specs.Timing.{Timing, resumed}
 use Rattle.pin_matrix.specs.declared.machine.MachineSetup.{MachineSetup}
-use Rattle.sm_registers.specs.declared.view.View.{View}
+use Rattle.sm_registers.specs.View.{View}
 use Rattle.dreq_pacing.specs.declared.due.Due.{Due}
 use Rattle.block_core.specs.Block.{Run, pads_in, next, next_over}
 use Rattle.block_core.specs.Resting.{rested}

@@ -2,7 +2,7 @@
 use Rattle.std.specs.Prelude.{◌≡◌, ℕ, ◌+◌, ◌^◌, ◌<◌, ◌≤◌, Bool, true, ◌&&◌, Option, Some, None, is_none, List, [], ◌∷◌}
 use Rattle.std.specs.List.{AllByRecursion}
 use Rattle.sm_registers.specs.Told.{IsKnown}
-use Rattle.sm_registers.specs.declared.view.View.{View}
+use Rattle.sm_registers.specs.View.{View}
 use Rattle.block_core.specs.declared.sample.Sample.{Sample}
 use Rattle.block_core.specs.Block.{BlockState}
 use Rattle.block_core.specs.Shown.{sample_of}

@@ -16,7 +16,7 @@ use Rattle.clock_divider.specs.Timing.{Timing, period_of, first, stepped, resume
 use Rattle.clock_divider.specs.Ticks.{is_tick}
 use Rattle.pin_matrix.specs.declared.machine.MachineSetup.{MachineSetup}
 use Rattle.sm_registers.specs.declared.registers.Registers.{Registers}
-use Rattle.sm_registers.specs.declared.view.View.{View}
+use Rattle.sm_registers.specs.View.{View}
 use Rattle.sm_registers.specs.Intents.{Intent, Late, no_intent}
 use Rattle.sm_registers.specs.Idling.{is_counting}
 use Rattle.sm_registers.specs.Prompt as prompt

@@ -26,16 +26,18 @@ pub struct Sample {
 }
 
 impl Sample {
-    /// Puts in the pins, which are other ones only where that is said; all else stays.
+    /// Puts in the pins; all else stays. True where it is another sample then.
     #[inline(always)]
-    pub(crate) fn show_pins(&mut self, outputs: &Outputs, changes: bool)
-        requires { changes ≡ false → (self.old.level ≡ outputs.now.levels) × (self.old.direction ≡ outputs.now.directions) }
-        ensures { self.new ≡ record self.old { level = outputs.now.levels; direction = outputs.now.directions } }
+    pub(crate) fn show_pins(&mut self, outputs: &Outputs) -> bool
+        ensures after { self.new ≡ record self.old { level = outputs.now.levels; direction = outputs.now.directions } }
+        ensures same { result ≡ false → self.new ≡ self.old }
     {
-        if changes {
+        let same = self.level == outputs.levels && self.direction == outputs.directions;
+        if !same {
             self.level = outputs.levels;
             self.direction = outputs.directions;
         }
+        !same
     }
 
     /// Puts in what is seen of a place; all else stays.

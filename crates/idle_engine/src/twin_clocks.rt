@@ -80,8 +80,8 @@ fn quiet_step<F: Fifo>(
     ensures calls { twin.new.calls ≡ twin.old.calls + 1 }
 {
     unused_fifos_ask_as_before_over_any_pads();
-    let used = twin.quiet_clock();
-    let any = used.0 | used.1;
+    let news = twin.quiet_clock();
+    let any = news.0.fifos | news.1.fifos;
     if any {
         next_dues(twin, first, second, clock + 1)
     } else {

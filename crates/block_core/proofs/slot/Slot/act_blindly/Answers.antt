@@ -2,7 +2,7 @@ use Rattle.std.proofs.Common.{◌≡◌, true, Some, refl, subst, sym, ap, ◌�
 use Rattle.std.proofs.lemmas.Bool.{and_parts}
 use Rattle.clock_divider.specs.Timing.{Timing}
 use Rattle.sm_registers.specs.declared.registers.Registers.{Registers}
-use Rattle.sm_registers.specs.declared.view.View.{View}
+use Rattle.sm_registers.specs.View.{View}
 use Rattle.sm_registers.specs.Intents.{Intent, written_by}
 use Rattle.sm_registers.specs.Prompt as prompt
 use Rattle.sm_registers.specs.State.{MachineState, queues_of}
