@@ -8,8 +8,7 @@ use Rattle.pin_matrix.specs.Pads as pads
 use Rattle.pin_matrix.specs.Pads.{Synchroniser, seen_of}
 use Rattle.sm_registers.specs.declared.outputs.Outputs.{Outputs}
 use Rattle.sm_registers.specs.View.{View}
-use Rattle.sm_registers.specs.declared.wants.Wants.{Wants}
-use Rattle.sm_registers.specs.Intents.{written_by}
+use Rattle.sm_registers.specs.Intents.{Wants, written_by}
 use Rattle.dreq_pacing.specs.declared.due.Due.{Due}
 use Rattle.dreq_pacing.specs.Due.{quiet}
 use Rattle.block_core.specs.declared.sample.Sample.{Sample}
@@ -19,8 +18,7 @@ use Rattle.block_core.specs.Merging.{nothing_wanted, with_intent}
 use Rattle.block_core.specs.Resting.{rested_place}
 use Rattle.block_core.specs.Shown.{Shows, sample_of}
 use Rattle.block_core.specs.Slots.{Slot, first_slot, place_after, place_intent, place_uses_fifos, slot_after}
-use Rattle.block_core.proofs.Passing.{StaysQuiet}
-use Rattle.block_core.proofs.Prompt.{WantsPins, uses_none}
+use Rattle.block_core.proofs.SimpleClocks.{StaysQuiet, WantsPins, uses_none}
 use Rattle.block_core.proofs.Showing.{still_shows}
 use Rattle.block_core.proofs.Unused.{or_false_parts}
 use Rattle.block_core.proofs.Wanting.{IsStep, view, run, nothing_added, next_run, any_used}

@@ -6,7 +6,6 @@ ghost use Rattle.block_core.specs.Kept as kept;
 ghost use Rattle.block_core.specs.Merging.{with_intent};
 ghost use Rattle.block_core.specs.Shown.{Shows, shown_in, moved_in, with_shown};
 ghost use Rattle.dreq_pacing.specs.Due.{quiet};
-ghost use Rattle.sm_registers.specs.View as spec_view;
 ghost use Rattle.block_core.specs.Slots as spec;
 ghost use Rattle.block_core.specs.Slots.{doing, first_slot, has_tick, is_simple, place_after, place_intent, place_uses_fifos, slot_after, slot_intent, slot_uses_fifos};
 
@@ -43,8 +42,8 @@ pub(crate) fn are_empty(
     second.is_none() && third.is_none() && fourth.is_none()
 }
 
-/// A clock of a place in which the system does nothing, where it is a simple one of its machine (`Slot::simple_clock`); else nothing
-/// is done, as in an empty place. True where it was done.
+/// A clock of a place in which the system does nothing, where it is a simple one of its machine; else nothing is done, as in an
+/// empty place (`Slot::simple_clock`).
 #[inline(always)]
 pub(crate) fn simple_step<F: Fifo>(
     slot: &mut Option<Slot<F>>,
@@ -53,14 +52,14 @@ pub(crate) fn simple_step<F: Fifo>(
     ready: bool,
 ) -> Option<bool>
     requires time { IsInTime slot.old }
-    requires known { ready.old ≡ true → spec.is_ready slot.old ≡ true }
-    ensures simple { result ≡ is_simple view.now slot.old }
-    ensures after { result ≡ true → slot.new ≡ place_after view.now quiet slot.old }
-    ensures outputs { result ≡ true → outputs.new ≡ written_by outputs.old (place_intent view.now quiet slot.old) }
-    ensures wants { result ≡ true → wants_of (place_intent view.now quiet slot.old) ≡ no_wants }
-    ensures ready { ready.new ≡ true → spec.is_ready slot.new ≡ true }
-    ensures kept { result ≡ false → slot.new ≡ slot.old }
-    ensures kept_outputs { result ≡ false → outputs.new ≡ outputs.old }
+    requires ready { ready ≡ true → spec.is_ready slot.old ≡ true }
+    ensures simple { is_some result ≡ is_simple view.now slot.old }
+    ensures after { is_some result ≡ true → slot.new ≡ place_after view.now quiet slot.old }
+    ensures outputs { is_some result ≡ true → outputs.new ≡ written_by outputs.old (place_intent view.now quiet slot.old) }
+    ensures wants { is_some result ≡ true → wants_of (place_intent view.now quiet slot.old) ≡ no_wants }
+    ensures next { result ≡ Some true → spec.is_ready slot.new ≡ true }
+    ensures kept { is_some result ≡ false → slot.new ≡ slot.old }
+    ensures kept_outputs { is_some result ≡ false → outputs.new ≡ outputs.old }
 {
     match slot {
         Some(slot) => slot.simple_clock(view, outputs, ready),
@@ -90,6 +89,7 @@ pub(crate) fn step<F: Fifo>(
     ensures used { result ≡ (used || place_uses_fifos view.now (doing due.entry) slot.old) }
     ensures sample { sample.new ≡ with_shown place (shown_in slot.new) sample.old }
 {
+    a_quiet_clock_changes_nothing();
     let Some(slot) = slot else {
         return used;
     };
@@ -118,6 +118,7 @@ fn quiet_step<F: Fifo>(
     ensures used { result ≡ slot_uses_fifos view.now quiet slot.old }
     ensures sample { sample.new ≡ with_shown place (shown_in (Some slot.new)) sample.old }
 {
+    a_quiet_clock_changes_nothing();
     let (intent, used) = slot.quiet_tick(view);
     tell(&intent, used, slot, wanted, place, sample);
     used
@@ -141,12 +142,13 @@ fn due_step<F: Fifo>(
     ensures used { result ≡ slot_uses_fifos view.now due.now slot.old }
     ensures sample { sample.new ≡ with_shown place (shown_in (Some slot.new)) sample.old }
 {
+    a_quiet_clock_changes_nothing();
     let (intent, used) = slot.clock(view, due);
     tell(&intent, used, slot, wanted, place, sample);
     used
 }
 
-/// Adds what a machine wants of the block, and brings the sample up to date where what is seen of the machine may be new.
+/// Adds what a machine wanted of the block in a clock. The sample gets what is seen of the machine, where that may be new.
 #[inline(always)]
 fn tell<F: Fifo>(
     intent: &Intent,
@@ -156,6 +158,10 @@ fn tell<F: Fifo>(
     place: usize,
     sample: &mut Sample,
 )
+    requires place { place < 4 }
+    requires shows { used ≡ false → intent.now.sticky ≡ 0 → Shows place (Some slot.now) sample.old }
+    ensures wanted { wanted.new ≡ with_intent wanted.old intent.now }
+    ensures sample { sample.new ≡ with_shown place (shown_in (Some slot.now)) sample.old }
 {
     wanted.add(intent);
     if used || intent.sticky != 0 {

@@ -1,5 +1,5 @@
 //! One machine in a run of its block, with its divider.
-ghost use Rattle.std.specs.Prelude.{◌≡◌, ℕ, ◌<◌, ◌≤◌, ◌^◌, ◌+◌, Some, length, IsTrue, IsSome, IfOk, false, true};
+ghost use Rattle.std.specs.Prelude.{◌≡◌, ℕ, ◌<◌, ◌≤◌, ◌^◌, ◌+◌, Some, is_some, length, IsTrue, IsSome, IfOk, false, true};
 ghost use Rattle.clock_divider.specs.Timing as timing;
 ghost use Rattle.sm_registers.specs.Intents.{no_wants, wants_of, written_by};
 ghost use Rattle.sm_registers.specs.State as spec_shown;
@@ -90,25 +90,44 @@ impl<F: Fifo> Slot<F> {
     }
 
     /// Its clock, where the system does nothing in it and it is a simple one: it has no tick, or a simple tick. Else nothing is
-    /// done. True where it was done. It wants nothing of its block but pins then, which it writes over those of the machines
-    /// before it, nor of its FIFOs. `ready` tells of a clock in which it is known to be ready, and then of the next one.
+    /// done. Where it was done, it tells whether the machine is known to be ready in the next clock; of one that is known to be,
+    /// nothing more is asked. It wants nothing of its block but pins then, which it writes over those of the machines before it,
+    /// nor of its FIFOs.
     #[inline(always)]
     pub fn simple_clock(&mut self, view: &View, outputs: &mut Outputs, ready: bool) -> Option<bool>
-        requires known { ready.old ≡ true → spec.is_ready (Some self.old) ≡ true }
+        requires ready { ready ≡ true → spec.is_ready (Some self.old) ≡ true }
         requires clock { self.old.timing.clock < 2 ^ 40 }
-        ensures simple { result ≡ spec.is_simple view.now (Some self.old) }
-        ensures after { result ≡ true → self.new ≡ slot_after view.now quiet self.old }
-        ensures outputs { result ≡ true → outputs.new ≡ written_by outputs.old (slot_intent view.now quiet self.old) }
-        ensures wants { result ≡ true → wants_of (slot_intent view.now quiet self.old) ≡ no_wants }
-        ensures ready { ready.new ≡ true → spec.is_ready (Some self.new) ≡ true }
-        ensures kept { result ≡ false → self.new ≡ self.old }
-        ensures kept_outputs { result ≡ false → outputs.new ≡ outputs.old }
+        ensures simple { is_some result ≡ spec.is_simple view.now (Some self.old) }
+        ensures after { is_some result ≡ true → self.new ≡ slot_after view.now quiet self.old }
+        ensures outputs { is_some result ≡ true → outputs.new ≡ written_by outputs.old (slot_intent view.now quiet self.old) }
+        ensures wants { is_some result ≡ true → wants_of (slot_intent view.now quiet self.old) ≡ no_wants }
+        ensures next { result ≡ Some true → spec.is_ready (Some self.new) ≡ true }
+        ensures kept { is_some result ≡ false → self.new ≡ self.old }
+        ensures kept_outputs { is_some result ≡ false → outputs.new ≡ outputs.old }
     {
         a_quiet_clock_changes_nothing();
         if !ready && !self.has_tick() {
             self.divider.step();
             return Some(false);
         }
+        self.simple_tick(view, outputs, ready)
+    }
+
+    /// The same of a clock that is a tick of it.
+    #[inline(always)]
+    fn simple_tick(&mut self, view: &View, outputs: &mut Outputs, ready: bool) -> Option<bool>
+        requires tick { spec.has_tick self.old ≡ true }
+        requires ready { ready ≡ true → spec.is_ready (Some self.old) ≡ true }
+        requires clock { self.old.timing.clock < 2 ^ 40 }
+        ensures simple { is_some result ≡ spec.is_simple view.now (Some self.old) }
+        ensures after { is_some result ≡ true → self.new ≡ slot_after view.now quiet self.old }
+        ensures outputs { is_some result ≡ true → outputs.new ≡ written_by outputs.old (slot_intent view.now quiet self.old) }
+        ensures wants { is_some result ≡ true → wants_of (slot_intent view.now quiet self.old) ≡ no_wants }
+        ensures next { result ≡ Some true → spec.is_ready (Some self.new) ≡ true }
+        ensures kept { is_some result ≡ false → self.new ≡ self.old }
+        ensures kept_outputs { is_some result ≡ false → outputs.new ≡ outputs.old }
+    {
+        a_quiet_clock_changes_nothing();
         let begins = self.machine.simple_tick(view, outputs, ready)?;
         self.divider.step_from_tick();
         Some(begins & self.divider.ticks_now())

@@ -20,7 +20,8 @@ use Rattle.sm_registers.specs.Decoding.{IsReading}
 use Rattle.sm_registers.specs.Effects.{Effect, effect_of}
 use Rattle.sm_registers.specs.Ends.{effect_by, end_level, end_direction, end_stalls, written_end, written_side}
 use Rattle.sm_registers.specs.Idling.{is_unmet, waits_again}
-use Rattle.sm_registers.specs.Intents.{Delay, Late, no_intent, no_wants, wants_of, written_by}
+use Rattle.sm_registers.specs.declared.intent.Kind.TheVariants.{Delay, Late}
+use Rattle.sm_registers.specs.Intents.{no_intent, no_wants, wants_of, written_by}
 use Rattle.sm_registers.specs.Plans.{side_level, side_direction, side_of}
 use Rattle.sm_registers.specs.Queues.{Queues}
 use Rattle.sm_registers.specs.Simple.{begins_anew, is_ready}

@@ -10,7 +10,7 @@ use Rattle.sm_registers.specs.declared.plan.Side.TheVariants as side
 use Rattle.sm_registers.specs.declared.registers.Registers.{Registers}
 use Rattle.sm_registers.specs.Effects.{Effect}
 use Rattle.sm_registers.specs.Ends.{effect_by, end_level, end_direction, end_stalls}
-use Rattle.sm_registers.specs.Intents.{First, Late}
+use Rattle.sm_registers.specs.declared.intent.Kind.TheVariants.{First, Late}
 use Rattle.sm_registers.specs.Plans.{side_level, side_direction, side_of}
 use Rattle.sm_registers.specs.Queues.{Queues}
 use Rattle.sm_registers.specs.Tick.{after_effect, refills, side_writes, tick_by}

@@ -8,9 +8,8 @@
 use Rattle.std.specs.Prelude.{ℕ, Bool, false, Option, None, List, [], ◌∷◌, slice_index_or}
 use Rattle.pin_matrix.specs.Pins.{merged}
 use Rattle.sm_registers.specs.declared.outputs.Outputs.{Outputs}
-pub use Rattle.sm_registers.specs.declared.intent.Intent.{Intent}
-pub use Rattle.sm_registers.specs.declared.intent.Kind.{Kind}
-pub use Rattle.sm_registers.specs.declared.intent.Kind.TheVariants.{Off, First, Late, Delay}
+use Rattle.sm_registers.specs.declared.intent.Intent.{Intent}
+use Rattle.sm_registers.specs.declared.intent.Kind.TheVariants.{Off}
 
 -- nothing is written, lowered, raised, taken or given
 abbrev pub no_intent : Intent

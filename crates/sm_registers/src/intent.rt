@@ -1,7 +1,8 @@
 //! What a tick wants of its block: all that it does outside the machine's registers.
 ghost use Rattle.std.specs.Prelude.{◌≡◌, [], ◌∷◌, if◌then◌else◌};
 ghost use Rattle.sm_registers.specs.Ends.{end_level, end_direction, end_stalls};
-ghost use Rattle.sm_registers.specs.Intents.{Late, First, no_intent};
+ghost use Rattle.sm_registers.specs.declared.intent.Kind.TheVariants.{Late, First};
+ghost use Rattle.sm_registers.specs.Intents.{no_intent};
 ghost use Rattle.sm_registers.specs.Plans.{side_level, side_direction};
 
 use crate::end::End;

@@ -6,7 +6,7 @@ ghost use Rattle.pin_matrix.specs.declared.machine.MachineSetup as setup;
 ghost use Rattle.sm_registers.specs.declared.registers.Registers as registers;
 ghost use Rattle.sm_registers.specs.View as view;
 ghost use Rattle.sm_registers.specs.Queues as queues;
-ghost use Rattle.sm_registers.specs.Intents as kind;
+ghost use Rattle.sm_registers.specs.declared.intent.Kind.TheVariants as kind;
 ghost use Rattle.sm_registers.specs.Intents.{no_intent};
 ghost use Rattle.sm_registers.specs.Idling.{IsIdle, after_ticks, begins_next, idle_of, only_counts, only_waits, stirs, stirs_at, waits_again};
 ghost use Rattle.sm_registers.specs.Laws.{AreWords, AreWordsSeen, IsAlike, IsFair, TakesInto, GivesAll, WritesPins};

@@ -2,7 +2,7 @@
 use Rattle.std.proofs.Common.{IsSome, IsTrue, ap, refl, subst, sym, ◌∙◌}
 use Rattle.sm_registers.specs.Ranges.{IsPlaced}
 use Rattle.sm_registers.specs.State.{queues_of}
-use Rattle.sm_registers.specs.Intents.{Intent}
+use Rattle.sm_registers.specs.declared.intent.Intent.{Intent}
 use Rattle.sm_registers.proofs.Placed.{placed_tick}
 use Rattle.sm_registers.proofs.Fair.{some_front, has_room, fair_takes, fair_gives}
 use Rattle.sm_registers.proofs.machine.Machine.tick.Goals as goal
