@@ -1,6 +1,7 @@
 -- A simple clock of a machine, in which the system does nothing: it wants no more than pins.
 use Rattle.std.proofs.Common.{◌≡◌, true, false, None, cond, refl, ap, sym, ◌∙◌}
 use Rattle.std.specs.Int.Bits.{or_zero_l, or_zero_r}
+use Rattle.pin_matrix.specs.Pins.{merged}
 use Rattle.sm_registers.specs.declared.outputs.Outputs.{Outputs}
 use Rattle.sm_registers.specs.declared.registers.Registers.{Registers}
 use Rattle.sm_registers.specs.View.{View}
@@ -77,3 +78,8 @@ uses_none v s none =
       no_word s.machine.setup.id,
       no_line s.machine.setup.id,
     ) refl
+
+-- where nothing is wanted, no pin is written
+pub writes_none : (o : Outputs) → o ≡ written_by o no_intent
+unfolding merged
+writes_none o = refl

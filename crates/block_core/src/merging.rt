@@ -40,6 +40,7 @@ impl Wanted {
 
     /// What the next machine wants, too.
     #[inline(always)]
+    #[tactic(auto, unfolding(crate::specs::Merging::with_intent))]
     pub fn add(&mut self, intent: &Intent)
         ensures { self.new ≡ with_intent self.old intent.now }
     {

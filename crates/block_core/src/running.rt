@@ -195,7 +195,8 @@ impl<F: Fifo> Running<F> {
         }
         let view = View::new(&self.shared, pad);
         let outputs = &mut self.wanted.outputs;
-        self.ready = simple_step(&mut self.first, &view, outputs, self.ready)?;
+        let ready = simple_step(&mut self.first, &view, outputs, self.ready)?;
+        self.ready = ready;
         self.shared.sync.step(pad);
         self.clock += 1;
         Some(self.sample.show_pins(&self.wanted.outputs))

@@ -1,8 +1,8 @@
-use Rattle.std.proofs.Common.{ap, refl, ◌∙◌}
+use Rattle.std.proofs.Common.{◌||◌, ap, refl, ◌∙◌}
 use Rattle.pin_matrix.specs.Pads.{seen_of}
 use Rattle.sm_registers.specs.View.{View}
 use Rattle.block_core.specs.Merging.{with_intent}
-use Rattle.block_core.specs.Slots.{doing, place_after, place_intent}
+use Rattle.block_core.specs.Slots.{doing, place_after, place_intent, place_uses_fifos}
 use Rattle.block_core.proofs.Showing.{shows_first, shows_second, shows_third, shows_fourth, first_new, second_new, third_new, fourth_new, pins_new}
 use Rattle.block_core.proofs.Steps.{in_step_after}
 use Rattle.block_core.proofs.Told.{place_told}
@@ -89,5 +89,8 @@ returns-clause-used g c =
       third = c.step-third.ensures.wanted ∙ ap (λ (v : View). with_intent c.step-second.new.wanted (place_intent v (doing c.args.due) b.third)) c.new-view.ensures;
       fourth = c.step-fourth.ensures.wanted ∙ ap (λ (v : View). with_intent c.step-third.new.wanted (place_intent v (doing c.args.due) b.fourth)) c.new-view.ensures;
     }) _ _ _ _
-    c.step-first.ensures.used c.step-second.ensures.used c.step-third.ensures.used c.step-fourth.ensures.used in
+    (c.step-first.ensures.used ∙ ap (λ (v : View). place_uses_fifos v (doing c.args.due) b.first) c.new-view.ensures)
+    (c.step-second.ensures.used ∙ ap (λ (v : View). c.step-first.result || place_uses_fifos v (doing c.args.due) b.second) c.new-view.ensures)
+    (c.step-third.ensures.used ∙ ap (λ (v : View). c.step-second.result || place_uses_fifos v (doing c.args.due) b.third) c.new-view.ensures)
+    (c.step-fourth.ensures.used ∙ ap (λ (v : View). c.step-third.result || place_uses_fifos v (doing c.args.due) b.fourth) c.new-view.ensures) in
     rw (← c.self.view_is) any
