@@ -94,7 +94,10 @@ pub(crate) fn step<F: Fifo>(
         return used;
     };
     match due {
-        None if slot.simple_clock(view, &mut wanted.outputs, false).is_some() => used,
+        None
+            if slot
+                .simple_clock(view, &mut wanted.outputs, false)
+                .is_some() => used,
         None => used | quiet_step(slot, view, wanted, place, sample),
         Some(due) => used | due_step(slot, view, due, wanted, place, sample),
     }

@@ -1,5 +1,5 @@
 //! One machine in a run of its block, with its divider.
-ghost use Rattle.std.specs.Prelude.{◌≡◌, ℕ, ◌<◌, ◌≤◌, ◌^◌, ◌+◌, Some, is_some, length, IsTrue, IsSome, IfOk, false, true};
+ghost use Rattle.std.specs.Prelude.{◌≡◌, ℕ, ◌<◌, ◌≤◌, ◌^◌, ◌+◌, Some, is_some, length, IsTrue, IsSome, IfSome, IfOk, false, true};
 ghost use Rattle.clock_divider.specs.Timing as timing;
 ghost use Rattle.sm_registers.specs.Intents.{no_wants, wants_of, written_by};
 ghost use Rattle.sm_registers.specs.State as spec_shown;
@@ -123,7 +123,7 @@ impl<F: Fifo> Slot<F> {
         ensures after { is_some result ≡ true → self.new ≡ slot_after view.now quiet self.old }
         ensures outputs { is_some result ≡ true → outputs.new ≡ written_by outputs.old (slot_intent view.now quiet self.old) }
         ensures wants { is_some result ≡ true → wants_of (slot_intent view.now quiet self.old) ≡ no_wants }
-        ensures next { result ≡ Some true → spec.is_ready (Some self.new) ≡ true }
+        ensures next { IfSome result (λ next. next ≡ spec.is_ready (Some self.new)) }
         ensures kept { is_some result ≡ false → self.new ≡ self.old }
         ensures kept_outputs { is_some result ≡ false → outputs.new ≡ outputs.old }
     {
@@ -199,7 +199,8 @@ impl<F: Fifo> Slot<F> {
         let place = self.place();
         self.sent = counted(due.word_paced[place], self.sent);
         self.received = counted(due.read_paced[place], self.received);
-        self.machine.settle(intent, due.word[place], due.read[place])
+        self.machine
+            .settle(intent, due.word[place], due.read[place])
     }
 
     /// Whether it begins an instruction in the present clock, if no line acts in it.

@@ -1,10 +1,10 @@
 -- What simple ticks do.
-use Rattle.std.proofs.Common.{◌≡◌, ℕ, ◌-◌, ◌<◌, ◌==◌, nat_lt, nat_le, Bool, true, false, not, ◌&&◌, cond, Option, Some, None, is_some, slice_index, refl, sym, ap, subst, ◌∙◌, arith}
+use Rattle.std.proofs.Common.{◌≡◌, ℕ, ◌-◌, ◌<◌, ◌==◌, nat_lt, Bool, true, false, not, ◌&&◌, cond, Option, Some, None, is_some, slice_index, refl, sym, ap, subst, ◌∙◌, arith}
 use Rattle.std.proofs.lemmas.Bool.Decides.{nat_tests}
 use Rattle.pio_encode.specs.declared.op.Op.{Op}
 use Rattle.pio_encode.specs.declared.act.Act.{Act}
 use Rattle.pio_encode.specs.Word.{reading_of}
-use Rattle.pin_matrix.specs.Pins.{IsWrite, merged, written, writes_of}
+use Rattle.pin_matrix.specs.Pins.{IsWrite, merged, writes_of}
 use Rattle.pin_matrix.specs.declared.machine.MachineSetup.{MachineSetup}
 use Rattle.pin_matrix.proofs.Mapped.{IsWrite-writes_of}
 use Rattle.pin_matrix.proofs.Merging.{IsWrite-none}
@@ -24,8 +24,8 @@ use Rattle.sm_registers.specs.declared.intent.Kind.TheVariants.{Delay, Late}
 use Rattle.sm_registers.specs.Intents.{no_intent, no_wants, wants_of, written_by}
 use Rattle.sm_registers.specs.Plans.{side_level, side_direction, side_of}
 use Rattle.sm_registers.specs.Queues.{Queues}
-use Rattle.sm_registers.specs.Simple.{begins_anew, is_ready}
-use Rattle.sm_registers.specs.Tick.{after_effect, current_word, next_after, pc_after, refilled, refills, side_writes, tick_by, tick_of, tick_word, word_at}
+use Rattle.sm_registers.specs.Simple.{is_ready}
+use Rattle.sm_registers.specs.Tick.{after_effect, current_word, next_after, pc_after, refills, side_writes, tick_by, tick_of, tick_word, word_at}
 use Rattle.sm_registers.proofs.Calm.{delay_counts, unmet_waits}
 use Rattle.sm_registers.proofs.OwnPins.{OwnEffect, own_effect}
 

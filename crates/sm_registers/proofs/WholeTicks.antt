@@ -1,5 +1,5 @@
 -- What a tick of an instruction wants.
-use Rattle.std.proofs.Common.{◌≡◌, ℕ, Bool, true, false, ◌||◌, cond, Option, Some, None, [], ◌∷◌, refl, sym, ap, subst, ◌∙◌}
+use Rattle.std.proofs.Common.{◌≡◌, ℕ, Bool, true, false, ◌||◌, cond, Option, Some, None, [], ◌∷◌, refl, ap, ◌∙◌}
 use Rattle.pio_encode.specs.declared.op.Op.{Op}
 use Rattle.pin_matrix.specs.declared.machine.MachineSetup.{MachineSetup}
 use Rattle.sm_registers.specs.declared.end.End.{End}
@@ -14,7 +14,7 @@ use Rattle.sm_registers.specs.declared.intent.Kind.TheVariants.{First, Late}
 use Rattle.sm_registers.specs.Plans.{side_level, side_direction, side_of}
 use Rattle.sm_registers.specs.Queues.{Queues}
 use Rattle.sm_registers.specs.Tick.{after_effect, refills, side_writes, tick_by}
-use Rattle.sm_registers.proofs.SimpleTicks.{IsSide, is_side, none_either}
+use Rattle.sm_registers.proofs.SimpleTicks.{is_side, none_either}
 
 -- what is written by side-set in a tick
 in_tick : (s : MachineSetup) (value : Option ℕ) (begun : Bool) → Side

@@ -32,10 +32,10 @@ pub use fifo_laws::{
 pub use idle::Idle;
 pub use intent::{Intent, Kind};
 pub use laws::{
-    a_calm_tick_only_counts, a_delay_only_counts, a_first_tick_stirs,
-    a_late_stall_only_waits, a_machine_idles_until_it_stirs, a_tick_sees_what_it_reads,
-    a_tick_writes_its_own_pins, a_wait_that_goes_on_does_nothing, moves_are_fair, no_word_is_lost,
-    ranges_are_kept, writes_are_of_pins,
+    a_calm_tick_only_counts, a_delay_only_counts, a_first_tick_stirs, a_late_stall_only_waits,
+    a_machine_idles_until_it_stirs, a_tick_sees_what_it_reads, a_tick_writes_its_own_pins,
+    a_wait_that_goes_on_does_nothing, moves_are_fair, no_word_is_lost, ranges_are_kept,
+    writes_are_of_pins,
 };
 pub use machine::Machine;
 pub use order_laws::{

@@ -1,5 +1,5 @@
 //! A state machine with its FIFOs. In a clock it ticks or doesn't, and then settles what it and the system want.
-ghost use Rattle.std.specs.Prelude.{◌≡◌, ℕ, ◌-◌, ◌<◌, false, true, Some, is_some, length, IsTrue, IsSome, IfOk};
+ghost use Rattle.std.specs.Prelude.{◌≡◌, ℕ, ◌-◌, ◌<◌, false, true, is_some, length, IsTrue, IsSome, IfSome, IfOk};
 ghost use Rattle.sm_registers.specs.Intents.{no_wants, wants_of, written_by};
 ghost use Rattle.sm_registers.specs.Idling.{IsIdle, IsSoon, after_ticks, begins_next, idle_of, stirs_at};
 ghost use Rattle.sm_registers.specs.Simple.{is_ready, is_simple};
@@ -94,8 +94,8 @@ impl<F: Fifo> Machine<F> {
         )
     }
 
-    /// Makes its next tick where that is simple, and else does nothing. Where it made it, it tells whether the next one is known
-    /// to be ready; of a tick that is, nothing more is asked. Outside the registers a simple tick does nothing but write pins,
+    /// Makes its next tick where that is simple, and else does nothing. Where it made it, it tells whether the next one is ready;
+    /// of a tick that is known to be, nothing more is asked. Outside the registers a simple tick does nothing but write pins,
     /// over those of the machines before it.
     #[inline(always)]
     pub fn simple_tick(&mut self, view: &View, outputs: &mut Outputs, ready: bool) -> Option<bool>
@@ -109,7 +109,7 @@ impl<F: Fifo> Machine<F> {
             (spec_tick.tick_of self.old.setup view.now (queues_of self.old.ports.fifos) self.old.registers).1 }
         ensures wants { is_some result ≡ true → wants_of
             (spec_tick.tick_of self.old.setup view.now (queues_of self.old.ports.fifos) self.old.registers).1 ≡ no_wants }
-        ensures next { result ≡ Some true → is_ready self.new.setup self.new.registers ≡ true }
+        ensures next { IfSome result (λ next. next ≡ is_ready self.new.setup self.new.registers) }
         ensures kept { is_some result ≡ false → self.new ≡ self.old }
         ensures kept_outputs { is_some result ≡ false → outputs.new ≡ outputs.old }
     {

@@ -11,13 +11,22 @@ use pio_encode::{Act, Condition, OutDestination, SetDestination};
 #[derive(Clone, Copy)]
 pub(crate) enum Plan {
     /// JMP without a condition.
-    Jump { target: u8 },
+    Jump {
+        target: u8,
+    },
     /// JMP `x--`.
-    CountX { target: u8 },
+    CountX {
+        target: u8,
+    },
     /// JMP `y--`.
-    CountY { target: u8 },
+    CountY {
+        target: u8,
+    },
     /// SET to pins, with the write that it makes.
-    Set { pins: u32, bits: u32 },
+    Set {
+        pins: u32,
+        bits: u32,
+    },
     /// OUT, without autopull.
     Out {
         destination: OutDestination,

@@ -23,7 +23,7 @@ use crate::view::View;
 use fifo_pair::{Fifo, Pair};
 use pin_matrix::MachineSetup;
 
-/// Makes a tick where it is simple, and else does nothing. Where it made it, it tells whether the next one is known to be ready.
+/// Makes a tick where it is simple, and else does nothing. Where it made it, it tells whether the next one is ready.
 #[inline(always)]
 #[tactic(auto, unfolding(crate::specs::Tick::tick_of))]
 pub(crate) fn simple_tick<F: Fifo>(
@@ -42,7 +42,7 @@ pub(crate) fn simple_tick<F: Fifo>(
     ensures registers { is_some result ≡ true → registers.new ≡ (spec.tick_of setup.now view.now (queues_of fifos.now) registers.old).0 }
     ensures outputs { is_some result ≡ true → outputs.new ≡ written_by outputs.old (spec.tick_of setup.now view.now (queues_of fifos.now) registers.old).1 }
     ensures wants { is_some result ≡ true → wants_of (spec.tick_of setup.now view.now (queues_of fifos.now) registers.old).1 ≡ no_wants }
-    ensures ready { result ≡ Some true → is_ready setup.now registers.new ≡ true }
+    ensures next { IfSome result (λ next. next ≡ is_ready setup.now registers.new) }
     ensures kept { is_some result ≡ false → registers.new ≡ registers.old }
     ensures kept_outputs { is_some result ≡ false → outputs.new ≡ outputs.old }
     ensures same { decoded.new.setup ≡ decoded.old.setup }
@@ -85,7 +85,7 @@ fn prompt_tick<F: Fifo>(
     ensures registers { is_some result ≡ true → registers.new ≡ (spec.tick_of setup.now view.now (queues_of fifos.now) registers.old).0 }
     ensures outputs { is_some result ≡ true → outputs.new ≡ written_by outputs.old (spec.tick_of setup.now view.now (queues_of fifos.now) registers.old).1 }
     ensures wants { is_some result ≡ true → wants_of (spec.tick_of setup.now view.now (queues_of fifos.now) registers.old).1 ≡ no_wants }
-    ensures ready { result ≡ Some true → is_ready setup.now registers.new ≡ true }
+    ensures next { IfSome result (λ next. next ≡ is_ready setup.now registers.new) }
     ensures kept { is_some result ≡ false → registers.new ≡ registers.old }
     ensures kept_outputs { is_some result ≡ false → outputs.new ≡ outputs.old }
     ensures same { decoded.new.setup ≡ decoded.old.setup }

@@ -2,7 +2,7 @@ use Rattle.std.proofs.Common.{ap, subst, sym, ◌∙◌}
 use Rattle.sm_registers.specs.Intents.{Wants}
 use Rattle.dreq_pacing.specs.Due.{quiet}
 use Rattle.block_core.specs.Shown.{Shows}
-use Rattle.block_core.specs.Slots.{Slot, slot_intent}
+use Rattle.block_core.specs.Slots.{slot_intent}
 use Rattle.block_core.proofs.Showing.{still_shows}
 use Rattle.block_core.proofs.SimpleClocks.{adds_pins, uses_none}
 use Rattle.block_core.proofs.Wanting.{unused}

@@ -1,5 +1,5 @@
 -- Each plan of its own does what its act does.
-use Rattle.std.proofs.Common.{◌≡◌, subst, sym, ◌∙◌}
+use Rattle.std.proofs.Common.{subst, sym, ◌∙◌}
 use Rattle.sm_registers.specs.declared.plan.Plan.{Plan}
 use Rattle.sm_registers.specs.Effects as spec_effects
 use Rattle.sm_registers.specs.State.{queues_of}

@@ -1,9 +1,8 @@
 -- What a tick that is the only one of an instruction does.
-use Rattle.std.proofs.Common.{◌≡◌, ◌∙◌, ap, subst, sym}
+use Rattle.std.proofs.Common.{◌∙◌, ap, subst, sym}
 use Rattle.pin_matrix.specs.Pins.{IsWrite}
-use Rattle.sm_registers.specs.declared.outputs.Outputs.{Outputs}
 use Rattle.sm_registers.specs.declared.plan.Side.{Side}
-use Rattle.sm_registers.specs.Ends.{written_end, written_side}
+use Rattle.sm_registers.specs.Ends.{written_side}
 use Rattle.sm_registers.specs.Intents.{no_intent}
 use Rattle.sm_registers.specs.Plans.{side_level, side_direction, side_of}
 use Rattle.sm_registers.specs.State.{queues_of}

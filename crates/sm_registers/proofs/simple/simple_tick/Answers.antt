@@ -1,5 +1,5 @@
 -- A tick that counts a delay, or only waits once more.
-use Rattle.std.proofs.Common.{◌≡◌, ◌∙◌, ap, arith, sym}
+use Rattle.std.proofs.Common.{◌∙◌, ap, arith, sym}
 use Rattle.pio_encode.specs.declared.op.Op.{Op}
 use Rattle.sm_registers.specs.Idling.{is_unmet}
 use Rattle.sm_registers.specs.State.{queues_of}

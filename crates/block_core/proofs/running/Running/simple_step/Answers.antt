@@ -69,7 +69,7 @@ invariant_of-self-2 g c =
         fourth = in_step_after _ v quiet _ _ kept.fourth fourth;
       },
       subst (λ (s : Sample). IsSampleOf (state_of c.simple_step.new.slot b.second b.third b.fourth o.levels o.directions b.shared.flags.up b.outside) s) (sym c.show_pins.ensures.after)
-      (outputs_new (first_new c.self.invariant.1 _ _ shows) o.levels o.directions),
+          (outputs_new (first_new c.self.invariant.1 _ _ shows) o.levels o.directions),
       c.self.invariant.2,
       λ h. (alone g c, c.in_ok-ready.ensures.next (ap Some h)),
     )
