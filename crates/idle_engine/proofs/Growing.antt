@@ -3,7 +3,7 @@ use Rattle.std.proofs.Common.{◌≡◌, ℕ, zero, suc, ◌+◌, ◌-◌, ◌<�
 use Rattle.std.specs.Prelude.{replicate}
 use Rattle.std.proofs.lemmas.Bool.{cases_lt}
 use Rattle.std.proofs.lemmas.List.{replicate-append-replicate}
-use Rattle.vcd_trace.specs.Told.{IsNext, held_to, last_of, told_at}
+use Rattle.sample_trace.specs.Told.{IsNext, held_to, last_of, told_at}
 
 -- the elements of the first clocks
 pub record AreFirsts {T : Type 0} (at : ℕ → T) (all : ℕ → List T) : Type 0 where

@@ -5,7 +5,7 @@ use Rattle.dreq_pacing.specs.declared.line.Line.{Line}
 use Rattle.block_core.specs.declared.sample.Sample.{Sample}
 use Rattle.block_core.specs.Block.{Run}
 use Rattle.block_core.specs.Hosted.{samples, sample_at}
-use Rattle.vcd_trace.specs.Told.{IsNext, held_to, told_at}
+use Rattle.sample_trace.specs.Told.{IsNext, held_to, told_at}
 use Rattle.idle_engine.proofs.Growing.{firsts-held, firsts-next, firsts-told}
 use Rattle.idle_engine.proofs.SampleLists.{samples-firsts}
 

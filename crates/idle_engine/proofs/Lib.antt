@@ -11,4 +11,3 @@ mod TwinSteps
 mod TwinDue
 mod TwinCalm
 mod TwinAfterRest
-mod TwinStopping

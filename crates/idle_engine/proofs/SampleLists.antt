@@ -20,7 +20,3 @@ twin_samples-firsts start first second = record { none = refl; more = λ n. refl
 -- the samples of more clocks begin with those of fewer
 pub samples-from : (start : Run) (lines : List Line) (n more : ℕ) → (later : List Sample) × (samples start lines (n + more) ≡ samples start lines n ++ later)
 samples-from start lines n more = firsts-from (sample_at start lines) (samples start lines) (samples-firsts start lines) n more
-
-pub twin_samples-from : (start : TwinRun) (first second : List Line) (n more : ℕ) → (later : List (Sample × Sample)) × (twin_samples start first second (n + more) ≡ twin_samples start first second n ++ later)
-twin_samples-from start first second n more =
-    firsts-from (twin_sample_at start first second) (twin_samples start first second) (twin_samples-firsts start first second) n more

@@ -11,7 +11,7 @@ use Rattle.block_core.specs.Hosted.{Hosted}
 use Rattle.block_core.specs.HostedTwin.{twin_of, hosted_twin_at, twin_samples, twin_sample_at, twin_stirs_in}
 use Rattle.block_core.specs.Shown.{requests_of}
 use Rattle.block_core.specs.Twin.{TwinRun, twin_from, twin_moves_on}
-use Rattle.vcd_trace.specs.Told.{held_to}
+use Rattle.sample_trace.specs.Told.{held_to}
 use Rattle.idle_engine.specs.Resting.{Rests, IsDue}
 use Rattle.idle_engine.specs.TwinResting.{AreDue, AreCalm}
 use Rattle.idle_engine.proofs.Calm.{QuietDue, QuietTransfers}

@@ -1,4 +1,3 @@
 pub mod Stops
 pub mod Resting
-pub mod TwinStops
 pub mod TwinResting

@@ -4,16 +4,16 @@ ghost use Rattle.pio_edge.specs.Edge.{PutCounts};
 ghost use Rattle.block_core.specs.declared.sample.Sample.{Sample as Values};
 ghost use Rattle.block_core.specs.Hosted.{hosted_at, samples};
 ghost use Rattle.block_core.specs.Stirring.{stirring};
-ghost use Rattle.vcd_trace.specs.Told.{IsNext, told_at};
+ghost use Rattle.sample_trace.specs.Told.{IsNext, told_at};
 ghost use Rattle.idle_engine.specs.Stops.{StopsAt};
 
 use crate::clocks::{rest, rests_until, step};
 use block_core::{Block, Sample};
 use dreq_pacing::{HostPorts, Schedule, a_clock_without_acts_does_nothing};
 use fifo_pair::Fifo;
+use sample_trace::{Trace, TraceFailed};
 use std::sync::ledger::Ledger;
 use step_count::Steps;
-use vcd_trace::{Trace, TraceFailed};
 
 /// Runs a block for some clocks, beside a stimulus that begins in clock 0, and tells a trace the sample of each clock
 /// and that the samples end there.

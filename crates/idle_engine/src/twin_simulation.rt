@@ -2,15 +2,15 @@
 ghost use Rattle.std.specs.Prelude.{◌≡◌, ℕ, ◌+◌, ◌≤◌, ◌^◌, false, true, is_err, Option, List, OnOk, OnErr};
 ghost use Rattle.pio_edge.specs.Edge.{PutCounts};
 ghost use Rattle.block_core.specs.HostedTwin.{twin_of, hosted_twin_at, twin_samples, twin_stirring};
-ghost use Rattle.idle_engine.specs.TwinStops.{TwinStopsAt};
+ghost use Rattle.idle_engine.specs.Stops.{TwinStopsAt};
 
 use crate::twin_clocks::{next_dues, rest, step};
 use block_core::Twin;
 use dreq_pacing::{HostPorts, Schedule, a_clock_without_acts_does_nothing};
 use fifo_pair::Fifo;
+use sample_trace::{TraceFailed, TwinTrace};
 use std::sync::ledger::Ledger;
 use step_count::Steps;
-use vcd_trace::{TraceFailed, TwinTrace};
 
 /// Runs two blocks for some clocks, beside stimuli that begin in clock 0, and tells a trace the samples of each clock and that
 /// the samples end there.

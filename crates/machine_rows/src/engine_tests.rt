@@ -9,12 +9,12 @@ use dreq_pacing::{Schedule, read_stimulus};
 use fifo_pair::{Fifo, PlainFifo, RingFifo};
 use idle_engine::simulate;
 use pin_matrix::Spans;
+use sample_trace::{Trace, TraceFailed};
 use std::alloc::{AllocError, Global};
 use std::marker::Brand;
 use std::sync::ledger::{Blank, Ledger};
 use std::test::Fail;
 use step_count::Steps;
-use vcd_trace::{Trace, TraceFailed};
 
 /// A trace that looks whether it is told of clocks of a list alone. It keeps no samples, and never fails.
 #[derive(Drop)]

@@ -6,7 +6,7 @@ use Rattle.dreq_pacing.specs.Ports.{Ports}
 use Rattle.block_core.specs.Block.{Run}
 use Rattle.block_core.specs.Hosted.{hosted_at, samples}
 use Rattle.block_core.specs.Stirring.{stirring}
-use Rattle.vcd_trace.specs.Told.{IsNext, held_to}
+use Rattle.sample_trace.specs.Told.{IsNext, held_to}
 use Rattle.idle_engine.specs.Resting.{IsUntil}
 use Rattle.idle_engine.proofs.Held.{IsTold, is-held, is-next, told-again, told-next, told_at-held}
 use Rattle.idle_engine.proofs.Counting.{counted}

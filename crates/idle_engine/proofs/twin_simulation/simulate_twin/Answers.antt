@@ -3,7 +3,7 @@ use Rattle.block_core.specs.declared.sample.Sample.{Sample}
 use Rattle.dreq_pacing.specs.Ports.{Ports}
 use Rattle.block_core.specs.HostedTwin.{twin_of, hosted_twin_at, twin_samples, twin_sample_at, twin_stirring, twin_stirs_in}
 use Rattle.block_core.specs.Twin.{TwinRun}
-use Rattle.vcd_trace.specs.Told.{IsNext, held_to}
+use Rattle.sample_trace.specs.Told.{IsNext, held_to}
 use Rattle.idle_engine.proofs.Counting.{twin_stirring-counts}
 use Rattle.idle_engine.proofs.Growing.{firsts-next, firsts-told, counts-steps}
 use Rattle.idle_engine.proofs.Resting.{none_before}

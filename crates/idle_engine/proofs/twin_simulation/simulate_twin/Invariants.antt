@@ -1,7 +1,7 @@
 use Rattle.std.proofs.Common.{◌≡◌, ℕ, ◌+◌, ◌<◌, ◌≤◌, ◌-◌, false, true, Option, List}
 use Rattle.dreq_pacing.specs.Lines.{NoneBetween}
 use Rattle.block_core.specs.HostedTwin.{hosted_twin_at, twin_samples, twin_stirring, twin_stirs_in}
-use Rattle.vcd_trace.specs.Told.{held_to}
+use Rattle.sample_trace.specs.Told.{held_to}
 use Rattle.idle_engine.specs.TwinResting.{AreDue}
 use Rattle.idle_engine.proofs.TwinSteps.{IsAt}
 use Rattle.idle_engine.proofs.twin_simulation.simulate_twin.Given as goal

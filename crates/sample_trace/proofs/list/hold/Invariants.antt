@@ -1,6 +1,6 @@
 use Rattle.std.proofs.Common.{◌≡◌, ◌-◌, ◌≤◌, ◌++◌, length, vec_capacity}
 use Rattle.std.specs.Prelude.{replicate}
-use Rattle.vcd_trace.proofs.list.hold.Given as goal
+use Rattle.sample_trace.proofs.list.hold.Given as goal
 
 -- so many copies of the last sample come after the list
 abbrev pub invariant-loop : goal.invariant-loop

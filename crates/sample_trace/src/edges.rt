@@ -1,6 +1,6 @@
 //! A trace that counts the edges of each pin, and keeps nothing else.
 ghost use Rattle.std.specs.Prelude.{◌≡◌, ◌<◌, ◌+◌, ℕ, Some, [], ◌∷◌, false, min, slice_index_or};
-ghost use Rattle.vcd_trace.specs.Edges.{HasCounted, HasGrown, edge_of, most, no_edges};
+ghost use Rattle.sample_trace.specs.Edges.{HasCounted, HasGrown, edge_of, most, no_edges};
 
 use crate::trace::{Trace, TraceFailed};
 use block_core::Sample;
@@ -16,7 +16,7 @@ pub struct EdgeTrace {
 }
 
 impl Model for EdgeTrace {
-    ghost use Rattle.vcd_trace.specs.Edges.{Counts};
+    ghost use Rattle.sample_trace.specs.Edges.{Counts};
 
     ghost Value = { Counts };
 

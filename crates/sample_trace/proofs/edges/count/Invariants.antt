@@ -1,7 +1,7 @@
 use Rattle.std.proofs.Common.{◌≡◌, ◌≤◌, ◌+◌, ℕ, length, min, slice_index_or}
 use Rattle.std.specs.Int.{bit_at}
-use Rattle.vcd_trace.specs.Edges.{edge_of, most}
-use Rattle.vcd_trace.proofs.edges.count.Given as goal
+use Rattle.sample_trace.specs.Edges.{edge_of, most}
+use Rattle.sample_trace.proofs.edges.count.Given as goal
 
 -- each count, with the edge that is still to be counted at its pin, is the old count with its edge
 abbrev pub invariant-loop-changed : goal.invariant-loop-changed

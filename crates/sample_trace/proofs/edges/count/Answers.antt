@@ -2,9 +2,9 @@ use Rattle.std.proofs.Common.{◌≡◌, ◌+◌, ◌<◌, ◌^◌, ℕ, length,
 use Rattle.std.specs.Int.{trailing_zeros}
 use Rattle.std.proofs.lemmas.List.{length-set}
 use Rattle.std.proofs.lemmas.Nat.Bits.{bit_at-trailing_zeros}
-use Rattle.vcd_trace.specs.Edges.{most}
-use Rattle.vcd_trace.proofs.EdgeLaws.{changed_edge, counted_left, set_within, uncounted_none}
-use Rattle.vcd_trace.proofs.edges.count.Goals as goal
+use Rattle.sample_trace.specs.Edges.{most}
+use Rattle.sample_trace.proofs.EdgeLaws.{changed_edge, counted_left, set_within, uncounted_none}
+use Rattle.sample_trace.proofs.edges.count.Goals as goal
 
 pub loop-changed-init : goal.loop-changed-init
 loop-changed-init c =

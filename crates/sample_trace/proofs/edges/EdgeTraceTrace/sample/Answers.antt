@@ -1,8 +1,8 @@
 use Rattle.std.proofs.Common.{◌≡◌, refl, sym, ap, subst, ◌∙◌}
-use Rattle.vcd_trace.specs.Edges.{Counts, HasCounted}
-use Rattle.vcd_trace.specs.Told.{held_to}
-use Rattle.vcd_trace.proofs.EdgeLaws.{held_counted, same_counted, sample_counted}
-use Rattle.vcd_trace.proofs.edges.EdgeTraceTrace.sample.Goals as goal
+use Rattle.sample_trace.specs.Edges.{Counts, HasCounted}
+use Rattle.sample_trace.specs.Told.{held_to}
+use Rattle.sample_trace.proofs.EdgeLaws.{held_counted, same_counted, sample_counted}
+use Rattle.sample_trace.proofs.edges.EdgeTraceTrace.sample.Goals as goal
 
 pub returns-then-sample-self-clause-ok : goal.returns-then-sample-self-clause-ok
 returns-then-sample-self-clause-ok c = λ b l h n levels e.

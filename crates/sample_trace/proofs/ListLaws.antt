@@ -2,7 +2,7 @@
 use Rattle.std.proofs.Common.{◌≡◌, ℕ, ◌-◌, List, [], ◌∷◌, ◌++◌, zero, suc, length, Some, refl, sym, ap, ◌∙◌, arith}
 use Rattle.std.specs.Prelude.{replicate, slice_get}
 use Rattle.block_core.specs.declared.sample.Sample.{Sample}
-use Rattle.vcd_trace.specs.Told.{last_of, held_to}
+use Rattle.sample_trace.specs.Told.{last_of, held_to}
 
 slice_get-last : (s : Sample) (rest : List Sample) → slice_get (s ∷ rest) (length rest) ≡ Some (last_of s rest)
 slice_get-last s [] = refl

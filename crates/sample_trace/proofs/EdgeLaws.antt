@@ -6,9 +6,9 @@ use Rattle.std.proofs.lemmas.Bool.{cases_eq}
 use Rattle.std.proofs.lemmas.Bool.Decides.{nat_tests}
 use Rattle.std.proofs.lemmas.List.{get_or-set_same, get_or-set_other, get_or-replicate}
 use Rattle.std.proofs.lemmas.Nat.Bits.{bit_at_xor, bit_at-lt, bit_at-zero, bit_at-trailing_zeros}
-use Rattle.vcd_trace.proofs.BitLaws.{cleared_lowest, cleared_other}
-use Rattle.vcd_trace.specs.Edges.{Counts, no_edges, HasGrown, HasCounted, edge_of, edges_in, levels_after, most}
-use Rattle.vcd_trace.specs.Told.{held_to, last_of}
+use Rattle.sample_trace.proofs.BitLaws.{cleared_lowest, cleared_other}
+use Rattle.sample_trace.specs.Edges.{Counts, no_edges, HasGrown, HasCounted, edge_of, edges_in, levels_after, most}
+use Rattle.sample_trace.specs.Told.{held_to, last_of}
 use Rattle.block_core.specs.declared.sample.Sample.{Sample}
 
 -- a bit differs exactly where its pin has an edge

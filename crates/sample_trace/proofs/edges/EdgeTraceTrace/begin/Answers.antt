@@ -1,7 +1,7 @@
 use Rattle.std.proofs.Common.{◌≡◌, ap, sym}
-use Rattle.vcd_trace.specs.Edges.{Counts, no_edges}
-use Rattle.vcd_trace.proofs.EdgeLaws.{begin_counted}
-use Rattle.vcd_trace.proofs.edges.EdgeTraceTrace.begin.Goals as goal
+use Rattle.sample_trace.specs.Edges.{Counts, no_edges}
+use Rattle.sample_trace.proofs.EdgeLaws.{begin_counted}
+use Rattle.sample_trace.proofs.edges.EdgeTraceTrace.begin.Goals as goal
 
 pub returns-clause-ok : goal.returns-clause-ok
 returns-clause-ok c = λ b r levels e.

@@ -1,10 +1,10 @@
 //! A trace in memory: the list of the samples, in a room that is reserved at once.
 ghost use Rattle.std.specs.Prelude.{◌≡◌, ◌<◌, ◌≤◌, [], ◌∷◌, ◌++◌, true, false, Some, is_ok};
 ghost use Rattle.std.specs.Prelude.{length, vec_len, vec_capacity, IfOk};
-ghost use Rattle.vcd_trace.specs.Told.{held_to, told_at};
+ghost use Rattle.sample_trace.specs.Told.{held_to, told_at};
 ghost use Rattle.pio_edge.specs.Edge.{PutCounts};
 ghost use Rattle.pio_edge.specs.Count.{one_more};
-ghost use Rattle.vcd_trace.specs.Listing.{has_room, after_call};
+ghost use Rattle.sample_trace.specs.Listing.{has_room, after_call};
 
 use crate::trace::{Trace, TraceFailed};
 use block_core::Sample;
@@ -25,7 +25,7 @@ pub struct ListTrace {
 
 impl Model for ListTrace {
     ghost use Rattle.std.specs.Prelude.{◌≤◌, vec_capacity};
-    ghost use Rattle.vcd_trace.specs.Listing.{Listing};
+    ghost use Rattle.sample_trace.specs.Listing.{Listing};
 
     ghost Value = { Listing };
 

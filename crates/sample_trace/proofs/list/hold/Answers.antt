@@ -1,7 +1,7 @@
 use Rattle.std.proofs.Common.{◌≡◌, ◌+◌, ◌-◌, [], ◌∷◌, ◌++◌, Some, suc, length, vec_len, sym, ap, ◌∙◌, append_assoc, arith}
 use Rattle.std.specs.Prelude.{replicate, slice_get}
-use Rattle.vcd_trace.proofs.ListLaws.{held_to-last, replicate-push}
-use Rattle.vcd_trace.proofs.list.hold.Goals as goal
+use Rattle.sample_trace.proofs.ListLaws.{held_to-last, replicate-push}
+use Rattle.sample_trace.proofs.list.hold.Goals as goal
 
 pub loop-preserved : goal.loop-preserved
 loop-preserved c =
