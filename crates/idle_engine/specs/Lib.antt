@@ -1,3 +1,4 @@
 pub mod Stops
-pub mod Resting
-pub mod TwinResting
+pub mod Kinds
+pub mod One
+pub mod Two
