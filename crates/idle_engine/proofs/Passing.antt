@@ -15,16 +15,7 @@ pub until_later : (test other : ℕ → Bool) (end from later until : ℕ) → I
 until_later test other end from later until u same le within =
     record { ahead = within; within = u.within; rests = λ c low below. same c ∙ u.rests c (omega arith) below; passes = λ early. same until ∙ u.passes early }
 
--- where no clock is passed over, all is as it was
-pub calm-none : {H L V : Type 0} (k : Kind H L V) → IsKind k → (h : H) (n : ℕ) → n ≡ 0 → IsCalm k h n
-calm-none {H} k laws h n none =
-    let back : (j : ℕ) → j ≤ n → k.quiet_from h j ≡ h = λ j le. (let e : j ≡ 0 = omega arith in ap (k.quiet_from h) e ∙ laws.none h) in
-    record {
-      asks = λ j le l m. ap (λ (x : H). k.acts l x m) (back j le);
-      shows = λ j le. ap k.shown (back j le);
-      rests = λ j below. absurd (omega arith);
-    }
-
+-- what is calm for some clocks is calm for fewer
 fewer : {H L V : Type 0} (k : Kind H L V) (h : H) (n : ℕ) → IsCalm k h (suc n) → IsCalm k h n
 fewer k h n calm = record {
   asks = λ j le. calm.asks j (omega arith);

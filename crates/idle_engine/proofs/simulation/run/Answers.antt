@@ -1,4 +1,5 @@
-use Rattle.std.proofs.Common.{rules, arith, ◌≡◌, ℕ, ◌+◌, Bool, false, true, Option, List, Result, Ok, Err, OnErr, OnOk, subst, refl, sym, ap, ◌∙◌}
+use Rattle.std.proofs.Common.{rules, arith, ◌≡◌, ℕ, ◌+◌, Bool, false, true, Option, List, Result, Ok, Err, OnErr, subst, refl, sym, ap, ◌∙◌}
+use Rattle.std.proofs.lemmas.Result.{on_err_weaker, on_ok_weaker}
 use Rattle.sample_trace.specs.Told.{IsNext, held_to}
 use Rattle.idle_engine.specs.Kinds.{IsUntil, shown_at}
 use Rattle.idle_engine.proofs.Held.{IsTold, is-held, is-next, is-told, told-after, told-none}
@@ -11,16 +12,6 @@ use Rattle.idle_engine.proofs.simulation.run.Goals as goal
 on_err : {T E P : Type 0} (r : Result T E) → P → OnErr r P
 on_err (Ok x) p = tt
 on_err (Err e) p = p
-
--- what follows from what holds at Ok holds there
-ok_then : {T E P Q : Type 0} (r : Result T E) → OnOk r P → (P → Q) → OnOk r Q
-ok_then (Ok x) p f = f p
-ok_then (Err e) p f = tt
-
--- what follows from what holds at an error holds there
-err_then : {T E P Q : Type 0} (r : Result T E) → OnErr r P → (P → Q) → OnErr r Q
-err_then (Ok x) p f = tt
-err_then (Err e) p f = f p
 
 pub returns-in_err-open-clause-err : goal.returns-in_err-open-clause-err
 returns-in_err-open-clause-err g c =
@@ -162,8 +153,8 @@ returns-clause-ok g c =
     let at_end : c.clocks.clock ≡ n = omega arith in
     let next = subst (λ (m : ℕ). IsNext (all inv.told.last) m) at_end (is-next at all inv.is_course.samples c.clocks.clock _ inv.told) in
     let held = subst (λ (m : ℕ). held_to m (all inv.told.last) ≡ all m) at_end (is-held at all inv.is_course.samples c.clocks.clock _ inv.told) in
-    ok_then c.close.result c.close.ensures.ok (λ end b r.
-    subst (λ (l : List g.row.V.Denot). g.T.Telling.holds c.close.new.self b l true) held (end b (all inv.told.last) (inv.told.told b r) next))
+    on_ok_weaker c.close.result (λ end b r.
+    subst (λ (l : List g.row.V.Denot). g.T.Telling.holds c.close.new.self b l true) held (end b (all inv.told.last) (inv.told.told b r) next)) c.close.ensures.ok
 
 pub returns-clause-err : goal.returns-clause-err
 returns-clause-err g c =
@@ -175,7 +166,7 @@ returns-clause-err g c =
     let at_end : c.clocks.clock ≡ n = omega arith in
     let next = subst (λ (m : ℕ). IsNext (all inv.told.last) m) at_end (is-next at all inv.is_course.samples c.clocks.clock _ inv.told) in
     let held = subst (λ (m : ℕ). held_to m (all inv.told.last) ≡ all m) at_end (is-held at all inv.is_course.samples c.clocks.clock _ inv.told) in
-    err_then c.close.result c.close.ensures.err (λ end. record {
+    on_err_weaker c.close.result (λ end. record {
       count = n;
       within = omega arith;
       ended = true;
@@ -183,4 +174,4 @@ returns-clause-err g c =
       run = inv.run ∙ ap course.at at_end;
       breaks = λ b r.
           subst (λ (l : List g.row.V.Denot). g.T.Telling.broken c.close.new.self b l true) held (end b (all inv.told.last) (inv.told.told b r) next);
-    })
+    }) c.close.ensures.err
