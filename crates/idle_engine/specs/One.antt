@@ -10,6 +10,7 @@ use Rattle.block_core.specs.Shown.{requests_of, sample_of}
 use Rattle.block_core.specs.Stirring.{moves_on, stirs_in}
 use Rattle.idle_engine.specs.Kinds.{Kind}
 
+-- the kind of such a run (`Kinds`)
 abbrev pub one : Kind Hosted (List Line) Sample
 one = record {
   in_clock = λ h n. h.run.clock ≡ n;

@@ -17,6 +17,7 @@ with_twin h t = record {
   second = record { run = t.second; transfers = h.second.transfers };
 }
 
+-- the kind of such a run (`Kinds`)
 abbrev pub two : Kind HostedTwin (List Line × List Line) (Sample × Sample)
 two = record {
   in_clock = λ h n. (h.first.run.clock ≡ n) × (h.second.run.clock ≡ n);

@@ -34,7 +34,7 @@ pub(crate) trait Runs<V, P>: Shows<V> {
     /// How many clocks were worked out singly.
     ghost calls: { Self → ℕ };
 
-    /// The laws of the kind, and that the ports needn't be asked of clocks in which the system doesn't act. It does nothing.
+    /// The laws of the kind, what it shows, and that the ports needn't be asked of clocks in which the system doesn't act. This call does nothing.
     fn is_of_its_kind(&self, ports: &P)
         ensures kind { IsKind kind }
         ensures shows { (s : Self) (p : P) → Self.shows s ≡ kind.shown (hosted s p) }
