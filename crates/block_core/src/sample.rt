@@ -1,5 +1,5 @@
 //! What is seen of a block after a clock: 88 values, in the order in which a trace writes them.
-ghost use Rattle.std.specs.Prelude.{◌≡◌, ◌<◌, false};
+ghost use Rattle.std.specs.Prelude.{◌≡◌, ◌+◌, ◌*◌, ◌^◌, ◌<◌, false};
 ghost use Rattle.block_core.specs.Shown.{with_shown};
 
 use sm_registers::{Outputs, Shown};
@@ -32,7 +32,7 @@ impl Sample {
         ensures after { self.new ≡ record self.old { level = outputs.now.levels; direction = outputs.now.directions } }
         ensures same { result ≡ false → self.new ≡ self.old }
     {
-        let same = self.level == outputs.levels && self.direction == outputs.directions;
+        let same = both(self.level, self.direction) == both(outputs.levels, outputs.directions);
         if !same {
             self.level = outputs.levels;
             self.direction = outputs.directions;
@@ -51,4 +51,12 @@ impl Sample {
         self.got[place] = seen.got;
         self.sticky[place] = seen.sticky;
     }
+}
+
+/// Levels and directions as one number, so that one test compares both.
+#[inline(always)]
+fn both(levels: u32, directions: u32) -> u64
+    ensures { result ≡ levels + 2 ^ 32 * directions }
+{
+    u64::from(levels) + (u64::from(directions) << 32)
 }

@@ -1,5 +1,5 @@
 //! The output levels and directions in the course of a clock.
-ghost use Rattle.std.specs.Prelude.{◌≡◌};
+ghost use Rattle.std.specs.Prelude.{◌≡◌, ℕ, true};
 ghost use Rattle.pin_matrix.specs.Pins.{IsWrite, merged, written};
 ghost use Rattle.sm_registers.specs.Ends.{end_level, end_direction, written_end, written_side};
 ghost use Rattle.sm_registers.specs.Intents.{two_writes, written_by};
@@ -22,11 +22,15 @@ pub struct Outputs {
 impl Outputs {
     /// Makes the writes of a tick: the instruction's, and then side-set's.
     #[inline(always)]
+    #[tactic(auto, unfolding(pin_matrix::specs::Pins::merged))]
     pub fn write(&mut self, intent: &Intent)
         ensures { self.new ≡ written_by self.old intent.now }
     {
-        self.levels = merge_two(self.levels, &intent.level);
-        self.directions = merge_two(self.directions, &intent.direction);
+        if are_none(&intent.level) && are_none(&intent.direction) {
+            return;
+        }
+        self.levels = merge(self.levels, &intent.level);
+        self.directions = merge(self.directions, &intent.direction);
     }
 
     /// Makes the write that an instruction ends with.
@@ -80,15 +84,11 @@ impl Outputs {
     }
 }
 
-/// Pins after two writes, which are seldom any.
+/// Whether two writes are of no pins, as most are.
 #[inline(always)]
 #[tactic(auto, unfolding(pin_matrix::specs::Pins::merged))]
-fn merge_two(pins: u32, writes: &[(u32, u32); 2]) -> u32
-    ensures { result ≡ merged pins (two_writes writes.now) }
+fn are_none(writes: &[(u32, u32); 2]) -> bool
+    ensures { (pins : ℕ) → result ≡ true → merged pins (two_writes writes.now) ≡ pins }
 {
-    if writes[0].0 == 0 && writes[1].0 == 0 {
-        pins
-    } else {
-        merge(pins, writes)
-    }
+    writes[0].0 == 0 && writes[1].0 == 0
 }
