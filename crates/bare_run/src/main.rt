@@ -17,6 +17,7 @@ use loads::{delays, four_machines, i2c, shifted_word, square_wave, uart, waiting
 use no_trace::NoTrace;
 use pin_matrix::{Setup, Spans};
 use pio_edge::{FileShelf, Shelf};
+use sample_trace::TraceFailed;
 use std::alloc::{AllocError, Global};
 use std::marker::Brand;
 use std::process::ExitCode;
@@ -24,7 +25,6 @@ use std::rt::{Env, Files};
 use std::sync::ledger::{Blank, Ledger};
 use std::{env, io};
 use step_count::Steps;
-use vcd_trace::TraceFailed;
 
 /// The most clocks that a run may have.
 const MOST_CLOCKS: u64 = 1_000_000_000_000;

@@ -2,7 +2,7 @@
 ghost use Rattle.std.specs.Prelude.{false};
 
 use block_core::Sample;
-use vcd_trace::{Trace, TraceFailed};
+use sample_trace::{Trace, TraceFailed};
 
 /// Keeps nothing of what it is told, and so never fails.
 #[derive(Drop)]

@@ -3,10 +3,10 @@ use Rattle.std.proofs.Common.{◌≡◌, ℕ, ◌==◌, Bool, true, false, not, 
 use Rattle.std.specs.List.{list_any}
 use Rattle.pin_matrix.specs.declared.machine.MachineSetup.{MachineSetup}
 use Rattle.sm_registers.specs.declared.registers.Registers.{Registers}
-use Rattle.sm_registers.specs.declared.view.View.{View}
+use Rattle.sm_registers.specs.View.{View}
 use Rattle.sm_registers.specs.Intents.{no_intent}
 use Rattle.sm_registers.specs.Idling.{stirs, begins_next}
-use Rattle.sm_registers.specs.Prompt as prompt
+use Rattle.sm_registers.specs.Simple as simple
 use Rattle.sm_registers.specs.Queues.{Queues}
 use Rattle.sm_registers.specs.State.{queues_of}
 use Rattle.sm_registers.specs.Tick.{tick_of}
@@ -107,7 +107,7 @@ twin_by_machines t pad is h =
 ready_begins : (s : Slot) → is_ready (Some s) ≡ true → begins_now (Some s) ≡ true
 ready_begins s h =
     let r = s.machine.registers in
-    let parts = both (has_tick s) (prompt.is_ready s.machine.setup r) h in
+    let parts = both (has_tick s) (simple.is_ready s.machine.setup r) h in
     let rests = both (r.delay == 0) (not r.begun && not (is_some r.pending)) (both (not s.machine.setup.autopull) ((r.delay == 0) && (not r.begun && not (is_some r.pending))) parts.1).1 in
     and_true (has_tick s) (begins_next r) parts.0 (and_true (r.delay == 0) (not r.begun) rests.0 (both (not r.begun) (not (is_some r.pending)) rests.1).0)
   where

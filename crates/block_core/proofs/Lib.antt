@@ -14,8 +14,7 @@ pub mod Leaping
 pub mod Beginning
 pub mod TwinRests
 pub mod TwinRuns
-pub mod Passing
-pub mod Prompt
+pub mod SimpleClocks
 pub mod Simple
 pub mod Rows
 pub mod TwinRows

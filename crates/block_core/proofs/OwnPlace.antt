@@ -9,8 +9,9 @@ use Rattle.pin_matrix.specs.Pins.{IsWrite, IsFree, merged, last_of}
 use Rattle.pin_matrix.specs.declared.machine.MachineSetup.{MachineSetup}
 use Rattle.pin_matrix.specs.declared.setup.Setup.{Setup}
 use Rattle.sm_registers.specs.declared.registers.Registers.{Registers}
-use Rattle.sm_registers.specs.declared.view.View.{View}
-use Rattle.sm_registers.specs.Intents.{Intent, no_intent, two_writes}
+use Rattle.sm_registers.specs.View.{View}
+use Rattle.sm_registers.specs.declared.intent.Intent.{Intent}
+use Rattle.sm_registers.specs.Intents.{no_intent, two_writes}
 use Rattle.sm_registers.specs.Laws.{WritesPins}
 use Rattle.sm_registers.specs.Queues.{Queues}
 use Rattle.sm_registers.specs.Rules.{holds}

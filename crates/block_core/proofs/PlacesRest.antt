@@ -2,7 +2,7 @@
 use Rattle.std.proofs.Common.{◌≡◌, ℕ, ◌+◌, ◌≤◌, ◌^◌, ◌==◌, Bool, true, false, not, ◌&&◌, ◌||◌, ◌↔◌, IsTrue, Option, Some, None, List, refl, ap, sym, subst, arith}
 use Rattle.std.proofs.lemmas.Bool.Decides.{nat_tests}
 use Rattle.pin_matrix.specs.Pads.{Synchroniser, seen_of}
-use Rattle.sm_registers.specs.declared.view.View.{View}
+use Rattle.sm_registers.specs.View.{View}
 use Rattle.dreq_pacing.specs.Due.{quiet}
 use Rattle.dreq_pacing.specs.Ports.{IsFirst}
 use Rattle.block_core.specs.Kept.{IsInStep, HasTime}

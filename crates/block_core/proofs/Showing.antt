@@ -4,7 +4,7 @@ use Rattle.std.specs.Int.Bits.{or_zero_l}
 use Rattle.fifo_pair.specs.Fifos.{settled, is_over, is_under, got_word}
 use Rattle.pin_matrix.specs.declared.machine.MachineSetup.{MachineSetup}
 use Rattle.sm_registers.specs.State.{MachinePorts, got_after, settled_ports, told}
-use Rattle.sm_registers.specs.declared.view.View.{View}
+use Rattle.sm_registers.specs.View.{View}
 use Rattle.dreq_pacing.specs.declared.due.Due.{Due}
 use Rattle.block_core.specs.declared.sample.Sample.{Sample}
 use Rattle.block_core.specs.Kept.{IsSampleOf, state_of}

@@ -1,15 +1,13 @@
 -- A simple clock of a block of one machine.
-use Rattle.std.proofs.Common.{◌≡◌, ℕ, ◌+◌, ◌==◌, Bool, true, false, not, ◌||◌, Option, Some, None, option_map, is_none, List, refl, ap, sym, subst, arith}
-use Rattle.std.proofs.lemmas.Bool.Decides.{nat_tests}
+use Rattle.std.proofs.Common.{◌≡◌, ℕ, ◌+◌, Bool, true, false, Option, Some, None, option_map, is_none, List, refl, ap, sym, subst}
 use Rattle.std.specs.Int.Bits.{or_zero_l}
 use Rattle.irq_flags.specs.Flags.{merged_flags}
 use Rattle.pin_matrix.specs.declared.machine.MachineSetup.{MachineSetup}
 use Rattle.pin_matrix.specs.Pads as pads
 use Rattle.pin_matrix.specs.Pads.{Synchroniser, seen_of}
 use Rattle.sm_registers.specs.declared.outputs.Outputs.{Outputs}
-use Rattle.sm_registers.specs.declared.view.View.{View}
-use Rattle.sm_registers.specs.declared.wants.Wants.{Wants}
-use Rattle.sm_registers.specs.Intents.{written_by}
+use Rattle.sm_registers.specs.View.{View}
+use Rattle.sm_registers.specs.Intents.{Wants, written_by}
 use Rattle.dreq_pacing.specs.declared.due.Due.{Due}
 use Rattle.dreq_pacing.specs.Due.{quiet}
 use Rattle.block_core.specs.declared.sample.Sample.{Sample}
@@ -19,10 +17,8 @@ use Rattle.block_core.specs.Merging.{nothing_wanted, with_intent}
 use Rattle.block_core.specs.Resting.{rested_place}
 use Rattle.block_core.specs.Shown.{Shows, sample_of}
 use Rattle.block_core.specs.Slots.{Slot, first_slot, place_after, place_intent, place_uses_fifos, slot_after}
-use Rattle.block_core.proofs.Passing.{StaysQuiet}
-use Rattle.block_core.proofs.Prompt.{WantsPins, uses_none}
+use Rattle.block_core.proofs.SimpleClocks.{StaysQuiet, WantsPins, uses_none}
 use Rattle.block_core.proofs.Showing.{still_shows}
-use Rattle.block_core.proofs.Unused.{or_false_parts}
 use Rattle.block_core.proofs.Wanting.{IsStep, view, run, nothing_added, next_run, any_used}
 
 -- which places are empty never changes
@@ -133,26 +129,14 @@ simple_shows law memory levels directions flags sync pad seen a a2 o x s h = sub
   from None w h = h
   from (Some t) w h = still_shows law 0 v quiet t (slot_after v quiet t) x refl (sym (uses_none v t w)) (ap (λ (x : Wants). x.sticky) w) h
 
--- pins that are not told to be new are those of the sample, which then is the one before
+-- two options that tell something tell the same where they are the same
 told_in : Option Bool → Bool
 told_in (Some b) = b
 told_in None = true
 
-is_true : (b : Bool) → not b ≡ false → b ≡ true
-is_true true h = refl
-is_true false h = cc
-
-same_number : (m n : ℕ) → (m == n) ≡ true → m ≡ n
-same_number m n h = grind (arith, nat_tests)
-
-pub same_pins : (l d x y : ℕ) → Some (not (l == x) || not (d == y)) ≡ Some false → (l ≡ x) × (d ≡ y)
+pub some_same : {a b : Bool} → Some a ≡ Some b → a ≡ b
 unfolding told_in
-same_pins l d x y told =
-    let parts = or_false_parts (not (l == x)) (not (d == y)) (ap told_in told) in
-    (same_number l x (is_true (l == x) parts.0), same_number d y (is_true (d == y) parts.1))
-
-pub shows_as_before : (s : Sample) (l d : ℕ) → l ≡ s.level → d ≡ s.direction → record s { level = l; direction = d } ≡ s
-shows_as_before s l d e f = rw (e, f) refl
+some_same h = ap told_in h
 
 -- where the sample is the one before, the pads of the next clock are those of this one
 pub pads_stay : (pad : ℕ) (r after : Run) → after ≡ next_over pad quiet r → sample_of after.state ≡ sample_of r.state → pads_in quiet after.state ≡ pads_in quiet r.state

@@ -5,8 +5,9 @@ use Rattle.clock_divider.specs.Ticks.{is_tick, tick_count}
 use Rattle.pin_matrix.specs.declared.machine.MachineSetup.{MachineSetup}
 use Rattle.sm_registers.specs.declared.idle.Idle.TheVariants.{Ticks}
 use Rattle.sm_registers.specs.declared.registers.Registers.{Registers}
-use Rattle.sm_registers.specs.declared.view.View.{View}
-use Rattle.sm_registers.specs.Intents.{Intent, no_intent}
+use Rattle.sm_registers.specs.View.{View}
+use Rattle.sm_registers.specs.declared.intent.Intent.{Intent}
+use Rattle.sm_registers.specs.Intents.{no_intent}
 use Rattle.sm_registers.specs.Idling.{stirs, stirs_at, after_ticks, IsIdle}
 use Rattle.sm_registers.specs.Queues.{Queues}
 use Rattle.sm_registers.specs.State.{queues_of}

@@ -2,13 +2,13 @@
 use Rattle.std.proofs.Common.{◌≡◌, ℕ, ◌+◌, ◌≤◌, ◌<◌, ◌^◌, Bool, true, false, Option, Some, None, option_map, cond, slice_index_or, ◌∙◌, refl, subst, sym, ap, arith}
 use Rattle.clock_divider.specs.Timing.{Timing, resumed}
 use Rattle.pin_matrix.specs.declared.machine.MachineSetup.{MachineSetup}
-use Rattle.sm_registers.specs.declared.view.View.{View}
+use Rattle.sm_registers.specs.View.{View}
 use Rattle.dreq_pacing.specs.declared.due.Due.{Due}
-use Rattle.block_core.specs.Block.{Run, pads_in, next, next_over}
+use Rattle.block_core.specs.Block.{Run, pads_in, next, next_over, uses_fifos_over}
 use Rattle.block_core.specs.Resting.{rested}
-use Rattle.block_core.specs.Twin.{TwinRun, twin_pads_in, twin_next}
+use Rattle.block_core.specs.Twin.{TwinRun, twin_pads_in, twin_next, twin_uses_fifos_in}
 use Rattle.block_core.specs.Slots.{Slot, first_slot, counted, settled_slot, place_after}
-use Rattle.block_core.specs.Kept.{IsInStep, IsInTime}
+use Rattle.block_core.specs.Kept.{AreTwins, IsInStep, IsInTime}
 
 pub first_in_step : (m : Option MachineSetup) (s : Option Slot) → s ≡ option_map first_slot m → IsInStep 0 s
 first_in_step m s e = subst (IsInStep 0) (sym e) (cases m) where
@@ -46,10 +46,23 @@ pub next_with : (d : Due) (r : Run) (pad : ℕ) (after : Run) → pad ≡ pads_i
 unfolding next
 next_with d r pad after is e = e ∙ ap (λ p. next_over p d r) is
 
--- a clock of two blocks
-pub twin_next_with : (first second : Due) (t : TwinRun) (pad : ℕ) (one other : Run) → pad ≡ twin_pads_in first t → one ≡ next_over pad first t.first → other ≡ next_over pad second t.second → twin_next first second t ≡ record { own = t.own; first = one; second = other }
+-- a clock of two blocks, in which both see these pads
+pub twin_next_with : (first second : Due) (t now : TwinRun) (pad : ℕ) (one other : Run) → t ≡ now → pad ≡ twin_pads_in first now → one ≡ next_over pad first t.first → other ≡ next_over pad second t.second → record { own = t.own; first = one; second = other } ≡ twin_next first second now
 unfolding twin_next
-twin_next_with first second t pad one other is a b = rw (a, b, is) refl
+twin_next_with first second t now pad one other is pads a b =
+    rw (a, b, pads ∙ ap (twin_pads_in first) (sym is)) (ap (twin_next first second) is)
+
+-- and what is done at the FIFOs of each
+pub twin_uses_with : (first second : Due) (t now : TwinRun) (pad : ℕ) (one other : Bool) → t ≡ now → pad ≡ twin_pads_in first now → one ≡ uses_fifos_over pad first t.first → other ≡ uses_fifos_over pad second t.second → (one, other) ≡ twin_uses_fifos_in first second now
+twin_uses_with first second t now pad one other is pads a b =
+    rw (a, b, pads ∙ ap (twin_pads_in first) (sym is)) (ap (twin_uses_fifos_in first second) is)
+
+-- both are in one clock, which is after one more call
+pub twins_next : (first second : Due) (t : TwinRun) (pad calls : ℕ) (one other : Run) → AreTwins calls t.first.clock t.second.clock → one ≡ next_over pad first t.first → other ≡ next_over pad second t.second → AreTwins (calls + 1) one.clock other.clock
+twins_next first second t pad calls one other twins a b =
+    let one_clock = ap (λ (r : Run). r.clock) a in
+    let other_clock = ap (λ (r : Run). r.clock) b in
+    record { calls = omega (arith, one_clock, twins.calls); same = omega (arith, one_clock, other_clock, twins.same) }
 
 -- the clock of a run that rests
 pub clock-rested : (n : ℕ) (r : Run) → (rested n r).clock ≡ r.clock + n

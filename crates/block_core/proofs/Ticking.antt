@@ -6,7 +6,7 @@ use Rattle.clock_divider.specs.Timing.{Timing, period_of, resumed, stepped}
 use Rattle.clock_divider.specs.Ticks.{IsTickClock, is_tick}
 use Rattle.pin_matrix.specs.declared.machine.MachineSetup.{MachineSetup}
 use Rattle.pin_matrix.specs.declared.setup.Setup.{Setup}
-use Rattle.sm_registers.specs.declared.view.View.{View}
+use Rattle.sm_registers.specs.View.{View}
 use Rattle.dreq_pacing.specs.declared.due.Due.{Due}
 use Rattle.block_core.specs.Slots.{Slot, first_slot, enabled_by, timed_by, lined, has_tick, settled_slot, slot_after, place_after}
 use Rattle.block_core.specs.Block as block

@@ -4,7 +4,7 @@ use Rattle.fifo_pair.specs.Fifos.{Fifos, is_over, is_under}
 use Rattle.pio_encode.specs.Word.{act_of}
 use Rattle.pin_matrix.specs.declared.machine.MachineSetup.{MachineSetup}
 use Rattle.sm_registers.specs.declared.registers.Registers.{Registers}
-use Rattle.sm_registers.specs.declared.view.View.{View}
+use Rattle.sm_registers.specs.View.{View}
 use Rattle.sm_registers.specs.Intents.{no_intent}
 use Rattle.sm_registers.specs.State.{queues_of, settled_ports, told}
 use Rattle.sm_registers.specs.Tick.{word_at, tick_of}

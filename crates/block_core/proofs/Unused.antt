@@ -3,7 +3,7 @@ use Rattle.std.proofs.Common.{◌≡◌, ℕ, Bool, true, false, not, ◌||◌, 
 use Rattle.std.specs.List.{list_any}
 use Rattle.fifo_pair.specs.Fifos.{Fifos, settled, is_full}
 use Rattle.sm_registers.specs.State.{settled_ports}
-use Rattle.sm_registers.specs.declared.view.View.{View}
+use Rattle.sm_registers.specs.View.{View}
 use Rattle.dreq_pacing.specs.declared.due.Due.{Due}
 use Rattle.block_core.specs.Slots.{Slot, settled_slot, slot_after, slot_intent, slot_uses_fifos, place_after, place_uses_fifos}
 use Rattle.block_core.specs.Block.{Run, next, next_over, stepped, uses_fifos_in, uses_fifos_over, view_of, seen_over, pads_in}

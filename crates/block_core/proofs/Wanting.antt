@@ -5,8 +5,9 @@ use Rattle.irq_flags.specs.Flags.{merged_flags}
 use Rattle.pin_matrix.specs.Pins.{merged}
 use Rattle.pin_matrix.specs.Pads as pads
 use Rattle.pin_matrix.specs.Pads.{Synchroniser, seen_of}
-use Rattle.sm_registers.specs.declared.view.View.{View}
-use Rattle.sm_registers.specs.Intents.{Intent, no_intent}
+use Rattle.sm_registers.specs.View.{View}
+use Rattle.sm_registers.specs.declared.intent.Intent.{Intent}
+use Rattle.sm_registers.specs.Intents.{no_intent}
 use Rattle.dreq_pacing.specs.declared.due.Due.{Due}
 use Rattle.block_core.specs.declared.merging.Wanted.{Wanted}
 use Rattle.block_core.specs.Slots.{Slot, place_after, place_intent, place_uses_fifos}

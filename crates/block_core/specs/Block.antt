@@ -16,8 +16,9 @@ use Rattle.pin_matrix.specs.declared.setup.Setup.{Setup}
 use Rattle.pin_matrix.specs.Pins.{written, merged, last_of}
 use Rattle.pin_matrix.specs.Pads as pads
 use Rattle.pin_matrix.specs.Pads.{Synchroniser, pads_of, seen_of, first_synchroniser}
-use Rattle.sm_registers.specs.declared.view.View.{View}
-use Rattle.sm_registers.specs.Intents.{Intent, two_writes}
+use Rattle.sm_registers.specs.View.{View}
+use Rattle.sm_registers.specs.declared.intent.Intent.{Intent}
+use Rattle.sm_registers.specs.Intents.{two_writes}
 use Rattle.dreq_pacing.specs.declared.due.Due.{Due}
 use Rattle.block_core.specs.Slots.{Slot, first_slot, place_after, place_intent, place_uses_fifos}
 

@@ -1,12 +1,12 @@
 -- What a block keeps true of its fields, which no contract names.
-use Rattle.std.specs.Prelude.{◌≡◌, ℕ, ◌+◌, ◌^◌, ◌<◌, ◌≤◌, Bool, true, ◌&&◌, Option, Some, None, is_none, List, [], ◌∷◌}
+use Rattle.std.specs.Prelude.{◌≡◌, ℕ, ◌+◌, ◌^◌, ◌<◌, ◌≤◌, Bool, true, ◌&&◌, Option, Some, None, is_none, List, [], ◌∷◌, slice_index_or}
 use Rattle.std.specs.List.{AllByRecursion}
 use Rattle.sm_registers.specs.Told.{IsKnown}
-use Rattle.sm_registers.specs.declared.view.View.{View}
+use Rattle.sm_registers.specs.View.{View}
 use Rattle.block_core.specs.declared.sample.Sample.{Sample}
-use Rattle.block_core.specs.Block.{BlockState}
+use Rattle.block_core.specs.Block.{BlockState, Run, seen_over, view_of}
 use Rattle.block_core.specs.Shown.{sample_of}
-use Rattle.block_core.specs.Slots.{Slot, is_ready}
+use Rattle.block_core.specs.Slots.{Slot, is_ready, is_simple}
 
 -- a place's divider is in this clock, and its transfers moved at most a word in each
 abbrev pub IsInStep : ℕ → Option Slot → Type 0
@@ -61,6 +61,12 @@ are_empty b c d = is_none b && (is_none c && is_none d)
 -- where the block knows that a machine is ready, that is the only one
 abbrev pub IsKnownReady : (ready alone : Bool) → (first : Option Slot) → Type 0
 IsKnownReady ready alone first = ready ≡ true → (alone ≡ true) × (is_ready first ≡ true)
+
+-- the clock, with these pads and without the system, is a simple one of the only machine
+abbrev pub is_simple_over : (pad : ℕ) → Run → Bool
+is_simple_over pad r = let places = r.state.machines in
+    are_empty (slice_index_or places 1 None) (slice_index_or places 2 None) (slice_index_or places 3 None)
+    && is_simple (view_of r.memory (seen_over pad r) r.state) (slice_index_or places 0 None)
 
 -- The sample is that of the state.
 pub record IsSampleOf (state : BlockState) (sample : Sample) : Type 0 where

@@ -2,7 +2,8 @@
 --   nothing_wanted   of no machine
 --   with_intent      with one machine more
 use Rattle.std.specs.Prelude.{ℕ, bit_or}
-use Rattle.sm_registers.specs.Intents.{Intent, written_by}
+use Rattle.sm_registers.specs.declared.intent.Intent.{Intent}
+use Rattle.sm_registers.specs.Intents.{written_by}
 use Rattle.block_core.specs.declared.merging.Wanted.{Wanted}
 
 -- levels and directions stay, and no flag is lowered or raised

@@ -7,7 +7,7 @@
 use Rattle.std.specs.Prelude.{ℕ, ◌+◌, ◌-◌, Bool, Option, option_map, map, if◌then◌else◌}
 use Rattle.clock_divider.specs.Ticks.{tick_count}
 use Rattle.sm_registers.specs.Idling.{stirs}
-use Rattle.sm_registers.specs.declared.view.View.{View}
+use Rattle.sm_registers.specs.View.{View}
 use Rattle.dreq_pacing.specs.Due.{quiet}
 use Rattle.block_core.specs.Slots.{Slot, place_intent}
 use Rattle.block_core.specs.Block.{Run}

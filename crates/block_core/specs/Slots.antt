@@ -5,9 +5,7 @@
 --   has_tick        that the clock is a tick of it
 --   acted           its registers after the clock, and what it wants of its block
 --   slot_after      after the clock
---   only_waiting    what it wants where it only waits once more
---   passes          that it only counts in a clock
---   is_simple       that it only counts in a clock, or has a prompt tick
+--   is_simple       that it has no tick in a clock, or a simple one
 --   is_ready        that it begins an instruction from memory, on a machine without autopull
 --   doing           what the system does, where it does anything
 use Rattle.std.specs.Prelude.{ℕ, ◌+◌, Bool, true, false, not, ◌&&◌, ◌||◌, Option, Some, None, if◌then◌else◌, slice_index_or}
@@ -16,11 +14,10 @@ use Rattle.clock_divider.specs.Timing.{Timing, period_of, first, stepped, resume
 use Rattle.clock_divider.specs.Ticks.{is_tick}
 use Rattle.pin_matrix.specs.declared.machine.MachineSetup.{MachineSetup}
 use Rattle.sm_registers.specs.declared.registers.Registers.{Registers}
-use Rattle.sm_registers.specs.declared.view.View.{View}
-use Rattle.sm_registers.specs.Intents.{Intent, Late, no_intent}
-use Rattle.sm_registers.specs.Idling.{is_counting}
-use Rattle.sm_registers.specs.Prompt as prompt
-use Rattle.sm_registers.specs.Prompt.{is_prompt}
+use Rattle.sm_registers.specs.View.{View}
+use Rattle.sm_registers.specs.declared.intent.Intent.{Intent}
+use Rattle.sm_registers.specs.Intents.{no_intent}
+use Rattle.sm_registers.specs.Simple as simple
 use Rattle.sm_registers.specs.Tick.{tick_of}
 use Rattle.sm_registers.specs.State.{MachineState, first_machine, queues_of, settled_ports, uses_fifos}
 use Rattle.dreq_pacing.specs.declared.due.Due.{Due}
@@ -102,26 +99,16 @@ slot_after v d s = settled_slot d (acted v (lined d s)) (lined d s)
 abbrev pub slot_intent : View → Due → Slot → Intent
 slot_intent v d s = (acted v (lined d s)).1
 
--- what it wants in a tick in which its instruction only waits once more
-abbrev pub only_waiting : Intent
-only_waiting = record no_intent { kind = Late; stalled = true }
-
--- it has no tick in the clock, or one that only counts a delay, if no line acts in it
-abbrev pub passes : Slot → Bool
-passes s =
-    not (has_tick s) || is_counting s.machine.setup (queues_of s.machine.ports.fifos) s.machine.registers
-
--- the clock is a simple one: it has no tick, one that only counts a delay or a prompt one, if no line acts in it; an empty place
--- has none
+-- the clock is a simple one: it has no tick, or a simple one, if no line acts in it; an empty place has none
 abbrev pub is_simple : View → Option Slot → Bool
 is_simple v None = false
-is_simple v (Some s) = passes s || is_prompt s.machine.setup v s.machine.registers
+is_simple v (Some s) = not (has_tick s) || simple.is_simple s.machine.setup v s.machine.registers
 
 -- the clock is a tick in which it begins an instruction from memory, on a machine without autopull, if no line acts in it; an empty
 -- place has none
 abbrev pub is_ready : Option Slot → Bool
 is_ready None = false
-is_ready (Some s) = has_tick s && prompt.is_ready s.machine.setup s.machine.registers
+is_ready (Some s) = has_tick s && simple.is_ready s.machine.setup s.machine.registers
 
 -- the same of a place in the block, where a machine is configured or not
 abbrev pub place_after : View → Due → Option Slot → Option Slot

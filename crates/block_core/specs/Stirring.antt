@@ -6,6 +6,7 @@
 --   plainly_moves_on   the pads change, or a machine begins an instruction
 --   stirs_over, stirs_in    one of these, or the system acts
 --   stirring        how many of the first clocks stir
+--   worked          how many of the first clocks are worked out singly: clock 0, and those that pass a test
 -- A word that ends in `over` is of given pads; its fellow is of the block's own.
 use Rattle.std.specs.Prelude.{ℕ, zero, suc, ◌+◌, ◌==◌, Bool, false, not, ◌&&◌, ◌||◌, Option, Some, None, List, if◌then◌else◌}
 use Rattle.std.specs.List.{list_any}
@@ -67,3 +68,8 @@ stirs_in lines h =
 unfoldable pub stirring : Run → List Line → ℕ → ℕ
 stirring start lines zero = 0
 stirring start lines (suc n) = stirring start lines n + (if stirs_in lines (hosted_at start lines n) then 1 else 0)
+
+-- how many of the first n clocks are clock 0 or pass a test
+unfoldable pub worked : (ℕ → Bool) → ℕ → ℕ
+worked test zero = 0
+worked test (suc n) = worked test n + (if n == 0 || test n then 1 else 0)

@@ -65,7 +65,7 @@ impl<F: Fifo> Block<F> {
         ensures calls { self.new.calls ≡ self.old.calls + 1 }
     {
         let pad = self.running.pads(Some(due));
-        let used = self.running.step(pad, Some(due));
+        let used = self.running.step(pad, due);
         self.pad = self.running.pads(None);
         used
     }
@@ -134,7 +134,7 @@ impl<F: Fifo> Block<F> {
         a_calm_tick_tells_nothing_new();
         a_quiet_clock_changes_nothing();
         self.running.stalls_are_told();
-        self.running.rest(self.pad, clocks);
+        self.running.leap(self.pad, clocks);
         self.pad = self.running.pads(None);
         self.leapt += clocks;
     }

@@ -4,7 +4,7 @@ ghost use Rattle.std.specs.List.{AllByRecursion};
 ghost use Rattle.std.specs.Int.{bit_at};
 ghost use Rattle.fifo_pair.specs.Fifos.{is_over, got_word};
 ghost use Rattle.pin_matrix.specs.Pins.{IsWrite, last_of};
-ghost use Rattle.sm_registers.specs.declared.view.View.{View};
+ghost use Rattle.sm_registers.specs.View.{View};
 ghost use Rattle.pin_matrix.specs.Pads.{seen_of};
 ghost use Rattle.pin_matrix.specs.declared.setup.Setup.{Setup};
 ghost use Rattle.dreq_pacing.specs.declared.due.Due.{Due};

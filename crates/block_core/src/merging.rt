@@ -1,13 +1,13 @@
 //! What becomes of pins and flags in a clock, machine by machine in order of their numbers.
-ghost use Rattle.std.specs.Prelude.{◌≡◌, bit_or};
+ghost use Rattle.std.specs.Prelude.{◌≡◌};
 ghost use Rattle.irq_flags.specs.Flags.{merged_flags};
-ghost use Rattle.block_core.specs.Merging.{nothing_wanted};
+ghost use Rattle.block_core.specs.Merging.{nothing_wanted, with_intent};
 ghost use Rattle.block_core.specs.Block as spec;
 ghost use Rattle.block_core.specs.Slots.{doing};
 
 use dreq_pacing::Due;
 use irq_flags::Flags;
-use sm_registers::{Outputs, Wants};
+use sm_registers::{Intent, Outputs};
 
 /// The levels that the outside drives, after the lines of a clock.
 pub(crate) fn outside_after(outside: u32, due: Option<&Due>) -> u32
@@ -38,16 +38,15 @@ impl Wanted {
         self.sets = 0;
     }
 
-    /// The flags that the next machine wants lowered and raised, too.
+    /// What the next machine wants, too.
     #[inline(always)]
-    pub fn add_flags(&mut self, wants: &Wants)
-        ensures { self.new ≡ record self.old {
-          clears = bit_or self.old.clears wants.now.clears;
-          sets = bit_or self.old.sets wants.now.sets;
-        } }
+    #[tactic(auto, unfolding(crate::specs::Merging::with_intent))]
+    pub fn add(&mut self, intent: &Intent)
+        ensures { self.new ≡ with_intent self.old intent.now }
     {
-        self.clears |= wants.clears;
-        self.sets |= wants.sets;
+        self.outputs.write(intent);
+        self.clears |= intent.clears;
+        self.sets |= intent.sets;
     }
 
     /// Lowers and then raises the flags.

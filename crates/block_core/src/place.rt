@@ -6,7 +6,6 @@ ghost use Rattle.block_core.specs.Kept as kept;
 ghost use Rattle.block_core.specs.Merging.{with_intent};
 ghost use Rattle.block_core.specs.Shown.{Shows, shown_in, moved_in, with_shown};
 ghost use Rattle.dreq_pacing.specs.Due.{quiet};
-ghost use Rattle.sm_registers.specs.declared.view.View as spec_view;
 ghost use Rattle.block_core.specs.Slots as spec;
 ghost use Rattle.block_core.specs.Slots.{doing, first_slot, has_tick, is_simple, place_after, place_intent, place_uses_fifos, slot_after, slot_intent, slot_uses_fifos};
 
@@ -16,7 +15,7 @@ use crate::slot::Slot;
 use dreq_pacing::Due;
 use fifo_pair::{Fifo, a_quiet_clock_changes_nothing};
 use pin_matrix::MachineSetup;
-use sm_registers::{Outputs, Shown, View, Wants};
+use sm_registers::{Intent, Outputs, Shown, View};
 use std::alloc::{AllocError, Global};
 
 /// The place of a setup's machine.
@@ -43,65 +42,28 @@ pub(crate) fn are_empty(
     second.is_none() && third.is_none() && fourth.is_none()
 }
 
-/// A clock of a place in which the system does nothing, where it is a simple one of its machine (`Slot::simple_clock`); else nothing
-/// is done, as in an empty place. True where it was done.
+/// A clock of a place in which the system does nothing, where it is a simple one of its machine; else nothing is done, as in an
+/// empty place (`Slot::simple_clock`).
 #[inline(always)]
 pub(crate) fn simple_step<F: Fifo>(
     slot: &mut Option<Slot<F>>,
     view: &View,
     outputs: &mut Outputs,
-) -> bool
-    requires { IsInTime slot.old }
-    ensures simple { result ≡ is_simple view.now slot.old }
-    ensures after { result ≡ true → slot.new ≡ place_after view.now quiet slot.old }
-    ensures outputs { result ≡ true → outputs.new ≡ written_by outputs.old (place_intent view.now quiet slot.old) }
-    ensures wants { result ≡ true → wants_of (place_intent view.now quiet slot.old) ≡ no_wants }
-    ensures kept { result ≡ false → slot.new ≡ slot.old }
-    ensures kept_outputs { result ≡ false → outputs.new ≡ outputs.old }
-{
-    match slot {
-        Some(slot) => slot.simple_clock(view, outputs),
-        None => false,
-    }
-}
-
-/// A clock of a place whose machine is ready, in which the system does nothing, where its tick is blind (`Slot::act_blindly`); else
-/// nothing is done. Where it was done, it tells whether the outputs may be other ones, and `ready` gets whether the machine is ready
-/// again.
-#[inline(always)]
-pub(crate) fn blind_step<F: Fifo>(
-    slot: &mut Option<Slot<F>>,
-    view: &View,
-    outputs: &mut Outputs,
-    ready: &mut bool,
+    ready: bool,
 ) -> Option<bool>
     requires time { IsInTime slot.old }
-    requires ready { spec.is_ready slot.old ≡ true }
-    ensures after { is_some result ≡ true → (v : spec_view.View) → view.now.memory ≡ v.memory → slot.new ≡ place_after v quiet slot.old }
-    ensures outputs { is_some result ≡ true → (v : spec_view.View) → view.now.memory ≡ v.memory
-        → outputs.new ≡ written_by outputs.old (place_intent v quiet slot.old) }
-    ensures wants { is_some result ≡ true → (v : spec_view.View) → view.now.memory ≡ v.memory
-        → wants_of (place_intent v quiet slot.old) ≡ no_wants }
-    ensures changes { result ≡ Some false → outputs.new ≡ outputs.old }
-    ensures again { is_some result ≡ true → ready.new ≡ spec.is_ready slot.new }
+    requires ready { ready ≡ true → spec.is_ready slot.old ≡ true }
+    ensures simple { is_some result ≡ is_simple view.now slot.old }
+    ensures after { is_some result ≡ true → slot.new ≡ place_after view.now quiet slot.old }
+    ensures outputs { is_some result ≡ true → outputs.new ≡ written_by outputs.old (place_intent view.now quiet slot.old) }
+    ensures wants { is_some result ≡ true → wants_of (place_intent view.now quiet slot.old) ≡ no_wants }
+    ensures next { result ≡ Some true → spec.is_ready slot.new ≡ true }
     ensures kept { is_some result ≡ false → slot.new ≡ slot.old }
     ensures kept_outputs { is_some result ≡ false → outputs.new ≡ outputs.old }
-    ensures kept_ready { is_some result ≡ false → ready.new ≡ ready.old }
 {
     match slot {
-        Some(slot) => slot.act_blindly(view, outputs, ready),
-        None => unreachable!(),
-    }
-}
-
-/// Whether the machine of a place is ready in the present clock.
-#[inline(always)]
-pub(crate) fn is_ready<F: Fifo>(slot: &Option<Slot<F>>) -> bool
-    ensures { result ≡ spec.is_ready slot.now }
-{
-    match slot {
-        Some(slot) => slot.is_ready(),
-        None => false,
+        Some(slot) => slot.simple_clock(view, outputs, ready),
+        None => None,
     }
 }
 
@@ -127,51 +89,23 @@ pub(crate) fn step<F: Fifo>(
     ensures used { result ≡ (used || place_uses_fifos view.now (doing due.entry) slot.old) }
     ensures sample { sample.new ≡ with_shown place (shown_in slot.new) sample.old }
 {
+    a_quiet_clock_changes_nothing();
     let Some(slot) = slot else {
         return used;
     };
     match due {
-        None => quiet_step(slot, view, wanted, place, sample, used),
+        None
+            if slot
+                .simple_clock(view, &mut wanted.outputs, false)
+                .is_some() => used,
+        None => used | quiet_step(slot, view, wanted, place, sample),
         Some(due) => used | due_step(slot, view, due, wanted, place, sample),
     }
 }
 
-/// A clock of a machine in which the system does nothing. One that it only passes is no call, nor is one with a prompt tick, or
-/// with a tick that only waits once more.
-#[inline(always)]
-fn quiet_step<F: Fifo>(
-    slot: &mut Slot<F>,
-    view: &View,
-    wanted: &mut Wanted,
-    place: usize,
-    sample: &mut Sample,
-    used: bool,
-) -> bool
-    requires time { IsInTime (Some slot.old) }
-    requires place { place < 4 }
-    requires shows { Shows place (Some slot.old) sample.old }
-    ensures after { slot.new ≡ slot_after view.now quiet slot.old }
-    ensures wanted { wanted.new ≡ with_intent wanted.old (slot_intent view.now quiet slot.old) }
-    ensures used { result ≡ (used || slot_uses_fifos view.now quiet slot.old) }
-    ensures sample { sample.new ≡ with_shown place (shown_in (Some slot.new)) sample.old }
-{
-    a_quiet_clock_changes_nothing();
-    if slot.pass() {
-        return used;
-    }
-    if slot.act_promptly(view, &mut wanted.outputs) {
-        return used;
-    }
-    if slot.wait_on(view) {
-        return used;
-    }
-    used | act_alone(slot, view, wanted, place, sample)
-}
-
-/// A clock in which the system does nothing and the machine acts. It is one piece of code, which all four call.
+/// A tick of a machine in a clock in which the system does nothing. It is one piece of code, which all four call.
 #[inline(never)]
-#[tactic(auto, unfolding(crate::specs::Merging::with_intent))]
-fn act_alone<F: Fifo>(
+fn quiet_step<F: Fifo>(
     slot: &mut Slot<F>,
     view: &View,
     wanted: &mut Wanted,
@@ -188,18 +122,13 @@ fn act_alone<F: Fifo>(
     ensures sample { sample.new ≡ with_shown place (shown_in (Some slot.new)) sample.old }
 {
     a_quiet_clock_changes_nothing();
-    let mut wants = Wants::none();
-    let used = slot.quiet_tick(view, &mut wanted.outputs, &mut wants);
-    wanted.add_flags(&wants);
-    if used || wants.sticky != 0 {
-        refresh(slot, place, sample);
-    }
+    let (intent, used) = slot.quiet_tick(view);
+    tell(&intent, used, slot, wanted, place, sample);
     used
 }
 
 /// A clock of a machine in which the system does something.
 #[inline(never)]
-#[tactic(auto, unfolding(crate::specs::Merging::with_intent))]
 fn due_step<F: Fifo>(
     slot: &mut Slot<F>,
     view: &View,
@@ -217,13 +146,30 @@ fn due_step<F: Fifo>(
     ensures sample { sample.new ≡ with_shown place (shown_in (Some slot.new)) sample.old }
 {
     a_quiet_clock_changes_nothing();
-    let mut wants = Wants::none();
-    let used = slot.clock(view, Some(due), &mut wanted.outputs, &mut wants);
-    wanted.add_flags(&wants);
-    if used || wants.sticky != 0 {
+    let (intent, used) = slot.clock(view, due);
+    tell(&intent, used, slot, wanted, place, sample);
+    used
+}
+
+/// Adds what a machine wanted of the block in a clock. The sample gets what is seen of the machine, where that may be new.
+#[inline(always)]
+fn tell<F: Fifo>(
+    intent: &Intent,
+    used: bool,
+    slot: &Slot<F>,
+    wanted: &mut Wanted,
+    place: usize,
+    sample: &mut Sample,
+)
+    requires place { place < 4 }
+    requires shows { used ≡ false → intent.now.sticky ≡ 0 → Shows place (Some slot.now) sample.old }
+    ensures wanted { wanted.new ≡ with_intent wanted.old intent.now }
+    ensures sample { sample.new ≡ with_shown place (shown_in (Some slot.now)) sample.old }
+{
+    wanted.add(intent);
+    if used || intent.sticky != 0 {
         refresh(slot, place, sample);
     }
-    used
 }
 
 /// What is seen of a machine now, in the sample. It is rarely new, so the code of a clock goes without it.

@@ -48,12 +48,12 @@ fn earlier(a: Option<u64>, b: Option<u64>) -> Option<u64>
 }
 
 /// So many clocks of a place at once, in none of which its machine stirs.
-pub(crate) fn rest<F: Fifo>(place: &mut Option<Slot<F>>, view: &View, clocks: u64)
+pub(crate) fn leap<F: Fifo>(place: &mut Option<Slot<F>>, view: &View, clocks: u64)
     requires clock { HasTime clocks place.old }
     requires calm { (k : ℕ) → k < clocks → stirs_after view.now place.old k ≡ false }
     ensures { place.new ≡ rested_place clocks place.old }
 {
     if let Some(slot) = place {
-        slot.rest(view, clocks);
+        slot.leap(view, clocks);
     }
 }

@@ -5,7 +5,7 @@ ghost use Rattle.dreq_pacing.specs.Due.{quiet};
 ghost use Rattle.dreq_pacing.specs.Ports.{IsFirst};
 ghost use Rattle.block_core.specs.Block.{first_run_over, next_over, pads_in, wanted_over, uses_fifos_over, level_writes, direction_writes, TakesLastWrites};
 ghost use Rattle.block_core.specs.Block as spec;
-ghost use Rattle.block_core.specs.Kept.{AreTold};
+ghost use Rattle.block_core.specs.Kept.{AreTold, is_simple_over};
 ghost use Rattle.block_core.specs.Resting.{rested};
 ghost use Rattle.block_core.specs.Shown.{sample_of, requests_of, moved_of};
 ghost use Rattle.block_core.specs.Slots.{doing};
@@ -15,14 +15,14 @@ ghost use Rattle.block_core.specs.Stirring as spec_stirring;
 use crate::Sample;
 use crate::merging::{Wanted, outside_after};
 use crate::news::News;
-use crate::place::{are_empty, blind_step, is_ready, moved, shown, simple_step, slot_of, step};
-use crate::resting::{begins_now, rest, sooner};
+use crate::place::{are_empty, moved, shown, simple_step, slot_of, step};
+use crate::resting::{begins_now, leap, sooner};
 use crate::slot::Slot;
 use dreq_pacing::{Due, Requests};
 use fifo_pair::{Fifo, a_quiet_clock_changes_nothing};
 use irq_flags::Flags;
 use pin_matrix::{Setup, Sync, no_write_changes_nothing, pad_of, the_last_write_counts};
-use sm_registers::{Outputs, View, a_calm_tick_tells_nothing_new, writes_are_of_pins};
+use sm_registers::{Outputs, Shared, View, a_calm_tick_tells_nothing_new, writes_are_of_pins};
 use std::alloc::{AllocError, Global};
 use std::marker::Model;
 
@@ -33,12 +33,10 @@ pub(crate) struct Running<F: Fifo> {
     second: Option<Slot<F>>,
     third: Option<Slot<F>>,
     fourth: Option<Slot<F>>,
-    // What the machines see; `seen` is that of the last clock.
-    view: View,
+    shared: Shared,
     // The pins as they are, and what the machines want of the flags in the clock that is worked out.
     wanted: Wanted,
     outside: u32,
-    sync: Sync,
     clock: u64,
     // Whether the places after the first are empty, as in most blocks, so that a clock asks for none of them.
     alone: bool,
@@ -56,14 +54,14 @@ impl<F: Fifo> Model for Running<F> {
     ghost Value = { Run };
 
     ghost view = { λ b. record {
-      memory = b.view.memory;
+      memory = b.shared.memory;
       clock = b.clock;
-      state = state_of b.first b.second b.third b.fourth b.wanted.outputs.levels b.wanted.outputs.directions b.view.flags.up b.outside;
-      synchroniser = b.sync;
+      state = state_of b.first b.second b.third b.fourth b.wanted.outputs.levels b.wanted.outputs.directions b.shared.flags.up b.outside;
+      synchroniser = b.shared.sync;
     } };
 
-    ghost invariant = { λ b. AreInStep b.view.memory b.clock b.first b.second b.third b.fourth
-        × IsSampleOf (state_of b.first b.second b.third b.fourth b.wanted.outputs.levels b.wanted.outputs.directions b.view.flags.up b.outside) b.sample
+    ghost invariant = { λ b. AreInStep b.shared.memory b.clock b.first b.second b.third b.fourth
+        × IsSampleOf (state_of b.first b.second b.third b.fourth b.wanted.outputs.levels b.wanted.outputs.directions b.shared.flags.up b.outside) b.sample
         × (b.alone ≡ are_empty b.second b.third b.fourth)
         × IsKnownReady b.ready b.alone b.first };
 }
@@ -80,10 +78,10 @@ impl<F: Fifo> Running<F> {
             second: slot_of(alloc, second)?,
             third: slot_of(alloc, third)?,
             fourth: slot_of(alloc, fourth)?,
-            view: View {
+            shared: Shared {
                 memory: setup.memory,
-                seen: 0,
                 flags: Flags { up: 0 },
+                sync: Sync::new(pad, setup.bypass),
             },
             wanted: Wanted {
                 outputs: Outputs {
@@ -94,7 +92,6 @@ impl<F: Fifo> Running<F> {
                 sets: 0,
             },
             outside: setup.high,
-            sync: Sync::new(pad, setup.bypass),
             clock: 0,
             alone,
             ready: false,
@@ -142,25 +139,22 @@ impl<F: Fifo> Running<F> {
         pad_of(self.levels(), self.directions(), self.outside(due))
     }
 
-    /// One clock with these pads, in which the system does this, where it does anything. Every machine with a tick acts from
-    /// what was there at the clock's start. True where a machine or the system did anything at a FIFO.
+    /// One clock with these pads, in which the system does this. Every machine with a tick acts from what was there at the
+    /// clock's start. True where a machine or the system did anything at a FIFO.
     #[inline(always)]
-    pub fn step(&mut self, pad: u32, due: Option<&Due>) -> bool
+    pub fn step(&mut self, pad: u32, due: &Due) -> bool
         requires { self.old.clock < 2 ^ 40 }
-        ensures run { self.new ≡ next_over pad (doing due.entry) self.old }
-        ensures used { result ≡ uses_fifos_over pad (doing due.entry) self.old }
+        ensures run { self.new ≡ next_over pad due.now self.old }
+        ensures used { result ≡ uses_fifos_over pad due.now self.old }
         ensures levels { TakesLastWrites self.old.state.levels self.new.state.levels
-            (level_writes (wanted_over pad (doing due.entry) self.old)) }
+            (level_writes (wanted_over pad due.now self.old)) }
         ensures directions { TakesLastWrites self.old.state.directions self.new.state.directions
-            (direction_writes (wanted_over pad (doing due.entry) self.old)) }
+            (direction_writes (wanted_over pad due.now self.old)) }
     {
         the_last_write_counts();
         no_write_changes_nothing();
         writes_are_of_pins();
-        match due {
-            None if self.simple_step(pad).is_some() => false,
-            _ => self.step_all(pad, due),
-        }
+        self.step_all(pad, Some(due))
     }
 
     /// The same where the system does nothing, and what it may have changed.
@@ -184,26 +178,11 @@ impl<F: Fifo> Running<F> {
     }
 
     /// The same where the clock is a simple one of the only machine (`Slot::simple_clock`); else nothing is done. It tells whether
-    /// the sample may be another one, where it was done, and then nobody did anything at a FIFO.
+    /// the sample is another one, where it was done, and then nobody did anything at a FIFO.
     #[inline(always)]
     fn simple_step(&mut self, pad: u32) -> Option<bool>
         requires { self.old.clock < 2 ^ 40 }
-        ensures run { is_some result ≡ true → self.new ≡ next_over pad quiet self.old }
-        ensures used { is_some result ≡ true → uses_fifos_over pad quiet self.old ≡ false }
-        ensures sample { result ≡ Some false → sample_of self.new.state ≡ sample_of self.old.state }
-        ensures kept { is_some result ≡ false → self.new ≡ self.old }
-    {
-        match self.blind_step(pad) {
-            Some(changes) => Some(changes),
-            None => self.plain_step(pad),
-        }
-    }
-
-    /// The same where it is known that the only machine is ready, and its tick is blind (`Slot::act_blindly`). What the machine
-    /// sees isn't worked out then.
-    #[inline(always)]
-    fn blind_step(&mut self, pad: u32) -> Option<bool>
-        requires { self.old.clock < 2 ^ 40 }
+        ensures simple { is_some result ≡ is_simple_over pad self.old }
         ensures run { is_some result ≡ true → self.new ≡ next_over pad quiet self.old }
         ensures used { is_some result ≡ true → uses_fifos_over pad quiet self.old ≡ false }
         ensures sample { result ≡ Some false → sample_of self.new.state ≡ sample_of self.old.state }
@@ -211,48 +190,20 @@ impl<F: Fifo> Running<F> {
     {
         a_calm_tick_tells_nothing_new();
         a_quiet_clock_changes_nothing();
-        if !self.ready {
+        if !self.ready && !self.alone {
             return None;
         }
+        let view = View::new(&self.shared, pad);
         let outputs = &mut self.wanted.outputs;
-        let Some(changes) = blind_step(&mut self.first, &self.view, outputs, &mut self.ready) else {
-            return None;
-        };
-        self.sync.step(pad);
+        let ready = simple_step(&mut self.first, &view, outputs, self.ready)?;
+        self.ready = ready;
+        self.shared.sync.step(pad);
         self.clock += 1;
-        self.sample.show_pins(&self.wanted.outputs, changes);
-        Some(changes)
+        Some(self.sample.show_pins(&self.wanted.outputs))
     }
 
-    /// The same of any simple clock.
-    #[inline(always)]
-    fn plain_step(&mut self, pad: u32) -> Option<bool>
-        requires { self.old.clock < 2 ^ 40 }
-        ensures run { is_some result ≡ true → self.new ≡ next_over pad quiet self.old }
-        ensures used { is_some result ≡ true → uses_fifos_over pad quiet self.old ≡ false }
-        ensures sample { result ≡ Some false → sample_of self.new.state ≡ sample_of self.old.state }
-        ensures kept { is_some result ≡ false → self.new ≡ self.old }
-    {
-        a_calm_tick_tells_nothing_new();
-        a_quiet_clock_changes_nothing();
-        if !self.alone {
-            return None;
-        }
-        self.view.seen = self.sync.seen(pad);
-        if !simple_step(&mut self.first, &self.view, &mut self.wanted.outputs) {
-            return None;
-        }
-        self.ready = is_ready(&self.first);
-        self.sync.step(pad);
-        self.clock += 1;
-        let pins = self.wanted.outputs;
-        let before = self.sample;
-        self.sample.level = pins.levels;
-        self.sample.direction = pins.directions;
-        Some((pins.levels != before.level) | (pins.directions != before.direction))
-    }
-
-    /// The same of any machines, whatever they do. It is code of its own, which keeps that of most clocks short.
+    /// The same of any machines, whatever they do, where the system does this, if anything. It is code of its own, which keeps
+    /// that of most clocks short.
     #[cold]
     #[inline(never)]
     fn step_all(&mut self, pad: u32, due: Option<&Due>) -> bool
@@ -263,19 +214,18 @@ impl<F: Fifo> Running<F> {
         a_calm_tick_tells_nothing_new();
         self.ready = false;
         self.outside = outside_after(self.outside, due);
-        let seen = self.sync.seen(pad);
-        self.view.seen = seen;
-        self.sync.step(pad);
         self.wanted.begin();
-        let (view, wanted, sample) = (&self.view, &mut self.wanted, &mut self.sample);
-        let first = step(&mut self.first, view, due, wanted, 0, sample, false);
-        let second = step(&mut self.second, view, due, wanted, 1, sample, first);
-        let third = step(&mut self.third, view, due, wanted, 2, sample, second);
-        let fourth = step(&mut self.fourth, view, due, wanted, 3, sample, third);
-        self.wanted.merge_flags(&mut self.view.flags);
+        let view = View::new(&self.shared, pad);
+        let (wanted, sample) = (&mut self.wanted, &mut self.sample);
+        let first = step(&mut self.first, &view, due, wanted, 0, sample, false);
+        let second = step(&mut self.second, &view, due, wanted, 1, sample, first);
+        let third = step(&mut self.third, &view, due, wanted, 2, sample, second);
+        let fourth = step(&mut self.fourth, &view, due, wanted, 3, sample, third);
+        self.shared.sync.step(pad);
+        self.wanted.merge_flags(&mut self.shared.flags);
         self.sample.level = self.wanted.outputs.levels;
         self.sample.direction = self.wanted.outputs.directions;
-        self.sample.flags = self.view.flags.up;
+        self.sample.flags = self.shared.flags.up;
         self.clock += 1;
         fourth
     }
@@ -285,7 +235,7 @@ impl<F: Fifo> Running<F> {
     pub fn pads_change(&self, pad: u32) -> bool
         ensures { result ≡ pads_change_over pad self.now }
     {
-        !self.sync.settled(pad)
+        !self.shared.sync.settled(pad)
     }
 
     /// Whether it is known that the only machine is ready in the present clock. It then begins an instruction.
@@ -322,10 +272,7 @@ impl<F: Fifo> Running<F> {
         ensures { (test : ℕ → Bool) → IsFirst test 0 tested →
             IsFirst (λ n. test n || machines_stir_over pad quiet (rested n self.now)) 0 result }
     {
-        let view = View {
-            seen: self.sync.seen(pad),
-            ..self.view
-        };
+        let view = View::new(&self.shared, pad);
         let first = sooner(tested, &self.first, &view);
         let second = sooner(first, &self.second, &view);
         let third = sooner(second, &self.third, &view);
@@ -334,18 +281,18 @@ impl<F: Fifo> Running<F> {
 
     /// So many clocks at once, in none of which a machine stirs, with these pads, and in which the system does nothing.
     #[inline(always)]
-    pub fn rest(&mut self, pad: u32, clocks: u64)
+    pub fn leap(&mut self, pad: u32, clocks: u64)
         requires clock { self.old.clock + clocks ≤ 2 ^ 40 }
         requires calm { (k : ℕ) → k < clocks →
             machines_stir_over pad quiet (rested k self.old) ≡ false }
         ensures { self.new ≡ rested clocks self.old }
     {
         self.ready = false;
-        self.view.seen = self.sync.seen(pad);
-        rest(&mut self.first, &self.view, clocks);
-        rest(&mut self.second, &self.view, clocks);
-        rest(&mut self.third, &self.view, clocks);
-        rest(&mut self.fourth, &self.view, clocks);
+        let view = View::new(&self.shared, pad);
+        leap(&mut self.first, &view, clocks);
+        leap(&mut self.second, &view, clocks);
+        leap(&mut self.third, &view, clocks);
+        leap(&mut self.fourth, &view, clocks);
         self.clock += clocks;
     }
 

@@ -1,5 +1,5 @@
 //! What is seen of a block after a clock: 88 values, in the order in which a trace writes them.
-ghost use Rattle.std.specs.Prelude.{◌≡◌, ◌<◌, false};
+ghost use Rattle.std.specs.Prelude.{◌≡◌, ◌+◌, ◌*◌, ◌^◌, ◌<◌, false};
 ghost use Rattle.block_core.specs.Shown.{with_shown};
 
 use sm_registers::{Outputs, Shown};
@@ -26,16 +26,18 @@ pub struct Sample {
 }
 
 impl Sample {
-    /// Puts in the pins, which are other ones only where that is said; all else stays.
+    /// Puts in the pins; all else stays. True where it is another sample then.
     #[inline(always)]
-    pub(crate) fn show_pins(&mut self, outputs: &Outputs, changes: bool)
-        requires { changes ≡ false → (self.old.level ≡ outputs.now.levels) × (self.old.direction ≡ outputs.now.directions) }
-        ensures { self.new ≡ record self.old { level = outputs.now.levels; direction = outputs.now.directions } }
+    pub(crate) fn show_pins(&mut self, outputs: &Outputs) -> bool
+        ensures after { self.new ≡ record self.old { level = outputs.now.levels; direction = outputs.now.directions } }
+        ensures same { result ≡ false → self.new ≡ self.old }
     {
-        if changes {
+        let same = both(self.level, self.direction) == both(outputs.levels, outputs.directions);
+        if !same {
             self.level = outputs.levels;
             self.direction = outputs.directions;
         }
+        !same
     }
 
     /// Puts in what is seen of a place; all else stays.
@@ -49,4 +51,12 @@ impl Sample {
         self.got[place] = seen.got;
         self.sticky[place] = seen.sticky;
     }
+}
+
+/// Levels and directions as one number, so that one test compares both.
+#[inline(always)]
+fn both(levels: u32, directions: u32) -> u64
+    ensures { result ≡ levels + 2 ^ 32 * directions }
+{
+    u64::from(levels) + (u64::from(directions) << 32)
 }

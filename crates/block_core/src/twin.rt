@@ -8,6 +8,7 @@ ghost use Rattle.block_core.specs.Twin.{first_twin, first_twin_pads, twin_pads_i
 ghost use Rattle.block_core.specs.Twin as spec;
 
 use crate::Sample;
+use crate::news::News;
 use crate::running::Running;
 use dreq_pacing::{Due, Requests};
 use fifo_pair::{Fifo, a_quiet_clock_changes_nothing};
@@ -68,30 +69,26 @@ impl<F: Fifo> Twin<F> {
         ensures used { result ≡ twin_uses_fifos_in first.now second.now self.old.twin }
         ensures calls { self.new.calls ≡ self.old.calls + 1 }
     {
-        self.step(Some(first), Some(second))
-    }
-
-    /// The same, in which the system does nothing.
-    pub fn quiet_clock(&mut self) -> (bool, bool)
-        requires { self.old.twin.first.clock < 2 ^ 40 }
-        ensures twin { self.new.twin ≡ twin_next quiet quiet self.old.twin }
-        ensures used { result ≡ twin_uses_fifos_in quiet quiet self.old.twin }
-        ensures calls { self.new.calls ≡ self.old.calls + 1 }
-    {
-        self.step(None, None)
-    }
-
-    /// One clock, in which the system does this, where it does anything.
-    #[inline(always)]
-    fn step(&mut self, first: Option<&Due>, second: Option<&Due>) -> (bool, bool)
-        requires { self.old.twin.first.clock < 2 ^ 40 }
-        ensures twin { self.new.twin ≡ twin_next (doing first.entry) (doing second.entry) self.old.twin }
-        ensures used { result ≡ twin_uses_fifos_in (doing first.entry) (doing second.entry) self.old.twin }
-        ensures calls { self.new.calls ≡ self.old.calls + 1 }
-    {
-        let pad = self.pads(first);
+        let pad = self.pads(Some(first));
         let one = self.first.step(pad, first);
         let other = self.second.step(pad, second);
+        self.calls += 1;
+        (one, other)
+    }
+
+    /// The same, in which the system does nothing, and what it may have changed of each block.
+    #[inline(always)]
+    pub fn quiet_clock(&mut self) -> (News, News)
+        requires { self.old.twin.first.clock < 2 ^ 40 }
+        ensures twin { self.new.twin ≡ twin_next quiet quiet self.old.twin }
+        ensures fifos { (result.0.fifos, result.1.fifos) ≡ twin_uses_fifos_in quiet quiet self.old.twin }
+        ensures first { result.0.sample ≡ false → sample_of self.new.twin.first.state ≡ sample_of self.old.twin.first.state }
+        ensures second { result.1.sample ≡ false → sample_of self.new.twin.second.state ≡ sample_of self.old.twin.second.state }
+        ensures calls { self.new.calls ≡ self.old.calls + 1 }
+    {
+        let pad = self.pads(None);
+        let one = self.first.quiet_step(pad);
+        let other = self.second.quiet_step(pad);
         self.calls += 1;
         (one, other)
     }
@@ -165,8 +162,8 @@ impl<F: Fifo> Twin<F> {
         self.first.stalls_are_told();
         self.second.stalls_are_told();
         let pad = self.pads(None);
-        self.first.rest(pad, clocks);
-        self.second.rest(pad, clocks);
+        self.first.leap(pad, clocks);
+        self.second.leap(pad, clocks);
     }
 
     /// What the machines of each block ask of the system, as at the start of the present clock.

@@ -10,8 +10,8 @@ use Rattle.pin_matrix.specs.Pins.{IsFree}
 use Rattle.pin_matrix.specs.declared.machine.MachineSetup.{MachineSetup}
 use Rattle.pin_matrix.specs.declared.mapping.Mapping.{Mapping}
 use Rattle.sm_registers.specs.declared.registers.Registers.{Registers}
-use Rattle.sm_registers.specs.declared.view.View.{View}
-use Rattle.sm_registers.specs.Intents.{Intent}
+use Rattle.sm_registers.specs.View.{View}
+use Rattle.sm_registers.specs.declared.intent.Intent.{Intent}
 use Rattle.sm_registers.specs.Effects.{effect_of}
 use Rattle.sm_registers.specs.Laws.{read_of}
 use Rattle.sm_registers.specs.Queues.{Queues}

@@ -12,7 +12,7 @@ use Rattle.pio_encode.specs.declared.act.SetDestination.{SetDestination}
 use Rattle.pio_encode.specs.declared.act.SetDestination.TheVariants as set_destination
 use Rattle.pin_matrix.specs.declared.machine.MachineSetup.{MachineSetup}
 use Rattle.sm_registers.specs.declared.registers.Registers.{Registers}
-use Rattle.sm_registers.specs.declared.view.View.{View}
+use Rattle.sm_registers.specs.View.{View}
 use Rattle.sm_registers.specs.Queues.{Queues}
 use Rattle.sm_registers.specs.Effects.{Effect, jumps, counted_down, autopushed, with_bits_in, with_bits_out, out_to, pulled, mov_to, jmp_effect, wait_effect, in_effect, out_effect, push_effect, pull_effect, mov_effect, irq_effect, set_effect, effect_of, in_word}
 use Rattle.block_shares.specs.Acts.{has, leads_to, jump_leads_to, is_wild, is_wild_out, is_wild_mov}

@@ -4,8 +4,9 @@ use Rattle.std.specs.Int.{bit_at}
 use Rattle.pin_matrix.specs.Pads.{seen_of}
 use Rattle.pin_matrix.specs.Pins.{IsWrite, written, merged, last_of}
 use Rattle.sm_registers.specs.declared.registers.Registers.{Registers}
-use Rattle.sm_registers.specs.Intents.{Intent, no_intent}
-use Rattle.sm_registers.specs.declared.view.View.{View}
+use Rattle.sm_registers.specs.declared.intent.Intent.{Intent}
+use Rattle.sm_registers.specs.Intents.{no_intent}
+use Rattle.sm_registers.specs.View.{View}
 use Rattle.sm_registers.specs.State.{queues_of}
 use Rattle.dreq_pacing.specs.declared.due.Due.{Due}
 use Rattle.dreq_pacing.specs.declared.line.Line.{Line}

@@ -4,8 +4,9 @@ use Rattle.std.specs.Int.{bit_at}
 use Rattle.pin_matrix.specs.Pins.{last_of}
 use Rattle.pin_matrix.specs.declared.machine.MachineSetup.{MachineSetup}
 use Rattle.pin_matrix.specs.declared.setup.Setup.{Setup}
-use Rattle.sm_registers.specs.Intents.{Intent, no_intent, two_writes}
-use Rattle.sm_registers.specs.declared.view.View.{View}
+use Rattle.sm_registers.specs.declared.intent.Intent.{Intent}
+use Rattle.sm_registers.specs.Intents.{no_intent, two_writes}
+use Rattle.sm_registers.specs.View.{View}
 use Rattle.dreq_pacing.specs.declared.due.Due.{Due}
 use Rattle.block_core.specs.Slots.{Slot, place_intent}
 use Rattle.block_core.specs.Block.{BlockState, stepped, view_of, intents_of, level_writes, direction_writes, any_of}

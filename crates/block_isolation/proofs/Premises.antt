@@ -7,7 +7,7 @@ use Rattle.pin_matrix.specs.Pins.{rotated_right, writes_of, place_of, IsWrite, I
 use Rattle.pin_matrix.specs.declared.machine.MachineSetup.{MachineSetup}
 use Rattle.pin_matrix.specs.declared.mapping.Mapping.{Mapping}
 use Rattle.sm_registers.specs.declared.registers.Registers.{Registers}
-use Rattle.sm_registers.specs.declared.view.View.{View}
+use Rattle.sm_registers.specs.View.{View}
 use Rattle.sm_registers.specs.Laws.{IsAlike, WritesPins}
 use Rattle.sm_registers.specs.Queues.{Queues}
 use Rattle.sm_registers.specs.Ranges.{IsPlaced}

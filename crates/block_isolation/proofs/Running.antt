@@ -7,7 +7,7 @@ use Rattle.pin_matrix.specs.Pins.{IsWrite, merged}
 use Rattle.pin_matrix.specs.Setups.{ids_are_places}
 use Rattle.pin_matrix.specs.declared.machine.MachineSetup.{MachineSetup}
 use Rattle.pin_matrix.specs.declared.setup.Setup.{Setup}
-use Rattle.sm_registers.specs.Intents.{Intent}
+use Rattle.sm_registers.specs.declared.intent.Intent.{Intent}
 use Rattle.dreq_pacing.specs.declared.due.Due.{Due}
 use Rattle.dreq_pacing.specs.declared.line.Line.{Line}
 use Rattle.dreq_pacing.specs.Due.{quiet, with_lines}

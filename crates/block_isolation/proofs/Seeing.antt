@@ -21,7 +21,7 @@ use Rattle.pin_matrix.specs.Pins.{rotated_right, place_of}
 use Rattle.pin_matrix.specs.declared.machine.MachineSetup.{MachineSetup}
 use Rattle.pin_matrix.specs.declared.mapping.Mapping.{Mapping}
 use Rattle.sm_registers.specs.declared.registers.Registers.{Registers}
-use Rattle.sm_registers.specs.declared.view.View.{View}
+use Rattle.sm_registers.specs.View.{View}
 use Rattle.sm_registers.specs.Laws as law
 use Rattle.sm_registers.specs.Laws.{read_of, bit_of}
 use Rattle.block_shares.specs.Acts.{has, all_32, pins_in, reads_of, sees_of, jump_reads, wait_reads, in_reads, mov_reads, wait_sees, irq_sees}

@@ -22,11 +22,11 @@ use file_stages::{RunFiles, prepare};
 use idle_engine::simulate;
 use pin_matrix::Setup;
 use pio_edge::{Shelf, Sink};
+use sample_trace::TraceFailed;
 use span_meter::SpanMeter;
 use std::alloc::{AllocError, Global};
 use std::sync::ledger::Ledger;
 use step_count::Steps;
-use vcd_trace::TraceFailed;
 
 /// Writes a line for each span of the block that a source sets up, by a configuration or by default: what it measures in so
 /// many clocks, beside a stimulus where one is named. It doesn't ask whether a span is provable. All memory is taken before the

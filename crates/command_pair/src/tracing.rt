@@ -21,7 +21,7 @@ use span_stage::ask_both_spans;
 use std::alloc::Global;
 use std::sync::ledger::Ledger;
 use step_count::Steps;
-use vcd_trace::{TraceFailed, TwinVcd};
+use vcd_trace::{TraceFailed, TwinVcd, failing_early_leaves_a_first_part_of_two};
 
 /// Writes the trace of so many clocks of two blocks that a source sets up by two configurations, beside a stimulus where one is named.
 /// Each span of both has to be provable; the first one that isn't ends the run, and nothing is written. The first block's spans come
@@ -142,6 +142,7 @@ fn trace_pair<O: Sink, L: Ledger>(
     ensures stirring { steps.new ≤ steps.old + twin_stirring twin.old.twin first.now second.now clocks + 1 }
 {
     a_stopped_pair_leaves_a_first_part();
+    failing_early_leaves_a_first_part_of_two();
     match simulate_twin(twin, first, second, clocks, trace, steps) {
         Ok(()) => Ok(()),
         Err(TraceFailed) => Err(SinkFailed),

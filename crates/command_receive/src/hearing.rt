@@ -20,11 +20,11 @@ use file_stages::{RunFiles, prepare};
 use idle_engine::{later_samples_follow, simulate};
 use pin_matrix::{Setup, is_high};
 use pio_edge::{Shelf, Sink, SinkFailed};
+use sample_trace::TraceFailed;
 use serial_receiver::{Receiver, stopping_early_leaves_a_first_part};
 use std::alloc::Global;
 use std::sync::ledger::Ledger;
 use step_count::Steps;
-use vcd_trace::TraceFailed;
 
 /// A line of one pin, 0 to 31, and the clocks of a bit on it, 2 to 65,535.
 #[derive(Clone, Copy)]

@@ -23,7 +23,7 @@ use span_stage::ask_spans;
 use std::alloc::Global;
 use std::sync::ledger::Ledger;
 use step_count::Steps;
-use vcd_trace::{TraceFailed, VcdTrace};
+use vcd_trace::{TraceFailed, VcdTrace, failing_early_leaves_a_first_part};
 
 /// Writes the trace of so many clocks of the block that a source sets up, by a configuration or by default, beside a
 /// stimulus where one is named. Each span of the block has to be provable; the first one that isn't ends the run, and nothing
@@ -118,6 +118,7 @@ fn trace_run<O: Sink, L: Ledger>(
     ensures stirring { steps.new ≤ steps.old + stirring block.old.run schedule.now clocks + 1 }
 {
     a_stopped_run_leaves_a_first_part();
+    failing_early_leaves_a_first_part();
     match simulate(block, schedule, clocks, trace, steps) {
         Ok(()) => Ok(()),
         Err(TraceFailed) => Err(SinkFailed),

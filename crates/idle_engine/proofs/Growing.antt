@@ -1,14 +1,9 @@
--- Lists that grow by an element a clock, as a trace is told of them, and counts that grow with some of the clocks.
-use Rattle.std.proofs.Common.{◌≡◌, ℕ, zero, suc, ◌+◌, ◌-◌, ◌<◌, ◌≤◌, Bool, true, cond, ◌⊎◌, inl, inr, List, [], ◌∷◌, ◌++◌, length, refl, ap, ◌∙◌, sym, subst, arith, append-nil, append_assoc, length-append, add-zero, add-suc, add-one}
+-- Lists that grow by an element a clock, as a trace is told of them.
+use Rattle.std.proofs.Common.{◌≡◌, ℕ, zero, suc, ◌+◌, ◌-◌, ◌<◌, ◌≤◌, List, [], ◌∷◌, ◌++◌, length, refl, ap, ◌∙◌, sym, arith, append-nil, append_assoc, length-append, add-zero, add-suc, add-one}
 use Rattle.std.specs.Prelude.{replicate}
-use Rattle.std.proofs.lemmas.Bool.{cases_lt}
 use Rattle.std.proofs.lemmas.List.{replicate-append-replicate}
-use Rattle.vcd_trace.specs.Told.{IsNext, held_to, last_of, told_at}
-
--- the elements of the first clocks
-pub record AreFirsts {T : Type 0} (at : ℕ → T) (all : ℕ → List T) : Type 0 where
-  pub none : all 0 ≡ []
-  pub more : (n : ℕ) → all (suc n) ≡ all n ++ at n ∷ []
+use Rattle.sample_trace.specs.Told.{IsNext, held_to, last_of, told_at}
+use Rattle.idle_engine.specs.Kinds.{AreFirsts}
 
 -- one a clock
 pub length-firsts : {T : Type 0} (at : ℕ → T) (all : ℕ → List T) → AreFirsts at all → (n : ℕ) → length (all n) ≡ n
@@ -83,35 +78,3 @@ firsts-told at all h last clock s held e =
     ap (λ l. l ++ s ∷ []) held
     ∙ ap (λ x. all clock ++ x ∷ []) e
     ∙ sym (ap all (add-one clock) ∙ h.more clock)
-
--- how many of the first clocks pass a test
-pub record AreCounted (test : ℕ → Bool) (count : ℕ → ℕ) : Type 0 where
-  pub more : (n : ℕ) → count (suc n) ≡ count n + cond (test n) 1 0
-
-grows : (test : ℕ → Bool) (count : ℕ → ℕ) → AreCounted test count → (c n : ℕ) → count c ≤ count (c + n)
-grows test count h c zero = subst (λ (k : ℕ). count c ≤ count k) (sym (add-zero c)) (let e : count c ≤ count c = omega arith in e)
-grows test count h c (suc n) =
-    let before = grows test count h c n in
-    let e : count (c + suc n) ≡ count (c + n) + cond (test (c + n)) 1 0 = ap count (add-suc c n) ∙ h.more (c + n) in
-    omega arith
-
-pub counts-grow : (test : ℕ → Bool) (count : ℕ → ℕ) → AreCounted test count → (c n : ℕ) → c ≤ n → count c ≤ count n
-counts-grow test count h c n le =
-    let e : c + (n - c) ≡ n = omega arith in
-    subst (λ (k : ℕ). count c ≤ count k) e (grows test count h c (n - c))
-
-counts-one : (test : ℕ → Bool) (count : ℕ → ℕ) → AreCounted test count → (c : ℕ) → test c ≡ true → count (c + 1) ≡ count c + 1
-counts-one test count h c passes =
-    ap count (add-one c) ∙ h.more c ∙ ap (λ (b : Bool). count c + cond b 1 0) passes
-
-by_first : (test : ℕ → Bool) (count : ℕ → ℕ) → AreCounted test count → (before steps clock later : ℕ) → clock + 1 ≤ later → steps ≤ before + clock → steps ≤ before + count clock + 1 → (0 < clock → test clock ≡ true) → (clock < 1) ⊎ (1 ≤ clock) → steps + 1 ≤ before + count later + 1
-by_first test count h before steps clock later le most few passes (inl first) = omega arith
-by_first test count h before steps clock later le most few passes (inr next) =
-    let one = counts-one test count h clock (passes next) in
-    let more = counts-grow test count h (clock + 1) later le in
-    omega arith
-
--- A step is of clock 0 or of a clock that passes, so steps stay within one more than these.
-pub counts-steps : (test : ℕ → Bool) (count : ℕ → ℕ) → AreCounted test count → (before steps clock later : ℕ) → clock + 1 ≤ later → steps ≤ before + clock → steps ≤ before + count clock + 1 → (0 < clock → test clock ≡ true) → steps + 1 ≤ before + count later + 1
-counts-steps test count h before steps clock later le most few passes =
-    by_first test count h before steps clock later le most few passes (cases_lt clock 1)

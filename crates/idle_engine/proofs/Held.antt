@@ -1,71 +1,66 @@
--- A trace that isn't told of clocks which show the same holds the samples of these clocks too.
-use Rattle.std.proofs.Common.{◌≡◌, ℕ, zero, suc, ◌+◌, ◌-◌, ◌<◌, ◌≤◌, List, refl, ap, ◌∙◌, sym, subst, ◌⊎◌, inl, inr, arith, add-one}
+-- A trace that isn't told of clocks which show the same holds what these clocks show too.
+use Rattle.std.proofs.Common.{◌≡◌, ℕ, zero, suc, ◌+◌, ◌-◌, ◌<◌, ◌≤◌, Bool, true, false, ◌||◌, ◌==◌, List, refl, ap, ◌∙◌, sym, subst, ◌⊎◌, inl, inr, arith, add-one}
 use Rattle.std.proofs.lemmas.Bool.{cases_lt}
-use Rattle.dreq_pacing.specs.declared.line.Line.{Line}
-use Rattle.block_core.specs.declared.sample.Sample.{Sample}
-use Rattle.block_core.specs.Block.{Run}
-use Rattle.block_core.specs.Hosted.{samples, sample_at}
-use Rattle.vcd_trace.specs.Told.{IsNext, held_to, told_at}
+use Rattle.std.proofs.lemmas.Bool.Decides.{nat_tests}
+use Rattle.sample_trace.specs.Told.{IsNext, held_to, told_at}
+use Rattle.idle_engine.specs.Kinds.{AreFirsts}
 use Rattle.idle_engine.proofs.Growing.{firsts-held, firsts-next, firsts-told}
-use Rattle.idle_engine.proofs.SampleLists.{samples-firsts}
-
--- a trace told up to a clock after which some show the same
-pub held-over : (start : Run) (lines : List Line) (b n : ℕ) → ((k : ℕ) → k < n → sample_at start lines (b + 1 + k) ≡ sample_at start lines b) → held_to (b + 1 + n) (samples start lines (b + 1)) ≡ samples start lines (b + 1 + n)
-held-over start lines b n same = firsts-held (sample_at start lines) (samples start lines) (samples-firsts start lines) b n same
-
--- such a trace is told of the clock next
-pub next-held : (start : Run) (lines : List Line) (last clock : ℕ) → last ≤ clock → (last ≡ 0 → clock ≡ 0) → IsNext (samples start lines last) clock
-next-held start lines last clock le first = firsts-next (sample_at start lines) (samples start lines) (samples-firsts start lines) last clock le first
-
--- and then has the samples up to it
-pub told_at-held : (start : Run) (lines : List Line) (last clock : ℕ) (s : Sample) → held_to clock (samples start lines last) ≡ samples start lines clock → s ≡ sample_at start lines clock → told_at clock s (samples start lines last) ≡ samples start lines (clock + 1)
-told_at-held start lines last clock s held e = firsts-told (sample_at start lines) (samples start lines) (samples-firsts start lines) last clock s held e
 
 -- a trace told of the first clocks, after which all up to now show what the last of them shows
-pub held-since : (start : Run) (lines : List Line) (last clock : ℕ) → last ≤ clock → (last ≡ 0 → clock ≡ 0) → ((k : ℕ) → last ≤ k → k < clock → sample_at start lines k ≡ sample_at start lines (last - 1)) → held_to clock (samples start lines last) ≡ samples start lines clock
-unfolding samples
-held-since start lines zero clock le first same = rw (first refl) refl
-held-since start lines (suc b) clock le first same =
+held-since : {T : Type 0} (at : ℕ → T) (all : ℕ → List T) → AreFirsts at all → (last clock : ℕ) → last ≤ clock → (last ≡ 0 → clock ≡ 0) → ((k : ℕ) → last ≤ k → k < clock → at k ≡ at (last - 1)) → held_to clock (all last) ≡ all clock
+held-since at all h zero clock le first same =
+    ap (held_to clock) h.none ∙ sym (ap all (first refl) ∙ h.none)
+held-since at all h (suc b) clock le first same =
     let n = clock - suc b in
     let one : b + 1 ≡ suc b = add-one b in
     let whole : b + 1 + n ≡ clock = omega (arith, one) in
     let low : suc b - 1 ≡ b = omega arith in
-    subst (λ (k : ℕ). held_to k (samples start lines (suc b)) ≡ samples start lines k) whole
-    (subst (λ (k : ℕ). held_to (b + 1 + n) (samples start lines k) ≡ samples start lines (b + 1 + n)) one
-    (held-over start lines b n (λ k below. same (b + 1 + k) (omega arith) (omega arith) ∙ ap (sample_at start lines) low)))
+    subst (λ (k : ℕ). held_to k (all (suc b)) ≡ all k) whole
+    (subst (λ (k : ℕ). held_to (b + 1 + n) (all k) ≡ all (b + 1 + n)) one
+    (firsts-held at all h b n (λ k below. same (b + 1 + k) (omega arith) (omega arith) ∙ ap at low)))
 
--- a trace was told of the samples of the first clocks, and those since show what the last of them shows
-pub record IsTold (start : Run) (lines : List Line) (clock : ℕ) (holds : List Sample → Type 0) : Type 0 where
+-- a trace was told of what the first clocks show, and those since show what the last of them shows
+pub record IsTold {T : Type 0} (at : ℕ → T) (all : ℕ → List T) (clock : ℕ) (holds : List T → Type 0) : Type 0 where
   pub last : ℕ
   pub before : last ≤ clock
   pub first : last ≡ 0 → clock ≡ 0
-  pub same : (k : ℕ) → last ≤ k → k < clock → sample_at start lines k ≡ sample_at start lines (last - 1)
-  pub told : holds (samples start lines last)
+  pub same : (k : ℕ) → last ≤ k → k < clock → at k ≡ at (last - 1)
+  pub told : holds (all last)
 
--- it may be told of this clock next, and its samples are held up to it
-pub is-next : {start : Run} {lines : List Line} {clock : ℕ} {holds : List Sample → Type 0} (t : IsTold start lines clock holds) → IsNext (samples start lines t.last) clock
-is-next {start} {lines} {clock} t = next-held start lines t.last clock t.before t.first
+-- it was told of nothing yet
+pub told-none : {T : Type 0} (at : ℕ → T) (all : ℕ → List T) → AreFirsts at all → (holds : List T → Type 0) → holds (all 0) → IsTold at all 0 holds
+told-none at all h holds told = record {
+  last = 0;
+  before = omega arith;
+  first = λ e. refl;
+  same = λ k from below. absurd (omega arith);
+  told = told;
+}
 
-pub is-held : {start : Run} {lines : List Line} {clock : ℕ} {holds : List Sample → Type 0} (t : IsTold start lines clock holds) → held_to clock (samples start lines t.last) ≡ samples start lines clock
-is-held {start} {lines} {clock} t = held-since start lines t.last clock t.before t.first t.same
+-- it may be told of this clock next, and what it was told is held up to it
+pub is-next : {T : Type 0} (at : ℕ → T) (all : ℕ → List T) → AreFirsts at all → (clock : ℕ) (holds : List T → Type 0) → (t : IsTold at all clock holds) → IsNext (all t.last) clock
+is-next at all h clock holds t = firsts-next at all h t.last clock t.before t.first
 
--- the clocks from this one on, up to a later one, show what it shows
-abbrev pub ShowTheSame : Run → List Line → (clock later : ℕ) → Type 0
-ShowTheSame start lines clock later = (k : ℕ) → clock + 1 ≤ k → k < later → sample_at start lines k ≡ sample_at start lines clock
+pub is-held : {T : Type 0} (at : ℕ → T) (all : ℕ → List T) → AreFirsts at all → (clock : ℕ) (holds : List T → Type 0) → (t : IsTold at all clock holds) → held_to clock (all t.last) ≡ all clock
+is-held at all h clock holds t = held-since at all h t.last clock t.before t.first t.same
 
--- it is told of the clock
-pub told-next : (start : Run) (lines : List Line) (clock later : ℕ) (s : Sample) (before after : List Sample → Type 0) → clock + 1 ≤ later → ShowTheSame start lines clock later → s ≡ sample_at start lines clock → (t : IsTold start lines clock before) → (before (samples start lines t.last) → IsNext (samples start lines t.last) clock → after (told_at clock s (samples start lines t.last))) → IsTold start lines later after
-told-next start lines clock later s before after le same is t tells = record {
+-- and then has the clock too
+pub is-told : {T : Type 0} (at : ℕ → T) (all : ℕ → List T) → AreFirsts at all → (clock : ℕ) (holds : List T → Type 0) → (t : IsTold at all clock holds) → (s : T) → s ≡ at clock → told_at clock s (all t.last) ≡ all (clock + 1)
+is-told at all h clock holds t s is = firsts-told at all h t.last clock s (is-held at all h clock holds t) is
+
+-- it is told of the clock, and those up to a later one show the same
+told-next : {T : Type 0} (at : ℕ → T) (all : ℕ → List T) → AreFirsts at all → (clock later : ℕ) (s : T) (before after : List T → Type 0) → clock + 1 ≤ later → ((k : ℕ) → clock + 1 ≤ k → k < later → at k ≡ at clock) → s ≡ at clock → (t : IsTold at all clock before) → (before (all t.last) → IsNext (all t.last) clock → after (told_at clock s (all t.last))) → IsTold at all later after
+told-next at all h clock later s before after le same is t tells = record {
   last = clock + 1;
   before = le;
   first = λ none. absurd (omega arith);
-  same = λ k from below. (let e : clock + 1 - 1 ≡ clock = omega arith in same k from below ∙ ap (sample_at start lines) (sym e));
-  told = subst after (told_at-held start lines t.last clock s (is-held t) is) (tells t.told (is-next t));
+  same = λ k from below. (let e : clock + 1 - 1 ≡ clock = omega arith in same k from below ∙ ap at (sym e));
+  told = subst after (is-told at all h clock before t s is) (tells t.told (is-next at all h clock before t));
 }
 
 -- it isn't, since the clock shows what the one before shows
-pub told-again : (start : Run) (lines : List Line) (clock later : ℕ) (before after : List Sample → Type 0) → clock + 1 ≤ later → ShowTheSame start lines clock later → 0 < clock → sample_at start lines clock ≡ sample_at start lines (clock - 1) → (t : IsTold start lines clock before) → ((l : List Sample) → before l → after l) → IsTold start lines later after
-told-again start lines clock later before after le same some is t keeps = record {
+told-again : {T : Type 0} (at : ℕ → T) (all : ℕ → List T) (clock later : ℕ) (before after : List T → Type 0) → clock + 1 ≤ later → ((k : ℕ) → clock + 1 ≤ k → k < later → at k ≡ at clock) → 0 < clock → at clock ≡ at (clock - 1) → (t : IsTold at all clock before) → ((l : List T) → before l → after l) → IsTold at all later after
+told-again at all clock later before after le same some is t keeps = record {
   last = t.last;
   before = let b = t.before in omega arith;
   first = λ none. (let e = t.first none in absurd (omega arith));
@@ -73,13 +68,34 @@ told-again start lines clock later before after le same some is t keeps = record
     | inl lt ↦ t.same k from lt
     | inr ge ↦ elim (cases_lt clock k) [
       | inl more ↦ same k (omega arith) below ∙ at_clock
-      | inr less ↦ (let e : k ≡ clock = omega arith in ap (sample_at start lines) e ∙ at_clock)
+      | inr less ↦ (let e : k ≡ clock = omega arith in ap at e ∙ at_clock)
     ]
   ];
-  told = keeps (samples start lines t.last) t.told;
+  told = keeps (all t.last) t.told;
 } where
-  at_clock : sample_at start lines clock ≡ sample_at start lines (t.last - 1)
+  at_clock : at clock ≡ at (t.last - 1)
   at_clock = elim (cases_lt t.last clock) [
     | inl lt ↦ is ∙ t.same (clock - 1) (omega arith) (omega arith)
-    | inr ge ↦ (let b = t.before in let e : clock - 1 ≡ t.last - 1 = omega arith in is ∙ ap (sample_at start lines) e)
+    | inr ge ↦ (let b = t.before in let e : clock - 1 ≡ t.last - 1 = omega arith in is ∙ ap at e)
   ]
+
+-- the trace is told of a clock, or the clock shows what the one before shows
+record Again (is_new : Bool) (n : ℕ) : Type 0 where
+  passed : (is_new || (n == 0)) ≡ false
+  shows : is_new ≡ false
+  some : 0 < n
+
+not_zero : (n : ℕ) → (suc n == 0) ≡ false
+not_zero n = grind (arith, nat_tests)
+
+told_or_not : (is_new : Bool) (n : ℕ) → ((is_new || (n == 0)) ≡ true) ⊎ Again is_new n
+told_or_not true n = inl refl
+told_or_not false zero = inl refl
+told_or_not false (suc n) = inr (record { passed = not_zero n; shows = refl; some = omega arith })
+
+-- it is told of a clock where this is the first or may show something new, and those up to a later one show the same
+pub told-after : {T : Type 0} (at : ℕ → T) (all : ℕ → List T) → AreFirsts at all → (clock later : ℕ) (s : T) (is_new : Bool) (before after : List T → Type 0) → clock + 1 ≤ later → ((k : ℕ) → clock + 1 ≤ k → k < later → at k ≡ at clock) → s ≡ at clock → (is_new ≡ false → 0 < clock → at clock ≡ at (clock - 1)) → (t : IsTold at all clock before) → ((is_new || (clock == 0)) ≡ true → before (all t.last) → IsNext (all t.last) clock → after (told_at clock s (all t.last))) → ((is_new || (clock == 0)) ≡ false → (l : List T) → before l → after l) → IsTold at all later after
+told-after at all h clock later s is_new before after le same is again t tells keeps = elim (told_or_not is_new clock) [
+  | inl new ↦ told-next at all h clock later s before after le same is t (tells new)
+  | inr not ↦ told-again at all clock later before after le same not.some (again not.shows not.some) t (keeps not.passed)
+]

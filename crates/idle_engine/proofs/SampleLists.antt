@@ -1,12 +1,18 @@
--- The samples of the first clocks, as a trace is told of them.
-use Rattle.std.proofs.Common.{◌≡◌, ℕ, ◌+◌, List, ◌++◌, refl}
+-- The runs of one block and of two are courses of their kinds, and what the first clocks show, as a trace is told of it.
+use Rattle.std.proofs.Common.{◌≡◌, ℕ, ◌+◌, ◌≤◌, List, ◌++◌, refl, ap}
 use Rattle.dreq_pacing.specs.declared.line.Line.{Line}
+use Rattle.dreq_pacing.specs.Ports.{Ports, first_ports}
 use Rattle.block_core.specs.declared.sample.Sample.{Sample}
 use Rattle.block_core.specs.Block.{Run}
-use Rattle.block_core.specs.Hosted.{samples, sample_at}
-use Rattle.block_core.specs.HostedTwin.{twin_samples, twin_sample_at}
+use Rattle.block_core.specs.Hosted.{hosted_at, samples, sample_at}
+use Rattle.block_core.specs.HostedTwin.{hosted_twin_at, twin_samples, twin_sample_at, twin_stirring, twin_stirs_in}
+use Rattle.block_core.specs.Stirring.{stirring, stirs_in, worked}
 use Rattle.block_core.specs.Twin.{TwinRun}
-use Rattle.idle_engine.proofs.Growing.{AreFirsts, firsts-from}
+use Rattle.idle_engine.specs.Kinds.{AreFirsts, IsCourse}
+use Rattle.idle_engine.specs.One.{one}
+use Rattle.idle_engine.specs.Two.{two}
+use Rattle.idle_engine.proofs.Growing.{firsts-from}
+use Rattle.idle_engine.proofs.Working.{worked-passing}
 
 -- one sample a clock, and one of each of two blocks
 pub samples-firsts : (start : Run) (lines : List Line) → AreFirsts (sample_at start lines) (samples start lines)
@@ -17,10 +23,35 @@ pub twin_samples-firsts : (start : TwinRun) (first second : List Line) → AreFi
 unfolding twin_samples
 twin_samples-firsts start first second = record { none = refl; more = λ n. refl }
 
+-- from ports at clock 0 on
+pub one-course : (start : Run) (lines : List Line) (p : Ports) → start.clock ≡ 0 → p ≡ first_ports lines → IsCourse one p.lines (record { run = start; transfers = p.transfers }) (record { at = hosted_at start p.lines; samples = samples start p.lines })
+unfolding hosted_at
+one-course start lines p fresh first = record {
+  fresh = fresh;
+  begins = rw (ap (λ (p : Ports). p.transfers) first) refl;
+  goes = λ n. refl;
+  samples = samples-firsts start p.lines;
+}
+
+pub two-course : (start : TwinRun) (first second : List Line) (p q : Ports) → start.first.clock ≡ 0 → start.second.clock ≡ 0 → p ≡ first_ports first → q ≡ first_ports second → IsCourse two (p.lines, q.lines) (record { own = start.own; first = record { run = start.first; transfers = p.transfers }; second = record { run = start.second; transfers = q.transfers } }) (record { at = hosted_twin_at start p.lines q.lines; samples = twin_samples start p.lines q.lines })
+unfolding hosted_twin_at
+two-course start first second p q fresh_first fresh_second is_first is_second = record {
+  fresh = (fresh_first, fresh_second);
+  begins = rw (ap (λ (p : Ports). p.transfers) is_first, ap (λ (p : Ports). p.transfers) is_second) refl;
+  goes = λ n. refl;
+  samples = twin_samples-firsts start p.lines q.lines;
+}
+
+-- at most one more clock is worked out singly than stir
+pub worked-stirring : (start : Run) (lines : List Line) (n : ℕ) → worked (λ c. stirs_in lines (hosted_at start lines c)) n ≤ stirring start lines n + 1
+unfolding stirring
+worked-stirring start lines n = worked-passing (λ c. stirs_in lines (hosted_at start lines c)) (stirring start lines) (λ k. refl) n
+
+pub worked-twin_stirring : (start : TwinRun) (first second : List Line) (n : ℕ) → worked (λ c. twin_stirs_in first second (hosted_twin_at start first second c)) n ≤ twin_stirring start first second n + 1
+unfolding twin_stirring
+worked-twin_stirring start first second n =
+    worked-passing (λ c. twin_stirs_in first second (hosted_twin_at start first second c)) (twin_stirring start first second) (λ k. refl) n
+
 -- the samples of more clocks begin with those of fewer
 pub samples-from : (start : Run) (lines : List Line) (n more : ℕ) → (later : List Sample) × (samples start lines (n + more) ≡ samples start lines n ++ later)
 samples-from start lines n more = firsts-from (sample_at start lines) (samples start lines) (samples-firsts start lines) n more
-
-pub twin_samples-from : (start : TwinRun) (first second : List Line) (n more : ℕ) → (later : List (Sample × Sample)) × (twin_samples start first second (n + more) ≡ twin_samples start first second n ++ later)
-twin_samples-from start first second n more =
-    firsts-from (twin_sample_at start first second) (twin_samples start first second) (twin_samples-firsts start first second) n more

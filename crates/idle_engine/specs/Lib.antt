@@ -1,4 +1,4 @@
 pub mod Stops
-pub mod Resting
-pub mod TwinStops
-pub mod TwinResting
+pub mod Kinds
+pub mod One
+pub mod Two

@@ -1,5 +1,5 @@
 //! Laws of the samples of a run, each on a function that does nothing.
-ghost use Rattle.std.specs.Prelude.{◌≡◌, ℕ, ◌+◌, Option, List, ◌++◌};
+ghost use Rattle.std.specs.Prelude.{◌≡◌, ℕ, ◌+◌, Bool, true, Option, List, ◌++◌};
 ghost use Rattle.pio_edge.specs.Edge.{TakesPrefix};
 ghost use Rattle.dreq_pacing.specs.declared.line.Line.{Line};
 ghost use Rattle.block_core.specs.declared.sample.Sample.{Sample};
@@ -7,12 +7,7 @@ ghost use Rattle.block_core.specs.Block.{Run};
 ghost use Rattle.block_core.specs.Hosted.{samples};
 ghost use Rattle.block_core.specs.HostedTwin.{twin_samples};
 ghost use Rattle.block_core.specs.Twin.{TwinRun};
-ghost use Rattle.vcd_trace.specs.TwinText.{twin_text, twin_text_of};
-ghost use Rattle.vcd_trace.specs.VcdText.{text_of, vcd_text};
-ghost use Rattle.idle_engine.specs.Stops.{StopsAt};
-ghost use Rattle.idle_engine.specs.TwinStops.{TwinStopsAt};
-
-use vcd_trace::{failing_early_leaves_a_first_part, failing_early_leaves_a_first_part_of_two};
+ghost use Rattle.idle_engine.specs.Stops.{PartStays, StopsAt, TwinStopsAt};
 
 /// The samples of more clocks are those of fewer and then later ones.
 pub fn later_samples_follow()
@@ -20,22 +15,20 @@ pub fn later_samples_follow()
         × (samples start lines (clocks + more) ≡ samples start lines clocks ++ later) }
 {}
 
-/// A run that stopped while its text was written, to a sink that took a first part of the text so far, has written a
-/// first part of the whole text.
+/// A run that stopped while a text was written, to a sink that took a first part of the text so far, has written a first part
+/// of the whole text, where the text's first parts stay first parts.
 pub fn a_stopped_run_leaves_a_first_part()
-    ensures { (before taken : Option (List ℕ)) (start now : Run) (lines : List Line) (clocks : ℕ)
-        → StopsAt start lines clocks now (λ told ended. TakesPrefix before (text_of told ended) taken)
-        → TakesPrefix before (vcd_text (samples start lines clocks)) taken }
-{
-    failing_early_leaves_a_first_part();
-}
+    ensures { (before taken : Option (List ℕ)) (text : List Sample → Bool → List ℕ) (start now : Run) (lines : List Line) (clocks : ℕ)
+        → PartStays before taken text
+        → StopsAt start lines clocks now (λ told ended. TakesPrefix before (text told ended) taken)
+        → TakesPrefix before (text (samples start lines clocks) true) taken }
+{}
 
-/// A run of two blocks that stopped while its text was written, to a sink that took a first part of the text so far, has
-/// written a first part of the whole text.
+/// The same of a run of two blocks.
 pub fn a_stopped_pair_leaves_a_first_part()
-    ensures { (before taken : Option (List ℕ)) (start now : TwinRun) (first second : List Line) (clocks : ℕ)
-        → TwinStopsAt start first second clocks now (λ told ended. TakesPrefix before (twin_text_of told ended) taken)
-        → TakesPrefix before (twin_text (twin_samples start first second clocks)) taken }
-{
-    failing_early_leaves_a_first_part_of_two();
-}
+    ensures { (before taken : Option (List ℕ)) (text : List (Sample × Sample) → Bool → List ℕ) (start now : TwinRun)
+        (first second : List Line) (clocks : ℕ)
+        → PartStays before taken text
+        → TwinStopsAt start first second clocks now (λ told ended. TakesPrefix before (text told ended) taken)
+        → TakesPrefix before (text (twin_samples start first second clocks) true) taken }
+{}

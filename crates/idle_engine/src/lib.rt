@@ -1,14 +1,15 @@
-//! A run of a block beside a stimulus, told to a trace.
+//! A run of a block beside a stimulus, and of two, told to a trace.
 #![tactic(auto)]
 
 mod clocks;
+mod kind;
 mod laws;
+mod one;
 mod simulation;
-mod twin_clocks;
-mod twin_simulation;
+mod telling;
+mod two;
 
 pub use laws::{
     a_stopped_pair_leaves_a_first_part, a_stopped_run_leaves_a_first_part, later_samples_follow,
 };
-pub use simulation::simulate;
-pub use twin_simulation::simulate_twin;
+pub use simulation::{simulate, simulate_twin};

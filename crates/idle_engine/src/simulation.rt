@@ -1,19 +1,22 @@
-//! A run of a block beside a stimulus. Clocks in which nothing can move are passed over.
-ghost use Rattle.std.specs.Prelude.{◌≡◌, ℕ, ◌+◌, ◌≤◌, ◌^◌, false, true, is_err, Option, List, OnOk, OnErr};
+//! A run beside the system's ports, told to a trace. Clocks in which nothing can move are passed over.
+ghost use Rattle.std.specs.Prelude.{◌≡◌, ℕ, ◌+◌, ◌≤◌, ◌^◌, Bool, false, true, is_err, Option, List, OnOk, OnErr};
 ghost use Rattle.pio_edge.specs.Edge.{PutCounts};
-ghost use Rattle.block_core.specs.declared.sample.Sample.{Sample as Values};
 ghost use Rattle.block_core.specs.Hosted.{hosted_at, samples};
-ghost use Rattle.block_core.specs.Stirring.{stirring};
-ghost use Rattle.vcd_trace.specs.Told.{IsNext, told_at};
-ghost use Rattle.idle_engine.specs.Stops.{StopsAt};
+ghost use Rattle.block_core.specs.HostedTwin.{twin_of, hosted_twin_at, twin_samples, twin_stirs_in, twin_stirring};
+ghost use Rattle.block_core.specs.Stirring.{stirs_in, stirring, worked};
+ghost use Rattle.sample_trace.specs.Told.{IsNext, told_at};
+ghost use Rattle.idle_engine.specs.Kinds.{IsCourse};
+ghost use Rattle.idle_engine.specs.Stops.{Stops, StopsAt, TwinStopsAt};
 
-use crate::clocks::{rest, rests_until, step};
-use block_core::{Block, Sample};
-use dreq_pacing::{HostPorts, Schedule, a_clock_without_acts_does_nothing};
+use crate::clocks::{rest, step};
+use crate::kind::{Runs, Shows};
+use crate::telling::Telling;
+use block_core::{Block, Twin};
+use dreq_pacing::{HostPorts, Schedule};
 use fifo_pair::Fifo;
+use sample_trace::{Trace, TraceFailed, TwinTrace};
 use std::sync::ledger::Ledger;
 use step_count::Steps;
-use vcd_trace::{Trace, TraceFailed};
 
 /// Runs a block for some clocks, beside a stimulus that begins in clock 0, and tells a trace the sample of each clock
 /// and that the samples end there.
@@ -41,44 +44,117 @@ pub fn simulate<F: Fifo, T: Trace, L: Ledger>(
     ensures cause { PutCounts (T.faults trace.old) (T.faults trace.new) result }
     ensures same { T.name trace.new ≡ T.name trace.old }
     ensures steps { steps.new + block.old.calls ≡ steps.old + block.new.calls }
+    ensures exact { OnOk result (steps.new
+        ≡ steps.old + worked (λ c. stirs_in schedule.now (hosted_at block.old.run schedule.now c)) clocks) }
     ensures most { steps.new ≤ steps.old + clocks }
     ensures stirring { steps.new ≤ steps.old + stirring block.old.run schedule.now clocks + 1 }
 {
-    a_clock_without_acts_does_nothing();
-    trace.begin()?;
     let mut ports = HostPorts::new(schedule);
-    let mut until = rests_until(&ports, 0, &block.requests(), clocks);
-    let mut clock = 0;
-    'clocks: while clock < clocks {
-        let (rests, is_new) = step(block, &mut ports, clock, until, clocks);
-        until = rests;
-        steps.count();
-        tell(trace, clock, block.view(), is_new | (clock == 0))?;
-        clock = rest(block, clock + 1, until);
-    }
-    trace.end(clocks)
+    run(block, &mut ports, clocks, trace, steps)
 }
 
-/// Tells a trace the sample after a clock, where that may be a new one.
+/// Runs two blocks for some clocks, beside stimuli that begin in clock 0, and tells a trace the samples of each clock and that
+/// the samples end there.
+///
+/// Both blocks are in clock 0, and the clocks are up to 10^12. One step is one clock worked out singly, by a call of
+/// `Twin::clock` or `Twin::quiet_clock`: clock 0, and each later one that stirs in either block. The trace isn't told of the
+/// others, which repeat the samples before them, nor of one of these that is known to repeat them. Where the trace fails, the
+/// run stops after the clock whose samples it was told.
+pub fn simulate_twin<F: Fifo, T: TwinTrace, L: Ledger>(
+    twin: &mut Twin<F>,
+    first: &Schedule,
+    second: &Schedule,
+    clocks: u64,
+    trace: &mut T,
+    steps: &mut Steps<L>,
+) -> Result<(), TraceFailed>
+    requires fresh_first { twin.old.twin.first.clock ≡ 0 }
+    requires fresh_second { twin.old.twin.second.clock ≡ 0 }
+    requires within { clocks ≤ 10 ^ 12 }
+    requires working { T.has_failed trace.old ≡ false }
+    ensures ok { OnOk result ((b : Option (List ℕ)) → T.ready trace.old b
+        → T.holds trace.new b (twin_samples twin.old.twin first.now second.now clocks) true) }
+    ensures run { OnOk result (twin.new.twin ≡ twin_of (hosted_twin_at twin.old.twin first.now second.now clocks)) }
+    ensures err { OnErr result (TwinStopsAt twin.old.twin first.now second.now clocks twin.new.twin
+        (λ told ended. (b : Option (List ℕ)) → T.ready trace.old b → T.broken trace.new b told ended)) }
+    ensures failed { T.has_failed trace.new ≡ is_err result }
+    ensures cause { PutCounts (T.faults trace.old) (T.faults trace.new) result }
+    ensures same { T.name trace.new ≡ T.name trace.old }
+    ensures steps { steps.new + twin.old.calls ≡ steps.old + twin.new.calls }
+    ensures exact { OnOk result (steps.new ≡ steps.old
+        + worked (λ c. twin_stirs_in first.now second.now (hosted_twin_at twin.old.twin first.now second.now c)) clocks) }
+    ensures most { steps.new ≤ steps.old + clocks }
+    ensures stirring { steps.new ≤ steps.old + twin_stirring twin.old.twin first.now second.now clocks + 1 }
+{
+    let mut ports = (HostPorts::new(first), HostPorts::new(second));
+    run(twin, &mut ports, clocks, trace, steps)
+}
+
+/// Runs for some clocks from clock 0 on, and tells a trace what each shows and that they end there. One step is one clock
+/// worked out singly.
 #[inline(always)]
-fn tell<T: Trace>(
+fn run<V, P, R: Runs<V, P>, T: Telling<V, R>, L: Ledger>(
+    runs: &mut R,
+    ports: &mut P,
+    clocks: u64,
+    trace: &mut T,
+    steps: &mut Steps<L>,
+) -> Result<(), TraceFailed>
+    requires course { let course = R.kind.course (R.lines ports.old) (R.hosted runs.old ports.old) in
+        IsCourse R.kind (R.lines ports.old) (R.hosted runs.old ports.old) course }
+    requires ready { R.ready ports.old 0 }
+    requires within { clocks ≤ 10 ^ 12 }
+    requires working { T.has_failed trace.old ≡ false }
+    ensures ok { let course = R.kind.course (R.lines ports.old) (R.hosted runs.old ports.old) in
+        OnOk result ((b : Option (List ℕ)) → T.ready trace.old b → T.holds trace.new b (course.samples clocks) true) }
+    ensures run { let course = R.kind.course (R.lines ports.old) (R.hosted runs.old ports.old) in
+        OnOk result (R.hosted runs.new ports.new ≡ course.at clocks) }
+    ensures err { let course = R.kind.course (R.lines ports.old) (R.hosted runs.old ports.old) in
+        OnErr result (Stops course.at course.samples clocks (R.hosted runs.new ports.new)
+        (λ told ended. (b : Option (List ℕ)) → T.ready trace.old b → T.broken trace.new b told ended)) }
+    ensures failed { T.has_failed trace.new ≡ is_err result }
+    ensures cause { PutCounts (T.faults trace.old) (T.faults trace.new) result }
+    ensures same { T.name trace.new ≡ T.name trace.old }
+    ensures steps { steps.new + R.calls runs.old ≡ steps.old + R.calls runs.new }
+    ensures exact { let course = R.kind.course (R.lines ports.old) (R.hosted runs.old ports.old) in
+        OnOk result (steps.new ≡ steps.old + worked (λ c. R.kind.stirs (R.lines ports.old) (course.at c)) clocks) }
+    ensures most { let course = R.kind.course (R.lines ports.old) (R.hosted runs.old ports.old) in
+        steps.new ≤ steps.old + worked (λ c. R.kind.stirs (R.lines ports.old) (course.at c)) clocks }
+{
+    runs.is_of_its_kind(ports);
+    trace.open()?;
+    let mut until = runs.rests_until(ports, 0, clocks);
+    let mut clock = 0;
+    'clocks: while clock < clocks {
+        let (rests, is_new) = step(runs, ports, clock, until, clocks);
+        until = rests;
+        steps.count();
+        tell(trace, clock, runs, is_new | (clock == 0))?;
+        clock = rest(runs, ports, clock + 1, until);
+    }
+    trace.close(clocks)
+}
+
+/// Tells a trace what a run shows after a clock, where that may be new.
+#[inline(always)]
+fn tell<V, R: Shows<V>, T: Telling<V, R>>(
     trace: &mut T,
     clock: u64,
-    sample: &Sample,
+    runs: &R,
     is_new: bool,
 ) -> Result<(), TraceFailed>
     requires { T.has_failed trace.old ≡ false }
     ensures again { is_new ≡ false → trace.new ≡ trace.old }
-    ensures ok { is_new ≡ true → OnOk result ((b : Option (List ℕ)) (l : List Values) → T.holds trace.old b l false
-        → IsNext l clock → T.holds trace.new b (told_at clock sample.now l) false) }
-    ensures err { OnErr result ((b : Option (List ℕ)) (l : List Values) → T.holds trace.old b l false
-        → IsNext l clock → T.broken trace.new b (told_at clock sample.now l) false) }
+    ensures ok { is_new ≡ true → OnOk result ((b : Option (List ℕ)) (l : List V) → T.holds trace.old b l false
+        → IsNext l clock → T.holds trace.new b (told_at clock (R.shows runs.now) l) false) }
+    ensures err { OnErr result ((b : Option (List ℕ)) (l : List V) → T.holds trace.old b l false
+        → IsNext l clock → T.broken trace.new b (told_at clock (R.shows runs.now) l) false) }
     ensures cause { PutCounts (T.faults trace.old) (T.faults trace.new) result }
     ensures failed { T.has_failed trace.new ≡ is_err result }
     ensures same { T.name trace.new ≡ T.name trace.old }
 {
     if is_new {
-        return trace.sample(clock, sample);
+        return trace.tell(clock, runs);
     }
     Ok(())
 }

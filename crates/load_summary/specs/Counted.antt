@@ -4,7 +4,7 @@ use Rattle.dreq_pacing.specs.declared.line.Line.{Line}
 use Rattle.block_core.specs.Block.{Run}
 use Rattle.block_core.specs.Hosted.{hosted_at, samples}
 use Rattle.block_core.specs.Shown.{moved_of}
-use Rattle.vcd_trace.specs.Edges.{edges_in}
+use Rattle.sample_trace.specs.Edges.{edges_in}
 use Rattle.load_summary.specs.declared.summary.Summary.{Summary}
 
 -- the edges of a run's samples, and what its block says that transfers moved

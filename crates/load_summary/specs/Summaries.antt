@@ -9,7 +9,7 @@ use Rattle.dreq_pacing.specs.declared.due.Due.{Due}
 use Rattle.block_core.specs.Slots.{counted}
 use Rattle.block_core.specs.Block.{Run, first_run}
 use Rattle.block_core.specs.Hosted.{samples, host_of}
-use Rattle.vcd_trace.specs.Edges.{edges_in}
+use Rattle.sample_trace.specs.Edges.{edges_in}
 use Rattle.drawn_load.specs.Setups.{setup_of}
 use Rattle.drawn_load.specs.Loads.{lines_of}
 use Rattle.load_summary.specs.declared.summary.Summary.{Summary}

@@ -11,10 +11,10 @@ use drawn_load::draw_load;
 use dreq_pacing::Schedule;
 use fifo_pair::{Fifo, RingFifo};
 use idle_engine::simulate;
+use sample_trace::{EdgeTrace, TraceFailed};
 use std::alloc::{AllocError, Global};
 use std::sync::ledger::Ledger;
 use step_count::Steps;
-use vcd_trace::{EdgeTrace, TraceFailed};
 
 /// The summary of the load of a seed, whatever the seed is, over so many clocks, up to 10^12. All memory is taken before the
 /// first clock. The error is want of memory, and no other end is free. A step is one clock worked out singly.

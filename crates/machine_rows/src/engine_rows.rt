@@ -2,12 +2,20 @@
 //! rules: those in which a line acts, a transfer's word moves, an instruction begins or finishes, an OSR is refilled, or the
 //! pads aren't those of both clocks before. Clock 0 is always worked out.
 use crate::block_row::{Keys, LOW, PLAIN, PULLING, Pins, Row};
+use crate::twin_tests::{DELAYS, TwinRow};
 
 /// A run of so many clocks of a row, and the clocks that are worked out.
 pub struct Leap {
     pub row: Row,
     pub clocks: u64,
     pub worked: &'static [u64],
+}
+
+/// A run of two blocks for so many clocks, and the clocks after which a trace may be told of new samples.
+pub struct TwinLeap {
+    pub row: TwinRow,
+    pub clocks: u64,
+    pub told: &'static [u64],
 }
 
 /// The longest run.
@@ -269,5 +277,84 @@ pub static LEAPS: [Leap; 17] = [
         },
         clocks: 0,
         worked: &[],
+    },
+];
+
+pub static PAIRS: [TwinLeap; 3] = [
+    TwinLeap {
+        row: TwinRow {
+            own: 0,
+            first: Row {
+                shows: "a level that changes every 32 clocks, beside a block that shows nothing new",
+                // set pins, 1 [31]; set pins, 0 [31]
+                words: &[0xff01, 0xff00],
+                machines: &[Keys {
+                    wrap_top: 1,
+                    ..PLAIN
+                }],
+                pins: Pins { out: 1, ..LOW },
+                stimulus: "",
+                seen: &[],
+            },
+            second: Row {
+                shows: "",
+                words: DELAYS,
+                machines: &[ONE_WORD],
+                pins: LOW,
+                stimulus: "",
+                seen: &[],
+            },
+        },
+        clocks: 100,
+        told: &[0, 32, 64, 96],
+    },
+    TwinLeap {
+        row: TwinRow {
+            own: 1,
+            first: Row {
+                shows: "the same of the second block",
+                words: DELAYS,
+                machines: &[ONE_WORD],
+                pins: LOW,
+                stimulus: "",
+                seen: &[],
+            },
+            second: Row {
+                shows: "",
+                words: &[0xff01, 0xff00],
+                machines: &[Keys {
+                    wrap_top: 1,
+                    ..PLAIN
+                }],
+                pins: Pins { out: 1, ..LOW },
+                stimulus: "",
+                seen: &[],
+            },
+        },
+        clocks: 100,
+        told: &[0, 32, 64, 96],
+    },
+    TwinLeap {
+        row: TwinRow {
+            own: 0,
+            first: Row {
+                shows: "two blocks that wait beside another pin",
+                words: WAIT,
+                machines: &[ONE_WORD],
+                pins: LOW,
+                stimulus: "7 pin 3 1",
+                seen: &[],
+            },
+            second: Row {
+                shows: "",
+                words: WAIT,
+                machines: &[ONE_WORD],
+                pins: LOW,
+                stimulus: "7 pin 3 1\n500000000000 tx 0 1",
+                seen: &[],
+            },
+        },
+        clocks: LONGEST,
+        told: &[0, 7, 8, 500_000_000_000],
     },
 ];

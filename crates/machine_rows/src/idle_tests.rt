@@ -3,28 +3,24 @@
 use crate::machine_row::{PLAIN, setup_of};
 use fifo_pair::{Fifo, PlainFifo, RingFifo};
 use irq_flags::Flags;
-use sm_registers::{Idle, Machine, Outputs, View, Wants};
+use pin_matrix::Sync;
+use sm_registers::{Idle, Intent, Machine, Shared, View};
 use std::alloc::{AllocError, Global};
 use std::test::Fail;
 
 /// Memory with a word at each address, and no pin or flag up.
-fn quiet_view(word: u16) -> View {
-    View {
+fn all_of(word: u16) -> Shared {
+    Shared {
         memory: [word; 32],
-        seen: 0,
         flags: Flags { up: 0 },
+        sync: Sync::new(0, 0),
     }
 }
 
 /// One clock of a machine whose pins nobody looks at.
 fn clock<F: Fifo>(machine: &mut Machine<F>, view: &View) {
-    let mut outputs = Outputs {
-        levels: 0,
-        directions: 0,
-    };
-    let mut wants = Wants::none();
-    machine.tick(view, &mut outputs, &mut wants);
-    machine.settle(&wants, None, false);
+    let intent = machine.tick(view);
+    machine.settle(&intent, None, false);
 }
 
 /// How long a machine idles after so many ticks of a word, beside a TX that then holds a word or is empty.
@@ -34,12 +30,13 @@ fn idle_after<F: Fifo>(
     ticks: u8,
     tx: Option<u32>,
 ) -> Result<Idle, AllocError> {
-    let view = quiet_view(word);
+    let shared = all_of(word);
+    let view = View::new(&shared, 0);
     let mut machine = Machine::<F>::new(alloc, &setup_of(&PLAIN, 1))?;
     for _ in 0..ticks {
         clock(&mut machine, &view);
     }
-    machine.settle(&Wants::none(), tx, false);
+    machine.settle(&Intent::none(), tx, false);
     Ok(machine.idle_until(&view))
 }
 
@@ -73,23 +70,24 @@ fn stirs_next(rt: HostRuntime) -> Result<(), Fail> {
     Ok(())
 }
 
-/// Passes the ticks before the next one that stirs, or a million million where there is none.
-fn pass_idle<F: Fifo>(machine: &mut Machine<F>, view: &View) {
+/// Leaps over the ticks before the next one that stirs, or over a million million where there is none.
+fn leap_idle<F: Fifo>(machine: &mut Machine<F>, view: &View) {
     match machine.idle_until(view) {
-        Idle::Ticks(ticks) => machine.pass(view, u64::from(ticks)),
-        Idle::Never => machine.pass(view, 1_000_000_000_000),
+        Idle::Ticks(ticks) => machine.leap(view, ticks),
+        Idle::Never => machine.leap(view, 1_000_000_000_000),
     }
 }
 
 #[test]
-fn passes_at_once(rt: HostRuntime) -> Result<(), Fail> {
+fn leaps_at_once(rt: HostRuntime) -> Result<(), Fail> {
     for word in [0xff3f, 0x2080] {
-        let view = quiet_view(word);
+        let shared = all_of(word);
+        let view = View::new(&shared, 0);
         let mut machine = Machine::<RingFifo>::new(rt.alloc(), &setup_of(&PLAIN, 1))?;
         let before = machine.idle_until(&view);
         assert!(rt; before == Idle::Ticks(0), "{word:04x}");
         clock(&mut machine, &view);
-        pass_idle(&mut machine, &view);
+        leap_idle(&mut machine, &view);
         let want = if word == 0xff3f {
             Idle::Ticks(0)
         } else {

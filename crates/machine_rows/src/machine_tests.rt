@@ -6,7 +6,8 @@ use crate::machine_row::{Event, PLAIN, Row, Seen, setup_of};
 use crate::machine_shifts::SHIFTS;
 use fifo_pair::{Fifo, PlainFifo, RingFifo};
 use irq_flags::Flags;
-use sm_registers::{Machine, Outputs, View, Wants};
+use pin_matrix::Sync;
+use sm_registers::{Intent, Machine, Outputs, Shared, View};
 use std::alloc::{AllocError, Global};
 use std::process::Abort;
 use std::test::Fail;
@@ -14,10 +15,10 @@ use std::test::Fail;
 /// In how many clocks the rows are looked at.
 const CLOCKS: u8 = 70;
 
-/// The block around the machine: its view, and what becomes of its writes.
+/// The block around the machine: what it sees, and what becomes of its writes.
 #[derive(Drop)]
 struct Around {
-    view: View,
+    shared: Shared,
     outputs: Outputs,
 }
 
@@ -33,10 +34,10 @@ fn memory_of(words: &[u16]) -> [u16; 32] {
 /// At the start all is 0, but for the words.
 fn with_memory(words: &[u16]) -> Around {
     Around {
-        view: View {
+        shared: Shared {
             memory: memory_of(words),
-            seen: 0,
             flags: Flags { up: 0 },
+            sync: Sync::new(0, 0),
         },
         outputs: Outputs {
             levels: 0,
@@ -45,8 +46,37 @@ fn with_memory(words: &[u16]) -> Around {
     }
 }
 
+/// How a tick is made.
+#[derive(Clone, Copy)]
+enum By {
+    /// Each is a whole one.
+    Whole,
+    /// Each that is simple is made as such.
+    Simple,
+}
+
+/// A tick, and what it wants of FIFOs and flags.
+fn tick<F: Fifo>(machine: &mut Machine<F>, around: &mut Around, by: By) -> Intent {
+    let view = View::new(&around.shared, 0);
+    let outputs = &mut around.outputs;
+    match by {
+        By::Simple if machine.simple_tick(&view, outputs, false).is_some() => Intent::none(),
+        _ => {
+            let intent = machine.tick(&view);
+            outputs.write(&intent);
+            intent
+        }
+    }
+}
+
 /// One clock with its events.
-fn clock<F: Fifo>(machine: &mut Machine<F>, around: &mut Around, events: &[(u8, Event)], now: u8) {
+fn clock<F: Fifo>(
+    machine: &mut Machine<F>,
+    around: &mut Around,
+    by: By,
+    events: &[(u8, Event)],
+    now: u8,
+) {
     let mut word = None;
     let mut read = false;
     let mut lowered = 0;
@@ -55,16 +85,18 @@ fn clock<F: Fifo>(machine: &mut Machine<F>, around: &mut Around, events: &[(u8, 
             match event {
                 Event::Write(written) => word = Some(written),
                 Event::Read => read = true,
-                Event::See(seen) => around.view.seen = seen,
+                Event::See(seen) => around.shared.sync = Sync::new(seen, 0),
                 Event::Lower(flags) => lowered = flags,
                 Event::Levels(level) => around.outputs.levels = level,
             }
         }
     }
-    let mut wants = Wants::none();
-    machine.tick(&around.view, &mut around.outputs, &mut wants);
-    machine.settle(&wants, word, read);
-    around.view.flags.merge(wants.clears | lowered, wants.sets);
+    let intent = tick(machine, around, by);
+    machine.settle(&intent, word, read);
+    around
+        .shared
+        .flags
+        .merge(intent.clears | lowered, intent.sets);
 }
 
 /// Whether this is seen.
@@ -77,7 +109,7 @@ fn is_seen<F: Fifo>(machine: &Machine<F>, around: &Around, seen: Seen) -> bool {
         Seen::Rx(level) => shown.rx == level,
         Seen::Got(word) => shown.got == word,
         Seen::Sticky(flags) => shown.sticky == flags,
-        Seen::Flags(flags) => around.view.flags.up == flags,
+        Seen::Flags(flags) => around.shared.flags.up == flags,
     }
 }
 
@@ -87,12 +119,12 @@ fn are_seen<F: Fifo>(machine: &Machine<F>, around: &Around, row: &Row, now: u8) 
 }
 
 /// The row's clocks, one after the other: the first after which something isn't seen.
-fn unseen<F: Fifo>(alloc: Global, row: &Row) -> Result<Option<u8>, AllocError> {
+fn unseen<F: Fifo>(alloc: Global, row: &Row, by: By) -> Result<Option<u8>, AllocError> {
     let setup = setup_of(&row.setup, row.words.len());
     let mut machine = Machine::<F>::new(alloc, &setup)?;
     let mut around = with_memory(row.words);
     for now in 0..CLOCKS {
-        clock(&mut machine, &mut around, row.events, now);
+        clock(&mut machine, &mut around, by, row.events, now);
         if !are_seen(&machine, &around, row, now) {
             return Ok(Some(now));
         }
@@ -100,13 +132,24 @@ fn unseen<F: Fifo>(alloc: Global, row: &Row) -> Result<Option<u8>, AllocError> {
     Ok(None)
 }
 
-/// Both kinds of FIFO show what each row says, in the clocks that are looked at.
+/// Both kinds of FIFO, the one by whole ticks and the other by simple ones where there are, show what each row says, in the
+/// clocks that are looked at.
 fn run_all(rt: &impl Abort, alloc: Global, rows: &[Row]) -> Result<(), Fail> {
     for row in rows {
         let is_short = row.seen.iter().all(|&(clock, _)| clock < CLOCKS);
         assert!(rt; is_short, "{}", row.shows);
-        assert_eq!(rt; unseen::<PlainFifo>(alloc, row)?, None, "{}", row.shows);
-        assert_eq!(rt; unseen::<RingFifo>(alloc, row)?, None, "{}", row.shows);
+        assert_eq!(rt;
+            unseen::<PlainFifo>(alloc, row, By::Whole)?,
+            None,
+            "{}",
+            row.shows
+        );
+        assert_eq!(rt;
+            unseen::<RingFifo>(alloc, row, By::Simple)?,
+            None,
+            "{}",
+            row.shows
+        );
     }
     Ok(())
 }
@@ -130,12 +173,12 @@ fn reserved_words_do_nothing(rt: HostRuntime) -> Result<(), Fail> {
     for word in RESERVED {
         let mut machine = Machine::<PlainFifo>::new(rt.alloc(), &setup_of(&PLAIN, 2))?;
         let mut around = with_memory(&[word, 0xe001]);
-        clock(&mut machine, &mut around, &[], 0);
+        clock(&mut machine, &mut around, By::Simple, &[], 0);
         assert!(rt;
             around.outputs.levels == 0 && around.outputs.directions == 0,
             "{word:04x}"
         );
-        clock(&mut machine, &mut around, &[], 1);
+        clock(&mut machine, &mut around, By::Simple, &[], 1);
         assert!(rt;
             around.outputs.levels == 1 && around.outputs.directions == 0,
             "{word:04x}"

@@ -7,12 +7,12 @@ use fifo_pair::{Fifo, PlainFifo, RingFifo};
 use idle_engine::simulate;
 use pin_matrix::{MachineSetup, Setup, Spans};
 use pio_encode::SideRule;
+use sample_trace::{ListTrace, Trace};
 use std::alloc::{AllocError, Global};
 use std::marker::Brand;
 use std::sync::ledger::{Blank, Ledger};
 use std::test::Fail;
 use step_count::Steps;
-use vcd_trace::{ListTrace, Trace};
 
 // The datasheet's example: `set pindirs, 1`, `set pins, 1 [1]`, `set pins, 0`, `jmp 1`.
 const MEMORY: [u16; 32] = [

@@ -36,7 +36,21 @@ const FOUR: &[Keys] = &[
     },
 ];
 
-pub static STIRS: [Row; 11] = [
+/// Two of them, at the places 1 and 3.
+const TWO: &[Keys] = &[
+    Keys {
+        id: 1,
+        divider: (7, 0),
+        ..ALONE
+    },
+    Keys {
+        id: 3,
+        divider: (3, 0),
+        ..ALONE
+    },
+];
+
+pub static STIRS: [Row; 14] = [
     Row {
         shows: "a machine stirs in the clock after its delay",
         words: DELAYS,
@@ -114,6 +128,55 @@ pub static STIRS: [Row; 11] = [
             (0, Stirs(Some(79))),
             (79, Stirs(Some(0))),
             (80, Stirs(Some(15))),
+        ],
+    },
+    Row {
+        shows: "of two machines, at any places, the first that stirs counts, and no other clock does",
+        words: DELAYS,
+        machines: TWO,
+        pins: LOW,
+        stimulus: "",
+        // That at place 3 stirs in 96, 192 and 288, that at place 1 in 224.
+        seen: &[
+            (0, Stirs(Some(95))),
+            (95, Stirs(Some(0))),
+            (96, Stirs(Some(95))),
+            (192, Stirs(Some(31))),
+        ],
+    },
+    Row {
+        shows: "beside a machine that waits only the other one stirs",
+        // wait 1 gpio 3; set x, 31 [31]
+        words: &[0x2083, 0xff3f],
+        machines: &[
+            Keys { id: 1, ..ALONE },
+            Keys {
+                id: 2,
+                start: 1,
+                wrap_bottom: 1,
+                wrap_top: 1,
+                ..ALONE
+            },
+        ],
+        pins: LOW,
+        stimulus: "",
+        seen: &[
+            (0, Stirs(Some(31))),
+            (31, Stirs(Some(0))),
+            (32, Stirs(Some(31))),
+        ],
+    },
+    Row {
+        shows: "two machines that wait stir with the pads alone",
+        words: WAITS,
+        machines: TWO,
+        pins: LOW,
+        stimulus: "7 pin 4 1",
+        seen: &[
+            (0, Stirs(None)),
+            (6, Stirs(None)),
+            (7, Stirs(Some(0))),
+            (8, Stirs(None)),
         ],
     },
     Row {

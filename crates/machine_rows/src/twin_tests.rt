@@ -38,7 +38,23 @@ const WAITS_AND_SETS: Keys = Keys {
     ..PLAIN
 };
 
-pub(crate) static ROWS: [TwinRow; 4] = [
+/// set x, 31 [31], forever: its tick, and 31 of its delay.
+pub(crate) const DELAYS: &[u16] = &[0xff3f];
+
+/// One machine over one word, with a divider of 5 and of 3.
+const FIFTHS: &[Keys] = &[Keys {
+    wrap_top: 0,
+    divider: (5, 0),
+    ..PLAIN
+}];
+
+const THIRDS: &[Keys] = &[Keys {
+    wrap_top: 0,
+    divider: (3, 0),
+    ..PLAIN
+}];
+
+pub(crate) static ROWS: [TwinRow; 6] = [
     TwinRow {
         own: 2,
         first: Row {
@@ -144,6 +160,55 @@ pub(crate) static ROWS: [TwinRow; 4] = [
             }],
             pins: LOW,
             stimulus: "7 pin 3 1",
+            seen: &[],
+        },
+    },
+    TwinRow {
+        own: 0,
+        first: Row {
+            shows: "the clocks in which either stirs, and no other",
+            words: DELAYS,
+            machines: FIFTHS,
+            pins: LOW,
+            stimulus: "",
+            // The first stirs in 160, the second in 96 and 192.
+            seen: &[
+                (0, Stirs(Some(95))),
+                (95, Stirs(Some(0))),
+                (96, Stirs(Some(63))),
+                (160, Stirs(Some(31))),
+            ],
+        },
+        second: Row {
+            shows: "",
+            words: DELAYS,
+            machines: THIRDS,
+            pins: LOW,
+            stimulus: "",
+            seen: &[],
+        },
+    },
+    TwinRow {
+        own: 0,
+        first: Row {
+            shows: "beside a block that waits only the other one stirs",
+            // wait 1 pin 0
+            words: &[0x20a0],
+            machines: THIRDS,
+            pins: LOW,
+            stimulus: "",
+            seen: &[
+                (0, Stirs(Some(159))),
+                (159, Stirs(Some(0))),
+                (160, Stirs(Some(159))),
+            ],
+        },
+        second: Row {
+            shows: "",
+            words: DELAYS,
+            machines: FIFTHS,
+            pins: LOW,
+            stimulus: "",
             seen: &[],
         },
     },

@@ -12,10 +12,11 @@ use Rattle.pio_encode.specs.declared.rule.SideRule.{SideRule}
 use Rattle.pio_encode.specs.Word.{reading_of, act_of, push_or_pull_at, delay_of, side_of, set_at}
 use Rattle.pin_matrix.specs.declared.machine.MachineSetup.{MachineSetup}
 use Rattle.pin_matrix.specs.Pins.{last_of}
-use Rattle.sm_registers.specs.Intents.{Intent, two_writes}
+use Rattle.sm_registers.specs.declared.intent.Intent.{Intent}
+use Rattle.sm_registers.specs.Intents.{two_writes}
 use Rattle.sm_registers.specs.declared.sticky.TheConstants.{TX_STALL}
 use Rattle.sm_registers.specs.declared.registers.Registers.{Registers}
-use Rattle.sm_registers.specs.declared.view.View.{View}
+use Rattle.sm_registers.specs.View.{View}
 use Rattle.sm_registers.specs.Queues.{Queues}
 use Rattle.sm_registers.specs.Effects.{Effect, quiet, stall, osr_filled, effect_of, jmp_effect, out_effect, pull_effect, set_effect}
 use Rattle.sm_registers.specs.Tick.{tick_of, tick_delay, tick_word, tick_by, after_effect, current_word, word_at}

@@ -3,7 +3,7 @@ ghost use Rattle.std.specs.Prelude.{◌≡◌, ℕ, ◌*◌, ◌≤◌};
 ghost use Rattle.pin_matrix.specs.declared.machine.MachineSetup.{MachineSetup};
 ghost use Rattle.pin_matrix.specs.declared.setup.Setup.{Setup};
 ghost use Rattle.sm_registers.specs.declared.registers.Registers.{Registers};
-ghost use Rattle.sm_registers.specs.declared.view.View.{View};
+ghost use Rattle.sm_registers.specs.View.{View};
 ghost use Rattle.sm_registers.specs.Queues.{Queues};
 ghost use Rattle.sm_registers.specs.State.{first_registers};
 ghost use Rattle.sm_registers.specs.Tick.{tick_of};

@@ -4,7 +4,7 @@ use Rattle.std.proofs.lemmas.List.{length-map, map-append, length-replicate}
 use Rattle.block_core.specs.declared.sample.Sample.{Sample}
 use Rattle.pio_edge.specs.Edge.{with_bytes, Takes, TakesPrefix}
 use Rattle.pio_edge.proofs.PutLaws.{with_bytes-append, with_bytes-nil, takes_off, takes_on, takes_prefix-append_r}
-use Rattle.vcd_trace.specs.Told.{IsNext, held_to, last_of}
+use Rattle.sample_trace.specs.Told.{IsNext, held_to, last_of}
 use Rattle.serial_receiver.specs.declared.frame.Frame.{Frame}
 use Rattle.serial_receiver.specs.declared.line.LineSoFar.{LineSoFar}
 use Rattle.serial_receiver.specs.declared.line.Heard.{Heard}

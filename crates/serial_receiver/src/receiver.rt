@@ -10,7 +10,7 @@ use crate::line::{Heard, LineSoFar};
 use block_core::Sample;
 use pin_matrix::is_high;
 use pio_edge::{Sink, SinkFailed};
-use vcd_trace::{Trace, TraceFailed};
+use sample_trace::{Trace, TraceFailed};
 
 /// The frames that it hears on a pin, as text: `byte 0x41 at 9` where a stop bit is high, else `bad at 9`, by the byte and the
 /// clock in which the frame begins. Its faults are its sink's.

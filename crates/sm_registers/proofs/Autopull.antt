@@ -16,7 +16,7 @@ use Rattle.pio_encode.specs.declared.op.Op.{Op}
 use Rattle.fifo_pair.specs.Fifos.{Fifos}
 use Rattle.pin_matrix.specs.declared.machine.MachineSetup.{MachineSetup}
 use Rattle.sm_registers.specs.declared.registers.Registers.{Registers}
-use Rattle.sm_registers.specs.declared.view.View.{View}
+use Rattle.sm_registers.specs.View.{View}
 use Rattle.sm_registers.specs.declared.sticky.TheConstants.{TX_STALL}
 use Rattle.sm_registers.specs.Queues.{Queues}
 use Rattle.sm_registers.specs.Rules.{current_act, fills_osr, is_pull, bits_out, is_mov_osr, waits_for_tx, raises}

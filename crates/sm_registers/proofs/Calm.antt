@@ -25,9 +25,12 @@ use Rattle.irq_flags.specs.Flags.{flag_of}
 use Rattle.pin_matrix.specs.Pins.{rotated_right}
 use Rattle.pin_matrix.specs.declared.machine.MachineSetup.{MachineSetup}
 use Rattle.sm_registers.specs.declared.registers.Registers.{Registers}
-use Rattle.sm_registers.specs.declared.view.View.{View}
+use Rattle.sm_registers.specs.View.{View}
 use Rattle.sm_registers.specs.Queues.{Queues}
-use Rattle.sm_registers.specs.Intents.{Intent, Kind, First, Late, Delay, no_intent}
+use Rattle.sm_registers.specs.declared.intent.Intent.{Intent}
+use Rattle.sm_registers.specs.declared.intent.Kind.{Kind}
+use Rattle.sm_registers.specs.declared.intent.Kind.TheVariants.{First, Late, Delay}
+use Rattle.sm_registers.specs.Intents.{no_intent}
 use Rattle.sm_registers.specs.Laws.{IsAlike, bit_of, read_of, jmp_reads, wait_reads, in_reads, mov_reads, irq_reads}
 use Rattle.sm_registers.specs.Idling.{is_unmet, stays, undelayed, waits_again}
 use Rattle.sm_registers.specs.Effects.{Effect, quiet, stall, has_polarity, waited_bit, waited_flag, jmp_effect, wait_effect, in_effect, autopushed, out_to, out_effect, push_effect, pulled, pull_effect, mov_to, mov_effect, operated, irq_effect, set_effect, effect_of}

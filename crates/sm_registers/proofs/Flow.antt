@@ -15,7 +15,7 @@ use Rattle.pio_encode.specs.declared.act.SetDestination.TheVariants as set_desti
 use Rattle.pio_encode.specs.Word.{reading_of}
 use Rattle.pin_matrix.specs.declared.machine.MachineSetup.{MachineSetup}
 use Rattle.sm_registers.specs.declared.registers.Registers.{Registers}
-use Rattle.sm_registers.specs.declared.view.View.{View}
+use Rattle.sm_registers.specs.View.{View}
 use Rattle.sm_registers.specs.Queues.{Queues}
 use Rattle.sm_registers.specs.Rules.{current_act, writes_pc, is_exec, is_mov_pc, is_mov_exec}
 use Rattle.sm_registers.specs.Effects.{Effect, counted_down, jumps, jmp_effect, wait_effect, in_effect, autopushed, with_bits_out, out_to, out_effect, push_effect, pulled, pull_effect, mov_to, mov_effect, irq_effect, set_effect, effect_of}

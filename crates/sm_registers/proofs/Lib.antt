@@ -1,5 +1,8 @@
 pub mod Placed
+pub mod Written
 pub mod Planned
+pub mod SimpleTicks
+pub mod WholeTicks
 pub mod Fair
 pub mod Calm
 pub mod Words
@@ -12,4 +15,3 @@ pub mod Autopull
 pub mod OwnPins
 pub mod Stirs
 pub mod Told
-pub mod BlindTicks

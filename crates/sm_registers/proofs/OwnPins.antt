@@ -19,7 +19,7 @@ use Rattle.pin_matrix.specs.Pins.{IsWrite, IsFree, writes_of}
 use Rattle.pin_matrix.specs.declared.machine.MachineSetup.{MachineSetup}
 use Rattle.pin_matrix.specs.declared.mapping.Mapping.{Mapping}
 use Rattle.sm_registers.specs.declared.registers.Registers.{Registers}
-use Rattle.sm_registers.specs.declared.view.View.{View}
+use Rattle.sm_registers.specs.View.{View}
 use Rattle.sm_registers.specs.Queues.{Queues}
 use Rattle.sm_registers.specs.Laws.{WritesPins}
 use Rattle.sm_registers.specs.Rules.{current_act, holds}
@@ -27,9 +27,9 @@ use Rattle.sm_registers.specs.Effects.{Effect, autopushed, out_to, pulled, mov_t
 use Rattle.sm_registers.specs.Tick.{current_word, side_writes, tick_delay, tick_by, tick_word, tick_of}
 
 -- a write of pins that leaves those which neither OUT nor SET is mapped to
-record OwnWrite (s : MachineSetup) (w : ℕ × ℕ) : Type 0 where
-  write : IsWrite w
-  own : (p : ℕ) → p < 32 → holds s.out p ≡ false → holds s.set p ≡ false → bit_at w.0 p ≡ 0
+pub record OwnWrite (s : MachineSetup) (w : ℕ × ℕ) : Type 0 where
+  pub write : IsWrite w
+  pub own : (p : ℕ) → p < 32 → holds s.out p ≡ false → holds s.set p ≡ false → bit_at w.0 p ≡ 0
 
 free_pin : (m : Mapping) (value p : ℕ) → p < 32 → holds m p ≡ false → bit_at (writes_of m value).0 p ≡ 0
 free_pin m value p inside h = bit_at-mapped_pins m value p inside ∙ ap (λ b. cond b 1 0) h
@@ -44,9 +44,9 @@ own_set : (s : MachineSetup) (value : ℕ) → OwnWrite s (writes_of s.set value
 own_set s value = record { write = IsWrite-writes_of s.set value; own = λ p h k l. free_pin s.set value p h l }
 
 -- an effect of two such writes
-record OwnEffect (s : MachineSetup) (e : Effect) : Type 0 where
-  level : OwnWrite s e.level
-  direction : OwnWrite s e.direction
+pub record OwnEffect (s : MachineSetup) (e : Effect) : Type 0 where
+  pub level : OwnWrite s e.level
+  pub direction : OwnWrite s e.direction
 
 own_if : (s : MachineSetup) (b : Bool) (x y : Effect) → OwnEffect s x → OwnEffect s y → OwnEffect s (cond b x y)
 own_if s true x y h k = h
@@ -88,7 +88,7 @@ own_pulled (Some word) block s r = own_quiet s _ refl refl
 own_autopushed : (s : MachineSetup) (q : Queues) (r : Registers) → OwnEffect s (autopushed s q r)
 own_autopushed s q r = search (rules, own_if, own_quiet)
 
-own_effect : (a : Act) (s : MachineSetup) (v : View) (q : Queues) (r : Registers) → OwnEffect s (effect_of a s v q r)
+pub own_effect : (a : Act) (s : MachineSetup) (v : View) (q : Queues) (r : Registers) → OwnEffect s (effect_of a s v q r)
 unfolding effect_of jmp_effect wait_effect in_effect out_effect push_effect pull_effect mov_effect irq_effect
 own_effect (Jmp c address) s v q r = own_quiet s _ refl refl
 own_effect (Wait polarity source index) s v q r = search (rules, own_if, own_quiet)

@@ -19,7 +19,7 @@ use Rattle.pio_encode.specs.Ranges.{IsInRange, delay_bits}
 use Rattle.pio_encode.specs.Word.{bits, count_at, act_of, wait_at, in_at, push_or_pull_at, mov_with, mov_at, irq_at, set_at, reading_of, delay_of}
 use Rattle.pin_matrix.specs.declared.machine.MachineSetup.{MachineSetup}
 use Rattle.sm_registers.specs.declared.registers.Registers.{Registers}
-use Rattle.sm_registers.specs.declared.view.View.{View}
+use Rattle.sm_registers.specs.View.{View}
 use Rattle.sm_registers.specs.Queues.{Queues}
 use Rattle.sm_registers.specs.Ranges.{IsPlaced}
 use Rattle.sm_registers.specs.Effects.{Effect, counted_down, jmp_effect, wait_effect, in_effect, autopushed, with_bits_in, with_bits_out, out_to, out_effect, push_effect, pulled, pull_effect, mov_to, mov_effect, irq_effect, set_effect, effect_of, in_word, jumps}

@@ -18,7 +18,7 @@ use Rattle.fifo_pair.specs.Fifos.{Fifos}
 use Rattle.pin_matrix.specs.declared.machine.MachineSetup.{MachineSetup}
 use Rattle.sm_registers.specs.declared.sticky.TheConstants.{TX_STALL, RX_STALL}
 use Rattle.sm_registers.specs.declared.registers.Registers.{Registers}
-use Rattle.sm_registers.specs.declared.view.View.{View}
+use Rattle.sm_registers.specs.View.{View}
 use Rattle.sm_registers.specs.Queues.{Queues}
 use Rattle.sm_registers.specs.Rules.{current_act}
 use Rattle.sm_registers.specs.Effects.{Effect, starves, with_bits_in, in_word, jmp_effect, wait_effect, in_effect, autopushed, out_to, out_effect, push_effect, pulled, pull_effect, mov_to, mov_effect, irq_effect, set_effect, effect_of}

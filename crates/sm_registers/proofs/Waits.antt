@@ -10,8 +10,8 @@ use Rattle.shift_engine.specs.Shift.{shifted_in}
 use Rattle.pin_matrix.specs.Pins.{writes_of}
 use Rattle.pin_matrix.specs.declared.machine.MachineSetup.{MachineSetup}
 use Rattle.sm_registers.specs.declared.registers.Registers.{Registers}
-use Rattle.sm_registers.specs.declared.view.View.{View}
-use Rattle.sm_registers.specs.Intents.{Intent}
+use Rattle.sm_registers.specs.View.{View}
+use Rattle.sm_registers.specs.declared.intent.Intent.{Intent}
 use Rattle.sm_registers.specs.Queues.{Queues}
 use Rattle.sm_registers.specs.Rules.{current_act, HasSideSet, HoldsOrGives}
 use Rattle.sm_registers.specs.Effects.{Effect, quiet, stall, is_up, in_word, with_bits_in, in_effect, autopushed, irq_effect, effect_of}

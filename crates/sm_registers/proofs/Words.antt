@@ -26,7 +26,7 @@ use Rattle.pin_matrix.proofs.Bounds.{joined-lt}
 use Rattle.pin_matrix.specs.Pins.{rotated_right}
 use Rattle.pin_matrix.specs.declared.machine.MachineSetup.{MachineSetup}
 use Rattle.sm_registers.specs.declared.registers.Registers.{Registers}
-use Rattle.sm_registers.specs.declared.view.View.{View}
+use Rattle.sm_registers.specs.View.{View}
 use Rattle.sm_registers.specs.Queues.{Queues}
 use Rattle.sm_registers.specs.Laws.{AreWords, AreWordsSeen}
 use Rattle.sm_registers.specs.Effects.{Effect, counted_down, in_word, with_bits_in, autopushed, with_bits_out, out_to, pulled, mov_word, mov_to, operated, jmp_effect, wait_effect, in_effect, out_effect, push_effect, pull_effect, mov_effect, irq_effect, set_effect, effect_of}

@@ -4,7 +4,8 @@ use Rattle.pio_encode.specs.Ranges.{IsInRange}
 use Rattle.pio_encode.specs.Word.{reading_of}
 use Rattle.pin_matrix.specs.declared.machine.MachineSetup.{MachineSetup}
 use Rattle.sm_registers.specs.declared.decoded.Reading.{Reading}
-use Rattle.sm_registers.specs.Plans.{plan_of}
+use Rattle.sm_registers.specs.Plans.{plan_of, side_of}
+use Rattle.sm_registers.specs.Tick.{next_after}
 
 -- the machine's setup, and the word that was last read at each of the 32 addresses, and as the pending word
 pub record Decoding : Type 0 where
@@ -15,11 +16,13 @@ pub record Decoding : Type 0 where
 abbrev pub all_zero : List ℕ
 all_zero = replicate 33 0
 
--- the reading of a word at an address under a setup, with its operands in their ranges, and what is known of its prompt tick
+-- the reading of a word at an address under a setup, with its operands in their ranges, and what is known of its ticks
 pub record IsReading (s : MachineSetup) (address : ℕ) (r : Reading) : Type 0 where
   pub op : r.op ≡ reading_of r.word s.side_rule
   pub act : IsInRange r.op.act
-  pub plan : r.plan ≡ plan_of s address r.op
+  pub plan : r.plan ≡ plan_of s r.op.act
+  pub side : r.side ≡ side_of s r.op.side
+  pub next : r.next ≡ next_after s address
 
 -- all of them are, from this address on
 unfoldable pub AreReadings : MachineSetup → (address : ℕ) → List Reading → Type 0

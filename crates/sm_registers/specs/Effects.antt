@@ -29,7 +29,7 @@ use Rattle.irq_flags.specs.Flags.{flag_of}
 use Rattle.pin_matrix.specs.Pins.{rotated_right, writes_of}
 use Rattle.pin_matrix.specs.declared.machine.MachineSetup.{MachineSetup}
 use Rattle.sm_registers.specs.declared.registers.Registers.{Registers}
-use Rattle.sm_registers.specs.declared.view.View.{View}
+use Rattle.sm_registers.specs.View.{View}
 use Rattle.sm_registers.specs.Queues.{Queues}
 use Rattle.sm_registers.specs.declared.sticky.TheConstants.{TX_STALL, RX_STALL}
 

@@ -1,49 +1,69 @@
 -- What the code of an instruction leaves, as the effect that the definitions speak of.
---   effect_by       the effect of an instruction that writes no pin
---   is_plain        it is finished, and leaves no word pending
---   unwritten       an effect without its writes to pins
---   written_once    the outputs after an effect's writes
+--   effect_by       the effect of an instruction that left these registers, wants this of FIFOs and flags, and ended so
+--   end_stalls, end_level, end_direction   its parts: whether it stalls, and its own writes to pins
+--   written_end     the outputs after the instruction's own writes
 --   written_side    the outputs after side-set's
-use Rattle.std.specs.Prelude.{ℕ, Bool, if◌then◌else◌, true, false, Option, Some}
+use Rattle.std.specs.Prelude.{ℕ, Bool, true, false, Some}
 use Rattle.pin_matrix.specs.Pins.{written}
-use Rattle.pin_matrix.specs.declared.machine.MachineSetup.{MachineSetup}
 use Rattle.sm_registers.specs.declared.end.End.{End}
-use Rattle.sm_registers.specs.declared.end.End.TheVariants.{Stalls, GoesOn, Jumps, Executes}
+use Rattle.sm_registers.specs.declared.end.End.TheVariants.{Stalls, GoesOn, Levels, Directions, Jumps, Executes}
+use Rattle.sm_registers.specs.declared.intent.Intent.{Intent}
 use Rattle.sm_registers.specs.declared.outputs.Outputs.{Outputs}
+use Rattle.sm_registers.specs.declared.plan.Side.{Side}
 use Rattle.sm_registers.specs.declared.registers.Registers.{Registers}
-use Rattle.sm_registers.specs.declared.wants.Wants.{Wants}
 use Rattle.sm_registers.specs.Effects.{Effect, quiet, stall}
-use Rattle.sm_registers.specs.Tick.{side_writes}
+use Rattle.sm_registers.specs.Plans.{side_level, side_direction}
 
 -- an effect that wants this of flags and FIFOs
-abbrev pub wanting : Wants → Effect → Effect
-wanting w e = record e { clears = w.clears; sets = w.sets; take = w.take; word = w.word; sticky = w.sticky }
+abbrev pub wanting : Intent → Effect → Effect
+wanting i e = record e { clears = i.clears; sets = i.sets; take = i.take; word = i.word; sticky = i.sticky }
 
 -- that of an instruction which left these registers, wants this and ended so
-abbrev pub effect_by : Registers → Wants → End → Effect
-effect_by r w Stalls = wanting w (stall r)
-effect_by r w GoesOn = wanting w (quiet r)
-effect_by r w (Jumps address) = wanting w (record (quiet r) { jump = Some address })
-effect_by r w (Executes word) = wanting w (record (quiet r) { pending = Some word })
+abbrev pub effect_by : Registers → Intent → End → Effect
+effect_by r i Stalls = wanting i (stall r)
+effect_by r i GoesOn = wanting i (quiet r)
+effect_by r i (Levels write) = wanting i (record (quiet r) { level = write })
+effect_by r i (Directions write) = wanting i (record (quiet r) { direction = write })
+effect_by r i (Jumps address) = wanting i (record (quiet r) { jump = Some address })
+effect_by r i (Executes word) = wanting i (record (quiet r) { pending = Some word })
 
--- an instruction that ends so is finished, and leaves no word pending
-abbrev pub is_plain : End → Bool
-is_plain Stalls = false
-is_plain GoesOn = true
-is_plain (Jumps address) = true
-is_plain (Executes word) = false
+-- an instruction that ends so stalls
+abbrev pub end_stalls : End → Bool
+end_stalls Stalls = true
+end_stalls GoesOn = false
+end_stalls (Levels write) = false
+end_stalls (Directions write) = false
+end_stalls (Jumps address) = false
+end_stalls (Executes word) = false
 
--- all of it but what is written to pins
-abbrev pub unwritten : Effect → Effect
-unwritten e = record e { level = (0, 0); direction = (0, 0) }
+-- its own write to levels
+abbrev pub end_level : End → ℕ × ℕ
+end_level Stalls = (0, 0)
+end_level GoesOn = (0, 0)
+end_level (Levels write) = write
+end_level (Directions write) = (0, 0)
+end_level (Jumps address) = (0, 0)
+end_level (Executes word) = (0, 0)
 
--- the pins after the instruction's own writes
-abbrev pub written_once : Outputs → Effect → Outputs
-written_once o e = record { levels = written o.levels e.level; directions = written o.directions e.direction }
+-- and to directions
+abbrev pub end_direction : End → ℕ × ℕ
+end_direction Stalls = (0, 0)
+end_direction GoesOn = (0, 0)
+end_direction (Levels write) = (0, 0)
+end_direction (Directions write) = write
+end_direction (Jumps address) = (0, 0)
+end_direction (Executes word) = (0, 0)
+
+-- the pins after it
+abbrev pub written_end : End → Outputs → Outputs
+written_end end o = record {
+  levels = written o.levels (end_level end);
+  directions = written o.directions (end_direction end);
+}
 
 -- the pins after side-set's
-abbrev pub written_side : (side : Option ℕ) → (begun : Bool) → MachineSetup → Outputs → Outputs
-written_side side begun s o = let side_set = side_writes side begun s in record {
-  levels = written o.levels (if s.side_rule.pindirs then (0, 0) else side_set);
-  directions = written o.directions (if s.side_rule.pindirs then side_set else (0, 0));
+abbrev pub written_side : Side → Outputs → Outputs
+written_side side o = record {
+  levels = written o.levels (side_level side);
+  directions = written o.directions (side_direction side);
 }

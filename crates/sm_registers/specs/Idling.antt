@@ -21,9 +21,12 @@ use Rattle.pio_encode.specs.Word.{reading_of}
 use Rattle.pin_matrix.specs.declared.machine.MachineSetup.{MachineSetup}
 use Rattle.sm_registers.specs.declared.idle.Idle.{Idle}
 use Rattle.sm_registers.specs.declared.idle.Idle.TheVariants.{Ticks, Never}
-use Rattle.sm_registers.specs.Intents.{Intent, Kind, Off, First, Late, Delay, no_intent}
+use Rattle.sm_registers.specs.declared.intent.Intent.{Intent}
+use Rattle.sm_registers.specs.declared.intent.Kind.{Kind}
+use Rattle.sm_registers.specs.declared.intent.Kind.TheVariants.{Off, First, Late, Delay}
+use Rattle.sm_registers.specs.Intents.{no_intent}
 use Rattle.sm_registers.specs.declared.registers.Registers.{Registers}
-use Rattle.sm_registers.specs.declared.view.View.{View}
+use Rattle.sm_registers.specs.View.{View}
 use Rattle.sm_registers.specs.Queues.{Queues}
 use Rattle.sm_registers.specs.Effects.{Effect, effect_of, has_polarity, waited_bit}
 use Rattle.sm_registers.specs.Rules.{current_act}

@@ -24,9 +24,9 @@ use Rattle.std.specs.List.{AllByRecursion}
 use Rattle.pin_matrix.specs.Pins.{IsWrite, rotated_right}
 use Rattle.pin_matrix.specs.declared.machine.MachineSetup.{MachineSetup}
 use Rattle.sm_registers.specs.declared.registers.Registers.{Registers}
-use Rattle.sm_registers.specs.declared.view.View.{View}
+use Rattle.sm_registers.specs.View.{View}
 use Rattle.sm_registers.specs.Queues.{Queues}
-use Rattle.sm_registers.specs.Intents.{Intent}
+use Rattle.sm_registers.specs.declared.intent.Intent.{Intent}
 use Rattle.sm_registers.specs.Ranges.{IsPlaced}
 use Rattle.sm_registers.specs.Tick.{current_word}
 

@@ -11,7 +11,7 @@ use Rattle.fifo_pair.specs.Fifos.{Fifos, Fits, first_fifos, settled, is_full, is
 use Rattle.pin_matrix.specs.declared.machine.MachineSetup.{MachineSetup}
 use Rattle.sm_registers.specs.declared.registers.Registers.{Registers}
 use Rattle.sm_registers.specs.Queues.{Queues}
-use Rattle.sm_registers.specs.Intents.{Intent}
+use Rattle.sm_registers.specs.declared.intent.Intent.{Intent}
 use Rattle.sm_registers.specs.declared.sticky.TheConstants.{TX_OVER, RX_UNDER}
 use Rattle.sm_registers.specs.declared.shown.Shown.{Shown}
 use Rattle.sm_registers.specs.Ranges.{IsPlaced}

@@ -12,9 +12,11 @@ use Rattle.pio_encode.specs.Word.{reading_of}
 use Rattle.pin_matrix.specs.Pins.{writes_of}
 use Rattle.pin_matrix.specs.declared.machine.MachineSetup.{MachineSetup}
 use Rattle.sm_registers.specs.declared.registers.Registers.{Registers}
-use Rattle.sm_registers.specs.declared.view.View.{View}
+use Rattle.sm_registers.specs.View.{View}
 use Rattle.sm_registers.specs.Queues.{Queues}
-use Rattle.sm_registers.specs.Intents.{Intent, First, Late, Delay, no_intent}
+use Rattle.sm_registers.specs.declared.intent.Intent.{Intent}
+use Rattle.sm_registers.specs.declared.intent.Kind.TheVariants.{First, Late, Delay}
+use Rattle.sm_registers.specs.Intents.{no_intent}
 use Rattle.sm_registers.specs.Effects.{Effect, osr_filled, effect_of}
 
 -- the address after another: the program wraps after wrap_top (section 3.5.2), and the memory after 31

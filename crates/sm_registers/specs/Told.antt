@@ -9,7 +9,7 @@ use Rattle.pio_encode.specs.declared.act.Act.TheVariants.{Jmp, Wait, In, Out, Pu
 use Rattle.pin_matrix.specs.declared.machine.MachineSetup.{MachineSetup}
 use Rattle.sm_registers.specs.declared.sticky.TheConstants.{TX_STALL, RX_STALL}
 use Rattle.sm_registers.specs.declared.registers.Registers.{Registers}
-use Rattle.sm_registers.specs.declared.view.View.{View}
+use Rattle.sm_registers.specs.View.{View}
 use Rattle.sm_registers.specs.Rules.{current_act}
 
 -- the flags are up already: to raise them changes nothing (RP2040 Datasheet, section 3.7, FDEBUG)

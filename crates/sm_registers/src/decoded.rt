@@ -4,17 +4,22 @@ ghost use Rattle.pio_encode.specs.Ranges.{IsInRange};
 ghost use Rattle.pio_encode.specs.Word.{reading_of};
 ghost use Rattle.sm_registers.specs.Decoding.{IsReading, all_zero};
 
-use crate::plan::Plan;
+use crate::plan::{Plan, Side, next_after};
 use pin_matrix::MachineSetup;
-use pio_encode::{Op, decode};
+use pio_encode::{Act, Op, decode};
 use std::marker::Model;
 
-/// A word, what it means under the machine's setup, and what is known of its prompt tick.
+/// A word, what it means under the machine's setup, and what is known of its ticks.
 #[derive(Clone, Copy)]
 pub(crate) struct Reading {
     pub word: u16,
     pub op: Op,
+    /// What is to be done in a simple tick of it.
     pub plan: Plan,
+    /// What side-set writes in its first tick.
+    pub side: Side,
+    /// The address after its own.
+    pub next: u8,
 }
 
 /// The place of the pending word, after those of the 32 addresses.
@@ -43,9 +48,13 @@ impl Decoded {
     pub fn new(setup: &MachineSetup) -> Decoded
         ensures { result ≡ record { setup = setup.now; words = all_zero } }
     {
+        let mut readings = [read_word(0, 0, setup); 33];
+        for place in 1..33 {
+            readings[usize::from(place)] = read_word(place, 0, setup);
+        }
         Decoded {
             setup: *setup,
-            readings: [read_word(0, 0, setup); 33],
+            readings,
         }
     }
 
@@ -61,26 +70,18 @@ impl Decoded {
         }
     }
 
-    /// Whether it is this word that was last read at a place.
+    /// What a word at a place does. It is decoded only where another one was last read there.
     #[inline(always)]
-    pub fn has_read(&self, place: u8, word: u16) -> bool
+    pub fn act(&self, place: u8, word: u16) -> Act
         requires { place ≤ 32 }
-        ensures { result ≡ (slice_index self.now.words place == word) }
-    {
-        self.readings[usize::from(place)].word == word
-    }
-
-    /// What a word at a place means. It is decoded only where another one was last read there.
-    pub fn meaning(&self, place: u8, word: u16) -> Op
-        requires { place ≤ 32 }
-        ensures value { result ≡ reading_of word self.now.setup.side_rule }
-        ensures act { IsInRange result.act }
+        ensures value { result ≡ (reading_of word self.now.setup.side_rule).act }
+        ensures act { IsInRange result }
     {
         let reading = &self.readings[usize::from(place)];
         if reading.word == word {
-            reading.op
+            reading.op.act
         } else {
-            decode(word, &self.setup.side_rule)
+            decode(word, &self.setup.side_rule).act
         }
     }
 
@@ -114,6 +115,11 @@ fn read_word(place: u8, word: u16, setup: &MachineSetup) -> Reading
     ensures reading { IsReading setup.now place result }
 {
     let op = decode(word, &setup.side_rule);
-    let plan = Plan::of(&op, place, setup);
-    Reading { word, op, plan }
+    Reading {
+        word,
+        op,
+        plan: Plan::of(&op.act, setup),
+        side: Side::of(op.side, setup),
+        next: next_after(setup, place),
+    }
 }

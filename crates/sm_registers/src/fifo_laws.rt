@@ -14,7 +14,7 @@ ghost use Rattle.sm_registers.specs.Tick.{after_effect, refills, tick_of};
 ghost use Rattle.sm_registers.specs.Told.{AreUp, IsKnown};
 ghost use Rattle.sm_registers.specs.declared.sticky.TheConstants.{TX_STALL};
 ghost use Rattle.sm_registers.specs.declared.registers.Registers as registers;
-ghost use Rattle.sm_registers.specs.declared.view.View as view;
+ghost use Rattle.sm_registers.specs.View as view;
 
 /// Autopull, beside a TX that has a word, leaves no OSR at its threshold: after any tick, first, late or of a delay, its
 /// count is below (`filled`). One that was at the threshold takes the word in the same tick, unless the tick fills it by a

@@ -2,19 +2,19 @@
 ghost use Rattle.std.specs.Prelude.{◌≡◌};
 ghost use Rattle.sm_registers.specs.Effects as spec;
 ghost use Rattle.sm_registers.specs.Ends.{effect_by};
-ghost use Rattle.sm_registers.specs.Intents.{no_wants};
+ghost use Rattle.sm_registers.specs.Intents.{no_intent};
 ghost use Rattle.sm_registers.specs.State.{queues_of};
 
 use crate::end::End;
+use crate::intent::Intent;
 use crate::registers::Registers;
 use crate::shifting::{empty_isr, give_isr};
 use crate::sticky::{RX_STALL, TX_STALL};
-use crate::wants::Wants;
 use fifo_pair::{Fifo, Pair};
 use pin_matrix::MachineSetup;
 
 /// Gives the ISR to RX. A full RX makes it stall, or without Block lose its word.
-#[inline(never)]
+#[inline(always)]
 #[tactic(auto, unfolding(crate::specs::Effects::push_effect))]
 pub(crate) fn push_effect<F: Fifo>(
     if_full: bool,
@@ -22,20 +22,20 @@ pub(crate) fn push_effect<F: Fifo>(
     setup: &MachineSetup,
     fifos: &Pair<F>,
     registers: &mut Registers,
-    wants: &mut Wants,
+    intent: &mut Intent,
 ) -> End
-    requires { wants.old ≡ no_wants }
-    ensures { effect_by registers.new wants.new result
+    requires { intent.old ≡ no_intent }
+    ensures { effect_by registers.new intent.new result
         ≡ spec.push_effect if_full block setup.now (queues_of fifos.now) registers.old }
 {
     if if_full && registers.in_count < setup.push_threshold {
         return End::GoesOn;
     }
     if !fifos.rx_full() {
-        give_isr(registers, wants);
+        give_isr(registers, intent);
         return End::GoesOn;
     }
-    wants.sticky = RX_STALL;
+    intent.sticky = RX_STALL;
     if block {
         End::Stalls
     } else {
@@ -45,7 +45,7 @@ pub(crate) fn push_effect<F: Fifo>(
 }
 
 /// Takes a word from TX into the OSR. An empty TX makes it stall, or without Block copy X.
-#[inline(never)]
+#[inline(always)]
 #[tactic(auto, unfolding(crate::specs::Effects::pull_effect))]
 pub(crate) fn pull_effect<F: Fifo>(
     if_empty: bool,
@@ -53,16 +53,16 @@ pub(crate) fn pull_effect<F: Fifo>(
     setup: &MachineSetup,
     fifos: &Pair<F>,
     registers: &mut Registers,
-    wants: &mut Wants,
+    intent: &mut Intent,
 ) -> End
-    requires { wants.old ≡ no_wants }
-    ensures { effect_by registers.new wants.new result
+    requires { intent.old ≡ no_intent }
+    ensures { effect_by registers.new intent.new result
         ≡ spec.pull_effect if_empty block setup.now (queues_of fifos.now) registers.old }
 {
     if pulls_nothing(if_empty, setup, registers) {
         End::GoesOn
     } else {
-        pulled(fifos.tx_front(), block, registers, wants)
+        pulled(fifos.tx_front(), block, registers, intent)
     }
 }
 
@@ -75,18 +75,18 @@ fn pulls_nothing(if_empty: bool, setup: &MachineSetup, registers: &Registers) ->
 }
 
 /// What a PULL that isn't kept from it does with the oldest word of TX, or with none.
-fn pulled(front: Option<u32>, block: bool, registers: &mut Registers, wants: &mut Wants) -> End
-    requires { wants.old ≡ no_wants }
-    ensures { effect_by registers.new wants.new result ≡ spec.pulled front block registers.old }
+fn pulled(front: Option<u32>, block: bool, registers: &mut Registers, intent: &mut Intent) -> End
+    requires { intent.old ≡ no_intent }
+    ensures { effect_by registers.new intent.new result ≡ spec.pulled front block registers.old }
 {
     match front {
         Some(word) => {
             fill_osr(word, registers);
-            wants.take = true;
+            intent.take = true;
             End::GoesOn
         }
         None if block => {
-            wants.sticky = TX_STALL;
+            intent.sticky = TX_STALL;
             End::Stalls
         }
         None => {

@@ -5,7 +5,7 @@
 #[derive(Clone, Copy, Debug, PartialEq, Eq)]
 pub enum Idle {
     /// After so many ticks that don't: 0 to 31.
-    Ticks(u8),
+    Ticks(u64),
     /// Never, unless something outside the machine changes.
     Never,
 }

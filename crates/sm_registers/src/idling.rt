@@ -1,28 +1,23 @@
 //! How long a machine idles: the ticks before the next one that stirs, found without making any of them.
 ghost use Rattle.std.specs.Prelude.{◌≡◌};
 ghost use Rattle.pio_encode.specs.Ranges.{IsInRange};
-ghost use Rattle.pio_encode.specs.Word.{reading_of};
 ghost use Rattle.sm_registers.specs.Idling as spec;
-ghost use Rattle.sm_registers.specs.Ends.{effect_by};
 ghost use Rattle.sm_registers.specs.Ranges.{IsPlaced};
 ghost use Rattle.sm_registers.specs.State.{queues_of};
 ghost use Rattle.sm_registers.specs.Tick as spec_tick;
-ghost use Rattle.sm_registers.specs.declared.registers.Registers as spec_registers;
-ghost use Rattle.sm_registers.specs.declared.wants.Wants as spec_wants;
 
 use crate::decoded::Decoded;
 use crate::end::End;
 use crate::idle::Idle;
 use crate::instruction::effect_of;
-use crate::outputs::Outputs;
+use crate::intent::Intent;
 use crate::registers::Registers;
 use crate::tick::current_word;
 use crate::view::View;
 use crate::waiting::waited_bit;
-use crate::wants::Wants;
 use fifo_pair::{Fifo, Pair};
 use pin_matrix::MachineSetup;
-use pio_encode::{Act, decode};
+use pio_encode::Act;
 
 /// The ticks before the next one that stirs, of a machine that sees the same in each.
 pub(crate) fn idle_of<F: Fifo>(
@@ -43,7 +38,7 @@ pub(crate) fn idle_of<F: Fifo>(
     } else if registers.begun && stalls_again(setup, view, fifos, decoded, registers) {
         Idle::Never
     } else {
-        Idle::Ticks(registers.delay)
+        Idle::Ticks(u64::from(registers.delay))
     }
 }
 
@@ -64,15 +59,12 @@ pub(crate) fn waits_again(
         return false;
     }
     let (place, word) = current_word(view, registers);
-    if decoded.has_read(place, word) {
-        return is_unmet(&decoded.reading(place).op.act, setup, view);
-    }
-    is_unmet_anew(word, setup, view)
+    is_unmet(&decoded.act(place, word), setup, view)
 }
 
 /// Whether an act is a WAIT whose bit hasn't the polarity.
 #[inline(always)]
-fn is_unmet(act: &Act, setup: &MachineSetup, view: &View) -> bool
+pub(crate) fn is_unmet(act: &Act, setup: &MachineSetup, view: &View) -> bool
     requires { IsInRange act.now }
     ensures { result ≡ spec.is_unmet act.now setup.now view.now }
 {
@@ -84,15 +76,6 @@ fn is_unmet(act: &Act, setup: &MachineSetup, view: &View) -> bool
         } => waited_bit(source, index, setup, view) != polarity,
         _ => false,
     }
-}
-
-/// The same of a word that has to be decoded. A call of its own, since a word that stalled was read.
-#[cold]
-#[inline(never)]
-fn is_unmet_anew(word: u16, setup: &MachineSetup, view: &View) -> bool
-    ensures { result ≡ spec.is_unmet (reading_of word setup.now.side_rule).act setup.now view.now }
-{
-    is_unmet(&decode(word, &setup.side_rule).act, setup, view)
 }
 
 /// Whether autopull is due and TX has a word.
@@ -117,31 +100,12 @@ fn stalls_again<F: Fifo>(
     ensures { result ≡ (spec.undelayed setup.now view.now (queues_of fifos.now) registers.now).stalled }
 {
     let (place, word) = current_word(view, registers);
-    let op = decoded.meaning(place, word);
+    let act = decoded.act(place, word);
     let mut undelayed = Registers {
         delay: 0,
         ..*registers
     };
-    let mut outputs = Outputs {
-        levels: 0,
-        directions: 0,
-    };
-    let mut wants = Wants::none();
-    let end = effect_of(
-        op.act,
-        setup,
-        view,
-        fifos,
-        &mut undelayed,
-        &mut outputs,
-        &mut wants,
-    );
-    is_stall(end)
-}
-
-/// Whether an instruction that ends so stalls, whatever else it does.
-fn is_stall(end: End) -> bool
-    ensures { (r : spec_registers.Registers) (w : spec_wants.Wants) → result ≡ (effect_by r w end).stalled }
-{
+    let mut intent = Intent::none();
+    let end = effect_of(act, setup, view, fifos, &mut undelayed, &mut intent);
     matches!(end, End::Stalls)
 }

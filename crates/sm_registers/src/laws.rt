@@ -4,14 +4,12 @@ ghost use Rattle.std.specs.List.{AllByRecursion};
 ghost use Rattle.pin_matrix.specs.Pins.{IsFree};
 ghost use Rattle.pin_matrix.specs.declared.machine.MachineSetup as setup;
 ghost use Rattle.sm_registers.specs.declared.registers.Registers as registers;
-ghost use Rattle.sm_registers.specs.declared.view.View as view;
+ghost use Rattle.sm_registers.specs.View as view;
 ghost use Rattle.sm_registers.specs.Queues as queues;
-ghost use Rattle.sm_registers.specs.Intents as kind;
+ghost use Rattle.sm_registers.specs.declared.intent.Kind.TheVariants as kind;
 ghost use Rattle.sm_registers.specs.Intents.{no_intent};
-ghost use Rattle.sm_registers.specs.Blind.{is_blind};
 ghost use Rattle.sm_registers.specs.Idling.{IsIdle, after_ticks, begins_next, idle_of, only_counts, only_waits, stirs, stirs_at, waits_again};
 ghost use Rattle.sm_registers.specs.Laws.{AreWords, AreWordsSeen, IsAlike, IsFair, TakesInto, GivesAll, WritesPins};
-ghost use Rattle.sm_registers.specs.Prompt.{is_ready};
 ghost use Rattle.sm_registers.specs.Ranges.{IsPlaced};
 ghost use Rattle.sm_registers.specs.Rules.{holds};
 ghost use Rattle.sm_registers.specs.Tick.{refills, tick_of};
@@ -80,12 +78,6 @@ pub fn a_late_stall_only_waits()
             stalled = true;
           },
         ) }
-{}
-
-/// A blind tick is the same whatever pins and flags the machine sees.
-pub fn a_blind_tick_sees_nothing()
-    ensures { (s : setup.MachineSetup) (v w : view.View) (q : queues.Queues) (r : registers.Registers)
-        → is_ready s r ≡ true → is_blind s v r ≡ true → v.memory ≡ w.memory → tick_of s v q r ≡ tick_of s w q r }
 {}
 
 /// A tick in which a WAIT only waits once more changes nothing, and does nothing outside.

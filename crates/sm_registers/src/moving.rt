@@ -1,13 +1,12 @@
 //! MOV and SET, which put a word or a number where it belongs (RP2040 Datasheet, sections 3.4.8 and 3.4.10).
 ghost use Rattle.std.specs.Prelude.{◌≡◌};
 ghost use Rattle.sm_registers.specs.Effects as spec;
-ghost use Rattle.sm_registers.specs.Ends.{effect_by, unwritten, written_once};
-ghost use Rattle.sm_registers.specs.Intents.{no_wants};
+ghost use Rattle.sm_registers.specs.Ends.{effect_by};
+ghost use Rattle.sm_registers.specs.Intents.{no_intent};
 ghost use Rattle.sm_registers.specs.State.{queues_of};
 
 use crate::end::End;
 use crate::fifo_moves::fill_osr;
-use crate::outputs::Outputs;
 use crate::registers::Registers;
 use crate::view::View;
 use fifo_pair::{Fifo, Pair};
@@ -26,24 +25,16 @@ pub(crate) fn mov_effect<F: Fifo>(
     view: &View,
     fifos: &Pair<F>,
     registers: &mut Registers,
-    outputs: &mut Outputs,
 ) -> End
-    ensures value { effect_by registers.new no_wants result
-        ≡ unwritten (spec.mov_effect destination operation source setup.now view.now (queues_of fifos.now) registers.old) }
-    ensures outputs { outputs.new ≡ written_once outputs.old
-        (spec.mov_effect destination operation source setup.now view.now (queues_of fifos.now) registers.old) }
+    ensures { effect_by registers.new no_intent result
+        ≡ spec.mov_effect destination operation source setup.now view.now (queues_of fifos.now) registers.old }
 {
     let word = mov_word(source, setup, view, fifos, registers);
-    mov_to(
-        destination,
-        operated(operation, word),
-        setup,
-        registers,
-        outputs,
-    )
+    mov_to(destination, operated(operation, word), setup, registers)
 }
 
 /// The word that a MOV takes.
+#[inline(always)]
 fn mov_word<F: Fifo>(
     source: MovSource,
     setup: &MachineSetup,
@@ -54,7 +45,7 @@ fn mov_word<F: Fifo>(
     ensures { result ≡ spec.mov_word source setup.now view.now (queues_of fifos.now) registers.now }
 {
     match source {
-        MovSource::Pins => pins_from(view.seen, setup.in_base),
+        MovSource::Pins => pins_from(view.seen(), setup.in_base),
         MovSource::X => registers.x,
         MovSource::Y => registers.y,
         MovSource::Null => 0,
@@ -98,13 +89,11 @@ fn mov_to(
     value: u32,
     setup: &MachineSetup,
     registers: &mut Registers,
-    outputs: &mut Outputs,
 ) -> End
-    ensures value { effect_by registers.new no_wants result ≡ unwritten (spec.mov_to destination value setup.now registers.old) }
-    ensures outputs { outputs.new ≡ written_once outputs.old (spec.mov_to destination value setup.now registers.old) }
+    ensures { effect_by registers.new no_intent result ≡ spec.mov_to destination value setup.now registers.old }
 {
     match destination {
-        MovDestination::Pins => outputs.write_levels(writes_of(&setup.out, value)),
+        MovDestination::Pins => return End::Levels(writes_of(&setup.out, value)),
         MovDestination::X => registers.x = value,
         MovDestination::Y => registers.y = value,
         MovDestination::Exec => return End::Executes((value % 65_536) as u16),
@@ -126,17 +115,15 @@ pub(crate) fn set_effect(
     value: u8,
     setup: &MachineSetup,
     registers: &mut Registers,
-    outputs: &mut Outputs,
 ) -> End
-    ensures value { effect_by registers.new no_wants result ≡ unwritten (spec.set_effect destination value setup.now registers.old) }
-    ensures outputs { outputs.new ≡ written_once outputs.old (spec.set_effect destination value setup.now registers.old) }
+    ensures { effect_by registers.new no_intent result ≡ spec.set_effect destination value setup.now registers.old }
 {
     let value = u32::from(value);
     match destination {
-        SetDestination::Pins => outputs.write_levels(writes_of(&setup.set, value)),
+        SetDestination::Pins => return End::Levels(writes_of(&setup.set, value)),
         SetDestination::X => registers.x = value,
         SetDestination::Y => registers.y = value,
-        SetDestination::Pindirs => outputs.write_directions(writes_of(&setup.set, value)),
+        SetDestination::Pindirs => return End::Directions(writes_of(&setup.set, value)),
     }
     End::GoesOn
 }

@@ -11,7 +11,7 @@ ghost use Rattle.sm_registers.specs.Queues as queues;
 ghost use Rattle.sm_registers.specs.Rules.{HasSideSet, current_act, is_exec, writes_pc};
 ghost use Rattle.sm_registers.specs.Tick.{current_word, tick_of};
 ghost use Rattle.sm_registers.specs.declared.registers.Registers as registers;
-ghost use Rattle.sm_registers.specs.declared.view.View as view;
+ghost use Rattle.sm_registers.specs.View as view;
 
 /// Side-set is written in the first tick of an instruction, whether it stalls or not, and in no other: an instruction that
 /// has begun writes none, nor does a delay (RP2040 Datasheet, section 3.5.1).

@@ -1,7 +1,13 @@
 //! The output levels and directions in the course of a clock.
-ghost use Rattle.std.specs.Prelude.{◌≡◌};
-ghost use Rattle.pin_matrix.specs.Pins.{written};
+ghost use Rattle.std.specs.Prelude.{◌≡◌, ℕ, true};
+ghost use Rattle.pin_matrix.specs.Pins.{IsWrite, merged, written};
+ghost use Rattle.sm_registers.specs.Ends.{end_level, end_direction, written_end, written_side};
+ghost use Rattle.sm_registers.specs.Intents.{two_writes, written_by};
+ghost use Rattle.sm_registers.specs.Plans.{side_level, side_direction};
 
+use crate::end::End;
+use crate::intent::Intent;
+use crate::plan::Side;
 use pin_matrix::merge;
 
 /// The pins as the machines so far leave them. A machine's writes take precedence over those of the machines before it.
@@ -14,21 +20,75 @@ pub struct Outputs {
 }
 
 impl Outputs {
-    /// Writes levels: the pins and their bits.
+    /// Makes the writes of a tick: the instruction's, and then side-set's.
     #[inline(always)]
     #[tactic(auto, unfolding(pin_matrix::specs::Pins::merged))]
-    pub(crate) fn write_levels(&mut self, write: (u32, u32))
+    pub fn write(&mut self, intent: &Intent)
+        ensures { self.new ≡ written_by self.old intent.now }
+    {
+        if are_none(&intent.level) && are_none(&intent.direction) {
+            return;
+        }
+        self.levels = merge(self.levels, &intent.level);
+        self.directions = merge(self.directions, &intent.direction);
+    }
+
+    /// Makes the write that an instruction ends with.
+    #[inline(always)]
+    pub(crate) fn write_end(&mut self, end: End)
+        requires level { IsWrite (end_level end) }
+        requires direction { IsWrite (end_direction end) }
+        ensures { self.new ≡ written_end end self.old }
+    {
+        match end {
+            End::Levels(write) => self.write_levels(write),
+            End::Directions(write) => self.write_directions(write),
+            _ => {}
+        }
+    }
+
+    /// Makes side-set's write.
+    #[inline(always)]
+    pub(crate) fn write_side(&mut self, side: Side)
+        requires level { IsWrite (side_level side) }
+        requires direction { IsWrite (side_direction side) }
+        ensures { self.new ≡ written_side side self.old }
+    {
+        match side {
+            Side::Nothing => {}
+            Side::Levels(write) => self.write_levels(write),
+            Side::Directions(write) => self.write_directions(write),
+        }
+    }
+
+    /// Writes levels: the pins and their bits.
+    #[inline(always)]
+    #[tactic(auto, using(crate::proofs::Written::masked))]
+    fn write_levels(&mut self, write: (u32, u32))
+        requires { IsWrite write }
         ensures { self.new ≡ record self.old { levels = written self.old.levels write } }
     {
-        self.levels = merge(self.levels, &[write]);
+        let (pins, bits) = write;
+        self.levels = bits | (self.levels & !pins);
     }
 
     /// Writes directions.
     #[inline(always)]
-    #[tactic(auto, unfolding(pin_matrix::specs::Pins::merged))]
-    pub(crate) fn write_directions(&mut self, write: (u32, u32))
+    #[tactic(auto, using(crate::proofs::Written::masked))]
+    fn write_directions(&mut self, write: (u32, u32))
+        requires { IsWrite write }
         ensures { self.new ≡ record self.old { directions = written self.old.directions write } }
     {
-        self.directions = merge(self.directions, &[write]);
+        let (pins, bits) = write;
+        self.directions = bits | (self.directions & !pins);
     }
+}
+
+/// Whether two writes are of no pins, as most are.
+#[inline(always)]
+#[tactic(auto, unfolding(pin_matrix::specs::Pins::merged))]
+fn are_none(writes: &[(u32, u32); 2]) -> bool
+    ensures { (pins : ℕ) → result ≡ true → merged pins (two_writes writes.now) ≡ pins }
+{
+    writes[0].0 == 0 && writes[1].0 == 0
 }

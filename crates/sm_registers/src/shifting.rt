@@ -1,17 +1,15 @@
 //! IN and OUT: bits into the ISR and out of the OSR (RP2040 Datasheet, sections 3.4.4, 3.4.5 and 3.5.4).
-ghost use Rattle.std.specs.Prelude.{◌≡◌, ◌≤◌, true, Some};
-ghost use Rattle.pio_encode.specs.declared.act.OutDestination.TheVariants as variants;
+ghost use Rattle.std.specs.Prelude.{◌≡◌, ◌≤◌, Some};
 ghost use Rattle.sm_registers.specs.Effects as spec;
-ghost use Rattle.sm_registers.specs.Ends.{effect_by, is_plain, unwritten, written_once};
-ghost use Rattle.sm_registers.specs.Intents.{no_wants};
+ghost use Rattle.sm_registers.specs.Ends.{effect_by};
+ghost use Rattle.sm_registers.specs.Intents.{no_intent};
 ghost use Rattle.sm_registers.specs.State.{queues_of};
 
 use crate::end::End;
-use crate::outputs::Outputs;
+use crate::intent::Intent;
 use crate::registers::Registers;
 use crate::sticky::{RX_STALL, TX_STALL};
 use crate::view::View;
-use crate::wants::Wants;
 use fifo_pair::{Fifo, Pair};
 use pin_matrix::{MachineSetup, pins_from, writes_of};
 use pio_encode::{InSource, OutDestination};
@@ -27,19 +25,19 @@ pub(crate) fn in_effect<F: Fifo>(
     view: &View,
     fifos: &Pair<F>,
     registers: &mut Registers,
-    wants: &mut Wants,
+    intent: &mut Intent,
 ) -> End
     requires count { count ≤ 32 }
     requires placed { registers.old.in_count ≤ 32 }
-    requires fresh { wants.old ≡ no_wants }
-    ensures { effect_by registers.new wants.new result
+    requires fresh { intent.old ≡ no_intent }
+    ensures { effect_by registers.new intent.new result
         ≡ spec.in_effect source count setup.now view.now (queues_of fifos.now) registers.old }
 {
     if !registers.begun {
         let word = in_word(source, setup, view, registers);
         put_bits_in(word, count, setup, registers);
     }
-    autopush(setup, fifos, registers, wants)
+    autopush(setup, fifos, registers, intent)
 }
 
 /// The word that an IN takes bits of.
@@ -47,7 +45,7 @@ fn in_word(source: InSource, setup: &MachineSetup, view: &View, registers: &Regi
     ensures { result ≡ spec.in_word source setup.now view.now registers.now }
 {
     match source {
-        InSource::Pins => pins_from(view.seen, setup.in_base),
+        InSource::Pins => pins_from(view.seen(), setup.in_base),
         InSource::X => registers.x,
         InSource::Y => registers.y,
         InSource::Null => 0,
@@ -71,27 +69,27 @@ fn autopush<F: Fifo>(
     setup: &MachineSetup,
     fifos: &Pair<F>,
     registers: &mut Registers,
-    wants: &mut Wants,
+    intent: &mut Intent,
 ) -> End
-    requires { wants.old ≡ no_wants }
-    ensures { effect_by registers.new wants.new result ≡ spec.autopushed setup.now (queues_of fifos.now) registers.old }
+    requires { intent.old ≡ no_intent }
+    ensures { effect_by registers.new intent.new result ≡ spec.autopushed setup.now (queues_of fifos.now) registers.old }
 {
     if setup.autopush && setup.push_threshold <= registers.in_count {
         if fifos.rx_full() {
-            wants.sticky = RX_STALL;
+            intent.sticky = RX_STALL;
             return End::Stalls;
         }
-        give_isr(registers, wants);
+        give_isr(registers, intent);
     }
     End::GoesOn
 }
 
 /// Gives the ISR to RX, which leaves it empty.
-pub(crate) fn give_isr(registers: &mut Registers, wants: &mut Wants)
+pub(crate) fn give_isr(registers: &mut Registers, intent: &mut Intent)
     ensures isr { registers.new ≡ spec.isr_emptied registers.old }
-    ensures word { wants.new ≡ record wants.old { word = Some registers.old.isr } }
+    ensures word { intent.new ≡ record intent.old { word = Some registers.old.isr } }
 {
-    wants.word = Some(registers.isr);
+    intent.word = Some(registers.isr);
     empty_isr(registers);
 }
 
@@ -112,22 +110,19 @@ pub(crate) fn out_effect<F: Fifo>(
     setup: &MachineSetup,
     fifos: &Pair<F>,
     registers: &mut Registers,
-    outputs: &mut Outputs,
-    wants: &mut Wants,
+    intent: &mut Intent,
 ) -> End
     requires count { count ≤ 32 }
     requires placed { registers.old.out_count ≤ 32 }
-    requires fresh { wants.old ≡ no_wants }
-    ensures value { effect_by registers.new wants.new result
-        ≡ unwritten (spec.out_effect destination count setup.now (queues_of fifos.now) registers.old) }
-    ensures outputs { outputs.new ≡ written_once outputs.old
-        (spec.out_effect destination count setup.now (queues_of fifos.now) registers.old) }
+    requires fresh { intent.old ≡ no_intent }
+    ensures { effect_by registers.new intent.new result
+        ≡ spec.out_effect destination count setup.now (queues_of fifos.now) registers.old }
 {
     if setup.autopull && setup.pull_threshold <= registers.out_count {
-        wants.sticky = if fifos.tx_level() == 0 { TX_STALL } else { 0 };
+        intent.sticky = if fifos.tx_level() == 0 { TX_STALL } else { 0 };
         return End::Stalls;
     }
-    put_bits_out(destination, count, setup, registers, outputs)
+    put_bits_out(destination, count, setup, registers)
 }
 
 /// Shifts bits out of the OSR, and puts them where they go.
@@ -137,20 +132,15 @@ pub(crate) fn put_bits_out(
     count: u8,
     setup: &MachineSetup,
     registers: &mut Registers,
-    outputs: &mut Outputs,
 ) -> End
     requires count { count ≤ 32 }
     requires placed { registers.old.out_count ≤ 32 }
-    ensures value { effect_by registers.new no_wants result ≡ unwritten (spec.bits_out_to destination count setup.now registers.old) }
-    ensures outputs { outputs.new ≡ written_once outputs.old (spec.bits_out_to destination count setup.now registers.old) }
-    ensures plain { destination ≡ variants.Pins → is_plain result ≡ true }
-    ensures pending { registers.new.pending ≡ registers.old.pending }
-    ensures begun { registers.new.begun ≡ registers.old.begun }
+    ensures { effect_by registers.new no_intent result ≡ spec.bits_out_to destination count setup.now registers.old }
 {
     let (value, osr) = shift_out(registers.osr, count, setup.out_right);
     registers.osr = osr;
     registers.out_count = (registers.out_count + count).min(32);
-    out_to(destination, value, count, setup, registers, outputs)
+    out_to(destination, value, count, setup, registers)
 }
 
 /// Puts an OUT's bits where they go.
@@ -161,20 +151,15 @@ fn out_to(
     count: u8,
     setup: &MachineSetup,
     registers: &mut Registers,
-    outputs: &mut Outputs,
 ) -> End
-    ensures value { effect_by registers.new no_wants result ≡ unwritten (spec.out_to destination value count setup.now registers.old) }
-    ensures outputs { outputs.new ≡ written_once outputs.old (spec.out_to destination value count setup.now registers.old) }
-    ensures plain { destination ≡ variants.Pins → is_plain result ≡ true }
-    ensures pending { registers.new.pending ≡ registers.old.pending }
-    ensures begun { registers.new.begun ≡ registers.old.begun }
+    ensures { effect_by registers.new no_intent result ≡ spec.out_to destination value count setup.now registers.old }
 {
     match destination {
-        OutDestination::Pins => outputs.write_levels(writes_of(&setup.out, value)),
+        OutDestination::Pins => return End::Levels(writes_of(&setup.out, value)),
         OutDestination::X => registers.x = value,
         OutDestination::Y => registers.y = value,
         OutDestination::Null => {}
-        OutDestination::Pindirs => outputs.write_directions(writes_of(&setup.out, value)),
+        OutDestination::Pindirs => return End::Directions(writes_of(&setup.out, value)),
         OutDestination::Pc => return End::Jumps((value % 32) as u8),
         OutDestination::Isr => {
             registers.isr = value;

@@ -1,62 +1,52 @@
 //! One tick: the current word's effect, and what each tick does besides (RP2040 Datasheet, sections 3.2.4 and 3.5).
-ghost use Rattle.std.specs.Prelude.{◌≡◌, ◌<◌, ◌≤◌, None, is_some, false};
-ghost use Rattle.pio_encode.specs.Ranges.{IsInRange};
-ghost use Rattle.pio_encode.specs.Word.{reading_of};
-ghost use Rattle.sm_registers.specs.Ends.{effect_by, written_side};
-ghost use Rattle.sm_registers.specs.Intents.{no_wants, wants_of, written_by};
+ghost use Rattle.std.specs.Prelude.{◌≡◌, ◌<◌, ◌≤◌, ℕ, None, is_some, false};
+ghost use Rattle.pin_matrix.specs.declared.machine.MachineSetup as spec_setup;
+ghost use Rattle.sm_registers.specs.Decoding.{IsReading};
+ghost use Rattle.sm_registers.specs.Ends.{effect_by};
 ghost use Rattle.sm_registers.specs.Ranges.{IsPlaced};
+ghost use Rattle.sm_registers.specs.Simple.{begins_anew};
 ghost use Rattle.sm_registers.specs.State.{queues_of};
 ghost use Rattle.sm_registers.specs.Tick as spec;
+ghost use Rattle.sm_registers.specs.declared.intent.Intent as spec_intent;
+ghost use Rattle.sm_registers.specs.declared.registers.Registers as spec_registers;
 
-use crate::decoded::{Decoded, PENDING};
+use crate::decoded::{Decoded, PENDING, Reading};
 use crate::end::End;
 use crate::fifo_moves::fill_osr;
 use crate::instruction::effect_of;
-use crate::outputs::Outputs;
+use crate::intent::{Intent, Kind};
 use crate::registers::Registers;
 use crate::view::View;
-use crate::wants::Wants;
 use fifo_pair::{Fifo, Pair};
-use pin_matrix::{MachineSetup, writes_of};
-use pio_encode::Op;
+use pin_matrix::MachineSetup;
 
-/// A tick: changes the registers, and writes its pins over those of the machines before. The wants, of nothing so far, get
-/// the rest of what it does outside.
+/// A tick: changes the registers, and tells what it does outside them.
 #[inline(always)]
-#[tactic(auto, unfolding(crate::specs::Tick::tick_of, crate::specs::Tick::tick_delay, pin_matrix::specs::Pins::merged))]
+#[tactic(auto, unfolding(crate::specs::Tick::tick_of, crate::specs::Tick::tick_delay))]
 pub(crate) fn tick_of<F: Fifo>(
     setup: &MachineSetup,
     view: &View,
     fifos: &Pair<F>,
     decoded: &mut Decoded,
     registers: &mut Registers,
-    outputs: &mut Outputs,
-    wants: &mut Wants,
-)
+) -> Intent
     requires placed { IsPlaced registers.old }
     requires setup { decoded.old.setup ≡ setup.now }
-    requires fresh { wants.old ≡ no_wants }
     ensures registers { registers.new ≡ (spec.tick_of setup.now view.now (queues_of fifos.now) registers.old).0 }
-    ensures outputs { outputs.new ≡ written_by outputs.old (spec.tick_of setup.now view.now (queues_of fifos.now) registers.old).1 }
-    ensures wants { wants.new ≡ wants_of (spec.tick_of setup.now view.now (queues_of fifos.now) registers.old).1 }
+    ensures intent { result ≡ (spec.tick_of setup.now view.now (queues_of fifos.now) registers.old).1 }
     ensures same { decoded.new.setup ≡ decoded.old.setup }
 {
     if registers.delay > 0 {
         registers.delay -= 1;
-        wants.take = refill(setup, fifos, registers);
-        return;
+        return Intent {
+            take: refill(setup, fifos, registers),
+            kind: Kind::Delay,
+            ..Intent::none()
+        };
     }
     let (place, word) = current_word(view, registers);
     decoded.read(place, word);
-    tick_op(
-        &decoded.reading(place).op,
-        setup,
-        view,
-        fifos,
-        registers,
-        outputs,
-        wants,
-    );
+    tick_word(decoded.reading(place), setup, view, fifos, registers)
 }
 
 /// The word that a tick runs, with its place among those that are decoded: the pending word, else that of memory at PC.
@@ -64,64 +54,83 @@ pub(crate) fn tick_of<F: Fifo>(
 pub(crate) fn current_word(view: &View, registers: &Registers) -> (u8, u16)
     requires { registers.now.pc < 32 }
     ensures place { result.0 ≤ 32 }
+    ensures pc { registers.now.pending ≡ None → result.0 ≡ registers.now.pc }
     ensures word { result.1 ≡ spec.current_word view.now registers.now }
 {
     match registers.pending {
         Some(word) => (PENDING, word),
-        None => (registers.pc, view.memory[usize::from(registers.pc)]),
+        None => (registers.pc, view.word(registers.pc)),
     }
 }
 
 /// A tick of an instruction.
 #[inline(always)]
-#[tactic(auto, unfolding(crate::specs::Tick::tick_word, crate::specs::Tick::tick_by, crate::specs::Tick::after_effect, pin_matrix::specs::Pins::merged))]
-fn tick_op<F: Fifo>(
-    op: &Op,
+#[tactic(auto, unfolding(crate::specs::Tick::tick_word, crate::specs::Tick::tick_by, crate::specs::Tick::after_effect))]
+fn tick_word<F: Fifo>(
+    reading: &Reading,
     setup: &MachineSetup,
     view: &View,
     fifos: &Pair<F>,
     registers: &mut Registers,
-    outputs: &mut Outputs,
-    wants: &mut Wants,
-)
-    requires act { IsInRange op.now.act }
+) -> Intent
     requires placed { IsPlaced registers.old }
-    requires fresh { wants.old ≡ no_wants }
+    requires reading { (place : ℕ) × IsReading setup.now place reading.now }
+    requires next { registers.old.pending ≡ None → reading.now.next ≡ spec.next_after setup.now registers.old.pc }
     ensures registers { registers.new
-        ≡ (spec.tick_word op.now setup.now view.now (queues_of fifos.now) registers.old).0 }
-    ensures outputs { outputs.new
-        ≡ written_by outputs.old (spec.tick_word op.now setup.now view.now (queues_of fifos.now) registers.old).1 }
-    ensures wants { wants.new
-        ≡ wants_of (spec.tick_word op.now setup.now view.now (queues_of fifos.now) registers.old).1 }
+        ≡ (spec.tick_word reading.now.op setup.now view.now (queues_of fifos.now) registers.old).0 }
+    ensures intent { result
+        ≡ (spec.tick_word reading.now.op setup.now view.now (queues_of fifos.now) registers.old).1 }
 {
-    let before = *registers;
-    let end = effect_of(op.act, setup, view, fifos, registers, outputs, wants);
-    conclude(end, op.delay, setup, &before, registers);
-    write_side(op.side, before.begun, setup, outputs);
-    if refill(setup, fifos, registers) {
-        wants.take = true;
+    let begun = registers.begun;
+    let next = next_pc(reading.next, registers);
+    let mut wants = Intent::none();
+    let end = effect_of(reading.op.act, setup, view, fifos, registers, &mut wants);
+    let _begins = conclude(end, next, reading.op.delay, registers);
+    let refilled = refill(setup, fifos, registers);
+    wants.take = wants.take | refilled;
+    Intent::of(Kind::of(begun), end, reading.side.in_tick(begun), wants)
+}
+
+/// PC after an instruction that doesn't jump, by the address after its own: a pending word leaves it.
+#[inline(always)]
+fn next_pc(next: u8, registers: &Registers) -> u8
+    ensures { (s : spec_setup.MachineSetup) → (registers.now.pending ≡ None → next ≡ spec.next_after s registers.now.pc)
+        → result ≡ spec.pc_after None (is_some registers.now.pending) s registers.now }
+{
+    if registers.pending.is_some() {
+        registers.pc
+    } else {
+        next
     }
 }
 
-/// The registers at the end of an instruction's tick, by those before it: whether it has begun, else PC, pending word and
-/// delay.
+/// The registers at the end of an instruction's tick: whether it has begun, else PC, pending word and delay. True where the next
+/// tick begins an instruction from memory.
 #[inline(always)]
 #[tactic(auto, unfolding(crate::specs::Tick::after_effect))]
-fn conclude(
-    end: End,
-    delay: u8,
-    setup: &MachineSetup,
-    before: &Registers,
-    registers: &mut Registers,
-)
-    requires { before.now.pc < 32 }
-    ensures { registers.new ≡ spec.after_effect delay setup.now before.now (effect_by registers.old no_wants end) }
+pub(crate) fn conclude(end: End, next: u8, delay: u8, registers: &mut Registers) -> bool
+    ensures after { (s : spec_setup.MachineSetup) (before : spec_registers.Registers) (i : spec_intent.Intent)
+        → next ≡ spec.pc_after None (is_some before.pending) s before
+        → registers.new ≡ spec.after_effect delay s before (effect_by registers.old i end) }
+    ensures begins { result ≡ begins_anew registers.new }
 {
     match end {
-        End::Stalls => registers.begun = true,
-        End::GoesOn => finish(next_pc(setup, before), None, delay, registers),
-        End::Jumps(address) => finish(address, None, delay, registers),
-        End::Executes(word) => finish(next_pc(setup, before), Some(word), 0, registers),
+        End::Stalls => {
+            registers.begun = true;
+            false
+        }
+        End::Executes(word) => {
+            finish(next, Some(word), 0, registers);
+            false
+        }
+        End::Jumps(address) => {
+            finish(address, None, delay, registers);
+            delay == 0
+        }
+        End::GoesOn | End::Levels(_) | End::Directions(_) => {
+            finish(next, None, delay, registers);
+            delay == 0
+        }
     }
 }
 
@@ -136,21 +145,6 @@ fn finish(pc: u8, pending: Option<u16>, delay: u8, registers: &mut Registers)
     registers.begun = false;
 }
 
-/// PC after an instruction that doesn't jump.
-#[inline(always)]
-fn next_pc(setup: &MachineSetup, registers: &Registers) -> u8
-    requires { registers.now.pc < 32 }
-    ensures { result ≡ spec.pc_after None (is_some registers.now.pending) setup.now registers.now }
-{
-    if registers.pending.is_some() {
-        registers.pc
-    } else if registers.pc == setup.wrap_top {
-        setup.wrap_bottom
-    } else {
-        (registers.pc + 1) % 32
-    }
-}
-
 /// Autopull: fills the OSR where it is due and TX has a word, and tells whether it took one.
 fn refill<F: Fifo>(setup: &MachineSetup, fifos: &Pair<F>, registers: &mut Registers) -> bool
     ensures registers { registers.new ≡ spec.refilled setup.now (queues_of fifos.now) registers.old }
@@ -163,22 +157,4 @@ fn refill<F: Fifo>(setup: &MachineSetup, fifos: &Pair<F>, registers: &mut Regist
         }
     }
     false
-}
-
-/// Writes side-set's pins, in the first tick of an instruction alone.
-#[inline(always)]
-pub(crate) fn write_side(side: Option<u8>, begun: bool, setup: &MachineSetup, outputs: &mut Outputs)
-    ensures { outputs.new ≡ written_side side begun setup.now outputs.old }
-{
-    match side {
-        Some(value) if !begun => {
-            let write = writes_of(&setup.side, u32::from(value));
-            if setup.side_rule.pindirs {
-                outputs.write_directions(write);
-            } else {
-                outputs.write_levels(write);
-            }
-        }
-        _ => {}
-    }
 }

@@ -3,19 +3,19 @@ ghost use Rattle.std.specs.Prelude.{◌≡◌, ◌<◌, ◌^◌};
 ghost use Rattle.irq_flags.specs.Flags.{flag_of};
 ghost use Rattle.sm_registers.specs.Effects as spec;
 ghost use Rattle.sm_registers.specs.Ends.{effect_by};
-ghost use Rattle.sm_registers.specs.Intents.{no_wants};
+ghost use Rattle.sm_registers.specs.Intents.{no_intent};
 
 use crate::end::End;
+use crate::intent::Intent;
 use crate::jump::is_up;
 use crate::registers::Registers;
 use crate::view::View;
-use crate::wants::Wants;
 use irq_flags::resolve;
 use pin_matrix::MachineSetup;
 use pio_encode::WaitSource;
 
 /// Stalls until the source has the polarity; `wait 1 irq` then lowers its flag.
-#[inline(never)]
+#[inline(always)]
 #[tactic(auto, unfolding(crate::specs::Effects::wait_effect))]
 pub(crate) fn wait_effect(
     polarity: bool,
@@ -24,14 +24,14 @@ pub(crate) fn wait_effect(
     setup: &MachineSetup,
     view: &View,
     registers: &Registers,
-    wants: &mut Wants,
+    intent: &mut Intent,
 ) -> End
     requires index { index < 32 }
-    requires fresh { wants.old ≡ no_wants }
-    ensures { effect_by registers.now wants.new result ≡ spec.wait_effect polarity source index setup.now view.now registers.now }
+    requires fresh { intent.old ≡ no_intent }
+    ensures { effect_by registers.now intent.new result ≡ spec.wait_effect polarity source index setup.now view.now registers.now }
 {
     if waited_bit(source, index, setup, view) == polarity {
-        wants.clears = waited_flag(polarity, source, index, setup);
+        intent.clears = waited_flag(polarity, source, index, setup);
         End::GoesOn
     } else {
         End::Stalls
@@ -45,9 +45,9 @@ pub(crate) fn waited_bit(source: WaitSource, index: u8, setup: &MachineSetup, vi
     ensures { result ≡ spec.waited_bit source index setup.now view.now }
 {
     match source {
-        WaitSource::Gpio => is_up(view.seen, index),
-        WaitSource::Pin => is_up(view.seen, (setup.in_base + index) % 32),
-        WaitSource::Irq => is_up(u32::from(view.flags.up), resolve(index, setup.id)),
+        WaitSource::Gpio => is_up(view.seen(), index),
+        WaitSource::Pin => is_up(view.seen(), (setup.in_base + index) % 32),
+        WaitSource::Irq => is_up(u32::from(view.flags()), resolve(index, setup.id)),
     }
 }
 
@@ -63,7 +63,7 @@ fn waited_flag(polarity: bool, source: WaitSource, index: u8, setup: &MachineSet
 }
 
 /// Raises or lowers a flag. One that is raised with Wait stalls in that tick, and until the flag is down.
-#[inline(never)]
+#[inline(always)]
 #[tactic(auto, unfolding(crate::specs::Effects::irq_effect))]
 pub(crate) fn irq_effect(
     clear: bool,
@@ -72,23 +72,23 @@ pub(crate) fn irq_effect(
     setup: &MachineSetup,
     view: &View,
     registers: &Registers,
-    wants: &mut Wants,
+    intent: &mut Intent,
 ) -> End
     requires index { index < 32 }
-    requires fresh { wants.old ≡ no_wants }
-    ensures { effect_by registers.now wants.new result ≡ spec.irq_effect clear waits index setup.now view.now registers.now }
+    requires fresh { intent.old ≡ no_intent }
+    ensures { effect_by registers.now intent.new result ≡ spec.irq_effect clear waits index setup.now view.now registers.now }
 {
     let flag = flag_bit(index, setup);
     if clear {
-        wants.clears = flag;
+        intent.clears = flag;
         End::GoesOn
     } else if !waits {
-        wants.sets = flag;
+        intent.sets = flag;
         End::GoesOn
     } else if !registers.begun {
-        wants.sets = flag;
+        intent.sets = flag;
         End::Stalls
-    } else if is_up(u32::from(view.flags.up), resolve(index, setup.id)) {
+    } else if is_up(u32::from(view.flags()), resolve(index, setup.id)) {
         End::Stalls
     } else {
         End::GoesOn

@@ -6,7 +6,8 @@
 use Rattle.std.specs.Prelude.{ℕ, ◌==◌, Bool, true, false, not, ◌||◌, Option, Some, None, List, slice_index_or}
 use Rattle.std.specs.List.{list_any}
 use Rattle.pin_matrix.specs.declared.span.Span.{Span}
-use Rattle.sm_registers.specs.Intents.{Kind, Off, First, Late, Delay}
+use Rattle.sm_registers.specs.declared.intent.Kind.{Kind}
+use Rattle.sm_registers.specs.declared.intent.Kind.TheVariants.{Off, First, Late, Delay}
 use Rattle.dreq_pacing.specs.declared.due.Due.{Due}
 use Rattle.block_core.specs.Slots.{Slot}
 use Rattle.block_core.specs.Block.{BlockState}

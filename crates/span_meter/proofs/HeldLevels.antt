@@ -1,8 +1,8 @@
 -- The output levels after samples that are held to a clock.
 use Rattle.std.proofs.Common.{◌≡◌, ℕ, zero, suc, ◌-◌, List, [], ◌∷◌, ◌++◌, length, refl, ◌∙◌, replicate}
 use Rattle.block_core.specs.declared.sample.Sample.{Sample}
-use Rattle.vcd_trace.specs.Told.{held_to, last_of}
-use Rattle.vcd_trace.specs.Edges.{levels_after}
+use Rattle.sample_trace.specs.Told.{held_to, last_of}
+use Rattle.sample_trace.specs.Edges.{levels_after}
 
 -- the levels after samples in a row
 pub levels-append : (before : ℕ) (xs ys : List Sample) → levels_after before (xs ++ ys) ≡ levels_after (levels_after before xs) ys

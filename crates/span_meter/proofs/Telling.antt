@@ -4,8 +4,8 @@ use Rattle.std.proofs.lemmas.List.{drop_all, length-replicate, map-append, map_m
 use Rattle.std.specs.List.{AllByRecursion}
 use Rattle.pin_matrix.specs.declared.span.Span.{Span}
 use Rattle.block_core.specs.declared.sample.Sample.{Sample}
-use Rattle.vcd_trace.specs.Told.{held_to, last_of, IsNext}
-use Rattle.vcd_trace.specs.Edges.{levels_after}
+use Rattle.sample_trace.specs.Told.{held_to, last_of, IsNext}
+use Rattle.sample_trace.specs.Edges.{levels_after}
 use Rattle.span_meter.proofs.HeldLevels.{held-levels, last-levels-of, levels-append}
 use Rattle.span_meter.specs.declared.edges.Edges.{Edges}
 use Rattle.span_meter.specs.declared.meter.Meter.{Meter}

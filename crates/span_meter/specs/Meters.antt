@@ -6,7 +6,7 @@
 use Rattle.std.specs.Prelude.{◌≡◌, ℕ, ◌+◌, ◌-◌, ◌^◌, ◌<◌, ◌≤◌, ◌==◌, Bool, true, false, Option, Some, None, List, [], ◌∷◌, ◌++◌, length, map, min, max, if◌then◌else◌}
 use Rattle.std.specs.List.{AllByRecursion}
 use Rattle.block_core.specs.declared.sample.Sample.{Sample}
-use Rattle.vcd_trace.specs.Edges.{levels_after}
+use Rattle.sample_trace.specs.Edges.{levels_after}
 use Rattle.span_meter.specs.declared.edges.Edges.{Edges}
 use Rattle.span_meter.specs.declared.meter.Meter.{Meter}
 use Rattle.span_meter.specs.declared.seen.SeenDistances.{SeenDistances}

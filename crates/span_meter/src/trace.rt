@@ -8,9 +8,9 @@ use crate::meter::Meter;
 use crate::seen::SeenDistances;
 use block_core::Sample;
 use pin_matrix::Span;
+use sample_trace::{Trace, TraceFailed};
 use std::alloc::{AllocError, Global};
 use std::marker::Model;
-use vcd_trace::{Trace, TraceFailed};
 
 /// What spans measure in the samples that it was told of, in clocks for spans of either unit. It never fails.
 #[derive(Drop)]

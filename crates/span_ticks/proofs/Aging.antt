@@ -3,7 +3,7 @@ use Rattle.std.proofs.Common.{◌≡◌, ℕ, ◌+◌, ◌≤◌, min, Bool, tru
 use Rattle.std.proofs.lemmas.Bool.Decides.{nat_tests}
 use Rattle.pin_matrix.specs.declared.machine.MachineSetup.{MachineSetup}
 use Rattle.pin_matrix.specs.declared.span.Span.{Span}
-use Rattle.sm_registers.specs.Intents.{Kind}
+use Rattle.sm_registers.specs.declared.intent.Kind.{Kind}
 use Rattle.span_step.specs.declared.ages.Ages.{Ages}
 use Rattle.span_step.specs.declared.ages.Ages.TheVariants.{Empty, Between}
 use Rattle.span_step.specs.Contexts.{IsInside, is_open}

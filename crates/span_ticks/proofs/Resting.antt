@@ -4,7 +4,7 @@ use Rattle.pin_matrix.specs.declared.machine.MachineSetup.{MachineSetup}
 use Rattle.pin_matrix.specs.declared.setup.Setup.{Setup}
 use Rattle.pin_matrix.specs.declared.span.Span.{Span}
 use Rattle.sm_registers.specs.declared.registers.Registers.{Registers}
-use Rattle.sm_registers.specs.Intents.{Delay}
+use Rattle.sm_registers.specs.declared.intent.Kind.TheVariants.{Delay}
 use Rattle.sm_registers.specs.Queues.{Queues}
 use Rattle.sm_registers.specs.Tick.{tick_delay}
 use Rattle.span_step.specs.declared.ages.Ages.{Ages}

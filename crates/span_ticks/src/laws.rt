@@ -8,7 +8,7 @@ ghost use Rattle.sm_registers.specs.Queues as queues;
 ghost use Rattle.sm_registers.specs.State.{first_registers};
 ghost use Rattle.sm_registers.specs.Tick.{tick_of};
 ghost use Rattle.sm_registers.specs.declared.registers.Registers as registers;
-ghost use Rattle.sm_registers.specs.declared.view.View as view;
+ghost use Rattle.sm_registers.specs.View as view;
 ghost use Rattle.span_step.specs.Contexts.{Context};
 ghost use Rattle.span_step.specs.Courses.{start};
 ghost use Rattle.span_step.specs.Steps.{bounds_of, is_named};

@@ -4,7 +4,7 @@ use Rattle.std.specs.Prelude.{replicate}
 use Rattle.std.proofs.lemmas.List.{length-replicate}
 use Rattle.pio_edge.specs.Edge.{with_bytes, TakesPrefix}
 use Rattle.pio_edge.proofs.PutLaws.{with_bytes-append, takes_prefix-append_r, takes_prefix-append_l}
-use Rattle.vcd_trace.specs.Told.{IsNext, last_of, held_to, told_at}
+use Rattle.sample_trace.specs.Told.{IsNext, last_of, held_to, told_at}
 use Rattle.vcd_trace.specs.TextForm.{TextForm, later_text, opened_text, closing_text, whole_text, last_told, HasPut, added, ended}
 
 -- what is told again adds nothing

@@ -1,10 +1,10 @@
 pub mod Characters
-pub mod Told
+pub use Rattle.sample_trace.specs.Told
 pub mod TextForm
 pub mod VcdText
 pub mod TwinText
-pub mod Listing
+pub use Rattle.sample_trace.specs.Listing
 pub mod Shows
 pub mod Groups
-pub mod Edges
+pub use Rattle.sample_trace.specs.Edges
 pub mod ClockText

@@ -8,7 +8,7 @@
 --   added, ended  what one more adds, and what the end adds
 use Rattle.std.specs.Prelude.{◌≡◌, ℕ, ◌+◌, Bool, true, false, Option, Some, None, List, [], ◌∷◌, ◌++◌, length}
 use Rattle.pio_edge.specs.Edge.{with_bytes}
-use Rattle.vcd_trace.specs.Told.{last_of}
+use Rattle.sample_trace.specs.Told.{last_of}
 
 -- What comes before the first thing told, what the first one adds, what a later one adds in its clock after the one before, and
 -- what closes the text in the clock after the last one.

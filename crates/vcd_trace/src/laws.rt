@@ -4,7 +4,7 @@ ghost use Rattle.pio_edge.specs.Edge.{TakesPrefix};
 ghost use Rattle.block_core.specs.declared.sample.Sample.{Sample as Values};
 ghost use Rattle.block_core.specs.Sample.{values_of, same_sample};
 ghost use Rattle.vcd_trace.specs.Shows.{IsSample};
-ghost use Rattle.vcd_trace.specs.Told.{IsNext, held_to, told_at};
+ghost use Rattle.sample_trace.specs.Told.{IsNext, held_to, told_at};
 ghost use Rattle.vcd_trace.specs.VcdText.{variables, changes_text, open_text, vcd_text, clock_line};
 
 /// There are 88 variables.

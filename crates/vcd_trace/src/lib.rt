@@ -5,31 +5,24 @@
 mod changes;
 mod clock_line;
 mod dump;
-mod edges;
 mod header;
 mod laws;
 mod line;
-mod list;
-mod trace;
 mod twin_laws;
-mod twin_trace;
 mod twin_vcd;
 mod variable;
 mod vcd;
 
-pub use edges::EdgeTrace;
 pub use laws::{
     different_samples_have_lines, failing_early_leaves_a_first_part, repeated_samples_add_nothing,
     same_values_have_no_lines, text_only_grows, the_text_ends_with_its_length,
     there_are_88_variables,
 };
-pub use list::ListTrace;
-pub use trace::{Trace, TraceFailed};
+pub use sample_trace::{EdgeTrace, ListTrace, Trace, TraceFailed, TwinTrace};
 pub use twin_laws::{
     different_pairs_have_lines, each_variable_has_its_own_identifier,
     failing_early_leaves_a_first_part_of_two, repeated_pairs_add_nothing,
     the_text_of_two_ends_with_its_length, twin_text_only_grows,
 };
-pub use twin_trace::TwinTrace;
 pub use twin_vcd::TwinVcd;
 pub use vcd::VcdTrace;

@@ -3,7 +3,7 @@ ghost use Rattle.std.specs.Prelude.{◌≡◌, ◌≢◌, ℕ, Option, List, fal
 ghost use Rattle.pio_edge.specs.Edge.{TakesPrefix};
 ghost use Rattle.block_core.specs.declared.sample.Sample.{Sample as Values};
 ghost use Rattle.vcd_trace.specs.Shows.{AreSamples};
-ghost use Rattle.vcd_trace.specs.Told.{IsNext, held_to, told_at};
+ghost use Rattle.sample_trace.specs.Told.{IsNext, held_to, told_at};
 ghost use Rattle.vcd_trace.specs.VcdText.{clock_line, identifier};
 ghost use Rattle.vcd_trace.specs.TwinText.{same_samples, twin_changes_text, twin_open_text, twin_text};
 

@@ -9,12 +9,11 @@ use crate::changes::put_changes;
 use crate::dump::put_twin_dump;
 use crate::header::put_twin_header;
 use crate::line::put_clock;
-use crate::trace::TraceFailed;
-use crate::twin_trace::TwinTrace;
 use crate::variable::SECOND;
 use crate::vcd::is_same;
 use block_core::Sample;
 use pio_edge::{Sink, SinkFailed};
+use sample_trace::{TraceFailed, TwinTrace};
 
 /// A trace of two blocks as value-change text, of one unit a clock. Each line is put as one piece, and its faults are
 /// its sink's.

@@ -11,9 +11,9 @@ use crate::clock_line::ClockLine;
 use crate::dump::put_dump;
 use crate::header::put_header;
 use crate::line::put_clock;
-use crate::trace::{Trace, TraceFailed};
 use block_core::Sample;
 use pio_edge::{Sink, SinkFailed};
+use sample_trace::{Trace, TraceFailed};
 
 /// A trace as value-change text, of one unit a clock. Each line is put as one piece, and its
 /// faults are its sink's.

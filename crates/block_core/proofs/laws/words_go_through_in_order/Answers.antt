@@ -1,7 +1,7 @@
 use Rattle.std.proofs.Common.{None, false, slice_index_or}
 use Rattle.fifo_pair.specs.Runs.{Events}
 use Rattle.sm_registers.specs.State.{settled_ports}
-use Rattle.sm_registers.specs.declared.view.View.{View}
+use Rattle.sm_registers.specs.View.{View}
 use Rattle.dreq_pacing.specs.declared.due.Due.{Due}
 use Rattle.block_core.specs.Slots.{Slot, settled_slot, slot_intent}
 use Rattle.block_core.proofs.laws.words_go_through_in_order.Goals as goal

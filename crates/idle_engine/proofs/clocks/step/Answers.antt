@@ -1,10 +1,14 @@
-use Rattle.idle_engine.proofs.Resting.{none_up_to}
+use Rattle.std.proofs.Common.{◌+◌, arith}
 use Rattle.idle_engine.proofs.clocks.step.Goals as goal
 
-pub quiet_step-requires-clause-between : goal.quiet_step-requires-clause-between
-quiet_step-requires-clause-between g c =
-    none_up_to _ _ _ _ _ _ c.requires.between c.requires.until.rests c.if-clock-until.true
+pub rests_until-requires-then-news-clause-ready : goal.rests_until-requires-then-news-clause-ready
+rests_until-requires-then-news-clause-ready g c =
+    c.is_of_its_kind.ensures.waits c.args.ports.now _ c.args.clock (c.args.clock + 1) c.requires.ready (omega arith) (λ n from below. c.requires.until.rests n from (omega arith))
 
-pub returns-then-clock-until-clause-between : goal.returns-then-clock-until-clause-between
-returns-then-clock-until-clause-between g c =
-    none_up_to _ _ _ _ _ _ c.requires.between c.requires.until.rests c.if-clock-until.true
+pub returns-then-news-clause-ready : goal.returns-then-news-clause-ready
+returns-then-news-clause-ready g c =
+    c.is_of_its_kind.ensures.waits c.args.ports.now _ c.args.clock (c.args.clock + 1) c.requires.ready (omega arith) (λ n from below. c.requires.until.rests n from (omega arith))
+
+pub returns-else-news-clause-ready : goal.returns-else-news-clause-ready
+returns-else-news-clause-ready g c =
+    c.is_of_its_kind.ensures.waits c.args.ports.now _ c.args.clock (c.args.clock + 1) c.requires.ready (omega arith) (λ n from below. c.requires.until.rests n from (omega arith))

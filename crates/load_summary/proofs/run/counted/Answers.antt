@@ -1,7 +1,7 @@
 use Rattle.std.proofs.Common.{◌≡◌, [], ◌∷◌, Some, ap, ◌∙◌, refl, lit<}
 use Rattle.block_core.specs.Hosted.{hosted_at, samples}
 use Rattle.block_core.specs.Shown.{sample_of}
-use Rattle.vcd_trace.specs.Edges.{HasCounted}
+use Rattle.sample_trace.specs.Edges.{HasCounted}
 use Rattle.load_summary.specs.Counted.{counted_run}
 use Rattle.load_summary.proofs.Counting.{pin_counted, sent_counted, got_counted, same_summary}
 use Rattle.load_summary.proofs.run.counted.Goals as goal

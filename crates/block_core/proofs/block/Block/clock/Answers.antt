@@ -1,5 +1,5 @@
-use Rattle.std.proofs.Common.{◌≡◌, ap, subst, sym, ◌∙◌, arith}
-use Rattle.block_core.specs.Block.{Run, Worked, next, pads_in, uses_fifos_in, uses_fifos_over, wanted_in, wanted_over, level_writes, direction_writes, TakesLastWrites}
+use Rattle.std.proofs.Common.{ap, subst, ◌∙◌, arith}
+use Rattle.block_core.specs.Block.{Run, Worked, next, uses_fifos_in, uses_fifos_over, wanted_in, wanted_over, level_writes, direction_writes, TakesLastWrites}
 use Rattle.block_core.proofs.Steps.{next_with}
 use Rattle.block_core.proofs.block.Block.clock.Goals as goal
 

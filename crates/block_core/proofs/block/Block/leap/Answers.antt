@@ -8,21 +8,21 @@ use Rattle.block_core.proofs.Rests.{CalmLaws, rests}
 use Rattle.block_core.proofs.Steps.{clock-rested}
 use Rattle.block_core.proofs.block.Block.leap.Goals as goal
 
-pub rest-requires-clause-calm : goal.rest-requires-clause-calm
-rest-requires-clause-calm g c = λ k lt.
+pub leap-requires-clause-calm : goal.leap-requires-clause-calm
+leap-requires-clause-calm g c = λ k lt.
     let laws : CalmLaws = record { counts = c.a_calm_tick_only_counts.ensures.once; tells = c.a_calm_tick_tells_nothing_new.ensures.calm; fifos = c.a_quiet_clock_changes_nothing.ensures } in
     machines_calm laws c.self.inside.running c.self.inside.pad c.args.clocks c.self.invariant.1 c.stalls_are_told.ensures
     (λ j below. subst (λ (w : Worked). moves_on quiet (run_from w.run (λ c. quiet) j) ≡ false) (sym c.self.view_is) (c.requires.calm j below)) k lt
 
 pub invariant_of-self : goal.invariant_of-self
 invariant_of-self g c =
-    let clock = ap (λ (r : Run). r.clock) c.rest.ensures ∙ clock-rested c.args.clocks c.self.inside.running in
+    let clock = ap (λ (r : Run). r.clock) c.leap.ensures ∙ clock-rested c.args.clocks c.self.inside.running in
     (omega (arith, clock, c.self.invariant.0), c.pads-self-inside.ensures)
 
 pub returns-clause-run : goal.returns-clause-run
 returns-clause-run g c =
     let laws : CalmLaws = record { counts = c.a_calm_tick_only_counts.ensures.once; tells = c.a_calm_tick_tells_nothing_new.ensures.calm; fifos = c.a_quiet_clock_changes_nothing.ensures } in
-    c.rest.ensures
+    c.leap.ensures
     ∙ sym (rests laws c.self.inside.running c.stalls_are_told.ensures c.args.clocks
     (λ j below. subst (λ (w : Worked). moves_on quiet (run_from w.run (λ c. quiet) j) ≡ false) (sym c.self.view_is) (c.requires.calm j below)))
     ∙ ap (λ (w : Worked). run_from w.run (λ c. quiet) c.args.clocks) c.self.view_is
@@ -36,6 +36,6 @@ returns-clause-rests g c = λ k le.
 
 pub returns-clause-calls : goal.returns-clause-calls
 returns-clause-calls g c =
-    let clock = ap (λ (r : Run). r.clock) c.rest.ensures ∙ clock-rested c.args.clocks c.self.inside.running in
+    let clock = ap (λ (r : Run). r.clock) c.leap.ensures ∙ clock-rested c.args.clocks c.self.inside.running in
     let calls : c.self.inside.running.clock - c.self.inside.leapt ≡ c.args.self.now.calls = ap (λ (w : Worked). w.calls) c.self.view_is in
     omega (arith, clock, calls, c.self.invariant.0)

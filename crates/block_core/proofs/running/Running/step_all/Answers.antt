@@ -1,5 +1,8 @@
-use Rattle.std.proofs.Common.{refl, ◌∙◌}
-use Rattle.block_core.specs.Slots.{doing}
+use Rattle.std.proofs.Common.{◌||◌, ap, refl, ◌∙◌}
+use Rattle.pin_matrix.specs.Pads.{seen_of}
+use Rattle.sm_registers.specs.View.{View}
+use Rattle.block_core.specs.Merging.{with_intent}
+use Rattle.block_core.specs.Slots.{doing, place_after, place_intent, place_uses_fifos}
 use Rattle.block_core.proofs.Showing.{shows_first, shows_second, shows_third, shows_fourth, first_new, second_new, third_new, fourth_new, pins_new}
 use Rattle.block_core.proofs.Steps.{in_step_after}
 use Rattle.block_core.proofs.Told.{place_told}
@@ -33,18 +36,19 @@ pub invariant_of-self : goal.invariant_of-self
 invariant_of-self g c =
     let kept = c.self.invariant.0 in
     let law = c.a_calm_tick_tells_nothing_new.ensures in
+    let memory = ap (λ (v : View). v.memory) c.new-view.ensures in
     let one = first_new c.self.invariant.1 _ _ c.step-first.ensures.sample in
     let two = second_new one _ _ c.step-second.ensures.sample in
     let three = third_new two _ _ c.step-third.ensures.sample in
     let four = fourth_new three _ _ c.step-fourth.ensures.sample in (
       record {
         told = (
-          place_told law.after law.more _ _ _ _ _ refl kept.told.0 c.step-first.ensures.after,
+          place_told law.after law.more _ _ _ _ _ memory kept.told.0 c.step-first.ensures.after,
           (
-            place_told law.after law.more _ _ _ _ _ refl kept.told.1.0 c.step-second.ensures.after,
+            place_told law.after law.more _ _ _ _ _ memory kept.told.1.0 c.step-second.ensures.after,
             (
-              place_told law.after law.more _ _ _ _ _ refl kept.told.1.1.0 c.step-third.ensures.after,
-              (place_told law.after law.more _ _ _ _ _ refl kept.told.1.1.1.0 c.step-fourth.ensures.after, tt),
+              place_told law.after law.more _ _ _ _ _ memory kept.told.1.1.0 c.step-third.ensures.after,
+              (place_told law.after law.more _ _ _ _ _ memory kept.told.1.1.1.0 c.step-fourth.ensures.after, tt),
             ),
           ),
         );
@@ -61,29 +65,32 @@ invariant_of-self g c =
 pub returns-clause-run : goal.returns-clause-run
 returns-clause-run g c =
     let b = c.self.inside in
-    let next = next_run (doing c.args.due) b.view.memory b.clock b.wanted.outputs.levels b.wanted.outputs.directions b.view.flags.up b.outside b.sync b.first b.second b.third b.fourth c.outside_after-self-inside.result c.args.pad c.seen-seen.result c.begin.new.self c.step-first.new.wanted c.step-second.new.wanted c.step-third.new.wanted c.step-fourth.new.wanted _ _ _ _ _ _ (record {
+    let next = next_run (doing c.args.due) b.shared.memory b.clock b.wanted.outputs.levels b.wanted.outputs.directions b.shared.flags.up b.outside b.shared.sync b.first b.second b.third b.fourth c.outside_after-self-inside.result c.args.pad (seen_of b.shared.sync.bypass c.args.pad b.shared.sync.pad_2) c.begin.new.self c.step-first.new.wanted c.step-second.new.wanted c.step-third.new.wanted c.step-fourth.new.wanted _ _ _ _ _ _ (record {
       driven = c.outside_after-self-inside.ensures;
-      sees = c.seen-seen.ensures;
+      sees = refl;
       start = c.begin.ensures;
-      first = c.step-first.ensures.wanted;
-      second = c.step-second.ensures.wanted;
-      third = c.step-third.ensures.wanted;
-      fourth = c.step-fourth.ensures.wanted;
+      first = c.step-first.ensures.wanted ∙ ap (λ (v : View). with_intent c.begin.new.self (place_intent v (doing c.args.due) b.first)) c.new-view.ensures;
+      second = c.step-second.ensures.wanted ∙ ap (λ (v : View). with_intent c.step-first.new.wanted (place_intent v (doing c.args.due) b.second)) c.new-view.ensures;
+      third = c.step-third.ensures.wanted ∙ ap (λ (v : View). with_intent c.step-second.new.wanted (place_intent v (doing c.args.due) b.third)) c.new-view.ensures;
+      fourth = c.step-fourth.ensures.wanted ∙ ap (λ (v : View). with_intent c.step-third.new.wanted (place_intent v (doing c.args.due) b.fourth)) c.new-view.ensures;
     })
-    c.merge_flags.ensures c.step.ensures c.step-first.ensures.after c.step-second.ensures.after c.step-third.ensures.after c.step-fourth.ensures.after in
+    c.merge_flags.ensures c.step.ensures (c.step-first.ensures.after ∙ ap (λ (v : View). place_after v (doing c.args.due) b.first) c.new-view.ensures) (c.step-second.ensures.after ∙ ap (λ (v : View). place_after v (doing c.args.due) b.second) c.new-view.ensures) (c.step-third.ensures.after ∙ ap (λ (v : View). place_after v (doing c.args.due) b.third) c.new-view.ensures) (c.step-fourth.ensures.after ∙ ap (λ (v : View). place_after v (doing c.args.due) b.fourth) c.new-view.ensures) in
     rw (← c.self.view_is) next
 
 pub returns-clause-used : goal.returns-clause-used
 returns-clause-used g c =
     let b = c.self.inside in
-    let any = any_used (doing c.args.due) b.view.memory b.clock b.wanted.outputs.levels b.wanted.outputs.directions b.view.flags.up b.outside b.sync b.first b.second b.third b.fourth c.outside_after-self-inside.result c.args.pad c.seen-seen.result c.begin.new.self c.step-first.new.wanted c.step-second.new.wanted c.step-third.new.wanted c.step-fourth.new.wanted (record {
+    let any = any_used (doing c.args.due) b.shared.memory b.clock b.wanted.outputs.levels b.wanted.outputs.directions b.shared.flags.up b.outside b.shared.sync b.first b.second b.third b.fourth c.outside_after-self-inside.result c.args.pad (seen_of b.shared.sync.bypass c.args.pad b.shared.sync.pad_2) c.begin.new.self c.step-first.new.wanted c.step-second.new.wanted c.step-third.new.wanted c.step-fourth.new.wanted (record {
       driven = c.outside_after-self-inside.ensures;
-      sees = c.seen-seen.ensures;
+      sees = refl;
       start = c.begin.ensures;
-      first = c.step-first.ensures.wanted;
-      second = c.step-second.ensures.wanted;
-      third = c.step-third.ensures.wanted;
-      fourth = c.step-fourth.ensures.wanted;
+      first = c.step-first.ensures.wanted ∙ ap (λ (v : View). with_intent c.begin.new.self (place_intent v (doing c.args.due) b.first)) c.new-view.ensures;
+      second = c.step-second.ensures.wanted ∙ ap (λ (v : View). with_intent c.step-first.new.wanted (place_intent v (doing c.args.due) b.second)) c.new-view.ensures;
+      third = c.step-third.ensures.wanted ∙ ap (λ (v : View). with_intent c.step-second.new.wanted (place_intent v (doing c.args.due) b.third)) c.new-view.ensures;
+      fourth = c.step-fourth.ensures.wanted ∙ ap (λ (v : View). with_intent c.step-third.new.wanted (place_intent v (doing c.args.due) b.fourth)) c.new-view.ensures;
     }) _ _ _ _
-    c.step-first.ensures.used c.step-second.ensures.used c.step-third.ensures.used c.step-fourth.ensures.used in
+    (c.step-first.ensures.used ∙ ap (λ (v : View). place_uses_fifos v (doing c.args.due) b.first) c.new-view.ensures)
+    (c.step-second.ensures.used ∙ ap (λ (v : View). c.step-first.result || place_uses_fifos v (doing c.args.due) b.second) c.new-view.ensures)
+    (c.step-third.ensures.used ∙ ap (λ (v : View). c.step-second.result || place_uses_fifos v (doing c.args.due) b.third) c.new-view.ensures)
+    (c.step-fourth.ensures.used ∙ ap (λ (v : View). c.step-third.result || place_uses_fifos v (doing c.args.due) b.fourth) c.new-view.ensures) in
     rw (← c.self.view_is) any

@@ -5,4 +5,4 @@ use Rattle.block_core.proofs.slot.Slot.clock.Goals as goal
 
 pub returns-clause-after : goal.returns-clause-after
 unfolding settled_slot settled_ports
-returns-clause-after g c = rw (c.settle.ensures.after, c.act.ensures.after, c.act.ensures.wants, c.obey.ensures) refl
+returns-clause-after g c = rw (c.settle-used.ensures.after, c.act-intent.ensures.after, c.act-intent.ensures.intent, c.obey.ensures) refl

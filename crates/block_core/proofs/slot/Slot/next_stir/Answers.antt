@@ -1,4 +1,4 @@
-use Rattle.std.proofs.Common.{◌≡◌, false, Some, subst}
+use Rattle.std.proofs.Common.{◌≡◌, false, Some, refl, subst}
 use Rattle.dreq_pacing.specs.Ports.{IsFirst}
 use Rattle.block_core.specs.Resting.{stirs_after}
 use Rattle.block_core.specs.Slots.{Slot}
@@ -17,7 +17,7 @@ returns-in-Ticks g c =
     let s : Slot = record { machine = b.machine; timing = b.divider; enabled = b.enabled; sent = b.sent; received = b.received } in
     let clocks = c.clocks_to_tick in
     subst (λ (s : Slot). IsFirst (stirs_after c.args.view.now (Some s)) 0 (Some clocks.result)) c.self.view_is
-    (first_stir c.a_calm_tick_only_counts.ensures.often c.args.view.now s c.if-not-self.false c.in-Ticks.ticks c.from.result clocks.result c.from.ensures c.in-Ticks.ensures.first clocks.ensures.test clocks.ensures.count)
+    (first_stir c.a_calm_tick_only_counts.ensures.often c.args.view.now s c.if-not-self.false c.in-Ticks.ticks c.in-Ticks.ticks clocks.result refl c.in-Ticks.ensures.first clocks.ensures.test clocks.ensures.count)
 
 pub returns-in-Never : goal.returns-in-Never
 returns-in-Never g c = λ n le.

@@ -7,8 +7,8 @@ use Rattle.block_core.proofs.Steps.{clock-rested}
 use Rattle.block_core.proofs.TwinRests.{AreBothTold, twin_rests, twin_machines_calm}
 use Rattle.block_core.proofs.twin.Twin.leap.Goals as goal
 
-pub rest-requires-clause-calm : goal.rest-requires-clause-calm
-rest-requires-clause-calm g c = λ k lt.
+pub leap-requires-clause-calm : goal.leap-requires-clause-calm
+leap-requires-clause-calm g c = λ k lt.
     let laws : CalmLaws = record { counts = c.a_calm_tick_only_counts.ensures.once; tells = c.a_calm_tick_tells_nothing_new.ensures.calm; fifos = c.a_quiet_clock_changes_nothing.ensures } in
     let b = c.self.inside in
     let t : TwinRun = record { own = b.own; first = b.first; second = b.second } in
@@ -16,8 +16,8 @@ rest-requires-clause-calm g c = λ k lt.
     (twin_machines_calm laws t c.pads-pad.result c.args.clocks (c.pads-pad.ensures ∙ ap (λ (w : WorkedTwin). twin_pads_in quiet w.twin) (sym c.self.view_is)) told
     (λ j below. subst (λ (w : WorkedTwin). twin_moves_on quiet quiet (twin_from w.twin (λ c. quiet) (λ c. quiet) j) ≡ false) (sym c.self.view_is) (c.requires.calm j below)) k lt).first
 
-pub rest-requires-2-clause-calm : goal.rest-requires-2-clause-calm
-rest-requires-2-clause-calm g c = λ k lt.
+pub leap-requires-2-clause-calm : goal.leap-requires-2-clause-calm
+leap-requires-2-clause-calm g c = λ k lt.
     let laws : CalmLaws = record { counts = c.a_calm_tick_only_counts.ensures.once; tells = c.a_calm_tick_tells_nothing_new.ensures.calm; fifos = c.a_quiet_clock_changes_nothing.ensures } in
     let b = c.self.inside in
     let t : TwinRun = record { own = b.own; first = b.first; second = b.second } in
@@ -25,16 +25,16 @@ rest-requires-2-clause-calm g c = λ k lt.
     (twin_machines_calm laws t c.pads-pad.result c.args.clocks (c.pads-pad.ensures ∙ ap (λ (w : WorkedTwin). twin_pads_in quiet w.twin) (sym c.self.view_is)) told
     (λ j below. subst (λ (w : WorkedTwin). twin_moves_on quiet quiet (twin_from w.twin (λ c. quiet) (λ c. quiet) j) ≡ false) (sym c.self.view_is) (c.requires.calm j below)) k lt).second
 
-pub rest-requires-2-clause-clock : goal.rest-requires-2-clause-clock
-rest-requires-2-clause-clock g c =
+pub leap-requires-2-clause-clock : goal.leap-requires-2-clause-clock
+leap-requires-2-clause-clock g c =
     let clock = ap (λ (w : WorkedTwin). w.twin.first.clock) c.self.view_is in
     omega (arith, clock, c.self.invariant.same, c.requires.clock)
 
 pub invariant_of-self : goal.invariant_of-self
 invariant_of-self g c =
     let b = c.self.inside in
-    let one = ap (λ (r : Run). r.clock) c.rest.ensures ∙ clock-rested c.args.clocks b.first in
-    let other = ap (λ (r : Run). r.clock) c.rest-2.ensures ∙ clock-rested c.args.clocks b.second in
+    let one = ap (λ (r : Run). r.clock) c.leap.ensures ∙ clock-rested c.args.clocks b.first in
+    let other = ap (λ (r : Run). r.clock) c.leap-2.ensures ∙ clock-rested c.args.clocks b.second in
     record {
       calls = omega (arith, one, c.self.invariant.calls);
       same = other ∙ ap (λ (n : ℕ). n + c.args.clocks) c.self.invariant.same ∙ sym one;
@@ -46,7 +46,7 @@ returns-clause-twin g c =
     let b = c.self.inside in
     let t : TwinRun = record { own = b.own; first = b.first; second = b.second } in
     let told : AreBothTold t = record { first = c.stalls_are_told.ensures; second = c.stalls_are_told-2.ensures } in
-    rw (c.rest.ensures, c.rest-2.ensures)
+    rw (c.leap.ensures, c.leap-2.ensures)
     (sym (twin_rests laws t told c.args.clocks
     (λ j below. subst (λ (w : WorkedTwin). twin_moves_on quiet quiet (twin_from w.twin (λ c. quiet) (λ c. quiet) j) ≡ false) (sym c.self.view_is) (c.requires.calm j below)))
     ∙ ap (λ (w : WorkedTwin). twin_from w.twin (λ c. quiet) (λ c. quiet) c.args.clocks) c.self.view_is)

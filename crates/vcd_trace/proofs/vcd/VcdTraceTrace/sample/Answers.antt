@@ -3,7 +3,7 @@ use Rattle.pio_edge.specs.Edge.{with_bytes}
 use Rattle.pio_edge.proofs.PutLaws.{with_bytes-nil}
 use Rattle.block_core.specs.declared.sample.Sample.{Sample}
 use Rattle.vcd_trace.specs.TextForm.{HasPut}
-use Rattle.vcd_trace.specs.Told.{told_at}
+use Rattle.sample_trace.specs.Told.{told_at}
 use Rattle.vcd_trace.specs.VcdText.{vcd_form}
 use Rattle.vcd_trace.proofs.FormLaws.{one_put, one_breaks}
 use Rattle.vcd_trace.proofs.ToldLaws.{again-adds_nothing, repeats_add-nothing}

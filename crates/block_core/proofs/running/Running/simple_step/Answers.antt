@@ -1,0 +1,102 @@
+use Rattle.std.proofs.Common.{◌≡◌, true, false, ◌&&◌, Some, refl, ap, sym, subst, ◌∙◌}
+use Rattle.pin_matrix.specs.Pads.{seen_of}
+use Rattle.sm_registers.specs.View.{View}
+use Rattle.sm_registers.specs.Intents.{written_by}
+use Rattle.dreq_pacing.specs.Due.{quiet}
+use Rattle.block_core.specs.Block.{Run, next_over, uses_fifos_over}
+use Rattle.block_core.specs.Kept.{IsSampleOf, are_empty, is_simple_over, state_of}
+use Rattle.block_core.specs.Shown.{sample_of}
+use Rattle.block_core.specs.Slots.{is_simple, place_after, place_intent}
+use Rattle.block_core.specs.declared.sample.Sample.{Sample}
+use Rattle.block_core.proofs.Showing.{shows_first, first_new, outputs_new}
+use Rattle.block_core.proofs.Simple.{AllEmpty, IsSimple, all_empty, simple_run, simple_uses_none, simple_shows, some_same, stays_empty}
+use Rattle.block_core.proofs.SimpleClocks.{WantsPins}
+use Rattle.block_core.proofs.Steps.{in_step_after}
+use Rattle.block_core.proofs.Told.{place_told}
+use Rattle.block_core.proofs.Wanting.{view}
+use Rattle.block_core.proofs.running.Running.simple_step.Given.{Over}
+use Rattle.block_core.proofs.running.Running.simple_step.Goals as goal
+use Rattle.block_core.proofs.running.Running.simple_step.Goals.{else-not-self-via-then-not-self+else-not-self-2, else-not-self-via-else-not-self}
+
+-- the block knows that the other places are empty
+alone : (g : Over) (c : goal.After-show_pins g) → c.self.inside.alone ≡ true
+alone g c = elim c.else-not-self.branch [
+  | else-not-self-via-then-not-self+else-not-self-2 w ↦ w.if-not-self-2.false
+  | else-not-self-via-else-not-self w ↦ (c.self.invariant.3 w.if-not-self.false).0
+]
+
+empty : (g : Over) (c : goal.After-show_pins g) → AllEmpty c.self.inside.second c.self.inside.third c.self.inside.fourth
+empty g c =
+    let b = c.self.inside in
+    all_empty b.second b.third b.fourth (sym c.self.invariant.2 ∙ alone g c)
+
+-- and the machine's clock is a simple one
+simple : (g : Over) (c : goal.After-show_pins g) → IsSimple c.self.inside.shared.memory c.self.inside.wanted.outputs.levels c.self.inside.wanted.outputs.directions c.self.inside.shared.flags.up c.self.inside.shared.sync c.args.pad (seen_of c.self.inside.shared.sync.bypass c.args.pad c.self.inside.shared.sync.pad_2) c.self.inside.first c.simple_step.new.slot c.simple_step.new.outputs
+simple g c = let b = c.self.inside in let sees = c.new-view.ensures in record {
+  sees = refl;
+  after = c.in_ok-ready.ensures.after refl ∙ ap (λ (v : View). place_after v quiet b.first) sees;
+  outputs = c.in_ok-ready.ensures.outputs refl ∙ ap (λ (v : View). written_by b.wanted.outputs (place_intent v quiet b.first)) sees;
+  wants = subst (λ (v : View). WantsPins (place_intent v quiet b.first)) sees (c.in_ok-ready.ensures.wants refl);
+}
+
+pub invariant_of-self-2 : goal.invariant_of-self-2
+invariant_of-self-2 g c =
+    let b = c.self.inside in
+    let v = view b.shared.memory (seen_of b.shared.sync.bypass c.args.pad b.shared.sync.pad_2) b.shared.flags.up in
+    let kept = c.self.invariant.0 in
+    let law = c.a_calm_tick_tells_nothing_new.ensures in
+    let none = empty g c in
+    let after = (simple g c).after in
+    let second = stays_empty v quiet b.second none.second in
+    let third = stays_empty v quiet b.third none.third in
+    let fourth = stays_empty v quiet b.fourth none.fourth in
+    let shows = simple_shows c.a_quiet_clock_changes_nothing.ensures b.shared.memory b.wanted.outputs.levels b.wanted.outputs.directions b.shared.flags.up b.shared.sync c.args.pad _ b.first c.simple_step.new.slot c.simple_step.new.outputs b.sample (simple g c) (shows_first c.self.invariant.1) in
+    let o = c.simple_step.new.outputs in (
+      record {
+        told = (
+          place_told law.after law.more _ v _ _ _ refl kept.told.0 after,
+          (
+            place_told law.after law.more _ v _ _ _ refl kept.told.1.0 second,
+            (
+              place_told law.after law.more _ v _ _ _ refl kept.told.1.1.0 third,
+              (place_told law.after law.more _ v _ _ _ refl kept.told.1.1.1.0 fourth, tt),
+            ),
+          ),
+        );
+        first = in_step_after _ v quiet _ _ kept.first after;
+        second = in_step_after _ v quiet _ _ kept.second second;
+        third = in_step_after _ v quiet _ _ kept.third third;
+        fourth = in_step_after _ v quiet _ _ kept.fourth fourth;
+      },
+      subst (λ (s : Sample). IsSampleOf (state_of c.simple_step.new.slot b.second b.third b.fourth o.levels o.directions b.shared.flags.up b.outside) s) (sym c.show_pins.ensures.after)
+          (outputs_new (first_new c.self.invariant.1 _ _ shows) o.levels o.directions),
+      c.self.invariant.2,
+      λ h. (alone g c, c.in_ok-ready.ensures.next (ap Some h)),
+    )
+
+pub returns-clause-simple : goal.returns-clause-simple
+returns-clause-simple g c =
+    let b = c.self.inside in
+    let v = view b.shared.memory (seen_of b.shared.sync.bypass c.args.pad b.shared.sync.pad_2) b.shared.flags.up in
+    subst (λ (r : Run). true ≡ is_simple_over c.args.pad r) c.self.view_is
+    (ap (λ x. x && true) (sym (sym c.self.invariant.2 ∙ alone g c))
+    ∙ ap (λ x. are_empty b.second b.third b.fourth && x) (c.in_ok-ready.ensures.simple ∙ ap (λ (w : View). is_simple w b.first) c.new-view.ensures))
+
+pub returns-clause-run : goal.returns-clause-run
+returns-clause-run g c = λ done.
+    let b = c.self.inside in
+    simple_run b.shared.memory b.clock b.wanted.outputs.levels b.wanted.outputs.directions b.shared.flags.up b.outside b.shared.sync c.step.new.self c.args.pad _ b.first b.second b.third b.fourth c.simple_step.new.slot c.simple_step.new.outputs (empty g c) (simple g c) c.step.ensures
+    ∙ ap (next_over c.args.pad quiet) c.self.view_is
+
+pub returns-clause-used : goal.returns-clause-used
+returns-clause-used g c = λ done.
+    let b = c.self.inside in
+    subst (λ (r : Run). uses_fifos_over c.args.pad quiet r ≡ false) c.self.view_is
+    (simple_uses_none b.shared.memory b.clock b.wanted.outputs.levels b.wanted.outputs.directions b.shared.flags.up b.outside b.shared.sync c.args.pad _ b.first b.second b.third b.fourth c.simple_step.new.slot c.simple_step.new.outputs (empty g c) (simple g c))
+
+pub returns-clause-sample : goal.returns-clause-sample
+returns-clause-sample g c = λ told.
+    sym (invariant_of-self-2 g c).1.is
+    ∙ c.show_pins.ensures.same (some_same told)
+    ∙ c.self.invariant.1.is
+    ∙ ap (λ (r : Run). sample_of r.state) c.self.view_is

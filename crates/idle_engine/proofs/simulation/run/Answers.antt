@@ -1,0 +1,177 @@
+use Rattle.std.proofs.Common.{rules, arith, ◌≡◌, ℕ, ◌+◌, Bool, false, true, Option, List, Result, Ok, Err, OnErr, subst, refl, sym, ap, ◌∙◌}
+use Rattle.std.proofs.lemmas.Result.{on_err_weaker, on_ok_weaker}
+use Rattle.sample_trace.specs.Told.{IsNext, held_to}
+use Rattle.idle_engine.specs.Kinds.{IsUntil, shown_at}
+use Rattle.idle_engine.proofs.Held.{IsTold, is-held, is-next, is-told, told-after, told-none}
+use Rattle.idle_engine.proofs.Passing.{IsAfterRest, after_rest, course-next, in_clocks, shown-next, shows-again}
+use Rattle.idle_engine.proofs.Working.{worked-grows, worked-later, worked-none}
+use Rattle.idle_engine.proofs.simulation.run.Given.{Over}
+use Rattle.idle_engine.proofs.simulation.run.Goals as goal
+
+-- what holds at all holds at an error
+on_err : {T E P : Type 0} (r : Result T E) → P → OnErr r P
+on_err (Ok x) p = tt
+on_err (Err e) p = p
+
+pub returns-in_err-open-clause-err : goal.returns-in_err-open-clause-err
+returns-in_err-open-clause-err g c =
+    on_err c.from_residual.result (record {
+      count = 0;
+      within = omega arith;
+      ended = false;
+      whole = λ e. cc;
+      run = sym c.requires.course.begins;
+      breaks = λ b r. subst (λ (l : List g.row.V.Denot). g.T.Telling.broken c.open.new.self b l false) (sym c.requires.course.samples.none) (c.in_err-open.ensures.err b r);
+    })
+
+pub clocks-init : goal.clocks-init
+clocks-init g c =
+    let course = g.R.Runs.kind.course (g.R.Runs.lines c.args.ports.now) (g.R.Runs.hosted c.args.runs.now c.args.ports.now) in
+    let k = g.R.Runs.kind in
+    let none = worked-none (λ n. k.stirs (g.R.Runs.lines c.args.ports.now) (course.at n)) in
+    record {
+      is_course = c.requires.course;
+      clocks_at = in_clocks k c.is_of_its_kind.ensures.kind (g.R.Runs.lines c.args.ports.now) _ _ c.requires.course;
+      run = sym c.requires.course.begins;
+      lines = refl;
+      ready = c.requires.ready;
+      within = omega arith;
+      until = c.rests_until-until.ensures;
+      stirs = λ some. absurd (omega arith);
+      working = search rules;
+      told = told-none (shown_at k course) course.samples c.requires.course.samples _
+          (λ b r. subst (λ (l : List g.row.V.Denot). g.T.Telling.holds c.open.new.self b l false) (sym c.requires.course.samples.none) (c.in_ok-open.ensures.ok b r));
+      count = search rules;
+      name = search rules;
+      steps = search rules;
+      worked = omega arith;
+    }
+
+pub step-rests-requires-clause-clock : goal.step-rests-requires-clause-clock
+step-rests-requires-clause-clock g c =
+    let inv = c.clocks.invariant in
+    subst (λ (h : g.R.Runs.Hosted). g.R.Runs.kind.in_clock h c.clocks.clock) (sym inv.run) (inv.clocks_at c.clocks.clock)
+
+pub rest-clock-requires-clause-clock : goal.rest-clock-requires-clause-clock
+rest-clock-requires-clause-clock g c =
+    let course = g.R.Runs.kind.course (g.R.Runs.lines c.args.ports.now) (g.R.Runs.hosted c.args.runs.now c.args.ports.now) in
+    let inv = c.clocks.invariant in
+    let k = g.R.Runs.kind in
+    let run = course-next k (g.R.Runs.lines c.args.ports.now) (g.R.Runs.lines c.clocks.ports) _ course inv.is_course c.clocks.clock _ _ inv.run inv.lines c.step-rests.ensures.run in
+    subst (λ (h : g.R.Runs.Hosted). k.in_clock h (c.clocks.clock + 1)) (sym run) (inv.clocks_at (c.clocks.clock + 1))
+
+pub returns-in_err-tell-clause-err : goal.returns-in_err-tell-clause-err
+returns-in_err-tell-clause-err g c =
+    let course = g.R.Runs.kind.course (g.R.Runs.lines c.args.ports.now) (g.R.Runs.hosted c.args.runs.now c.args.ports.now) in
+    let inv = c.clocks.invariant in
+    let k = g.R.Runs.kind in
+    let n = c.clocks.clock in
+    let run = course-next k (g.R.Runs.lines c.args.ports.now) (g.R.Runs.lines c.clocks.ports) _ course inv.is_course n _ _ inv.run inv.lines c.step-rests.ensures.run in
+    let s = shown-next k course n _ _ run (c.is_of_its_kind.ensures.shows c.step-rests.new.runs c.step-rests.new.ports) in
+    on_err c.from_residual-in_err-tell.result (record {
+      count = n + 1;
+      within = omega arith;
+      ended = false;
+      whole = λ e. cc;
+      run = run;
+      breaks = λ b r.
+          subst (λ (l : List g.row.V.Denot). g.T.Telling.broken c.tell.new.trace b l false)
+          (is-told (shown_at k course) course.samples inv.is_course.samples n _ inv.told _ s)
+          (c.in_err-tell.ensures.err b (course.samples inv.told.last) (inv.told.told b r) (is-next (shown_at k course) course.samples inv.is_course.samples n _ inv.told));
+    })
+
+pub returns-in_err-tell-clause-most : goal.returns-in_err-tell-clause-most
+returns-in_err-tell-clause-most g c =
+    let course = g.R.Runs.kind.course (g.R.Runs.lines c.args.ports.now) (g.R.Runs.hosted c.args.runs.now c.args.ports.now) in
+    let inv = c.clocks.invariant in
+    let test : ℕ → Bool = λ n. g.R.Runs.kind.stirs (g.R.Runs.lines c.args.ports.now) (course.at n) in
+    let one = worked-later test c.clocks.clock (c.clocks.clock + 1) (omega arith) (λ some. inv.stirs some c.clocks-test.true) (λ j low below. absurd (omega arith)) in
+    let more = worked-grows test (c.clocks.clock + 1) c.args.clocks (omega arith) in
+    omega (arith, inv.worked, one, more, c.count.ensures)
+
+-- the run after the clocks that were passed over
+run_after : (g : Over) (c : goal.After-rest-clock g) → IsAfterRest g.R.Runs.kind (g.R.Runs.lines c.args.ports.now) (g.R.Runs.kind.course (g.R.Runs.lines c.args.ports.now) (g.R.Runs.hosted c.args.runs.now c.args.ports.now)) c.clocks.clock c.rest-clock.result c.step-rests.result.0 c.args.clocks (g.R.Runs.hosted c.rest-clock.new.runs c.step-rests.new.ports)
+run_after g c =
+    let course = g.R.Runs.kind.course (g.R.Runs.lines c.args.ports.now) (g.R.Runs.hosted c.args.runs.now c.args.ports.now) in
+    let inv = c.clocks.invariant in
+    let k = g.R.Runs.kind in
+    let lines = g.R.Runs.lines c.args.ports.now in
+    let run = course-next k lines (g.R.Runs.lines c.clocks.ports) _ course inv.is_course c.clocks.clock _ _ inv.run inv.lines c.step-rests.ensures.run in
+    let own : g.R.Runs.lines c.step-rests.new.ports ≡ lines = c.step-rests.ensures.lines ∙ inv.lines in
+    let until = subst (λ (l : g.R.Runs.Lines). IsUntil (k.acts l (g.R.Runs.hosted c.step-rests.new.runs c.step-rests.new.ports)) c.args.clocks (c.clocks.clock + 1) c.step-rests.result.0) own c.step-rests.ensures.until in
+    after_rest k c.is_of_its_kind.ensures.kind lines _ course inv.is_course inv.clocks_at c.clocks.clock c.rest-clock.result c.step-rests.result.0 c.args.clocks _ _ run
+    c.rest-clock.ensures.from c.rest-clock.ensures.until until c.rest-clock.ensures.run c.rest-clock.ensures.calm c.rest-clock.ensures.moves
+
+-- what the trace was told of by then
+told_after : (g : Over) (c : goal.After-rest-clock g) → IsTold (shown_at g.R.Runs.kind (g.R.Runs.kind.course (g.R.Runs.lines c.args.ports.now) (g.R.Runs.hosted c.args.runs.now c.args.ports.now))) (g.R.Runs.kind.course (g.R.Runs.lines c.args.ports.now) (g.R.Runs.hosted c.args.runs.now c.args.ports.now)).samples c.rest-clock.result (λ s. (b : Option (List ℕ)) → g.T.Telling.ready c.args.trace.now b → g.T.Telling.holds c.tell.new.trace b s false)
+told_after g c =
+    let course = g.R.Runs.kind.course (g.R.Runs.lines c.args.ports.now) (g.R.Runs.hosted c.args.runs.now c.args.ports.now) in
+    let inv = c.clocks.invariant in
+    let k = g.R.Runs.kind in
+    let n = c.clocks.clock in
+    let run = course-next k (g.R.Runs.lines c.args.ports.now) (g.R.Runs.lines c.clocks.ports) _ course inv.is_course n _ _ inv.run inv.lines c.step-rests.ensures.run in
+    let s = shown-next k course n _ _ run (c.is_of_its_kind.ensures.shows c.step-rests.new.runs c.step-rests.new.ports) in
+    told-after (shown_at k course) course.samples inv.is_course.samples n c.rest-clock.result _ c.step-rests.result.1 _ _ c.rest-clock.ensures.from (run_after g c).same s
+    (λ old some. shows-again k course n _ _ inv.run run (c.step-rests.ensures.sample old) some) inv.told
+    (λ tells holds next b r. c.in_ok-tell.ensures.ok tells b (course.samples inv.told.last) (holds b r) next)
+    (λ again l holds b r. subst (λ t. g.T.Telling.holds t b l false) (sym (c.in_ok-tell.ensures.again again)) (holds b r))
+
+pub clocks-preserved : goal.clocks-preserved
+clocks-preserved g c =
+    let course = g.R.Runs.kind.course (g.R.Runs.lines c.args.ports.now) (g.R.Runs.hosted c.args.runs.now c.args.ports.now) in
+    let inv = c.clocks.invariant in
+    let k = g.R.Runs.kind in
+    let lines = g.R.Runs.lines c.args.ports.now in
+    let after = run_after g c in
+    let until = c.step-rests.ensures.until in
+    let test : ℕ → Bool = λ n. k.stirs lines (course.at n) in
+    let one = worked-later test c.clocks.clock c.rest-clock.result c.rest-clock.ensures.from (λ some. inv.stirs some c.clocks-test.true) after.still in
+    record {
+      is_course = inv.is_course;
+      clocks_at = inv.clocks_at;
+      run = after.run;
+      lines = c.step-rests.ensures.lines ∙ inv.lines;
+      ready = c.is_of_its_kind.ensures.waits c.step-rests.new.ports _ (c.clocks.clock + 1) c.rest-clock.result c.step-rests.ensures.ready c.rest-clock.ensures.from (λ j low below. until.rests j low (omega (arith, c.rest-clock.ensures.until)));
+      within = omega (arith, c.rest-clock.ensures.until, until.within);
+      until = after.rests;
+      stirs = λ some. after.stirs;
+      working = search rules;
+      told = told_after g c;
+      count = search rules;
+      name = search rules;
+      steps = search rules;
+      worked = omega (arith, inv.worked, one, c.count.ensures);
+    }
+
+pub returns-clause-ok : goal.returns-clause-ok
+returns-clause-ok g c =
+    let course = g.R.Runs.kind.course (g.R.Runs.lines c.args.ports.now) (g.R.Runs.hosted c.args.runs.now c.args.ports.now) in
+    let inv = c.clocks.invariant in
+    let at = shown_at g.R.Runs.kind course in
+    let all = course.samples in
+    let n = c.args.clocks in
+    let at_end : c.clocks.clock ≡ n = omega arith in
+    let next = subst (λ (m : ℕ). IsNext (all inv.told.last) m) at_end (is-next at all inv.is_course.samples c.clocks.clock _ inv.told) in
+    let held = subst (λ (m : ℕ). held_to m (all inv.told.last) ≡ all m) at_end (is-held at all inv.is_course.samples c.clocks.clock _ inv.told) in
+    on_ok_weaker c.close.result (λ end b r.
+    subst (λ (l : List g.row.V.Denot). g.T.Telling.holds c.close.new.self b l true) held (end b (all inv.told.last) (inv.told.told b r) next)) c.close.ensures.ok
+
+pub returns-clause-err : goal.returns-clause-err
+returns-clause-err g c =
+    let course = g.R.Runs.kind.course (g.R.Runs.lines c.args.ports.now) (g.R.Runs.hosted c.args.runs.now c.args.ports.now) in
+    let inv = c.clocks.invariant in
+    let at = shown_at g.R.Runs.kind course in
+    let all = course.samples in
+    let n = c.args.clocks in
+    let at_end : c.clocks.clock ≡ n = omega arith in
+    let next = subst (λ (m : ℕ). IsNext (all inv.told.last) m) at_end (is-next at all inv.is_course.samples c.clocks.clock _ inv.told) in
+    let held = subst (λ (m : ℕ). held_to m (all inv.told.last) ≡ all m) at_end (is-held at all inv.is_course.samples c.clocks.clock _ inv.told) in
+    on_err_weaker c.close.result (λ end. record {
+      count = n;
+      within = omega arith;
+      ended = true;
+      whole = λ e. refl;
+      run = inv.run ∙ ap course.at at_end;
+      breaks = λ b r.
+          subst (λ (l : List g.row.V.Denot). g.T.Telling.broken c.close.new.self b l true) held (end b (all inv.told.last) (inv.told.told b r) next);
+    }) c.close.ensures.err

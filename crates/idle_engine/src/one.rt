@@ -1,0 +1,79 @@
+//! A run of one block beside a stimulus.
+ghost use Rattle.std.specs.Prelude.{◌≡◌, ◌≤◌, List};
+ghost use Rattle.idle_engine.specs.One.{one};
+
+use crate::kind::{Runs, Shows, until};
+use block_core::{
+    Block, News, Sample, a_rest_shows_nothing_new, unused_fifos_ask_as_before, what_begins_moves_on,
+};
+use dreq_pacing::{HostPorts, a_clock_without_acts_does_nothing};
+use fifo_pair::Fifo;
+
+impl<F: Fifo> Shows<Sample> for Block<F> {
+    ghost use Rattle.block_core.specs.Shown.{sample_of};
+
+    ghost shows = { λ b. sample_of b.run.state };
+}
+
+impl<'a, F: Fifo> Runs<Sample, HostPorts<'a>> for Block<F> {
+    ghost use Rattle.dreq_pacing.specs.declared.line.Line.{Line};
+    ghost use Rattle.dreq_pacing.specs.Lines.{NoneBetween};
+    ghost use Rattle.block_core.specs.Hosted as spec;
+
+    ghost Hosted = { spec.Hosted };
+
+    ghost Lines = { List Line };
+
+    ghost kind = { one };
+
+    ghost hosted = { λ b p. record { run = b.run; transfers = p.transfers } };
+
+    ghost lines = { λ p. p.lines };
+
+    ghost ready = { λ p n. (p.next ≤ n) × NoneBetween p.lines p.next n };
+
+    ghost calls = { λ b. b.calls };
+
+    #[inline(always)]
+    fn is_of_its_kind(&self, _ports: &HostPorts<'a>) {
+        a_clock_without_acts_does_nothing();
+    }
+
+    #[cold]
+    #[inline(never)]
+    fn asked_clock(&mut self, ports: &mut HostPorts<'a>, clock: u64) {
+        let due = ports.at(clock, &self.requests());
+        self.clock(&due);
+    }
+
+    #[inline(always)]
+    fn quiet_clock(&mut self, _ports: &HostPorts<'a>, _clock: u64) -> News {
+        unused_fifos_ask_as_before();
+        Block::quiet_clock(self)
+    }
+
+    #[cold]
+    #[inline(never)]
+    fn rests_until(&self, ports: &HostPorts<'a>, clock: u64, end: u64) -> u64 {
+        until(ports.next_due(clock, &self.requests()), end)
+    }
+
+    #[inline(always)]
+    fn plainly_moves_on(&self, _ports: &HostPorts<'a>) -> bool {
+        what_begins_moves_on();
+        Block::plainly_moves_on(self)
+    }
+
+    #[cold]
+    #[inline(never)]
+    fn moves_after(&self, _ports: &HostPorts<'a>, most: u64) -> u64 {
+        until(self.next_stir(), most)
+    }
+
+    #[cold]
+    #[inline(never)]
+    fn leap(&mut self, _ports: &HostPorts<'a>, _clock: u64, clocks: u64) {
+        a_rest_shows_nothing_new();
+        Block::leap(self, clocks);
+    }
+}

@@ -1,0 +1,59 @@
+-- Simple ticks, which are most of what a busy machine does: they want nothing of FIFOs and flags, and no more than one tick of an
+-- instruction is asked for them.
+--   has_no_wish    an act that never waits, and wants nothing of FIFOs and flags under any setup
+--   never_waits    the same without autopull: OUT, too
+--   begins_anew    the next tick begins an instruction from memory
+--   is_ready       the same on a machine without autopull
+--   is_simple      the next tick is simple
+use Rattle.std.specs.Prelude.{◌==◌, nat_lt, Bool, true, false, not, ◌&&◌, is_some, if◌then◌else◌}
+use Rattle.pio_encode.specs.declared.act.Act.{Act}
+use Rattle.pio_encode.specs.declared.act.Act.TheVariants.{Jmp, Wait, In, Out, Push, Pull, Mov, Irq, Set, Nothing}
+use Rattle.pio_encode.specs.Word.{reading_of}
+use Rattle.pin_matrix.specs.declared.machine.MachineSetup.{MachineSetup}
+use Rattle.sm_registers.specs.declared.registers.Registers.{Registers}
+use Rattle.sm_registers.specs.View.{View}
+use Rattle.sm_registers.specs.Idling.{is_unmet}
+use Rattle.sm_registers.specs.Tick.{current_word}
+
+-- it has all its effects in its first tick, and none of them is at a FIFO or a flag (RP2040 Datasheet, sections 3.4.2, 3.4.8, 3.4.10)
+abbrev pub has_no_wish : Act → Bool
+has_no_wish (Jmp condition address) = true
+has_no_wish (Wait polarity source index) = false
+has_no_wish (In source count) = false
+has_no_wish (Out destination count) = false
+has_no_wish (Push if_full block) = false
+has_no_wish (Pull if_empty block) = false
+has_no_wish (Mov destination operation source) = true
+has_no_wish (Irq clear wait index) = false
+has_no_wish (Set destination value) = true
+has_no_wish Nothing = true
+
+-- the same without autopull, where OUT never waits either (section 3.4.5)
+abbrev pub never_waits : Act → Bool
+never_waits (Jmp condition address) = true
+never_waits (Wait polarity source index) = false
+never_waits (In source count) = false
+never_waits (Out destination count) = true
+never_waits (Push if_full block) = false
+never_waits (Pull if_empty block) = false
+never_waits (Mov destination operation source) = true
+never_waits (Irq clear wait index) = false
+never_waits (Set destination value) = true
+never_waits Nothing = true
+
+-- no delay is left, no stall goes on, and no word is pending
+abbrev pub begins_anew : Registers → Bool
+begins_anew r = (r.delay == 0) && (not r.begun && not (is_some r.pending))
+
+-- autopull, which may refill the OSR in any tick, is off
+abbrev pub is_ready : MachineSetup → Registers → Bool
+is_ready s r = not s.autopull && begins_anew r
+
+-- Autopull is off, and the tick only counts a delay; or a WAIT that stalled before only waits once more; or it is the only tick of an
+-- instruction from memory that never waits.
+abbrev pub is_simple : MachineSetup → View → Registers → Bool
+is_simple s v r = let act = (reading_of (current_word v r) s.side_rule).act in
+    if s.autopull then false else
+    if nat_lt 0 r.delay then true else
+    if r.begun then is_unmet act s v else
+    not (is_some r.pending) && never_waits act
