@@ -1,4 +1,6 @@
 //! The tables of rows, each run with both kinds of FIFO.
+ghost use Rattle.std.specs.Prelude.{◌<◌, length, IsTrue, IsSome};
+
 use crate::machine_fifos::FIFOS;
 use crate::machine_flow::FLOW;
 use crate::machine_pins::PINS;
@@ -56,7 +58,10 @@ enum By {
 }
 
 /// A tick, and what it wants of FIFOs and flags.
-fn tick<F: Fifo>(machine: &mut Machine<F>, around: &mut Around, by: By) -> Intent {
+fn tick<F: Fifo>(machine: &mut Machine<F>, around: &mut Around, by: By) -> Intent
+    ensures take { IsTrue result.take → 0 < length machine.new.ports.fifos.tx }
+    ensures word { IsSome result.word → length machine.new.ports.fifos.rx < machine.new.ports.fifos.rx_room }
+{
     let view = View::new(&around.shared, 0);
     let outputs = &mut around.outputs;
     match by {
