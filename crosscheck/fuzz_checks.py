@@ -14,7 +14,7 @@ import observers_model
 import shares_model
 import source_model
 import span_model
-from fuzz_calls import Violation
+from fuzz_calls import ABSENT, Violation
 from fuzz_files import CONFIG, SECOND, SENT, SOURCE, STIMULUS, TABLE, WORDS, tables_as_toml
 
 CHECKS = {}
@@ -70,52 +70,77 @@ def without_spans(files):
 
 @check(SOURCE)
 def first_fault(program, files, asked):
-    """Every command over the same files tells the same first fault, and it is that of the models.
+    """Every command over the same files tells the same first fault, and it is that of the models; so a TOML document is taken where Python's
+    reader takes it, but for what docs/DECISIONS.md names ("What is TOML?").
 
     Why: a call ends with 1 exactly where a file has its first fault, and source, configuration and stimulus are read in this order by all ("Ends").
     """
-    names = [json.dumps(it["name"]) for it in spans_said(files)]
-    name = json.loads(names[asked["place"] % len(names)]) if names else "none"
-    ask = block_words(files)
-    clocks = ["--clocks", str(asked["clocks"])]
-    faults = []
-    listed = program.twice("asm", SOURCE)
+    name, fault, ended = name_asked(files, asked), None, {}
+    for file, stage in stages(files, asked, name).items():
+        told = [program.call(*words) for words in stage]
+        ended |= {it.words[0]: it for it in told}
+        if fault is None and (file in files):
+            look_at_fault(told[0], by_model(file, files), file == CONFIG and models.OTHERWISE.search(files[CONFIG]))
+        fault = fault or (told[0] if told[0].status == 1 else None)
+        for other in told:
+            look_at_first(other, fault)
+    if fault is None:
+        need_alike(ended["run"], ended["check"])
+        listed = by_model(SOURCE, files, source_listing)
+        need(listed in (models.Unknown, ended["asm"].out), "the listing isn't the model's", ended["asm"])
+        report = by_model(CONFIG, files, shares_report)
+        need(report in (models.Unknown, ended["shares"].out), "shares isn't the model's", ended["shares"])
+    later = [pair_words(files, asked["clocks"])] if SECOND in files else []
+    later += [["recheck", *block_words(files, TABLE), "--span", name]] if TABLE in files else []
+    for words in later:
+        other = program.call(*words)
+        if fault and b"stimulus" not in fault.err:
+            look_at_first(other, fault)
+    return True
+
+
+def stages(files, asked, name):
+    """The commands that read nothing after this file."""
+    ask, clocks = block_words(files), ["--clocks", str(asked["clocks"])]
+    observe = [*block_words(files, STIMULUS), *clocks]
+    return {
+        SOURCE: [["asm", SOURCE]],
+        CONFIG: [["shares", *ask], ["check", *ask], ["table", *ask, "--span", name]],
+        STIMULUS: [["measure", *observe], ["receive", *observe, "--pin", str(asked["pin"]), "--bit", str(asked["bit"])], ["run", *observe]],
+    }
+
+
+def source_listing(files):
+    programs, _ = models.programs_of(files[SOURCE])
+    return source_model.listing([it.listed for it in programs.values()]).encode()
+
+
+def shares_report(files):
+    block = models.Block(files[SOURCE], files.get(CONFIG))
+    return shares_model.report(block.memory, block.setups).encode()
+
+
+def by_model(file, files, ask=None):
+    """The first fault of a file by the models, or what else is asked of them, or Unknown."""
+    asks = {
+        SOURCE: lambda files: models.programs_of(files[SOURCE])[1],
+        CONFIG: lambda files: models.config_fault(files[SOURCE], files[CONFIG]),
+        STIMULUS: lambda files: models.stimulus_fault(files[STIMULUS]),
+    }
     try:
-        programs, fault = models.programs_of(files[SOURCE])
-        look_at_fault(listed, fault)
-        wanted = source_model.listing([it.listed for it in programs.values()]).encode()
-        need(fault or listed.out == wanted, "the listing isn't the model's", listed)
+        return (ask or asks[file])(files)
     except models.Unknown:
-        pass
-    faults += [listed] if listed.status == 1 else []
-    read = program.twice("shares", *ask)
-    if not faults and CONFIG in files and known(models.config_fault, files[SOURCE], files[CONFIG]) is not models.Unknown:
-        look_at_fault(read, models.config_fault(files[SOURCE], files[CONFIG]), models.OTHERWISE.search(files[CONFIG]))
-    if not faults and read.status == 1:
-        faults.append(read)
-    checked, tabled = program.call("check", *ask), program.call("table", *ask, "--span", name)
-    for ended in (read, checked, tabled):
-        look_at_first(ended, faults)
-    measured = program.twice("measure", *block_words(files, STIMULUS), *clocks)
-    if not faults and STIMULUS in files:
-        look_at_fault(measured, models.stimulus_fault(files[STIMULUS]))
-    if not faults and measured.status == 1:
-        faults.append(measured)
-    options = ["--pin", str(asked["pin"]), "--bit", str(asked["bit"])]
-    received = program.call("receive", *block_words(files, STIMULUS), *clocks, *options)
-    ran = program.twice(*run_words(files, asked["clocks"]))
-    for ended in (measured, received, ran):
-        look_at_first(ended, faults)
-    if not faults:
-        need((ran.status, ran.err) == (checked.status, checked.err), "run and check end in two ways", ran, checked)
-    if SECOND in files:
-        paired = program.twice(*pair_words(files, asked["clocks"]))
-        if faults and faults[0] is not measured:
-            look_at_first(paired, faults)
-    if TABLE in files:
-        taken = program.twice("recheck", *block_words(files, TABLE), "--span", name)
-        if faults and faults[0] is not measured:
-            look_at_first(taken, faults)
+        return models.Unknown
+
+
+def name_asked(files, asked):
+    """The name of a span of the configuration, or another one."""
+    names = [it["name"] for it in spans_said(files)]
+    return names[asked["place"] % len(names)] if names else "none"
+
+
+def need_alike(ran, checked):
+    need((ran.status, ran.err) == (checked.status, checked.err), "run and check end in two ways", ran, checked)
 
 
 def spans_said(files):
@@ -127,25 +152,17 @@ def spans_said(files):
         return []
 
 
-def known(ask, *parts):
-    """What the models say, or Unknown."""
-    try:
-        return ask(*parts)
-    except models.Unknown:
-        return models.Unknown
-
-
 def look_at_fault(ended, fault, is_otherwise=False):
     """Looks whether a call ends with the fault that the models say, or with none."""
     told = ended.err.decode().removeprefix("piotool: ").rstrip("\n") if ended.status == 1 else None
-    if is_otherwise and "config file: C1" in (told, fault):
+    if fault is models.Unknown or is_otherwise and "config file: C1" in (told, fault):
         return
     need(told == fault, f"the first fault is {fault} by the model, and {told} here", ended)
 
 
-def look_at_first(ended, faults):
-    if faults:
-        same(ended, faults[0], "two commands tell two first faults")
+def look_at_first(ended, fault):
+    if fault:
+        same(ended, fault, "two commands tell two first faults")
     else:
         need(ended.status != 1 or ended.err == b"piotool: nospan\n", "a fault that no command before told", ended)
 
@@ -272,7 +289,7 @@ def verdicts(program, files, asked):
     need(told.status == (3 if refused else 0), "the status of check isn't that of its lines", told)
     ran = program.call(*run_words(files, asked["fewer"]))
     if ran.status != 1:
-        need((ran.status, ran.err) == (told.status, told.err), "run and check end in two ways", ran, told)
+        need_alike(ran, told)
     for place in sorted({names.index(name) for name in names})[: 1 + asked["place"] % 3]:
         line = lines[place]
         ended = program.call("table", *block_words(files), "--span", names[place])
@@ -304,7 +321,7 @@ def changed_table(program, files, asked):
         tables = [files[TABLE]]
     else:
         made = program.call("table", *block_words(files), "--span", span["name"])
-        tables = [changed(chance, made.out) for _ in range(4)] if made.status == 0 else []
+        tables = [changed(chance, made.out) for _ in range(6)] if made.status == 0 else []
     for table in tables:
         rows, wanted = models.rows_of(table)
         if not wanted:
@@ -368,7 +385,7 @@ def words(program, files, asked):
     Why: a file of words has one reading, and a text means exactly its word ("Commands", "Texts of words").
     """
     bits, opt = asked["side"], asked["opt"] and asked["side"] < 5
-    read = program.twice("dis", WORDS, "--side", str(bits), *(["--opt"] if opt else []))
+    read = program.call("dis", WORDS, "--side", str(bits), *(["--opt"] if opt else []))
     numbers, fault = models.words_of(files[WORDS])
     look_at_fault(read, fault)
     wanted = "" if fault else source_model.words_listed(numbers, bits, opt)
@@ -472,13 +489,14 @@ def blanks(program, files, asked):
 
 def with_blanks(chance, name, content):
     """A file with more blanks and comments, and other line ends."""
-    if len(content) > 100_000 or name == CONFIG and (b'"""' in content or b"'''" in content):
+    if len(content) > 20_000 or name == CONFIG and (b'"""' in content or b"'''" in content):
         return content
     lines, ends = content.split(b"\n"), [b"", b"", b" ", b"\t", b"\r"]
     if name == CONFIG:
         comments = [b"", b" # a\t'", b"#"]
     else:
-        comments = [b"", b" ; a ]", b" // %", b"  /* a */"] if name == SOURCE else [b"", b" # a", b"#"]
+        # (a comment of the third kind would end one that is open)
+        comments = ([b"", b" ; a ]", b" // %"] + [b"  /* a */"] * (b"/*" not in content)) if name == SOURCE else [b"", b" # a", b"#"]
     for place, line in enumerate(lines):
         if name == CONFIG:
             is_last = place == len(lines) - 1
@@ -519,18 +537,16 @@ def calls(program, files, asked):
     Why: options come in any order, also as --name=X, each at most once, and numbers have their ranges ("Commands"); 2 comes only for these ("Ends").
     """
     chance = random.Random(asked["chance"])
+    program.take({name: b"" for name in NAMES.values()} | {WORDS: b""} | files)
     command = chance.choice(list(FORMS))
-    options, is_wrong = [], False
-    for name in FORMS[command]:
-        if name == "--opt":
-            options += [(name, None)] * chance.choice([0, 1])
-        elif not may_miss(command, name) or chance.random() < 0.7:
-            options.append((name, value_of(chance, name, asked)))
-    place = [] if FORMS[command] and command != "dis" else [SOURCE if command == "asm" else WORDS]
-    if command == "dis" and ("--opt", None) in options:
-        options = [(name, "4" if name == "--side" else value) for name, value in options]
-    how = chance.randrange(12)
-    if how < 6:
+    options, place = right_words(chance, command, asked)
+    how = chance.randrange(16)
+    if how == 0:
+        return call_without_file(program, chance, command, options, place)
+    if how == 1:
+        return need(program.call(*chance.choice(ODD_CALLS)).status == 2, "words that ask for nothing are taken")
+    is_wrong = False
+    if how < 9:
         options, place, is_wrong = made_wrong(chance, how, command, options, place)
     plain = [command, *place, *(word for it in options for word in spelled(*it, False))]
     first = program.call(*plain)
@@ -541,6 +557,38 @@ def calls(program, files, asked):
         need(again.status == 2, "words that are wrong are taken in another order", again)
     else:
         same(first, again, "options in another order or spelling end in another way")
+    return True
+
+
+ODD_CALLS = [[], ["--help"], ["-h"], ["help"], ["ASM", SOURCE], ["asm", "\udcff"], [""], ["run", "--help"], ["asm", SOURCE, SOURCE], ["--", "asm"]]
+ODD_CALLS += [["asm", f"--source={SOURCE}"], ["check", f"--source={SOURCE}", "--clocks", "1"], ["run", SOURCE, "--clocks", "1"], ["check", "--source"]]
+
+
+def right_words(chance, command, asked):
+    """Options of a command with their values, and its file where that has no option."""
+    options = []
+    for name in FORMS[command]:
+        if name == "--opt":
+            options += [(name, None)] * chance.choice([0, 1])
+        elif not may_miss(command, name) or chance.random() < 0.7:
+            options.append((name, value_of(chance, name, asked)))
+    if ("--opt", None) in options:
+        options = [(name, "4" if name == "--side" else value) for name, value in options]
+    return options, {"asm": [SOURCE], "dis": [WORDS]}.get(command, [])
+
+
+def call_without_file(program, chance, command, options, place):
+    """One of the files isn't there, or is a folder: the call ends with 4, or with the fault of a file before it."""
+    absent, named = chance.choice(sorted(ABSENT)), [it for it in options if it[0] in NAMES]
+    if not named and not place:
+        return None
+    name = chance.choice(named)[0] if named else {"asm": "--source", "dis": "--words"}[command]
+    options = [(it, absent if it == name else value) for it, value in options]
+    words = [command, *([absent] if place else []), *(word for it in options for word in spelled(*it, True))]
+    ended = program.call(*words)
+    role = name.removeprefix("--").encode()
+    need(ended.status == 1 or ended.err == b"piotool: shelf %s\n" % role, f"{role.decode()} isn't there", ended)
+    return True
 
 
 def may_miss(command, name):
@@ -563,24 +611,24 @@ def spelled(name, value, is_joined):
 
 def made_wrong(chance, how, command, options, place):
     """The words with a mistake, where one of this kind can be made; and whether there is one."""
-    if how == 0:
+    if how in (2, 3):
         required = [it for it in options if not may_miss(command, it[0])]
         if required:
             dropped = chance.choice(required)
             return [it for it in options if it != dropped], place, True
         return options, [], bool(place)
-    if how == 1 and options:
+    if how == 4 and options:
         return options + [chance.choice(options)], place, True
-    if how in (2, 3):
+    if how in (5, 6):
         numbers = [it for it in options if it[0] in NUMBERS]
         if numbers:
             name = chance.choice(numbers)[0]
             past = [str(NUMBERS[name][1] + 1), str(NUMBERS[name][0] - 1)]
             wrong = chance.choice(past + [chance.choice(NO_NUMBERS)])
             return [(it, wrong if it == name else value) for it, value in options], place, True
-    if how == 4:
+    if how == 7:
         return options + [(chance.choice(["--nothing", "--cloks", "--s", "--sourc", "-c"]), "1")], place, True
-    if how == 5:
+    if how == 8:
         return options, place + [SOURCE], True
     return options, place, False
 
@@ -594,15 +642,17 @@ def memory(program, files, asked):
     files = without_spans(files)
     program.take(files)
     observe = block_words(files, STIMULUS)
-    calls = [["run", *observe], ["measure", *observe], ["receive", *observe, "--pin", str(asked["pin"]), "--bit", "2"], ["gen", "--seed", "7"]]
-    words = calls[asked["place"] % len(calls)]
-    short = program.within(LITTLE, *words, "--clocks", "100")
-    if short == 0:
-        status = program.within(LITTLE, *words, "--clocks", str(LONG))
-        need(status == 0, f"{LONG} clocks end with {status} within {LITTLE} kB, in which 100 clocks end with 0", Called((*words, "--clocks", str(LONG))))
+    others = [["measure", *observe], ["receive", *observe, "--pin", str(asked["pin"]), "--bit", "2"], ["gen", "--seed", str(asked["seed"])]]
+    for words in (["run", *observe], others[asked["place"] % len(others)]):
+        enough = next((kilobytes for kilobytes in ROOMS if program.within(kilobytes, *words, "--clocks", "100") == 0), None)
+        if enough is not None:
+            status = program.within(enough + MORE, *words, "--clocks", str(LONG))
+            long = Called((*words, "--clocks", str(LONG)))
+            need(status == 0, f"{LONG} clocks end with {status} within {enough + MORE} kB, though 100 clocks take {enough} at most", long)
 
 
-LITTLE, LONG = 8_000, 400_000
+# Address space in kB: what short runs are tried in, and how much more a long one may take.
+ROOMS, MORE, LONG = range(4000, 20_000, 500), 1000, 400_000
 
 
 class Called:
@@ -617,7 +667,7 @@ def sent(program, files, asked):
     Why: byte j comes at I * (9 + 80 * j) where I * (85 + 80 * j) is below N ("What the transmitter sends").
     """
     divider, clocks = asked["divider"], asked["many"]
-    heard = program.twice("uart", "--send", SENT, "--divider", str(divider), "--clocks", str(clocks))
+    heard = program.call("uart", "--send", SENT, "--divider", str(divider), "--clocks", str(clocks))
     if len(files[SENT]) <= 65_536:
         told = [(byte, divider * (9 + 80 * place)) for place, byte in enumerate(files[SENT]) if divider * (85 + 80 * place) < clocks]
         wanted = "".join(f"byte 0x{byte:02x} at {clock}\n" for byte, clock in told)
@@ -633,6 +683,6 @@ def drawn_load(program, files, asked):
     seed = str(asked["seed"])
     counts = []
     for clocks in (asked["fewer"], asked["clocks"]):
-        ended = program.twice("gen", "--seed", seed, "--clocks", str(clocks))
+        ended = program.call("gen", "--seed", seed, "--clocks", str(clocks))
         counts.append([int(line.split()[-1]) for line in ended.out.splitlines()])
     need(len(counts[0]) == 6 and all(few <= many for few, many in zip(*counts)), f"the counts are {counts}", ended)

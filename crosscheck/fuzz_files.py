@@ -83,6 +83,29 @@ def a_timed_run(random, _):
     return {SOURCE: case.source.encode(), CONFIG: tables_as_toml(tables).encode(), STIMULUS: case.stimulus.encode()}
 
 
+class Talking(cases.Run):
+    """Programs that often raise flags and wait for them."""
+
+    def word(self):
+        random = self.random
+        if random.random() < 0.4:
+            return super().word()
+        index = random.randrange(8) | random.choice([0, 0, 16])
+        raising, waiting = random.choice([0xC000, 0xC020, 0xC040]), random.choice([0x2040, 0x20C0])
+        return random.choice([raising, waiting]) | index
+
+
+def a_talk(random, _):
+    """A block whose machines have pins of their own, so that they share flags or nothing."""
+    case = Talking(random)
+    tables = tomllib.loads(case.config)
+    for table in tables["machine"]:
+        for key in ("in_base", "out_base", "set_base", "side_base", "jmp_pin"):
+            table[key] = 8 * table["id"]
+        table["out_count"] = min(table["out_count"], 8)
+    return {SOURCE: case.source.encode(), CONFIG: tables_as_toml(tables).encode(), STIMULUS: case.stimulus.encode()}
+
+
 def a_pair(random, _):
     case = cases.Pair(random)
     first, second = (block.config.encode() for block in case.blocks)
@@ -136,7 +159,7 @@ def sent_bytes(random, _):
     return {SENT: random.randbytes(random.choice([0, 1, 3, 20]))}
 
 
-DRAWS = [(of_repository, 5), (a_run, 4), (a_timed_run, 4), (a_pair, 1), (two_apart, 3), (a_source, 3), (a_config, 3), (some_words, 3), (sent_bytes, 1)]
+DRAWS = [(of_repository, 5), (a_run, 4), (a_timed_run, 6), (a_talk, 6), (a_pair, 1), (two_apart, 3), (a_source, 3), (a_config, 3), (some_words, 3), (sent_bytes, 1)]
 
 
 def drawn(random, repository):
@@ -212,7 +235,7 @@ def by_lines(random, data, other):
 def by_numbers(random, data, other):
     places = list(NUMBER.finditer(data))
     for it in sorted(random.sample(places, min(len(places), random.choice([1, 1, 1, 2, 4]))), key=lambda it: -it.start()):
-        number = int(it[0], 16) if it[0][:2].lower() == b"0x" else int(it[0])
+        number = int(it[0], 16 if b"0x" in it[0] else 10)
         to = random.choice([random.choice(LIMITS), random.choice(LIMITS), number + 1, number - 1, -number, random.randrange(33)])
         text = random.choice(["%d", "%d", "%d", "0%d", "0x%x", "+%d"]) % to
         data = data[: it.start()] + text.encode() + data[it.end() :]
@@ -238,6 +261,12 @@ def spliced(random, data, other):
     return data[: random.randrange(len(data) + 1)] + other[random.randrange(len(other) + 1) :]
 
 
+def to_its_limit(random, data, _):
+    """As long as a source, a configuration or a file of words may be, or a byte longer, or as bytes to send may be."""
+    wanted = random.choice([262_144, 262_144, 65_536]) + random.randrange(2)
+    return data[:wanted] + random.choice([b" ", b"\n", b"0"]) * (wanted - len(data))
+
+
 WAYS = [by_bytes, by_tokens, by_tokens, by_lines, by_lines, by_numbers, by_numbers, by_numbers, by_values, by_values, spliced]
 
 
@@ -246,5 +275,6 @@ def spoiled(random, files, repository):
     files = dict(files)
     for _ in range(random.choice([1, 1, 1, 1, 2, 3])):
         name = random.choice([it for it in files for _ in range(2 if it in (SOURCE, CONFIG) else 1)])
-        files[name] = random.choice(WAYS)(random, files[name], repository.like(random, name))
+        way = random.choice(WAYS) if random.random() < 0.995 else to_its_limit
+        files[name] = way(random, files[name], repository.like(random, name))
     return files

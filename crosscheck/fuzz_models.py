@@ -10,9 +10,9 @@ import shares_model
 import source_model
 import span_model
 import stimulus_model
-from fuzz_files import CONFIG, SOURCE, STIMULUS
+from fuzz_files import CONFIG, SOURCE, WORDS
 
-LONGEST = {SOURCE: 262_144, CONFIG: 262_144, STIMULUS: 33_554_432}
+LONGEST = {SOURCE: 262_144, CONFIG: 262_144, WORDS: 262_144}
 MACHINE = {key: False if limits is None else limits[0] for key, limits in config_model.MACHINE_KEYS.items()}
 MACHINE |= {"divider": 1, "set_count": 5, "in_right": True, "out_right": True, "push_threshold": 32, "pull_threshold": 32}
 # What docs/DECISIONS.md, "What is TOML?", names as taken here and not by Python's reader, or the other way round.
@@ -157,6 +157,8 @@ WORD_LINE = re.compile(rb"[ \t\r]*([0-9a-fA-F]{4})?[ \t\r]*")
 def words_of(text):
     """The words of a file of words, or the line of its first fault."""
     words = []
+    if len(text) > LONGEST[WORDS]:
+        return [], "long words"
     for number, line in enumerate(text.split(b"\n"), 1):
         form = WORD_LINE.fullmatch(line)
         if not form:
