@@ -1,8 +1,8 @@
 """What has to be so between calls of the program, whatever the files.
 
 Each check takes the program, files by name, and numbers that were drawn beside them. It says in its first line what it looks at,
-and in the next one why that has to be so, with the part of docs/SPECIFICATION.md. A violation is raised; files that a check says
-nothing of are passed over.
+and in the next one why that has to be so, with the part of docs/SPECIFICATION.md. A violation is raised. A check returns whether
+it had something to compare: files that it says nothing of are passed over.
 """
 
 import json
@@ -90,12 +90,14 @@ def first_fault(program, files, asked):
         need(listed in (models.Unknown, ended["asm"].out), "the listing isn't the model's", ended["asm"])
         report = by_model(CONFIG, files, shares_report)
         need(report in (models.Unknown, ended["shares"].out), "shares isn't the model's", ended["shares"])
-    later = [pair_words(files, asked["clocks"])] if SECOND in files else []
+    later = [pair_words(files, asked["clocks"])] if SECOND in files and CONFIG in files else []
     later += [["recheck", *block_words(files, TABLE), "--span", name]] if TABLE in files else []
     for words in later:
         other = program.call(*words)
-        if fault and b"stimulus" not in fault.err:
+        if fault and b" stimulus " not in fault.err:
             look_at_first(other, fault)
+        elif words[0] == "pair" and not other.err.startswith(b"piotool: stimulus "):
+            look_at_fault(other, by_model(SECOND, files), models.OTHERWISE.search(files[SECOND]))
     return True
 
 
@@ -125,6 +127,7 @@ def by_model(file, files, ask=None):
     asks = {
         SOURCE: lambda files: models.programs_of(files[SOURCE])[1],
         CONFIG: lambda files: models.config_fault(files[SOURCE], files[CONFIG]),
+        SECOND: lambda files: models.second_fault(files[SOURCE], files[SECOND]),
         STIMULUS: lambda files: models.stimulus_fault(files[STIMULUS]),
     }
     try:
@@ -155,7 +158,7 @@ def spans_said(files):
 def look_at_fault(ended, fault, is_otherwise=False):
     """Looks whether a call ends with the fault that the models say, or with none."""
     told = ended.err.decode().removeprefix("piotool: ").rstrip("\n") if ended.status == 1 else None
-    if fault is models.Unknown or is_otherwise and "config file: C1" in (told, fault):
+    if fault is models.Unknown or is_otherwise and {told, fault} & {"config file: C1", "second file: C1"}:
         return
     need(told == fault, f"the first fault is {fault} by the model, and {told} here", ended)
 
@@ -178,7 +181,7 @@ def shorter(program, files, asked):
     """
     files = without_spans(files)
     program.take(files)
-    for words in (run_words, pair_words) if SECOND in files else (run_words,):
+    for words in (run_words, pair_words) if SECOND in files and CONFIG in files else (run_words,):
         long, short = (program.call(*words(files, clocks)) for clocks in (asked["clocks"], asked["fewer"]))
         if long.status == 0:
             look_at_prefix(long, short, asked["clocks"], asked["fewer"])
@@ -188,6 +191,7 @@ def shorter(program, files, asked):
         for clocks in (asked["clocks"], asked["fewer"])
     ]
     need(heard[0].out.startswith(heard[1].out), "frames of a shorter run that a longer one hasn't", *heard)
+    return long.status == 0
 
 
 def look_at_prefix(long, short, clocks, fewer):
@@ -247,6 +251,7 @@ def observed(program, files, asked):
         if b" proved " in verdict and span["unit"] == "clocks" and span["machine"] not in disturbed and b" least " in seen:
             least, most = int(seen.split()[-3]), int(seen.split()[-1])
             need(span["min"] <= least and most <= span["max"], f"{verdict!r}, but {seen!r}", told, measured)
+    return True
 
 
 @check(SOURCE)
@@ -269,6 +274,7 @@ def stepped(program, files, asked):
     for span, verdict in zip(block.spans, told.out.split(b"\n")):
         if b" proved " in verdict and (how := models.broken_at(block, span, shown, ticks, lines)):
             raise Violation(f"{verdict.decode()}, but the run has {how}", told.words, ran.words)
+    return True
 
 
 # Verdicts and tables.
@@ -304,6 +310,7 @@ def verdicts(program, files, asked):
             need(ended.err.decode() == f"piotool: {line}\n", f"table tells {ended.err!r}, check {line!r}", ended, told)
     missing = program.call("table", *block_words(files), "--span", "no such")
     need(missing.err == b"piotool: nospan\n", "a table of a span that isn't there", missing)
+    return len(lines) > 0
 
 
 @check(SOURCE, CONFIG)
@@ -330,6 +337,7 @@ def changed_table(program, files, asked):
         taken = program.call("recheck", *block_words(files), "--span", span["name"], "--table", "changed.table")
         told = (taken.out or taken.err.removeprefix(b"piotool: ")).decode().removeprefix(f"span {span['name']} ").rstrip("\n")
         need(wanted in (None, told), f"the model says {wanted!r} of this table, recheck {told!r}", taken)
+    return len(tables) > 0
 
 
 def changed(chance, table):
@@ -366,6 +374,7 @@ def assembled_again(program, files, asked):
         fields = head.split(" ")
         lines = [line for line in lines if not line.startswith("public ")]
         look_at_texts(program, lines, int(fields[4]), "opt" in fields[5:])
+    return len(parts) > 0
 
 
 def look_at_texts(program, lines, bits, opt):
@@ -392,6 +401,7 @@ def words(program, files, asked):
     need(read.out.decode() == wanted, f"dis writes other lines than the model, {wanted!r}", read)
     if wanted:
         look_at_texts(program, wanted.splitlines(), bits, opt)
+    return True
 
 
 # Blocks and machines that share nothing.
@@ -431,6 +441,7 @@ def alone(program, files, asked):
             need(found[0] == found[1], f"machine {number} is called alone, but shows another thing without the others", report, both, one)
     wanted = shares_model.report(block.memory, block.setups)
     need(report.out.decode() == wanted, f"shares isn't the model's, {wanted!r}", report)
+    return len(block.setups) > 1 and len(numbers) > 0
 
 
 @check(SOURCE, CONFIG, SECOND)
@@ -466,6 +477,7 @@ def apart(program, files, asked):
         one = program.call("run", "--source", SOURCE, "--config", "apart.toml", "--stimulus", "apart.stim", "--clocks", str(asked["clocks"]))
         need(one.status == 0, "a block that runs beside another one has a fault alone", one, both)
         need(changes(one.out) == changes(both.out, place == 1), f"block {place} shows another thing alone", one, both)
+    return True
 
 
 # Blanks, words of the call, memory.
@@ -485,6 +497,7 @@ def blanks(program, files, asked):
         program.take({f"blank.{name}": content for name, content in others.items()})
         after = program.call(*(f"blank.{word}" if word in others else word for word in words))
         same(before, after, "blanks and comments change something")
+    return True
 
 
 def with_blanks(chance, name, content):
@@ -544,7 +557,9 @@ def calls(program, files, asked):
     if how == 0:
         return call_without_file(program, chance, command, options, place)
     if how == 1:
-        return need(program.call(*chance.choice(ODD_CALLS)).status == 2, "words that ask for nothing are taken")
+        ended = program.call(*chance.choice(ODD_CALLS))
+        need(ended.status == 2, "words that ask for nothing are taken", ended)
+        return True
     is_wrong = False
     if how < 9:
         options, place, is_wrong = made_wrong(chance, how, command, options, place)
@@ -649,6 +664,7 @@ def memory(program, files, asked):
             status = program.within(enough + MORE, *words, "--clocks", str(LONG))
             long = Called((*words, "--clocks", str(LONG)))
             need(status == 0, f"{LONG} clocks end with {status} within {enough + MORE} kB, though 100 clocks take {enough} at most", long)
+    return True
 
 
 # Address space in kB: what short runs are tried in, and how much more a long one may take.
@@ -672,6 +688,7 @@ def sent(program, files, asked):
         told = [(byte, divider * (9 + 80 * place)) for place, byte in enumerate(files[SENT]) if divider * (85 + 80 * place) < clocks]
         wanted = "".join(f"byte 0x{byte:02x} at {clock}\n" for byte, clock in told)
         need(heard.out.decode() == wanted, f"the bytes aren't {wanted!r}", heard)
+    return True
 
 
 @check()
@@ -686,3 +703,4 @@ def drawn_load(program, files, asked):
         ended = program.call("gen", "--seed", seed, "--clocks", str(clocks))
         counts.append([int(line.split()[-1]) for line in ended.out.splitlines()])
     need(len(counts[0]) == 6 and all(few <= many for few, many in zip(*counts)), f"the counts are {counts}", ended)
+    return True

@@ -72,9 +72,15 @@ def a_run(random, _):
     return {SOURCE: case.source.encode(), CONFIG: case.config.encode(), STIMULUS: case.stimulus.encode()}
 
 
+class Several(span_cases.Timed):
+    """Three machines, where the programs are drawn for them."""
+
+    machines = property(lambda self: 3, lambda self, _: None)
+
+
 def a_timed_run(random, _):
     """A block with spans beside a stimulus. Machines after the first mostly have inputs of their own."""
-    case = span_cases.Timed(random)
+    case = random.choice([span_cases.Timed, Several])(random)
     tables = tomllib.loads(case.config)
     for table in tables["machine"][1:]:
         if random.random() < 0.7:

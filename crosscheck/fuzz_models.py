@@ -15,6 +15,7 @@ from fuzz_files import CONFIG, SOURCE, WORDS
 LONGEST = {SOURCE: 262_144, CONFIG: 262_144, WORDS: 262_144}
 MACHINE = {key: False if limits is None else limits[0] for key, limits in config_model.MACHINE_KEYS.items()}
 MACHINE |= {"divider": 1, "set_count": 5, "in_right": True, "out_right": True, "push_threshold": 32, "pull_threshold": 32}
+SECOND_KEYS = ["level", "out", "bypass", "own"]
 # What docs/DECISIONS.md, "What is TOML?", names as taken here and not by Python's reader, or the other way round.
 OTHERWISE = re.compile(rb"[{]|\\[ex]|\d\d:\d\d(?!:)|:60|\b0000-|\xef\xbb\xbf|\d[\d_]{17}|0[xob][\da-fA-F_]{16}|\[{80}|(?:\w+\.){80}")
 
@@ -60,20 +61,36 @@ class Loadable(config_model.Program):
         self.rule = {"side_bits": program.bits, "side_opt": int(program.opt), "side_pindirs": program.pindirs}
 
 
-def config_fault(source, config):
+def config_fault(source, config, reader=config_model.Reader, word="config"):
     """The line of the first fault of a configuration, or none."""
     programs, fault = programs_of(source)
     if fault:
         raise Unknown
     if len(config) > LONGEST[CONFIG]:
-        return "long config"
+        return f"long {word}"
     try:
-        fault = config_model.fault_of(config.decode().removeprefix("\ufeff"), programs)
+        reader(programs).read(config.decode().removeprefix("\ufeff"))
+    except config_model.Fault as fault:
+        return f"{word} {fault}"
     except UnicodeDecodeError:
-        fault = "file: C1"
+        return f"{word} file: C1"
     except RecursionError:
         raise Unknown from None
-    return f"config {fault}" if fault else None
+    return None
+
+
+class SecondReader(config_model.Reader):
+    """The same of a second block, whose pins have other keys."""
+
+    def pins(self, table):
+        config_model.need(set(table) <= set(SECOND_KEYS), "pins", "C2")
+        for key in SECOND_KEYS:
+            config_model.need(config_model.are(int, table.get(key, [])), f"pins.{key}", "C3")
+            config_model.need(all(0 <= pin <= 31 for pin in table.get(key, [])), f"pins.{key}", "C4")
+
+
+def second_fault(source, second):
+    return config_fault(source, second, SecondReader, "second")
 
 
 def stimulus_fault(stimulus):
