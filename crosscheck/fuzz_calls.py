@@ -55,8 +55,8 @@ class Ended(NamedTuple):
         if (self.status, self.err) != (other.status, other.err):
             return f"{self.status} {self.err[:200]!r} and {other.status} {other.err[:200]!r}"
         place = len(os.path.commonprefix([self.out, other.out]))
-        line = self.out.count(b"\n", 0, place) + 1
-        return f"line {line} of the output is {self.out[place - 20 : place + 40]!r} and {other.out[place - 20 : place + 40]!r} at byte {place}"
+        both = (out[max(0, place - 20) : place + 40] for out in (self.out, other.out))
+        return f"at byte {place} the outputs have " + " and ".join(map(repr, both))
 
 
 def too_long(number, frame):
@@ -124,7 +124,7 @@ class Program:
         return Ended(os.waitstatus_to_exitcode(state), out, err, told), used
 
     def look(self, ended, used):
-        """What holds of each call (docs/SPECIFICATION.md, "Ends"). Memory is ample here and outputs take all, so that no call ends with 5 or 6."""
+        """What holds of each call (docs/SPECIFICATION.md, "Ends"). Memory is ample and outputs take all, so that none ends with 5 or 6."""
         status, out, err, words = ended
         if status not in LINES:
             raise Violation(f"status {status}" + (f", by signal {-status}" if status < 0 else ""), words)

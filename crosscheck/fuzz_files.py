@@ -23,7 +23,8 @@ NUMBER = re.compile(rb"(?<![\w.])-?(?:0x[0-9a-fA-F]+|[0-9]+)(?![\w.])")
 ASSIGNMENT = re.compile(rb"^([ \t]*[\w.-]+[ \t]*=[ \t]*)(.*)$", re.M)
 POWERS = [2**bits for bits in (3, 4, 5, 6, 8, 10, 15, 16, 18, 24, 31, 32, 63, 64)] + [10**6, 10**12]
 LIMITS = [0, 1, 2, 3, 4, 5, 6, 7, 9, 65, 66, 10**20] + [power + more for power in POWERS for more in (-1, 0, 1)]
-ODD_BYTES = [b"\0", b"\xff", b"\xc3", b"\xef\xbb\xbf", b"\r", b"\t", b"\x0b", b"\\", b'"', b"'", b"%{", b"/*", b"*/", b";", b"#", b"::", b"--"]
+ODD_BYTES = [b"\0", b"\xff", b"\xc3", b"\xef\xbb\xbf", b"\r", b"\t", b"\x0b", b"\\", b'"', b"'"]
+ODD_BYTES += [b"%{", b"/*", b"*/", b";", b"#", b"::", b"--"]
 
 
 def set_of(config):
@@ -144,7 +145,8 @@ def two_apart(random, _):
     lines.sort(key=lambda line: line[0])
     stimulus = "version 2\n" + "".join(f"{clock} {word} {' '.join(map(str, numbers))}\n" for clock, word, numbers in lines)
     source = (blocks[0].source + blocks[1].source).encode()
-    return {SOURCE: source, CONFIG: tables_as_toml(both[0]).encode(), SECOND: tables_as_toml(both[1]).encode(), STIMULUS: stimulus.encode()}
+    first, second = (tables_as_toml(tables).encode() for tables in both)
+    return {SOURCE: source, CONFIG: first, SECOND: second, STIMULUS: stimulus.encode()}
 
 
 def a_source(random, _):
@@ -165,13 +167,24 @@ def sent_bytes(random, _):
     return {SENT: random.randbytes(random.choice([0, 1, 3, 20]))}
 
 
-DRAWS = [(of_repository, 5), (a_run, 4), (a_timed_run, 6), (a_talk, 6), (a_pair, 1), (two_apart, 3), (a_source, 3), (a_config, 3), (some_words, 3), (sent_bytes, 1)]
+# How often each comes.
+DRAWS = {
+    of_repository: 5,
+    a_run: 4,
+    a_timed_run: 6,
+    a_talk: 6,
+    a_pair: 1,
+    two_apart: 3,
+    a_source: 3,
+    a_config: 3,
+    some_words: 3,
+    sent_bytes: 1,
+}
 
 
 def drawn(random, repository):
     """Some files that belong together."""
-    draws, weights = zip(*DRAWS)
-    return random.choices(draws, weights)[0](random, repository)
+    return random.choices(list(DRAWS), DRAWS.values())[0](random, repository)
 
 
 def tables_as_toml(tables):
