@@ -30,6 +30,7 @@ def alone(program, files, asked):
             kept = [it for it in lines if (it[2][0] in touched.reads if it[1] == "pin" else it[2][0] == number)]
             alone = [it for it in block.tables["machine"] if it["id"] == number]
             one = run_beside(program, block.tables | {"span": [], "machine": alone}, kept, clocks)
+            need(both.status == one.status == 0, "a block without spans has a fault", both, one)
             own = {place + pin for pin in touched.writes for place in (0, 32)} | {64 + flag for flag in touched.changes}
             own |= {place + number for place in (72, 76, 80, 84)}
             found = [[it for it in changes(ended.out) if it[1] in own] for ended in (both, one)]
@@ -51,7 +52,7 @@ def apart(program, files, asked):
     Why: a pad is its owner's, and else what the outside drives; all else of a block is its own ("Two blocks").
     """
     if program.call(*pair_words(files, 0)).status not in (0, 3):
-        return
+        return False
     tables, second = (models.tables_of(files[name]) | {"span": []} for name in (CONFIG, SECOND))
     own = set(second["pins"].get("own", []))
     outside = {"high": tables["pins"]["high"]} if "high" in tables["pins"] else {}
@@ -64,11 +65,11 @@ def apart(program, files, asked):
         drives.append({pin for pin in range(32) if block.pins["out"] >> pin & 1}.union(*(it.writes for it in touched)))
         reads.append(set().union(*(it.reads for it in touched)))
     if drives[0] & own or drives[1] - own or reads[0] & drives[1] or reads[1] & drives[0]:
-        return
+        return False
     program.take(files | {CONFIG: configs[0], SECOND: tables_as_toml(second).encode()})
     both = program.call(*pair_words(files, asked["clocks"]))
     if both.status != 0:
-        return
+        return False
     lines = models.lines_of(files.get(STIMULUS, b""), is_of_pair=True)
     for place, config in enumerate(configs):
         kept = [it for it in lines if it[1] == "pin" or it[2][0] // 4 == place]

@@ -130,7 +130,7 @@ class Program:
             raise Violation(f"status {status}" + (f", by signal {-status}" if status < 0 else ""), words)
         if not LINES[status].fullmatch(err):
             raise Violation(f"status {status} with {err[:300]!r} on standard error", words)
-        if out and status != 0 and (status, words[0]) != (3, "check"):
+        if out and status != 0 and (status, *words[:1]) != (3, "check"):
             raise Violation(f"status {status} with {out[:80]!r} on the output", words)
         if status == 4 and not {word.partition("=")[2] if word.startswith("--") else word for word in words} & ABSENT:
             raise Violation(f"status 4, but the files are there: {err!r}", words)

@@ -17,7 +17,7 @@ def verdicts(program, files, asked):
     """
     told = program.call("check", *block_words(files))
     if told.status not in (0, 3):
-        return
+        return False
     lines = told.out.decode().splitlines()
     names, refused = [line.split()[1] for line in lines], [line for line in lines if " unproved " in line]
     wanted = (3, f"piotool: {refused[0]}\n") if refused else (0, "")
@@ -50,7 +50,7 @@ def changed_table(program, files, asked):
     """
     block = models.Block(files[SOURCE], files[CONFIG])
     if not block.spans:
-        return
+        return False
     span = block.span_named(block.spans[asked["place"] % len(block.spans)]["name"])
     chance = random.Random(asked["chance"])
     if files.get(TABLE) and chance.random() < 0.5:
@@ -93,7 +93,7 @@ def assembled_again(program, files, asked):
     """
     listed = program.call("asm", SOURCE)
     if listed.status != 0:
-        return
+        return False
     parts = listed.out.decode().split("program ")[1:]
     for part in [parts[asked["place"] % len(parts)]] if parts else []:
         head, *lines = part.splitlines()

@@ -5,7 +5,7 @@ import fuzz_models as models
 import observers_model
 from fuzz_calls import Violation
 from fuzz_checks import block_words, changes, check, need, pair_words, run_words, same, without_spans
-from fuzz_files import SECOND, CONFIG, SENT, SOURCE, STIMULUS
+from fuzz_files import CONFIG, SECOND, SENT, SOURCE, STIMULUS
 
 
 @check(SOURCE)
@@ -51,7 +51,7 @@ def observed(program, files, asked):
     ran = program.call(*run_words(bare, clocks))
     program.take(files)
     if ran.status != 0:
-        return
+        return False
     pins = sorted({pin} | {span[key] for span in block.spans for key in ("from_pin", "to_pin")})
     found, shown, now, place = changes(ran.out), [], {}, 0
     for clock in range(clocks):
@@ -88,7 +88,7 @@ def stepped(program, files, asked):
     ran = program.call(*run_words(bare, clocks))
     program.take(files)
     if ran.status != 0:
-        return
+        return False
     shown, ticks = models.run_of(block, lines, clocks)
     wanted = block_model.trace(shown, clocks).encode()
     same(ran, ran._replace(out=wanted), "the trace isn't the model's")

@@ -82,7 +82,7 @@ def call_without_file(program, chance, command, options, place):
     """One of the files isn't there, or is a folder: the call ends with 4, or with the fault of a file before it."""
     absent, named = chance.choice(sorted(ABSENT)), [it for it in options if it[0] in NAMES]
     if not named and not place:
-        return None
+        return False
     name = chance.choice(named)[0] if named else {"asm": "--source", "dis": "--words"}[command]
     options = [(it, absent if it == name else value) for it, value in options]
     words = [command, *([absent] if place else []), *(word for it in options for word in spelled(*it, True))]
