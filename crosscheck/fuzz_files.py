@@ -30,8 +30,8 @@ ODD_BYTES += [b"%{", b"/*", b"*/", b";", b"#", b"::", b"--"]
 def set_of(config):
     """The files of a configuration of the repository."""
     stem, folder = config.with_suffix(""), config.parent
-    sources = [it for it in (stem.with_suffix(".pio"), folder / f"{folder.name}.pio") if it.exists()]
-    found = {SOURCE: (sources or sorted(folder.glob("*.pio")))[0], CONFIG: config}
+    sources = [stem.with_suffix(".pio"), folder / f"{folder.name}.pio", *sorted(folder.glob("*.pio")), *sorted(folder.parent.glob("*.pio"))]
+    found = {SOURCE: next(it for it in sources if it.exists()), CONFIG: config}
     found |= {SECOND: stem.with_suffix(".second.toml"), STIMULUS: stem.with_suffix(".stim")}
     tables = sorted(folder.glob(f"{stem.name}.*.table"))
     found |= {TABLE: tables[0]} if tables else {}
@@ -42,13 +42,13 @@ class Repository:
     """The files that the repository has, by kind, and those that belong together."""
 
     def __init__(self):
-        configs = [it for folder in ("examples/*", "crates/piotool/data") for it in sorted(TOP.glob(f"{folder}/*.toml"))]
+        folders = ("examples", "crates/piotool/data")
+        configs = [it for folder in folders for it in sorted(TOP.glob(f"{folder}/**/*.toml"))]
         self.sets = [set_of(it) for it in configs if not it.name.endswith(".second.toml")]
         self.kinds = {}
         for name in (SOURCE, CONFIG, STIMULUS, TABLE, WORDS):
             ending = Path(name).suffix
-            paths = [it for top in ("examples", "crates", "bench") for it in sorted(TOP.glob(f"{top}/**/*{ending}"))]
-            self.kinds[name] = [it.read_bytes() for it in paths if "out" not in it.parts and it.stat().st_size < 20_000]
+            self.kinds[name] = [it.read_bytes() for folder in folders for it in sorted(TOP.glob(f"{folder}/**/*{ending}"))]
         self.kinds[SECOND] = self.kinds[CONFIG]
 
     def like(self, random, name):
@@ -91,13 +91,17 @@ def a_timed_run(random, _):
 
 
 class Talking(cases.Run):
-    """Programs that often raise flags and wait for them."""
+    """Programs that often raise flags and wait for them, in half of the cases each its own flags."""
+
+    def __init__(self, random):
+        self.is_apart = random.random() < 0.5
+        super().__init__(random)
 
     def word(self):
-        random = self.random
+        random, own = self.random, 2 * len(self.programs)
         if random.random() < 0.4:
             return super().word()
-        index = random.randrange(8) | random.choice([0, 0, 16])
+        index = (own + random.randrange(2)) % 8 if self.is_apart else random.randrange(8) | random.choice([0, 0, 16])
         raising, waiting = random.choice([0xC000, 0xC020, 0xC040]), random.choice([0x2040, 0x20C0])
         return random.choice([raising, waiting]) | index
 

@@ -48,17 +48,15 @@ def changed_table(program, files, asked):
 
     Why: recheck ends with 0 exactly where the table is closed and good, and tells its first flaw else ("A table as a file").
     """
-    block = models.Block(files[SOURCE], files[CONFIG])
-    if not block.spans:
+    block, chance = models.Block(files[SOURCE], files[CONFIG]), random.Random(asked["chance"])
+    verdicts = program.call("check", *block_words(files)).out.decode().splitlines()
+    names = [line.split()[1] for line in verdicts if " proved " in line]
+    if not names:
         return False
-    span = block.span_named(block.spans[asked["place"] % len(block.spans)]["name"])
-    chance = random.Random(asked["chance"])
-    if files.get(TABLE) and chance.random() < 0.5:
-        tables = [files[TABLE]]
-    else:
-        made = program.call("table", *block_words(files), "--span", span["name"])
-        tables = [changed(chance, made.out) for _ in range(6)] if made.status == 0 else []
-    for table in tables:
+    span = block.span_named(names[asked["place"] % len(names)])
+    made = program.call("table", *block_words(files), "--span", span["name"])
+    tables = [changed(chance, made.out) for _ in range(6)] if made.status == 0 else []
+    for table in tables + ([files[TABLE]] if TABLE in files else []):
         rows, wanted = table_model.rows_of(table)
         if not wanted:
             wanted = table_model.rechecked(block, span, rows) if len(rows) < 3000 else None
@@ -70,15 +68,18 @@ def changed_table(program, files, asked):
 
 
 def changed(chance, table):
-    """A table with a number or two changed; every other time one of its last row."""
+    """A table with a number or two changed, often the greatest age of the last row, on which no other row may depend."""
     lines = table.decode().split("\n")
     for _ in range(chance.choice([1, 1, 2])):
         last = len(lines) - 3
-        place = last if chance.random() < 0.4 else chance.randrange(1, max(2, last + 1))
+        place = last if chance.random() < 0.5 else chance.randrange(1, max(2, last + 1))
         fields = lines[place].split(" ")
-        field = chance.choice([len(fields) - 1, len(fields) - 1, chance.randrange(len(fields))])
-        near = int(fields[field]) if fields[field].isdigit() else chance.choice([0, 1])
-        fields[field] = str(chance.choice([near + 1, max(near - 1, 0), near + 1, 0, 1, 31, "any", "-", chance.randrange(40)]))
+        if chance.random() < 0.5:
+            fields[5:] = [fields[5], str(int(fields[6]) + 1)] if len(fields) == 7 else ["0", "0"]
+        else:
+            field = chance.randrange(len(fields))
+            near = int(fields[field]) if fields[field].isdigit() else chance.choice([0, 1])
+            fields[field] = str(chance.choice([near + 1, max(near - 1, 0), 0, 1, 31, "any", "-", chance.randrange(40)]))
         lines[place] = " ".join(fields)
     if chance.random() < 0.1:
         lines.pop(chance.randrange(len(lines)))
