@@ -30,7 +30,8 @@ ODD_BYTES += [b"%{", b"/*", b"*/", b";", b"#", b"::", b"--"]
 def set_of(config):
     """The files of a configuration of the repository."""
     stem, folder = config.with_suffix(""), config.parent
-    sources = [stem.with_suffix(".pio"), folder / f"{folder.name}.pio", *sorted(folder.glob("*.pio")), *sorted(folder.parent.glob("*.pio"))]
+    sources = [stem.with_suffix(".pio"), folder / f"{folder.name}.pio"]
+    sources += [it for near in (folder, folder.parent) for it in sorted(near.glob("*.pio"))]
     found = {SOURCE: next(it for it in sources if it.exists()), CONFIG: config}
     found |= {SECOND: stem.with_suffix(".second.toml"), STIMULUS: stem.with_suffix(".stim")}
     tables = sorted(folder.glob(f"{stem.name}.*.table"))

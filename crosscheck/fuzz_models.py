@@ -1,4 +1,4 @@
-"""What files come to by the models beside this file: the first fault, the block that they set up, a table's flaw, a run."""
+"""What files come to by the models beside this file: the first fault, the block that they set up, the words, a run."""
 
 import re
 import tomllib
@@ -8,7 +8,6 @@ import block_model
 import config_model
 import shares_model
 import source_model
-
 import stimulus_model
 from fuzz_files import CONFIG, SOURCE, WORDS
 
@@ -42,7 +41,7 @@ def programs_of(source):
 
 def labels_of(source):
     """The labels of each program that come before a word, with their places."""
-    found, place = [], 0
+    found = []
     for _, statement in source_model.statements_of(source):
         if statement["kind"] == ".program":
             found.append([{}, 0])
@@ -123,7 +122,6 @@ class Block:
             self.setups[table["id"]] = MACHINE | {key: table[key] for key in MACHINE if key in table} | program.rule | own
         self.pins = {key: sum(1 << pin for pin in set(self.tables["pins"].get(key, []))) for key in config_model.PIN_KEYS}
         self.spans = [self.span(table) for table in self.tables["span"]]
-        self.parts = self.memory, self.setups, self.pins["level"]
 
     def span(self, table):
         labels = self.labels[table["machine"]]

@@ -44,44 +44,42 @@ def rechecked(block, span, rows):
     other = span_model.sharing(block.setups, span)
     if other is not None:
         return f"unproved by machine {other}: U5"
-    machine = span_model.Machine(block.memory, block.setups[span["machine"]], span)
-    start = machine.start(block.pins["level"])
-    if start not in rows:
+    setup = block.setups[span["machine"]]
+    machine = span_model.Machine(block.memory, setup, span)
+    if machine.start(block.pins["level"]) not in rows:
         return "table: start"
-    graph = span_model.Graph.__new__(span_model.Graph)
-    graph.bounds, graph.stalls = span_model.bounds_of(span, block.setups[span["machine"]]), set(span["stalls"])
-    graph.ages = Given(rows)
-    for context in rows:
-        courses = machine.courses(context)
-        graph.rows = {context: courses}
-        if not all(is_inside(after_course(graph, course), rows, course.after) for course in courses if course.after is not None):
+    read = Read(machine, span_model.bounds_of(span, setup), set(span["stalls"]), rows)
+    for context, courses in read.rows.items():
+        if not all(is_inside(read.ages_after(course), rows, course.after) for course in courses if course.after is not None):
             return f"table: open at {context}"
-        if cause := graph.cause(context):
+        if cause := read.cause(context):
             return f"table: bad at {context}: {cause}"
     return "rechecked"
 
 
-class Given:
-    """Ages as a table says them."""
+class Read(span_model.Graph):
+    """The contexts of a table file with their courses, and with the ages that the file gives them."""
 
-    def __init__(self, rows):
-        self.rows = rows
+    def __init__(self, machine, bounds, stalls, ages):
+        self.bounds, self.stalls, self.ages = bounds, stalls, Given(ages)
+        self.rows = {context: machine.courses(context) for context in ages}
+
+    def ages_after(self, course):
+        """The ages after the last tick of a course."""
+        ages, last = self.ages_within(course)[-1], course.ticks[-1]
+        if last.ends:
+            ages = None
+        return (0, ages[1] if ages else 0) if last.begins else ages
+
+
+class Given:
+    """Ages as a file gives them."""
+
+    def __init__(self, ages):
+        self.ages = ages
 
     def at(self, context, cap):
-        return self.rows[context]
-
-
-def after_course(graph, course):
-    """The ages after the last tick of a course."""
-    ages = graph.ages.at(course.before, graph.bounds.cap)
-    for tick in course.ticks:
-        if ages and not tick.is_late:
-            ages = tuple(min(age + 1, graph.bounds.cap) for age in ages)
-        if tick.ends:
-            ages = None
-        if tick.begins:
-            ages = (0, ages[1] if ages else 0)
-    return ages
+        return self.ages[context]
 
 
 def is_inside(ages, rows, context):
