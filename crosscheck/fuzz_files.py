@@ -177,7 +177,7 @@ DRAWS = {
     of_repository: 5,
     a_run: 4,
     a_timed_run: 6,
-    a_talk: 6,
+    a_talk: 8,
     a_pair: 1,
     two_apart: 3,
     a_source: 3,
