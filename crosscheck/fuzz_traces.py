@@ -1,5 +1,7 @@
 """Between calls: traces, what is seen in them, what a long run takes."""
 
+import random
+
 import block_model
 import fuzz_models as models
 import observers_model
@@ -17,9 +19,10 @@ def shorter(program, files, asked):
     files = without_spans(files)
     program.take(files)
     for words in (run_words, pair_words) if SECOND in files and CONFIG in files else (run_words,):
-        long, short = (program.call(*words(files, clocks)) for clocks in (asked["clocks"], asked["fewer"]))
+        long = program.call(*words(files, asked["clocks"]))
         if long.status == 0:
-            look_at_prefix(long, short, asked["clocks"], asked["fewer"])
+            for fewer in (asked["fewer"], within_changes(asked, long.out)):
+                look_at_prefix(long, program.call(*words(files, fewer)), asked["clocks"], fewer)
     options = ["--pin", str(asked["pin"]), "--bit", str(asked["bit"])]
     heard = [
         program.call("receive", *block_words(files, STIMULUS), "--clocks", str(clocks), *options)
@@ -27,6 +30,12 @@ def shorter(program, files, asked):
     ]
     need(heard[0].out.startswith(heard[1].out), "frames of a shorter run that a longer one hasn't", *heard)
     return long.status == 0
+
+
+def within_changes(asked, trace):
+    """A number of clocks, up to that of a trace, whose last clock is mostly one with a change."""
+    clocks = [int(line[1:]) for line in trace.split(b"\n") if line[:1] == b"#"]
+    return min(asked["clocks"], random.Random(asked["chance"]).choice(clocks) + 1)
 
 
 def look_at_prefix(long, short, clocks, fewer):
