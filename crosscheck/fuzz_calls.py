@@ -67,7 +67,7 @@ class Program:
     """The program over one folder, which becomes the current one, so that names of files are short."""
 
     def __init__(self, path, folder):
-        self.path, self.counts, self.contents = str(path), Counter(), {}
+        self.path, self.counts, self.contents, self.last = str(path), Counter(), {}, ()
         os.chdir(folder)
         self.out, self.err = (os.memfd_create(name) for name in ("out", "err"))
         self.actions = [(os.POSIX_SPAWN_DUP2, self.out, 1), (os.POSIX_SPAWN_DUP2, self.err, 2)]
@@ -109,7 +109,7 @@ class Program:
         for file in (self.out, self.err):
             os.lseek(file, 0, os.SEEK_SET)
             os.ftruncate(file, 0)
-        told = tuple(words[1:])
+        self.last = told = tuple(words[1:])
         pid = os.posix_spawn(words[0], words, os.environ, file_actions=self.actions)
         signal.setitimer(signal.ITIMER_REAL, LONGEST_WAIT)
         try:

@@ -5,6 +5,9 @@ and then why that has to be so, with the part of docs/SPECIFICATION.md. A violat
 something to compare: files that it says nothing of are passed over.
 """
 
+import traceback
+from pathlib import Path
+
 import fuzz_models as models
 from fuzz_calls import Violation
 from fuzz_files import CONFIG, SECOND, SOURCE, STIMULUS, TABLE, tables_as_toml
@@ -21,6 +24,21 @@ def check(*needed):
         return function
 
     return add
+
+
+def outcome(program, case):
+    """Whether a case had something to compare, and how it breaks its check, or None. An output that a check can't read is that too."""
+    program.take(case.files)
+    try:
+        return bool(CHECKS[case.check](program, case.files, case.asked)), None
+    except models.Unknown:
+        return False, None
+    except Violation as found:
+        return True, found
+    except Exception as fault:
+        place = traceback.extract_tb(fault.__traceback__)[-1]
+        told = f"an output that can't be read: {fault!r} in {Path(place.filename).name}, line {place.lineno}"
+        return True, Violation(told, program.last)
 
 
 def need(holds, told, *ends):

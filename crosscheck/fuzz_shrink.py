@@ -3,23 +3,9 @@
 import re
 import time
 
-from fuzz_calls import Violation
-from fuzz_checks import CHECKS
-from fuzz_models import Unknown
+from fuzz_checks import CHECKS, outcome
 
 SECONDS = 40
-
-
-def violation_of(program, case):
-    """How a case breaks its check, or none."""
-    program.take(case.files)
-    try:
-        CHECKS[case.check](program, case.files, case.asked)
-    except Violation as found:
-        return found
-    except Unknown:
-        pass
-    return None
 
 
 def kind_of(found):
@@ -33,7 +19,7 @@ def shrunk(program, case, found):
 
     def again(files, asked):
         smaller = case._replace(files=files, asked=asked)
-        violation = violation_of(program, smaller) if time.monotonic() < until else None
+        violation = outcome(program, smaller)[1] if time.monotonic() < until else None
         return violation if violation and kind_of(violation) == kind else None
 
     for name in list(case.files):
