@@ -11,15 +11,31 @@ def stimulus_of(lines):
 
 
 @check(SOURCE, CONFIG)
+def shared(program, files, asked):
+    """shares says what the model says.
+
+    Why: the report has exactly the pins and flags through which machines can feel each other ("What machines share").
+    """
+    block = models.Block(files[SOURCE], files[CONFIG])
+    look_at_report(program, files, block)
+    return len(block.setups) > 1
+
+
+def look_at_report(program, files, block):
+    report = program.call("shares", *block_words(files))
+    wanted = shares_model.report(block.memory, block.setups)
+    need(report.out.decode() == wanted, f"shares isn't the model's, {wanted!r}", report)
+    return report
+
+
+@check(SOURCE, CONFIG)
 def alone(program, files, asked):
-    """A machine that shares calls alone shows the same with the others and their lines taken away; shares says what the model says.
+    """A machine that shares calls alone shows the same with the others and their lines taken away.
 
     Why: a machine that is alone goes its own way, beside lines that agree on it and on the pins that it reads ("The promises").
     """
     block = models.Block(files[SOURCE], files[CONFIG])
-    report = program.call("shares", *block_words(files))
-    wanted = shares_model.report(block.memory, block.setups)
-    need(report.out.decode() == wanted, f"shares isn't the model's, {wanted!r}", report)
+    report = look_at_report(program, files, block)
     numbers = [int(line.split()[1]) for line in report.out.splitlines() if line.endswith(b" alone")]
     if len(block.setups) == 1 or not numbers:
         return False

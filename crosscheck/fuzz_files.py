@@ -136,7 +136,7 @@ def two_apart(random, _):
         cases.Run.host(block)
         tables.pop("span")
         written = {pin for table in tables["machine"] for pin in (table["set_base"], table["out_base"], table["side_base"])}
-        tables["pins"]["out"] = sorted(written)
+        tables["pins"] |= {"out": sorted(written), "high": sorted(random.sample(range(32), 16))}
     place = random.choice([16, 16, 16, random.randrange(32)])
     for table in both[1]["machine"]:
         for key in ("in_base", "out_base", "set_base", "side_base", "jmp_pin"):
@@ -177,7 +177,7 @@ DRAWS = {
     of_repository: 5,
     a_run: 4,
     a_timed_run: 6,
-    a_talk: 8,
+    a_talk: 6,
     a_pair: 1,
     two_apart: 3,
     a_source: 3,

@@ -71,11 +71,11 @@ def changed(chance, table):
     """A table with a number or two changed, often the greatest age of the last row, on which no other row may depend."""
     lines = table.decode().split("\n")
     for _ in range(chance.choice([1, 1, 2])):
-        last = len(lines) - 3
+        last = len(lines) - 3  # "end" and an empty one come after it
         place = last if chance.random() < 0.5 else chance.randrange(1, max(2, last + 1))
         fields = lines[place].split(" ")
         if chance.random() < 0.5:
-            fields[5:] = [fields[5], str(int(fields[6]) + 1)] if len(fields) == 7 else ["0", "0"]
+            fields[5:] = [fields[5], str(int(fields[6]) + 1)] if fields[6:7] and fields[6].isdigit() else ["0", "0"]
         else:
             field = chance.randrange(len(fields))
             near = int(fields[field]) if fields[field].isdigit() else chance.choice([0, 1])
