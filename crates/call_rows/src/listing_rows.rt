@@ -1,4 +1,5 @@
 //! Programs with their listings, worked by hand: words by the RP2040 Datasheet, section 3.4, the lines by the format.
+//! The types below are the form of a row.
 
 /// A side-set rule.
 pub struct SideRow {

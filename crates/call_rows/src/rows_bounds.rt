@@ -1,5 +1,6 @@
 //! Verdicts on spans of a WS2812 and a UART transmitter, in ticks, and of a square wave under a divider with a
 //! fraction, in clocks: worked by hand from the rules of the timing checker (choice of this profile).
+//! `table.rt` tells the form of a row.
 
 /// Bounds that are just wide enough, and others.
 pub static BOUNDS: &str = r#"

@@ -1,5 +1,6 @@
 //! Worked calls of `run`, `asm` and `dis`, each with its end, its line and its status. The square wave is up in clock
 //! 1, two clocks long, every four clocks: the example of the RP2040 Datasheet, section 3.
+//! `table.rt` tells the form of a row.
 
 /// Runs, words of calls, and files of words.
 pub static CALLS: &str = r#"

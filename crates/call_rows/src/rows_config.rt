@@ -1,4 +1,5 @@
 //! Worked runs under a configuration, from the datasheet's rules and the table of keys (choice of this profile).
+//! `table.rt` tells the form of a row.
 
 /// The square wave or a toggle under a configuration.
 pub static CONFIGURED: &str = r#"

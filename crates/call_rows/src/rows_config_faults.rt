@@ -1,4 +1,5 @@
 //! Configurations, spans and stimuli, each with its fault, and after it one that just hasn't it.
+//! `table.rt` tells the form of a row.
 
 /// Configurations at a limit, and each with its fault; the last one runs for 10^12 clocks.
 pub static FAULTY_CONFIGS: &str = r#"

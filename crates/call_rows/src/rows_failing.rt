@@ -1,4 +1,5 @@
 //! Calls whose outside fails, with what they leave where nothing does.
+//! `table.rt` tells the form of a row.
 
 /// Calls that write, each of them worked by hand.
 pub static WRITING: &str = r#"

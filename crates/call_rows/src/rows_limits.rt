@@ -1,4 +1,5 @@
 //! Sources and files of words at a limit, and just past it. The limits are choices of this profile.
+//! `table.rt` tells the form of a row.
 
 /// Each file at a limit, and after it one that is just past it.
 pub static LIMITS: &str = r#"

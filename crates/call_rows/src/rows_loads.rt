@@ -1,4 +1,5 @@
 //! Whole calls of `gen` and `shares`, worked by hand from the rules (choice of this profile).
+//! `table.rt` tells the form of a row.
 
 /// Loads of seeds, and what machines share.
 pub static LOADS_AND_SHARES: &str = r#"

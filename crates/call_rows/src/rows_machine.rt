@@ -1,4 +1,5 @@
 //! Worked runs of all instructions, FIFOs, pins and sources, from the rules of the RP2040 Datasheet, chapter 3.
+//! `table.rt` tells the form of a row.
 
 /// Side-set, refills, flags, pins, synchronisers, FIFOs and X.
 pub static MACHINES: &str = r#"

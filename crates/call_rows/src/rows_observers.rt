@@ -1,4 +1,5 @@
 //! Whole calls of `measure`, `receive` and `uart`, worked by hand from the rules (choice of this profile).
+//! `table.rt` tells the form of a row.
 
 /// Spans of a toggle of pin 0.
 pub static MEASURED: &str = r#"

@@ -1,4 +1,5 @@
 //! Two blocks on one set of pins: the file `d` is the second one's configuration. Each fault, and just without it.
+//! `table.rt` tells the form of a row.
 
 /// The pin of the first block's program is seen by the second's.
 pub static PAIRS: &str = r#"

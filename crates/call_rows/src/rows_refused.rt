@@ -1,4 +1,5 @@
 //! Configurations that are refused, each with the key and the code of its one line (choice of this profile).
+//! `table.rt` tells the form of a row.
 
 /// Whole files.
 pub static FILES: &str = r#"

@@ -1,4 +1,5 @@
 //! Sources, each with its fault, and after it one that just hasn't it; so with words of calls and other files.
+//! `table.rt` tells the form of a row.
 
 /// Sources.
 pub static FAULTY_SOURCES: &str = r#"

@@ -1,5 +1,6 @@
 //! Programs of every common kind, each as its source and its listing, worked out from the rules of the language and of
 //! words (Pico SDK manual, section 3.3; RP2040 Datasheet, section 3.4).
+//! `table.rt` tells the form of a row.
 
 /// LEDs, serial lines, SPI, I2C and a quadrature decoder.
 pub static SOURCES: &str = r#"

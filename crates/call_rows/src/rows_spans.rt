@@ -1,4 +1,5 @@
 //! Worked calls that ask spans, each with its lines, its fault and its status (choice of this profile).
+//! `table.rt` tells the form of a row.
 
 /// Spans of the square wave.
 pub static SPANS_ASKED: &str = r#"

@@ -1,4 +1,5 @@
 //! Whole calls of `table` and `recheck`, worked by hand from the rules (choice of this profile).
+//! `table.rt` tells the form of a row.
 
 /// Tables that are written.
 pub static TABLES: &str = r#"

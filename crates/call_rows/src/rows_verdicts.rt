@@ -1,6 +1,7 @@
 //! The worked verdicts of `docs/VERDICTS.md`, over the programs of `examples/`: a span that is refused for each cause,
 //! the listing by which its line is read, and what is proved after a change. The verdicts follow from the rules of the
 //! checker, which are a choice of this profile.
+//! `table.rt` tells the form of a row.
 
 /// What each cause needs.
 pub static VERDICTS: &str = r#"

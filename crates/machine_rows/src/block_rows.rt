@@ -1,4 +1,5 @@
 //! Rows of machines that meet in a block: pins, flags, dividers, synchronisers.
+//! `block_row.rt` tells the form of a row.
 use crate::block_row::Seen::{Flags, Got, Levels, Sticky, Tx};
 use crate::block_row::{Keys, LOW, PLAIN, PULLING, Pins, Row};
 

@@ -1,4 +1,5 @@
 //! One clock of a FIFO in each row, worked by hand from the rule in the datasheet's words.
+//! The types below are the form of a row.
 
 #[derive(Clone, Copy)]
 pub enum Join {

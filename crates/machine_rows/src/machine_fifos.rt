@@ -1,4 +1,5 @@
 //! Rows of PUSH, PULL, STATUS and the sticky flags.
+//! `machine_row.rt` tells the form of a row.
 use crate::machine_row::Event::{Read, Write};
 use crate::machine_row::Seen::{Got, Level, Rx, Sticky, Tx};
 use crate::machine_row::{Keys, OUT_ONE, PLAIN, PULLING, Row, SIDE_ONE};

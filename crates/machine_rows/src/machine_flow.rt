@@ -1,4 +1,5 @@
 //! Rows of JMP, WAIT, IRQ, EXEC and the PC.
+//! `machine_row.rt` tells the form of a row.
 use crate::machine_row::Event::{Lower, See, Write};
 use crate::machine_row::Seen::{Direction, Flags, Level};
 use crate::machine_row::{Keys, PLAIN, Row};

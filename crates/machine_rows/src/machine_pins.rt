@@ -1,4 +1,5 @@
 //! Rows of writes to pins, side-set, and the pins that are read.
+//! `machine_row.rt` tells the form of a row.
 use crate::machine_row::Event::{Levels, Read, See, Write};
 use crate::machine_row::Seen::{Direction, Got, Level};
 use crate::machine_row::{Keys, OUT_ONE, PLAIN, PULLING, Row, SIDE_ONE};

@@ -1,4 +1,5 @@
 //! Rows of the system's ports: words in and out of a machine's FIFOs, one by one and by paced transfers.
+//! `block_row.rt` tells the form of a row.
 use crate::block_row::Seen::{Got, Levels, Rx, Sticky, Tx};
 use crate::block_row::{Keys, LOW, PLAIN, PULLING, Row};
 

@@ -1,4 +1,5 @@
 //! Rows of how many clocks go by before the next one that stirs, if the system does nothing.
+//! `block_row.rt` tells the form of a row.
 use crate::block_row::Seen::Stirs;
 use crate::block_row::{Keys, LOW, PLAIN, PULLING, Row};
 

@@ -1,5 +1,6 @@
 //! Configurations with the setup or the first fault that the rules give, and default setups, worked by hand. Words: RP2040
 //! Datasheet, section 3.4.
+//! `table.rt` tells the form of a row, and `telling.rt` what is told of it.
 
 /// The programs: `square` (four words, the label `again` at the second), `ahead` (two words, a jump to the label `end` after
 /// them), `fixed` (one word, origin 7) and `long` (eight words).

@@ -1,5 +1,6 @@
 //! Expressions, each with its items or its first fault, worked by hand from the language's rules (Pico SDK manual,
 //! section 3.3.2, and the choices of this profile).
+//! `table.rt` tells the form of a row, and `telling.rt` what is told of it.
 
 /// A source; its expression in postfix order, with `~` for a sign, and the token after it; or its first fault, and the token
 /// of that.

@@ -1,4 +1,5 @@
 //! Tables of machines with the first fault that the rules give, worked by hand.
+//! `table.rt` tells the form of a row, and `telling.rt` what is told of it.
 
 /// Begins a machine's table, over a program at address 5.
 pub const MACHINE: &str = r#"[[load]]|program = "square"|at = 5|[[machine]]|"#;

@@ -1,5 +1,6 @@
 //! Sources, each with its first fault, and those at the limits, worked by hand from the language's rules (Pico SDK manual,
 //! section 3.3, and the choices of this profile).
+//! `table.rt` tells the form of a row, and `telling.rt` what is told of it.
 
 /// A source, and its first fault after its line.
 pub static FAULTS: &str = r#"

@@ -1,5 +1,6 @@
 //! Sources, each with its programs, worked by hand from the language's rules (Pico SDK manual, section 3.3, and RP2040
 //! Datasheet, section 3.4).
+//! `table.rt` tells the form of a row, and `telling.rt` what is told of it.
 
 /// A source, and each of its programs with its words.
 pub static WORDS: &str = r#"

@@ -1,4 +1,5 @@
 //! Tables of spans with the first fault that the rules give, worked by hand.
+//! `table.rt` tells the form of a row, and `telling.rt` what is told of it.
 
 /// Begins a span's table, over one machine.
 pub const SPAN: &str =

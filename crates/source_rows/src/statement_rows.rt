@@ -1,5 +1,6 @@
 //! Lines, each with its statement or its fault, worked by hand from the language's rules (Pico SDK manual, section 3.3,
 //! and the choices of this profile).
+//! `table.rt` tells the form of a row, and `telling.rt` what is told of it.
 
 /// Lines, each with its statement: a form's name, then operands, expressions in postfix order with `~` for a sign; or with
 /// what is wrong with it.

@@ -1,5 +1,6 @@
 //! Lexical inputs, each with its tokens or its first fault, worked by hand from the language's rules (Pico SDK manual,
 //! section 3.3).
+//! `table.rt` tells the form of a row, and `telling.rt` what is told of it.
 
 /// A source, and its tokens' texts with a blank between; or its first fault after its line.
 pub static TOKENS: &str = r#"

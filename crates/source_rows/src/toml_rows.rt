@@ -1,5 +1,6 @@
 //! What `toml` (TOML 1.1) makes of some texts, each of which goes on with a machine's table, and the first fault; the rest
 //! are whole files.
+//! `table.rt` tells the form of a row, and `telling.rt` what is told of it.
 
 /// Values that a number is asked for.
 pub static VALUES: &str = r#"

@@ -1,5 +1,6 @@
 //! Expressions with their values or their first faults, under symbols, worked by hand from the language's rules (Pico SDK
 //! manual, section 3.3.2, and the choices of this profile).
+//! `table.rt` tells the form of a row, and `telling.rt` what is told of it.
 
 /// The globals; the program's symbols, where a program has begun; the expression that is asked; its value or its first
 /// fault. A symbol is a define, as `k = j`, or a label with its number, as `start: 5`.
