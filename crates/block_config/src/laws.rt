@@ -18,7 +18,7 @@ ghost use Rattle.block_config.specs.SetupOf.{setup_of};
 ghost use Rattle.block_config.specs.declared.pins.BlockNumber.TheVariants.{First, Second};
 ghost use Rattle.block_config.specs.Spans.{load_of_machine};
 
-/// A setup is what it says: of the plain numbers of a setup, the definitions make that setup again.
+/// A setup is what it says: of the numbers of a setup, the definitions make that setup again.
 pub fn a_setup_is_what_it_says()
     ensures { (s : setup.Setup) → length s.machines ≡ 4 → setup_of (keys_of_block s) ≡ s }
 {}

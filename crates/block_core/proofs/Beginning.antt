@@ -13,9 +13,9 @@ use Rattle.sm_registers.specs.Tick.{tick_of}
 use Rattle.dreq_pacing.specs.Due.{quiet}
 use Rattle.block_core.specs.Block.{Run, pads_in, view_of, seen_in, seen_over}
 use Rattle.block_core.specs.Slots.{Slot, has_tick, acted, is_ready, place_intent}
-use Rattle.block_core.specs.Stirring.{machines_stir, machines_stir_over, pads_change, pads_change_over, moves_on, begins_now, plainly_moves_on}
-use Rattle.block_core.specs.Twin.{TwinRun, twin_pads_in, twin_pads_change, twin_moves_on, plainly_twin_moves_on}
-use Rattle.block_core.proofs.Rests.{lined_quiet}
+use Rattle.block_core.specs.Stirring.{machines_stir_over, pads_change, pads_change_over, moves_on, begins_now, begins_or_changes}
+use Rattle.block_core.specs.Twin.{TwinRun, twin_pads_in, twin_pads_change, twin_moves_on, twin_begins_or_changes}
+use Rattle.block_core.proofs.LeaptRun.{lined_quiet}
 
 -- what the law of first ticks says
 abbrev pub FirstTicksStir : Type 0
@@ -61,10 +61,10 @@ exchanged : (pads begins stir : Bool) → (begins ≡ true → stir ≡ true) �
 exchanged true begins stir f h = or_right stir true refl
 exchanged false begins stir f h = or_left stir false (f h)
 
-pub plainly_moves : FirstTicksStir → (r : Run) → plainly_moves_on r ≡ true → moves_on quiet r ≡ true
-unfolding moves_on plainly_moves_on
-plainly_moves law r h =
-    exchanged (pads_change quiet r) (list_any begins_now r.state.machines) (machines_stir quiet r)
+pub beginning_moves : FirstTicksStir → (r : Run) → begins_or_changes r ≡ true → moves_on quiet r ≡ true
+unfolding moves_on begins_or_changes
+beginning_moves law r h =
+    exchanged (pads_change quiet r) (list_any begins_now r.state.machines) (machines_stir_over (pads_in quiet r.state) quiet r)
     (any_begins law (view_of r.memory (seen_in quiet r) r.state) r.state.machines) h
 
 -- the same of two blocks
@@ -74,32 +74,32 @@ exchanged_two false true b c a e f g h = or_right (a || false) (e || true) (or_r
 exchanged_two false false true c a e f g h = or_left (a || false) (e || false) (or_left a false (f refl))
 exchanged_two false false false c a e f g h = or_right (a || false) (e || false) (or_left e false (g h))
 
-pub plainly_twin_moves : FirstTicksStir → (t : TwinRun) → plainly_twin_moves_on t ≡ true → twin_moves_on quiet quiet t ≡ true
-unfolding twin_moves_on plainly_twin_moves_on
-plainly_twin_moves law t h =
+pub beginning_moves_two : FirstTicksStir → (t : TwinRun) → twin_begins_or_changes t ≡ true → twin_moves_on quiet quiet t ≡ true
+unfolding twin_moves_on twin_begins_or_changes
+beginning_moves_two law t h =
     let pad = twin_pads_in quiet t in
     exchanged_two (pads_change_over pad t.first) (pads_change_over pad t.second) (list_any begins_now t.first.state.machines) (list_any begins_now t.second.state.machines) (machines_stir_over pad quiet t.first) (machines_stir_over pad quiet t.second)
     (any_begins law (view_of t.first.memory (seen_over pad t.first) t.first.state) t.first.state.machines)
     (any_begins law (view_of t.second.memory (seen_over pad t.second) t.second.state) t.second.state.machines) h
 
 -- the tests of a block and of two, by the pads, and by the machines where the pads don't change
-pub by_pads : (r : Run) (pad : ℕ) → pad ≡ pads_in quiet r.state → pads_change_over pad r ≡ true → true ≡ plainly_moves_on r
-unfolding plainly_moves_on
+pub by_pads : (r : Run) (pad : ℕ) → pad ≡ pads_in quiet r.state → pads_change_over pad r ≡ true → true ≡ begins_or_changes r
+unfolding begins_or_changes
 by_pads r pad is h =
     sym (or_left (pads_change quiet r) (list_any begins_now r.state.machines) (ap (λ p. pads_change_over p r) (sym is) ∙ h))
 
-pub by_machines : (r : Run) (pad : ℕ) → pad ≡ pads_in quiet r.state → pads_change_over pad r ≡ false → list_any begins_now r.state.machines ≡ plainly_moves_on r
-unfolding plainly_moves_on
+pub by_machines : (r : Run) (pad : ℕ) → pad ≡ pads_in quiet r.state → pads_change_over pad r ≡ false → list_any begins_now r.state.machines ≡ begins_or_changes r
+unfolding begins_or_changes
 by_machines r pad is h =
     sym (ap (λ p. p || list_any begins_now r.state.machines) (ap (λ p. pads_change_over p r) (sym is) ∙ h))
 
-pub twin_by_pads : (t : TwinRun) (pad : ℕ) → pad ≡ twin_pads_in quiet t → twin_pads_change pad t ≡ true → true ≡ plainly_twin_moves_on t
-unfolding plainly_twin_moves_on
+pub twin_by_pads : (t : TwinRun) (pad : ℕ) → pad ≡ twin_pads_in quiet t → twin_pads_change pad t ≡ true → true ≡ twin_begins_or_changes t
+unfolding twin_begins_or_changes
 twin_by_pads t pad is h =
     sym (or_left (twin_pads_change (twin_pads_in quiet t) t) (list_any begins_now t.first.state.machines || list_any begins_now t.second.state.machines) (ap (λ p. twin_pads_change p t) (sym is) ∙ h))
 
-pub twin_by_machines : (t : TwinRun) (pad : ℕ) → pad ≡ twin_pads_in quiet t → twin_pads_change pad t ≡ false → (list_any begins_now t.first.state.machines || list_any begins_now t.second.state.machines) ≡ plainly_twin_moves_on t
-unfolding plainly_twin_moves_on
+pub twin_by_machines : (t : TwinRun) (pad : ℕ) → pad ≡ twin_pads_in quiet t → twin_pads_change pad t ≡ false → (list_any begins_now t.first.state.machines || list_any begins_now t.second.state.machines) ≡ twin_begins_or_changes t
+unfolding twin_begins_or_changes
 twin_by_machines t pad is h =
     sym (ap (λ p. p || (list_any begins_now t.first.state.machines || list_any begins_now t.second.state.machines)) (ap (λ p. twin_pads_change p t) (sym is) ∙ h))
 
@@ -119,7 +119,7 @@ pub first_begins : (place : Option Slot) (others : List (Option Slot)) → is_re
 first_begins None others h = cc
 first_begins (Some s) others h = or_left (begins_now (Some s)) (list_any begins_now others) (ready_begins s h)
 
--- a block in which one begins plainly moves on
-pub by_beginning : (r : Run) (pad : ℕ) → pad ≡ pads_in quiet r.state → list_any begins_now r.state.machines ≡ true → true ≡ plainly_moves_on r
-unfolding plainly_moves_on
+-- a block in which one begins moves on
+pub by_beginning : (r : Run) (pad : ℕ) → pad ≡ pads_in quiet r.state → list_any begins_now r.state.machines ≡ true → true ≡ begins_or_changes r
+unfolding begins_or_changes
 by_beginning r pad is h = sym (or_right (pads_change quiet r) (list_any begins_now r.state.machines) h)

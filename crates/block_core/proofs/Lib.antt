@@ -6,13 +6,13 @@ pub mod Wanting
 pub mod OwnPlace
 pub mod Unused
 pub mod Told
-pub mod Rests
+pub mod LeaptRun
 pub mod Firsts
-pub mod SlotRests
-pub mod PlacesRest
+pub mod LeaptSlot
+pub mod LeaptPlaces
 pub mod Leaping
 pub mod Beginning
-pub mod TwinRests
+pub mod LeaptTwin
 pub mod TwinRuns
 pub mod SimpleClocks
 pub mod Simple

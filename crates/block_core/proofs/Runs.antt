@@ -1,5 +1,5 @@
 -- The laws of a run, clock by clock.
-use Rattle.std.proofs.Common.{◌≡◌, ℕ, zero, suc, ◌+◌, List, refl, ap, sym, ◌∙◌, arith}
+use Rattle.std.proofs.Common.{◌≡◌, ℕ, zero, suc, ◌+◌, ◌==◌, ◌&&◌, not, List, refl, ap, sym, ◌∙◌, arith}
 use Rattle.pin_matrix.specs.declared.setup.Setup.{Setup}
 use Rattle.pin_matrix.specs.Pads.{seen_of}
 use Rattle.dreq_pacing.specs.declared.due.Due.{Due}
@@ -7,7 +7,8 @@ use Rattle.dreq_pacing.specs.declared.line.Line.{Line}
 use Rattle.dreq_pacing.specs.Ports.{due_in, due_at, transfers_at, transfers_after}
 use Rattle.block_core.specs.Block.{Run, run_at, run_from, first_run, next, stepped}
 use Rattle.block_core.specs.Following.{Follows}
-use Rattle.block_core.specs.History.{pad_at, pad_before}
+use Rattle.block_core.specs.History.{pad_at, last_pad, pad_before}
+use Rattle.block_core.specs.Stirring.{pads_change}
 use Rattle.block_core.specs.Hosted.{hosted_at, hosted_next, host_of, asked_at}
 
 pub clock-run_from : (start : Run) (host : ℕ → Due) (c : ℕ) → (run_from start host c).clock ≡ start.clock + c
@@ -49,6 +50,15 @@ unfolding run_from next
 pad_2-run_at s host zero = refl
 pad_2-run_at s host (suc zero) = refl
 pad_2-run_at s host (suc (suc c)) = refl
+
+pad_1-run_at : (s : Setup) (host : ℕ → Due) (c : ℕ) → (run_at s host c).synchroniser.pad_1 ≡ last_pad s host c
+unfolding run_from next
+pad_1-run_at s host zero = refl
+pad_1-run_at s host (suc c) = refl
+
+pub changes_at : (s : Setup) (host : ℕ → Due) (c : ℕ) →
+    pads_change (host c) (run_at s host c) ≡ not ((pad_at s host c == last_pad s host c) && (pad_at s host c == pad_before s host c))
+changes_at s host c = rw (pad_1-run_at s host c, pad_2-run_at s host c) refl
 
 bypass-run_at : (s : Setup) (host : ℕ → Due) (c : ℕ) → (run_at s host c).synchroniser.bypass ≡ s.bypass
 unfolding run_from next

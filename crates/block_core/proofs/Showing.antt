@@ -8,10 +8,10 @@ use Rattle.sm_registers.specs.View.{View}
 use Rattle.dreq_pacing.specs.declared.due.Due.{Due}
 use Rattle.block_core.specs.declared.sample.Sample.{Sample}
 use Rattle.block_core.specs.Kept.{IsSampleOf, state_of}
-use Rattle.block_core.specs.Resting.{rested_place}
+use Rattle.block_core.specs.Leaps.{leapt_place}
 use Rattle.block_core.specs.Shown.{Shows, sample_of, shown_in, with_shown}
 use Rattle.block_core.specs.Slots.{Slot, first_slot, settled_slot, slot_after, slot_intent, slot_uses_fifos}
-use Rattle.block_core.proofs.Leaping.{shown_rests}
+use Rattle.block_core.proofs.Leaping.{shown_leaps}
 use Rattle.block_core.proofs.Unused.{StaysQuiet}
 
 -- ports of which nobody wants anything, and no flag of which rises, stay
@@ -85,11 +85,11 @@ module _ {a b c d : Option Slot} {levels directions flags outside : ℕ} {s : Sa
   outputs_new l r = record { is = ap (λ (x : Sample). record x { level = l; direction = r }) kept.is }
 
   -- over a rest it stays
-  pub sample_rested : (n : ℕ) (a' b' c' d' : Option Slot) → a' ≡ rested_place n a → b' ≡ rested_place n b → c' ≡ rested_place n c → d' ≡ rested_place n d → IsSampleOf (state_of a' b' c' d' levels directions flags outside) s
+  pub sample_leapt : (n : ℕ) (a' b' c' d' : Option Slot) → a' ≡ leapt_place n a → b' ≡ leapt_place n b → c' ≡ leapt_place n c → d' ≡ leapt_place n d → IsSampleOf (state_of a' b' c' d' levels directions flags outside) s
   unfolding sample_of
-  sample_rested n a' b' c' d' e f g h = record {
+  sample_leapt n a' b' c' d' e f g h = record {
     is =
-        rw (e, f, g, h, shown_rests n a, shown_rests n b, shown_rests n c, shown_rests n d) kept.is;
+        rw (e, f, g, h, shown_leaps n a, shown_leaps n b, shown_leaps n c, shown_leaps n d) kept.is;
   }
 
 -- at the start nothing is in the FIFOs, and nothing was read or told

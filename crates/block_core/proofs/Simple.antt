@@ -14,7 +14,7 @@ use Rattle.block_core.specs.declared.sample.Sample.{Sample}
 use Rattle.block_core.specs.Block.{Run, next_over, pads_in, stepped, uses_fifos_over}
 use Rattle.block_core.specs.Kept.{are_empty}
 use Rattle.block_core.specs.Merging.{nothing_wanted, with_intent}
-use Rattle.block_core.specs.Resting.{rested_place}
+use Rattle.block_core.specs.Leaps.{leapt_place}
 use Rattle.block_core.specs.Shown.{Shows, sample_of}
 use Rattle.block_core.specs.Slots.{Slot, first_slot, place_after, place_intent, place_uses_fifos, slot_after}
 use Rattle.block_core.proofs.SimpleClocks.{StaysQuiet, WantsPins, uses_none}
@@ -29,12 +29,12 @@ after_is_empty v d (Some s) = refl
 pub empty_after : (v : View) (d : Due) (b c e s t u : Option Slot) → s ≡ place_after v d b → t ≡ place_after v d c → u ≡ place_after v d e → are_empty b c e ≡ are_empty s t u
 empty_after v d b c e s t u f g h = rw (f, g, h, after_is_empty v d b, after_is_empty v d c, after_is_empty v d e) refl
 
-rested_is_empty : (n : ℕ) (s : Option Slot) → is_none s ≡ is_none (rested_place n s)
-rested_is_empty n None = refl
-rested_is_empty n (Some s) = refl
+leapt_is_empty : (n : ℕ) (s : Option Slot) → is_none s ≡ is_none (leapt_place n s)
+leapt_is_empty n None = refl
+leapt_is_empty n (Some s) = refl
 
-pub empty_rested : (n : ℕ) (b c e s t u : Option Slot) → s ≡ rested_place n b → t ≡ rested_place n c → u ≡ rested_place n e → are_empty b c e ≡ are_empty s t u
-empty_rested n b c e s t u f g h = rw (f, g, h, rested_is_empty n b, rested_is_empty n c, rested_is_empty n e) refl
+pub empty_leapt : (n : ℕ) (b c e s t u : Option Slot) → s ≡ leapt_place n b → t ≡ leapt_place n c → u ≡ leapt_place n e → are_empty b c e ≡ are_empty s t u
+empty_leapt n b c e s t u f g h = rw (f, g, h, leapt_is_empty n b, leapt_is_empty n c, leapt_is_empty n e) refl
 
 first_is_empty : (m : Option MachineSetup) → is_none m ≡ is_none (option_map first_slot m)
 first_is_empty None = refl

@@ -14,7 +14,7 @@ use Rattle.dreq_pacing.specs.Due.{quiet}
 use Rattle.block_core.specs.declared.merging.Wanted.{Wanted}
 use Rattle.block_core.specs.Merging.{with_intent}
 use Rattle.block_core.specs.Slots.{Slot, lined, has_tick, acted, settled_slot, slot_after, slot_intent, slot_uses_fifos}
-use Rattle.block_core.proofs.Rests.{no_line, no_word, lined_quiet, clock_on}
+use Rattle.block_core.proofs.LeaptRun.{no_line, no_word, lined_quiet, clock_on}
 
 -- what the law of quiet FIFOs says
 abbrev pub StaysQuiet : Type 0

@@ -5,7 +5,7 @@ use Rattle.pin_matrix.specs.declared.machine.MachineSetup.{MachineSetup}
 use Rattle.sm_registers.specs.View.{View}
 use Rattle.dreq_pacing.specs.declared.due.Due.{Due}
 use Rattle.block_core.specs.Block.{Run, pads_in, next, next_over, uses_fifos_over}
-use Rattle.block_core.specs.Resting.{rested}
+use Rattle.block_core.specs.Leaps.{leapt}
 use Rattle.block_core.specs.Twin.{TwinRun, twin_pads_in, twin_next, twin_uses_fifos_in}
 use Rattle.block_core.specs.Slots.{Slot, first_slot, counted, settled_slot, place_after}
 use Rattle.block_core.specs.Kept.{AreTwins, IsInStep, IsInTime}
@@ -65,6 +65,6 @@ twins_next first second t pad calls one other twins a b =
     record { calls = omega (arith, one_clock, twins.calls); same = omega (arith, one_clock, other_clock, twins.same) }
 
 -- the clock of a run that rests
-pub clock-rested : (n : ℕ) (r : Run) → (rested n r).clock ≡ r.clock + n
-unfolding rested
-clock-rested n r = refl
+pub clock-leapt : (n : ℕ) (r : Run) → (leapt n r).clock ≡ r.clock + n
+unfolding leapt
+clock-leapt n r = refl

@@ -12,7 +12,7 @@ use Rattle.sm_registers.specs.Told.{IsKnown, IsToldAct}
 use Rattle.dreq_pacing.specs.declared.due.Due.{Due}
 use Rattle.block_core.specs.Kept.{memory_alone, IsTold, AreTold}
 use Rattle.block_core.specs.Slots.{Slot, first_slot, lined, has_tick, acted, settled_slot, slot_after, place_after}
-use Rattle.block_core.specs.Resting.{rested_place}
+use Rattle.block_core.specs.Leaps.{leapt_place}
 
 -- what the law of ticks that tell nothing new says, as premises here
 abbrev pub TellsAfter : Type 0
@@ -67,10 +67,10 @@ first_told memory m s e = subst (IsTold memory) (sym e) (cases m) where
   cases (Some setup) = λ begun. cc
 
 -- a delay doesn't count here
-place_told_rested : (memory : List ℕ) (n : ℕ) (s : Option Slot) → IsTold memory s → IsTold memory (rested_place n s)
-place_told_rested memory n None h = tt
-place_told_rested memory n (Some s) h = h
+place_told_leapt : (memory : List ℕ) (n : ℕ) (s : Option Slot) → IsTold memory s → IsTold memory (leapt_place n s)
+place_told_leapt memory n None h = tt
+place_told_leapt memory n (Some s) h = h
 
-pub told_rested : (memory : List ℕ) (n : ℕ) (places : List (Option Slot)) → AreTold memory places → AreTold memory (map (rested_place n) places)
-told_rested memory n [] h = tt
-told_rested memory n (s ∷ places) h = (place_told_rested memory n s h.0, told_rested memory n places h.1)
+pub told_leapt : (memory : List ℕ) (n : ℕ) (places : List (Option Slot)) → AreTold memory places → AreTold memory (map (leapt_place n) places)
+told_leapt memory n [] h = tt
+told_leapt memory n (s ∷ places) h = (place_told_leapt memory n s h.0, told_leapt memory n places h.1)

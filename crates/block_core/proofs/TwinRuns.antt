@@ -1,5 +1,5 @@
 -- The laws of two blocks on one set of pins, clock by clock.
-use Rattle.std.proofs.Common.{◌≡◌, ℕ, zero, suc, ◌+◌, ◌-◌, ◌^◌, ◌<◌, ◌==◌, eqb, min, max, cond, if◌then◌else◌, Bool, true, false, List, refl, ap, sym, ◌∙◌, arith, w32, bit_and}
+use Rattle.std.proofs.Common.{◌≡◌, ℕ, zero, suc, ◌+◌, ◌-◌, ◌^◌, ◌<◌, ◌==◌, eqb, min, max, cond, if◌then◌else◌, not, ◌&&◌, ◌||◌, Bool, true, false, List, refl, ap, sym, ◌∙◌, arith, w32, bit_and}
 use Rattle.std.proofs.lemmas.Bool.Decides.{nat_tests}
 use Rattle.std.proofs.lemmas.Nat.{or_lt, and_le_l}
 use Rattle.std.proofs.lemmas.Nat.Bits.{bit_at_and, bit_at_or, bit_at_not, bit_at-lt}
@@ -11,7 +11,7 @@ use Rattle.dreq_pacing.specs.declared.line.Line.{Line}
 use Rattle.block_core.specs.Block.{BlockState}
 use Rattle.block_core.specs.Following.{Follows}
 use Rattle.block_core.specs.HostedTwin.{twin_of, hosted_twin_next, hosted_twin_at, first_host_of, second_host_of}
-use Rattle.block_core.specs.Twin.{TwinRun, of_owners, shared_pads, twin_next, twin_from, twin_at, first_twin, twin_pad_at, twin_pad_before}
+use Rattle.block_core.specs.Twin.{TwinRun, of_owners, shared_pads, twin_next, twin_from, twin_at, first_twin, twin_pad_at, last_twin_pad, twin_pad_before, twin_pads_change}
 
 -- the clock's number and the memories
 pub clocks-twin_from : (t : TwinRun) (first second : ℕ → Due) (c : ℕ) → ((twin_from t first second c).first.clock ≡ t.first.clock + c) × ((twin_from t first second c).second.clock ≡ t.second.clock + c)
@@ -35,6 +35,23 @@ unfolding twin_from twin_next
 pad_2-twin_at own s t first second zero = (refl, refl)
 pad_2-twin_at own s t first second (suc zero) = (refl, refl)
 pad_2-twin_at own s t first second (suc (suc c)) = (refl, refl)
+
+pad_1-twin_at : (own : ℕ) (s t : Setup) (first second : ℕ → Due) (c : ℕ) → ((twin_at own s t first second c).first.synchroniser.pad_1 ≡ last_twin_pad own s t first second c) × ((twin_at own s t first second c).second.synchroniser.pad_1 ≡ last_twin_pad own s t first second c)
+unfolding twin_from twin_next
+pad_1-twin_at own s t first second zero = (refl, refl)
+pad_1-twin_at own s t first second (suc c) = (refl, refl)
+
+or_same : (b : Bool) → (b || b) ≡ b
+or_same true = refl
+or_same false = refl
+
+pub changes_at_both : (own : ℕ) (s t : Setup) (first second : ℕ → Due) (c : ℕ) →
+    let pad = twin_pad_at own s t first second c in
+    twin_pads_change pad (twin_at own s t first second c) ≡ not ((pad == last_twin_pad own s t first second c) && (pad == twin_pad_before own s t first second c))
+changes_at_both own s t first second c =
+    let one = pad_1-twin_at own s t first second c in
+    let two = pad_2-twin_at own s t first second c in
+    rw (one.0, one.1, two.0, two.1) (or_same _)
 
 pub first_follows : (own : ℕ) (s t : Setup) (first second : ℕ → Due) → Follows s.memory (λ c. seen_of s.bypass (twin_pad_at own s t first second c) (twin_pad_before own s t first second c)) first (λ c. (twin_at own s t first second c).first.state)
 unfolding twin_from twin_next

@@ -1,5 +1,5 @@
 -- What the lines of a run's history have done up to a clock: the pads, the restarts, which machines are enabled.
---   pad_at, pad_before      the pads of a clock, and of two clocks before
+--   pad_at, last_pad, pad_before      the pads of a clock, of the clock before, and of two clocks before
 --   restarted_before, restarted_at     the clock of a machine's last restart
 --   enabled_before, enabled_at         whether it is enabled
 --   Ticks                   that the clock is a tick of it
@@ -18,6 +18,11 @@ use Rattle.block_core.specs.Block.{pads_in, run_at}
 -- the pads of a clock: the levels and directions at its start, and the outside levels with its lines
 abbrev pub pad_at : Setup → (ℕ → Due) → ℕ → ℕ
 pad_at s host clock = pads_in (host clock) (run_at s host clock).state
+
+-- the pads of the clock before; before clock 0 those of the setup, without a line
+abbrev pub last_pad : Setup → (ℕ → Due) → ℕ → ℕ
+last_pad s host zero = pads_of s.level s.out s.high
+last_pad s host (suc clock) = pad_at s host clock
 
 -- the pads of two clocks before; before clock 0 they were always those of the setup, without a line
 abbrev pub pad_before : Setup → (ℕ → Due) → ℕ → ℕ

@@ -9,6 +9,6 @@ pub mod Kept
 pub mod Merging
 pub mod Following
 pub mod Stirring
-pub mod Resting
+pub mod Leaps
 pub mod Twin
 pub mod HostedTwin

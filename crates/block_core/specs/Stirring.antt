@@ -1,12 +1,12 @@
 -- Which clocks of a run stir: something moves in them, or is about to.
---   machines_stir_over, machines_stir   a machine begins or finishes an instruction, or refills its OSR
---   pads_change_over, pads_change       the pads are not those of both clocks before
---   moves_on_over, moves_on             one of these
---   begins_now      the machine of a place begins an instruction
---   plainly_moves_on   the pads change, or a machine begins an instruction
+--   machines_stir_over      a machine begins or finishes an instruction, or refills its OSR
+--   pads_change_over, pads_change   the pads are not those of both clocks before
+--   moves_on_over, moves_on        one of these
+--   begins_now              the machine of a place begins an instruction
+--   begins_or_changes       the pads change, or a machine begins an instruction
 --   stirs_over, stirs_in    one of these, or the system acts
---   stirring        how many of the first clocks stir
---   worked          how many of the first clocks are worked out singly: clock 0, and those that pass a test
+--   stirring                how many of the first clocks stir
+--   worked                  how many of the first clocks are worked out singly: clock 0, and those that pass a test
 -- A word that ends in `over` is of given pads; its fellow is of the block's own.
 use Rattle.std.specs.Prelude.{ℕ, zero, suc, ◌+◌, ◌==◌, Bool, false, not, ◌&&◌, ◌||◌, Option, Some, None, List, if◌then◌else◌}
 use Rattle.std.specs.List.{list_any}
@@ -23,10 +23,6 @@ use Rattle.block_core.specs.Slots.{Slot, has_tick}
 -- some machine has a tick in which it begins or finishes an instruction, or refills its OSR
 abbrev pub machines_stir_over : (pad : ℕ) → Due → Run → Bool
 machines_stir_over pad d r = list_any stirs (wanted_over pad d r)
-
--- the same with the pads of the clock
-abbrev pub machines_stir : Due → Run → Bool
-machines_stir d r = machines_stir_over (pads_in d r.state) d r
 
 -- the pads of the clock, of the one before it and of the one before that are not all the same, so that what machines see may
 -- change (RP2040 Datasheet, section 3.5.6.3)
@@ -51,8 +47,8 @@ begins_now None = false
 begins_now (Some s) = has_tick s && begins_next s.machine.registers
 
 -- The clock moves the block on, whatever the machines see in it: its pads change, or a machine begins an instruction.
-unfoldable pub plainly_moves_on : Run → Bool
-plainly_moves_on r = pads_change quiet r || list_any begins_now r.state.machines
+unfoldable pub begins_or_changes : Run → Bool
+begins_or_changes r = pads_change quiet r || list_any begins_now r.state.machines
 
 -- The clock stirs: a line acts, a transfer's word moves, a machine stirs, or the pads change (choice of this profile).
 abbrev pub stirs_over : (pad : ℕ) → List Line → Hosted → Bool

@@ -9,10 +9,10 @@
 --   first_twin     as two setups begin
 --   twin_from      some clocks on
 --   twin_at        those of two setups in each clock
---   twin_pad_at, twin_pad_before     the pads of a clock, and of two clocks before
---   rested_twin    both after clocks in which nothing stirs
+--   twin_pad_at, last_twin_pad, twin_pad_before     the pads of a clock, of the clock before, and of two clocks before
+--   leapt_twin    both after clocks in which nothing stirs
 --   twin_pads_change   whether the pads change
---   twin_moves_on, plainly_twin_moves_on   whether a clock moves one of the two on
+--   twin_moves_on, twin_begins_or_changes   whether a clock moves one of the two on
 use Rattle.std.specs.Prelude.{ℕ, zero, suc, ◌-◌, ◌^◌, Bool, ◌||◌, bit_and, bit_or}
 use Rattle.std.specs.List.{list_any}
 use Rattle.pin_matrix.specs.declared.setup.Setup.{Setup}
@@ -20,7 +20,7 @@ use Rattle.pin_matrix.specs.Pads.{pads_of}
 use Rattle.dreq_pacing.specs.declared.due.Due.{Due}
 use Rattle.dreq_pacing.specs.Due.{quiet}
 use Rattle.block_core.specs.Block.{BlockState, Run, outside_after, uses_fifos_over, next_over, first_state, first_run_over}
-use Rattle.block_core.specs.Resting.{rested}
+use Rattle.block_core.specs.Leaps.{leapt}
 use Rattle.block_core.specs.Stirring.{moves_on_over, pads_change_over, begins_now}
 
 -- The pins that the second block owns, which no run changes, and both blocks in some clock.
@@ -88,6 +88,11 @@ twin_at own s t first second clock = twin_from (first_twin own s t) first second
 abbrev pub twin_pad_at : (own : ℕ) → (s t : Setup) → (first second : ℕ → Due) → ℕ → ℕ
 twin_pad_at own s t first second clock = twin_pads_in (first clock) (twin_at own s t first second clock)
 
+-- the pads of the clock before; before clock 0 those of the setups, without a line
+abbrev pub last_twin_pad : (own : ℕ) → (s t : Setup) → (first second : ℕ → Due) → ℕ → ℕ
+last_twin_pad own s t first second zero = first_twin_pads own s t
+last_twin_pad own s t first second (suc clock) = twin_pad_at own s t first second clock
+
 -- the pads of two clocks before; before clock 0 they were always those of the setups, without a line
 abbrev pub twin_pad_before : (own : ℕ) → (s t : Setup) → (first second : ℕ → Due) → ℕ → ℕ
 twin_pad_before own s t first second zero = first_twin_pads own s t
@@ -95,8 +100,8 @@ twin_pad_before own s t first second (suc zero) = first_twin_pads own s t
 twin_pad_before own s t first second (suc (suc clock)) = twin_pad_at own s t first second clock
 
 -- both after n clocks in which nothing stirs and the system does nothing
-abbrev pub rested_twin : ℕ → TwinRun → TwinRun
-rested_twin n t = record { own = t.own; first = rested n t.first; second = rested n t.second }
+abbrev pub leapt_twin : ℕ → TwinRun → TwinRun
+leapt_twin n t = record { own = t.own; first = leapt n t.first; second = leapt n t.second }
 
 -- the pads of the clock are not those of both clocks before, as either block's synchronisers hold them
 abbrev pub twin_pads_change : (pad : ℕ) → TwinRun → Bool
@@ -108,7 +113,7 @@ twin_moves_on first second t =
     moves_on_over (twin_pads_in first t) first t.first || moves_on_over (twin_pads_in first t) second t.second
 
 -- the clock moves one of the two on, whatever the machines see in it: the pads change, or a machine begins an instruction
-unfoldable pub plainly_twin_moves_on : TwinRun → Bool
-plainly_twin_moves_on t =
+unfoldable pub twin_begins_or_changes : TwinRun → Bool
+twin_begins_or_changes t =
     twin_pads_change (twin_pads_in quiet t) t
     || (list_any begins_now t.first.state.machines || list_any begins_now t.second.state.machines)

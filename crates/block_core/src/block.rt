@@ -3,9 +3,9 @@ ghost use Rattle.std.specs.Prelude.{◌≡◌, ℕ, ◌<◌, ◌≤◌, ◌^◌,
 ghost use Rattle.dreq_pacing.specs.Due.{quiet};
 ghost use Rattle.dreq_pacing.specs.Ports.{IsFirst};
 ghost use Rattle.block_core.specs.Block.{first_run, next, pads_in, run_from, wanted_in, uses_fifos_in, level_writes, direction_writes, TakesLastWrites};
-ghost use Rattle.block_core.specs.Resting.{rested};
+ghost use Rattle.block_core.specs.Leaps.{leapt};
 ghost use Rattle.block_core.specs.Shown.{sample_of, requests_of, moved_of};
-ghost use Rattle.block_core.specs.Stirring.{moves_on, plainly_moves_on};
+ghost use Rattle.block_core.specs.Stirring.{moves_on, begins_or_changes};
 
 use crate::Sample;
 use crate::news::News;
@@ -21,7 +21,7 @@ use std::marker::Model;
 #[derive(Drop)]
 pub struct Block<F: Fifo> {
     running: Running<F>,
-    // The clocks that were passed over: all others were worked out singly.
+    // The clocks that were leapt over: all others were worked out singly.
     leapt: u64,
     // The pads of the present clock, if the system does nothing in it.
     pad: u32,
@@ -91,8 +91,8 @@ impl<F: Fifo> Block<F> {
     /// sees: the pads change, or a machine begins an instruction. Such a clock moves the block on
     /// (`what_begins_moves_on`); whether others do is told by `next_stir`.
     #[inline(always)]
-    pub fn plainly_moves_on(&self) -> bool
-        ensures { result ≡ plainly_moves_on self.now.run }
+    pub fn begins_or_changes(&self) -> bool
+        ensures { result ≡ begins_or_changes self.now.run }
     {
         if self.running.is_ready() {
             return true;
@@ -127,7 +127,7 @@ impl<F: Fifo> Block<F> {
             moves_on quiet (run_from self.old.run (λ c. quiet) k) ≡ false }
         ensures run { self.new.run ≡ run_from self.old.run (λ c. quiet) clocks }
         ensures rests { (k : ℕ) → k ≤ clocks →
-            run_from self.old.run (λ c. quiet) k ≡ rested k self.old.run }
+            run_from self.old.run (λ c. quiet) k ≡ leapt k self.old.run }
         ensures calls { self.new.calls ≡ self.old.calls }
     {
         a_calm_tick_only_counts();

@@ -1,5 +1,5 @@
 //! Laws of a run, each on a function that does nothing.
-ghost use Rattle.std.specs.Prelude.{◌≡◌, ℕ, suc, ◌+◌, ◌<◌, ◌++◌, ◌↔◌, None, true, false, [], List, Option, option_map, option_to_list, map, slice_get, slice_index_or, if◌then◌else◌, IsTrue};
+ghost use Rattle.std.specs.Prelude.{◌≡◌, ℕ, suc, ◌+◌, ◌<◌, ◌++◌, ◌==◌, ◌&&◌, ◌↔◌, not, None, true, false, [], List, Option, option_map, option_to_list, map, slice_get, slice_index_or, if◌then◌else◌, IsTrue};
 ghost use Rattle.std.specs.List.{AllByRecursion};
 ghost use Rattle.std.specs.Int.{bit_at};
 ghost use Rattle.fifo_pair.specs.Fifos.{is_over, got_word};
@@ -12,12 +12,12 @@ ghost use Rattle.dreq_pacing.specs.Due.{quiet};
 ghost use Rattle.dreq_pacing.specs.declared.line.Line.{Line};
 ghost use Rattle.dreq_pacing.specs.Ports.{transfers_at, due_at};
 ghost use Rattle.block_core.specs.Block.{BlockState, Run, next, run_at, run_from, uses_fifos_in, stepped, first_state, view_of, intents_of, level_writes, direction_writes};
-ghost use Rattle.block_core.specs.History.{pad_at, pad_before, Ticks, OfEach};
+ghost use Rattle.block_core.specs.History.{pad_at, last_pad, pad_before, Ticks, OfEach};
 ghost use Rattle.block_core.specs.Slots.{Slot, lined, has_tick, slot_after, slot_intent};
 ghost use Rattle.block_core.specs.Hosted.{hosted_at, host_of, asked_at};
-ghost use Rattle.block_core.specs.Resting.{rested};
+ghost use Rattle.block_core.specs.Leaps.{leapt};
 ghost use Rattle.block_core.specs.Shown.{requests_of, sample_of};
-ghost use Rattle.block_core.specs.Stirring.{moves_on, plainly_moves_on};
+ghost use Rattle.block_core.specs.Stirring.{pads_change, moves_on, begins_or_changes};
 
 use clock_divider::tick_test;
 use fifo_pair::{a_quiet_clock_changes_nothing, rx_loses_nothing, tx_loses_only_overruns};
@@ -31,6 +31,13 @@ pub fn pads_are_seen_two_clocks_late()
         (run_at s host (suc clock)).state
         ≡ stepped s.memory (seen_of s.bypass (pad_at s host clock) (pad_before s host clock))
         (host clock) (run_at s host clock).state }
+{}
+
+/// The pads change in a clock exactly where they aren't the same in it, in the clock before and in the one before that.
+pub fn pads_change_until_seen()
+    ensures { (s : Setup) (host : ℕ → Due) (clock : ℕ) →
+        pads_change (host clock) (run_at s host clock)
+        ≡ not ((pad_at s host clock == last_pad s host clock) && (pad_at s host clock == pad_before s host clock)) }
 {}
 
 /// The number of a run's clock, and its memory, which stays.
@@ -107,14 +114,14 @@ pub fn unused_fifos_ask_as_before()
 
 /// A clock in which the pads change, or a machine begins an instruction, moves the block on, whatever the machines see.
 pub fn what_begins_moves_on()
-    ensures { (r : Run) → plainly_moves_on r ≡ true → moves_on quiet r ≡ true }
+    ensures { (r : Run) → begins_or_changes r ≡ true → moves_on quiet r ≡ true }
 {
     a_first_tick_stirs();
 }
 
 /// After clocks in which nothing stirs and the system does nothing, a run shows what it showed, and the machines ask for the
 /// same.
-pub fn a_rest_shows_nothing_new()
-    ensures requests { (r : Run) (n : ℕ) → requests_of (rested n r).state ≡ requests_of r.state }
-    ensures sample { (r : Run) (n : ℕ) → sample_of (rested n r).state ≡ sample_of r.state }
+pub fn a_leap_shows_nothing_new()
+    ensures requests { (r : Run) (n : ℕ) → requests_of (leapt n r).state ≡ requests_of r.state }
+    ensures sample { (r : Run) (n : ℕ) → sample_of (leapt n r).state ≡ sample_of r.state }
 {}

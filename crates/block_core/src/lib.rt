@@ -4,10 +4,10 @@
 mod block;
 mod following;
 mod laws;
+mod leaps;
 mod merging;
 mod news;
 mod place;
-mod resting;
 mod running;
 mod sample;
 mod slot;
@@ -20,14 +20,16 @@ pub use following::{
     ticks_follow_the_divider_over_any_pads,
 };
 pub use laws::{
-    a_rest_shows_nothing_new, a_stimulus_is_a_system, clocks_are_counted,
-    each_pin_gets_the_last_write, pads_are_seen_two_clocks_late, ticks_follow_the_divider,
-    unused_fifos_ask_as_before, what_begins_moves_on, words_go_through_in_order,
+    a_leap_shows_nothing_new, a_stimulus_is_a_system, clocks_are_counted,
+    each_pin_gets_the_last_write, pads_are_seen_two_clocks_late, pads_change_until_seen,
+    ticks_follow_the_divider, unused_fifos_ask_as_before, what_begins_moves_on,
+    words_go_through_in_order,
 };
 pub use news::News;
 pub use sample::Sample;
 pub use twin::Twin;
 pub use twin_laws::{
-    clocks_of_two_are_counted, each_pad_is_its_owners, two_blocks_see_the_same_pads,
-    two_stimuli_are_a_system, unused_fifos_ask_as_before_over_any_pads, what_begins_moves_two_on,
+    clocks_of_two_are_counted, each_pad_is_its_owners, pads_of_two_change_until_seen,
+    two_blocks_see_the_same_pads, two_stimuli_are_a_system,
+    unused_fifos_ask_as_before_over_any_pads, what_begins_moves_two_on,
 };

@@ -6,17 +6,17 @@ ghost use Rattle.dreq_pacing.specs.Ports.{IsFirst};
 ghost use Rattle.block_core.specs.Block.{first_run_over, next_over, pads_in, wanted_over, uses_fifos_over, level_writes, direction_writes, TakesLastWrites};
 ghost use Rattle.block_core.specs.Block as spec;
 ghost use Rattle.block_core.specs.Kept.{AreTold, is_simple_over};
-ghost use Rattle.block_core.specs.Resting.{rested};
+ghost use Rattle.block_core.specs.Leaps.{leapt};
 ghost use Rattle.block_core.specs.Shown.{sample_of, requests_of, moved_of};
 ghost use Rattle.block_core.specs.Slots.{doing};
 ghost use Rattle.block_core.specs.Stirring.{machines_stir_over, pads_change_over};
 ghost use Rattle.block_core.specs.Stirring as spec_stirring;
 
 use crate::Sample;
+use crate::leaps::{begins_now, leap, sooner};
 use crate::merging::{Wanted, outside_after};
 use crate::news::News;
 use crate::place::{are_empty, moved, shown, simple_step, slot_of, step};
-use crate::resting::{begins_now, leap, sooner};
 use crate::slot::Slot;
 use dreq_pacing::{Due, Requests};
 use fifo_pair::{Fifo, a_quiet_clock_changes_nothing};
@@ -270,7 +270,7 @@ impl<F: Fifo> Running<F> {
     #[inline(always)]
     pub fn sooner(&self, tested: Option<u64>, pad: u32) -> Option<u64>
         ensures { (test : ℕ → Bool) → IsFirst test 0 tested →
-            IsFirst (λ n. test n || machines_stir_over pad quiet (rested n self.now)) 0 result }
+            IsFirst (λ n. test n || machines_stir_over pad quiet (leapt n self.now)) 0 result }
     {
         let view = View::new(&self.shared, pad);
         let first = sooner(tested, &self.first, &view);
@@ -284,8 +284,8 @@ impl<F: Fifo> Running<F> {
     pub fn leap(&mut self, pad: u32, clocks: u64)
         requires clock { self.old.clock + clocks ≤ 2 ^ 40 }
         requires calm { (k : ℕ) → k < clocks →
-            machines_stir_over pad quiet (rested k self.old) ≡ false }
-        ensures { self.new ≡ rested clocks self.old }
+            machines_stir_over pad quiet (leapt k self.old) ≡ false }
+        ensures { self.new ≡ leapt clocks self.old }
     {
         self.ready = false;
         let view = View::new(&self.shared, pad);

@@ -5,7 +5,7 @@ ghost use Rattle.sm_registers.specs.Intents.{no_wants, wants_of, written_by};
 ghost use Rattle.sm_registers.specs.State as spec_shown;
 ghost use Rattle.dreq_pacing.specs.Due.{quiet};
 ghost use Rattle.dreq_pacing.specs.Ports.{IsFirst};
-ghost use Rattle.block_core.specs.Resting.{rested_slot, stirs_after};
+ghost use Rattle.block_core.specs.Leaps.{leapt_slot, stirs_after};
 ghost use Rattle.block_core.specs.Stirring.{begins_now};
 ghost use Rattle.block_core.specs.Slots as spec;
 ghost use Rattle.block_core.specs.Slots.{lined, acted, settled_slot, slot_after, slot_intent, slot_uses_fifos, used_by};
@@ -229,7 +229,7 @@ impl<F: Fifo> Slot<F> {
     pub fn leap(&mut self, view: &View, clocks: u64)
         requires clock { self.old.timing.clock + clocks ≤ 2 ^ 40 }
         requires calm { (k : ℕ) → k < clocks → stirs_after view.now (Some self.old) k ≡ false }
-        ensures { self.new ≡ rested_slot clocks self.old }
+        ensures { self.new ≡ leapt_slot clocks self.old }
     {
         a_calm_tick_only_counts();
         if self.enabled {

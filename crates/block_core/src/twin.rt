@@ -4,7 +4,7 @@ ghost use Rattle.dreq_pacing.specs.Due.{quiet};
 ghost use Rattle.dreq_pacing.specs.Ports.{IsFirst};
 ghost use Rattle.block_core.specs.Shown.{sample_of, requests_of};
 ghost use Rattle.block_core.specs.Slots.{doing};
-ghost use Rattle.block_core.specs.Twin.{first_twin, first_twin_pads, twin_pads_in, twin_next, twin_from, twin_uses_fifos_in, twin_moves_on, plainly_twin_moves_on, rested_twin};
+ghost use Rattle.block_core.specs.Twin.{first_twin, first_twin_pads, twin_pads_in, twin_next, twin_from, twin_uses_fifos_in, twin_moves_on, twin_begins_or_changes, leapt_twin};
 ghost use Rattle.block_core.specs.Twin as spec;
 
 use crate::Sample;
@@ -116,8 +116,8 @@ impl<F: Fifo> Twin<F> {
     /// sees: the pads change, or a machine begins an instruction. Such a clock moves one of the two on
     /// (`what_begins_moves_two_on`); whether others do is told by `next_stir`.
     #[inline(always)]
-    pub fn plainly_moves_on(&self) -> bool
-        ensures { result ≡ plainly_twin_moves_on self.now.twin }
+    pub fn begins_or_changes(&self) -> bool
+        ensures { result ≡ twin_begins_or_changes self.now.twin }
     {
         let pad = self.pads(None);
         if self.pads_change(pad) {
@@ -153,7 +153,7 @@ impl<F: Fifo> Twin<F> {
             twin_moves_on quiet quiet (twin_from self.old.twin (λ c. quiet) (λ c. quiet) k) ≡ false }
         ensures twin { self.new.twin ≡ twin_from self.old.twin (λ c. quiet) (λ c. quiet) clocks }
         ensures rests { (k : ℕ) → k ≤ clocks →
-            twin_from self.old.twin (λ c. quiet) (λ c. quiet) k ≡ rested_twin k self.old.twin }
+            twin_from self.old.twin (λ c. quiet) (λ c. quiet) k ≡ leapt_twin k self.old.twin }
         ensures calls { self.new.calls ≡ self.old.calls }
     {
         a_calm_tick_only_counts();

@@ -1,5 +1,5 @@
 //! Laws of two blocks on one set of pins, each on a function that does nothing.
-ghost use Rattle.std.specs.Prelude.{◌≡◌, ℕ, ◌+◌, ◌^◌, ◌<◌, ◌==◌, true, false, if◌then◌else◌, List};
+ghost use Rattle.std.specs.Prelude.{◌≡◌, ℕ, ◌+◌, ◌^◌, ◌<◌, ◌==◌, ◌&&◌, not, true, false, if◌then◌else◌, List};
 ghost use Rattle.std.specs.Int.{bit_at};
 ghost use Rattle.pin_matrix.specs.Pads.{seen_of};
 ghost use Rattle.pin_matrix.specs.declared.setup.Setup.{Setup};
@@ -10,7 +10,7 @@ ghost use Rattle.block_core.specs.Block.{BlockState, Run, next_over, uses_fifos_
 ghost use Rattle.block_core.specs.Following.{Follows};
 ghost use Rattle.block_core.specs.HostedTwin.{twin_of, hosted_twin_at, first_host_of, second_host_of};
 ghost use Rattle.block_core.specs.Shown.{requests_of};
-ghost use Rattle.block_core.specs.Twin.{TwinRun, shared_pads, twin_at, twin_from, twin_pad_at, twin_pad_before, twin_moves_on, plainly_twin_moves_on};
+ghost use Rattle.block_core.specs.Twin.{TwinRun, shared_pads, twin_at, twin_from, twin_pad_at, last_twin_pad, twin_pad_before, twin_pads_change, twin_moves_on, twin_begins_or_changes};
 
 use fifo_pair::a_quiet_clock_changes_nothing;
 use pin_matrix::each_pad;
@@ -26,6 +26,15 @@ pub fn each_pad_is_its_owners()
 {
     each_pad();
 }
+
+/// The pads of two blocks change in a clock exactly where they aren't the same in it, in the clock before and in the one before
+/// that.
+pub fn pads_of_two_change_until_seen()
+    ensures { (own : ℕ) (s t : Setup) (first second : ℕ → Due) (clock : ℕ) →
+        let pad = twin_pad_at own s t first second clock in
+        twin_pads_change pad (twin_at own s t first second clock)
+        ≡ not ((pad == last_twin_pad own s t first second clock) && (pad == twin_pad_before own s t first second clock)) }
+{}
 
 /// Each of two blocks is in a run in which its machines see the pads that both share, two clocks late where its own setup
 /// doesn't bypass the synchroniser. So a law of runs over any pads holds of each of them.
@@ -65,7 +74,7 @@ pub fn unused_fifos_ask_as_before_over_any_pads()
 /// A clock in which the pads change, or a machine of either begins an instruction, moves one of the two on, whatever the
 /// machines see.
 pub fn what_begins_moves_two_on()
-    ensures { (t : TwinRun) → plainly_twin_moves_on t ≡ true → twin_moves_on quiet quiet t ≡ true }
+    ensures { (t : TwinRun) → twin_begins_or_changes t ≡ true → twin_moves_on quiet quiet t ≡ true }
 {
     a_first_tick_stirs();
 }

@@ -1,33 +1,39 @@
 -- What bytes are in files that are read line by line: blanks, and digits of either case.
 use Rattle.std.specs.Prelude.{ℕ, ◌+◌, ◌-◌, ◌==◌, ◌||◌, ◌&&◌, nat_le, nat_lt, Bool, Option, Some, None, if◌then◌else◌}
 
--- `0` and `9`
+-- `0`
 abbrev pub digit_0 : ℕ
 digit_0 = 48
 
+-- `9`
 abbrev pub digit_9 : ℕ
 digit_9 = 57
 
--- `a` and `f`, `A` and `F`
+-- `a`
 abbrev pub small_a : ℕ
 small_a = 97
 
+-- `f`
 abbrev pub small_f : ℕ
 small_f = 102
 
+-- `A`
 abbrev pub capital_a : ℕ
 capital_a = 65
 
+-- `F`
 abbrev pub capital_f : ℕ
 capital_f = 70
 
--- the three blanks
+-- a blank
 abbrev pub space : ℕ
 space = 32
 
+-- the second blank
 abbrev pub tab : ℕ
 tab = 9
 
+-- the third blank: CR
 abbrev pub carriage_return : ℕ
 carriage_return = 13
 

@@ -231,7 +231,7 @@ static OUT_ROWS: [WriterRow; 6] = [
     },
 ];
 
-// A piece that stays in the buffer is lost at finish.
+// A piece that waits is lost at finish.
 static SHORT_ROWS: [WriterRow; 3] = [
     WriterRow {
         shows: "the first write breaks",
@@ -259,9 +259,9 @@ fn out_holds(alloc: Global, row: &WriterRow, piece: &[u8]) -> Result<bool, Alloc
     Ok(is_so && out.faults() == row.faults)
 }
 
-fn err_holds(alloc: Global, row: &WriterRow) -> bool {
+fn err_holds(alloc: Global, row: &WriterRow, piece: &[u8]) -> bool {
     let mut err = ErrSink::new(Noted::new(alloc, row.turn));
-    let is_so = put_both(&mut err, b"piotool: memory\n", b"piotool: memory\n") == row.passes;
+    let is_so = put_both(&mut err, piece, piece) == row.passes;
     is_so && err.faults() == row.faults
 }
 
@@ -269,16 +269,17 @@ fn err_holds(alloc: Global, row: &WriterRow) -> bool {
 fn a_write_that_fails_or_takes_nothing_is_one_fault(rt: HostRuntime) -> Result<(), Fail> {
     let long = vec![in rt.alloc(); b'x'; 200_000]?;
     for row in &OUT_ROWS {
-        let is_so = out_holds(rt.alloc(), row, &long)? && err_holds(rt.alloc(), row);
+        let is_so = out_holds(rt.alloc(), row, &long)? && err_holds(rt.alloc(), row, &long);
         assert!(rt; is_so, "{}", row.shows);
     }
     Ok(())
 }
 
 #[test]
-fn a_short_output_that_is_not_taken_fails_at_finish(rt: HostRuntime) -> Result<(), Fail> {
+fn a_short_text_that_is_not_taken_fails_at_finish(rt: HostRuntime) -> Result<(), Fail> {
     for row in &SHORT_ROWS {
-        assert!(rt; out_holds(rt.alloc(), row, b"short")?, "{}", row.shows);
+        let is_so = out_holds(rt.alloc(), row, b"short")? && err_holds(rt.alloc(), row, b"short");
+        assert!(rt; is_so, "{}", row.shows);
     }
     Ok(())
 }
@@ -321,11 +322,23 @@ fn total(sizes: &[usize]) -> usize {
 }
 
 #[test]
-fn errors_leave_piece_by_piece(rt: HostRuntime) {
+fn a_line_of_errors_leaves_in_one_write(rt: HostRuntime) {
     let mut noted = Noted::new(rt.alloc(), WORKS);
     {
         let mut err = ErrSink::new(&mut noted);
         assert!(rt; put_both(&mut err, b"abc", b"abc") == [true, true, true]);
     }
-    assert!(rt; noted.sizes.as_slice() == [3, 3].as_slice());
+    assert!(rt; noted.sizes.as_slice() == [6].as_slice());
+}
+
+#[test]
+fn errors_longer_than_a_line_leave_in_several(rt: HostRuntime) -> Result<(), Fail> {
+    let half = vec![in rt.alloc(); b'x'; 4000]?;
+    let mut noted = Noted::new(rt.alloc(), WORKS);
+    {
+        let mut err = ErrSink::new(&mut noted);
+        assert!(rt; put_both(&mut err, &half, &half) == [true, true, true]);
+    }
+    assert!(rt; noted.sizes.as_slice() == [4000, 4000].as_slice());
+    Ok(())
 }

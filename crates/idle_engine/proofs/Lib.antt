@@ -1,7 +1,7 @@
 mod Growing
 mod Held
 mod OneBlock
-mod Passing
+mod Leaping
 mod SampleLists
 mod Stopping
 mod TwoBlocks

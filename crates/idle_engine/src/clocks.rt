@@ -1,4 +1,4 @@
-//! The clocks of a run: those that are worked out singly, and those between, which are passed over at once.
+//! The clocks of a run: those that are worked out singly, and those between, which are leapt over.
 ghost use Rattle.std.specs.Prelude.{◌≡◌, ℕ, ◌+◌, ◌-◌, ◌<◌, ◌≤◌, ◌^◌, false, true};
 ghost use Rattle.idle_engine.specs.Kinds.{IsUntil, IsCalm};
 
@@ -41,10 +41,10 @@ pub(crate) fn step<V, P, R: Runs<V, P>>(
     }
 }
 
-/// Passes over the clocks from this one on in which nothing can move, and gives the first that it leaves: one that stirs, or
+/// Leaps over the clocks from this one on in which nothing can move, and gives the first that it leaves: one that stirs, or
 /// that up to which the system does nothing.
 #[inline(always)]
-pub(crate) fn rest<V, P, R: Runs<V, P>>(runs: &mut R, ports: &P, clock: u64, until: u64) -> u64
+pub(crate) fn leap<V, P, R: Runs<V, P>>(runs: &mut R, ports: &P, clock: u64, until: u64) -> u64
     requires clock { R.kind.in_clock (R.hosted runs.old ports.now) clock }
     requires within { until ≤ 10 ^ 12 }
     requires ahead { clock ≤ until }
@@ -56,7 +56,7 @@ pub(crate) fn rest<V, P, R: Runs<V, P>>(runs: &mut R, ports: &P, clock: u64, unt
     ensures calls { R.calls runs.new ≡ R.calls runs.old }
 {
     runs.is_of_its_kind(ports);
-    if runs.plainly_moves_on(ports) || clock >= until {
+    if runs.begins_or_changes(ports) || clock >= until {
         return clock;
     }
     let clocks = runs.moves_after(ports, until - clock);

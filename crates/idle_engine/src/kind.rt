@@ -69,8 +69,8 @@ pub(crate) trait Runs<V, P>: Shows<V> {
         requires within { end ≤ 10 ^ 12 }
         ensures { IsUntil (kind.acts (lines ports.now) (hosted self.now ports.now)) end clock result };
 
-    /// Whether it plainly moves on in the present clock, if the system does nothing in it.
-    fn plainly_moves_on(&self, ports: &P) -> bool
+    /// Whether it moves on in the present clock whatever its machines see, if the system does nothing in it.
+    fn begins_or_changes(&self, ports: &P) -> bool
         ensures { result ≡ true → kind.moves (hosted self.now ports.now) ≡ true };
 
     /// How many clocks go by before the first in which it moves on, if the system does nothing, up to the most.

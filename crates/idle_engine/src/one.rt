@@ -4,7 +4,7 @@ ghost use Rattle.idle_engine.specs.One.{one};
 
 use crate::kind::{Runs, Shows, until};
 use block_core::{
-    Block, News, Sample, a_rest_shows_nothing_new, unused_fifos_ask_as_before, what_begins_moves_on,
+    Block, News, Sample, a_leap_shows_nothing_new, unused_fifos_ask_as_before, what_begins_moves_on,
 };
 use dreq_pacing::{HostPorts, a_clock_without_acts_does_nothing};
 use fifo_pair::Fifo;
@@ -59,9 +59,9 @@ impl<'a, F: Fifo> Runs<Sample, HostPorts<'a>> for Block<F> {
     }
 
     #[inline(always)]
-    fn plainly_moves_on(&self, _ports: &HostPorts<'a>) -> bool {
+    fn begins_or_changes(&self, _ports: &HostPorts<'a>) -> bool {
         what_begins_moves_on();
-        Block::plainly_moves_on(self)
+        Block::begins_or_changes(self)
     }
 
     #[cold]
@@ -73,7 +73,7 @@ impl<'a, F: Fifo> Runs<Sample, HostPorts<'a>> for Block<F> {
     #[cold]
     #[inline(never)]
     fn leap(&mut self, _ports: &HostPorts<'a>, _clock: u64, clocks: u64) {
-        a_rest_shows_nothing_new();
+        a_leap_shows_nothing_new();
         Block::leap(self, clocks);
     }
 }

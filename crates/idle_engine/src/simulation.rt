@@ -1,4 +1,4 @@
-//! A run beside the system's ports, told to a trace. Clocks in which nothing can move are passed over.
+//! A run beside the system's ports, told to a trace. Clocks in which nothing can move are leapt over.
 ghost use Rattle.std.specs.Prelude.{◌≡◌, ℕ, ◌+◌, ◌≤◌, ◌^◌, Bool, false, true, is_err, Option, List, OnOk, OnErr};
 ghost use Rattle.pio_edge.specs.Edge.{PutCounts};
 ghost use Rattle.block_core.specs.Hosted.{hosted_at, samples};
@@ -8,7 +8,7 @@ ghost use Rattle.sample_trace.specs.Told.{IsNext, told_at};
 ghost use Rattle.idle_engine.specs.Kinds.{IsCourse};
 ghost use Rattle.idle_engine.specs.Stops.{Stops, StopsAt, TwinStopsAt};
 
-use crate::clocks::{rest, step};
+use crate::clocks::{leap, step};
 use crate::kind::{Runs, Shows};
 use crate::telling::Telling;
 use block_core::{Block, Twin};
@@ -130,7 +130,7 @@ fn run<V, P, R: Runs<V, P>, T: Telling<V, R>, L: Ledger>(
         until = rests;
         steps.count();
         tell(trace, clock, runs, is_new | (clock == 0))?;
-        clock = rest(runs, ports, clock + 1, until);
+        clock = leap(runs, ports, clock + 1, until);
     }
     trace.close(clocks)
 }

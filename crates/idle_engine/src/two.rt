@@ -4,7 +4,7 @@ ghost use Rattle.idle_engine.specs.Two.{two};
 
 use crate::kind::{Runs, Shows, until};
 use block_core::{
-    News, Sample, Twin, a_rest_shows_nothing_new, unused_fifos_ask_as_before_over_any_pads,
+    News, Sample, Twin, a_leap_shows_nothing_new, unused_fifos_ask_as_before_over_any_pads,
     what_begins_moves_two_on,
 };
 use dreq_pacing::{HostPorts, a_clock_without_acts_does_nothing};
@@ -74,9 +74,9 @@ impl<'a, F: Fifo> Runs<(Sample, Sample), (HostPorts<'a>, HostPorts<'a>)> for Twi
     }
 
     #[inline(always)]
-    fn plainly_moves_on(&self, _ports: &(HostPorts<'a>, HostPorts<'a>)) -> bool {
+    fn begins_or_changes(&self, _ports: &(HostPorts<'a>, HostPorts<'a>)) -> bool {
         what_begins_moves_two_on();
-        Twin::plainly_moves_on(self)
+        Twin::begins_or_changes(self)
     }
 
     #[cold]
@@ -88,7 +88,7 @@ impl<'a, F: Fifo> Runs<(Sample, Sample), (HostPorts<'a>, HostPorts<'a>)> for Twi
     #[cold]
     #[inline(never)]
     fn leap(&mut self, _ports: &(HostPorts<'a>, HostPorts<'a>), _clock: u64, clocks: u64) {
-        a_rest_shows_nothing_new();
+        a_leap_shows_nothing_new();
         Twin::leap(self, clocks);
     }
 }

@@ -95,7 +95,7 @@ impl TwinTrace for ClockWatch {
 }
 
 /// Whether a run of so many clocks tells a trace of these clocks alone.
-fn works_out<F: Fifo, L: Ledger>(
+fn tells<F: Fifo, L: Ledger>(
     alloc: Global,
     row: &Row,
     schedule: &Schedule,
@@ -125,7 +125,7 @@ fn clocks_that_stir(rt: HostRuntime) -> Result<(), Fail> {
     for leap in &LEAPS {
         let row = &leap.row;
         let schedule = read_stimulus(alloc, row.stimulus.as_bytes()).expect(&rt, row.shows);
-        let plain = works_out::<PlainFifo, Brand>(
+        let plain = tells::<PlainFifo, Brand>(
             alloc,
             row,
             &schedule,
@@ -133,7 +133,7 @@ fn clocks_that_stir(rt: HostRuntime) -> Result<(), Fail> {
             leap.worked,
             Blank::new(1),
         )?;
-        let ring = works_out::<RingFifo, Brand>(
+        let ring = tells::<RingFifo, Brand>(
             alloc,
             row,
             &schedule,
@@ -147,7 +147,7 @@ fn clocks_that_stir(rt: HostRuntime) -> Result<(), Fail> {
 }
 
 /// Whether a run of two blocks tells a trace of these clocks alone.
-fn tells<F: Fifo, L: Ledger>(
+fn tells_of_two<F: Fifo, L: Ledger>(
     alloc: Global,
     row: &TwinRow,
     first: &Schedule,
@@ -181,7 +181,7 @@ fn pairs_that_show_something_new(rt: HostRuntime) -> Result<(), Fail> {
         let shows = row.first.shows;
         let first = read_stimulus(alloc, row.first.stimulus.as_bytes()).expect(&rt, shows);
         let second = read_stimulus(alloc, row.second.stimulus.as_bytes()).expect(&rt, shows);
-        let ring = tells::<RingFifo, Brand>(
+        let ring = tells_of_two::<RingFifo, Brand>(
             alloc,
             row,
             &first,

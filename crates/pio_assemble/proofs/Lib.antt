@@ -16,8 +16,8 @@ pub mod TextFits
 pub mod TextHex
 pub mod Texts
 pub mod Faultless
-pub mod PlainLines
-pub mod PlainScope
-pub mod PlainWords
-pub mod PlainDrafts
-pub mod PlainPrograms
+pub mod ManualLines
+pub mod ManualScope
+pub mod ManualWords
+pub mod ManualDrafts
+pub mod ManualPrograms

@@ -8,4 +8,4 @@ pub mod Operands
 pub mod Drafts
 pub mod Source
 pub mod Texts
-pub mod Plain
+pub mod Manual

@@ -28,17 +28,19 @@ comma = 44
 abbrev pub colon : ℕ
 colon = 58
 
--- `[` and `]`
+-- `[`
 abbrev pub open_bracket : ℕ
 open_bracket = 91
 
+-- `]`
 abbrev pub close_bracket : ℕ
 close_bracket = 93
 
--- `(` and `)`
+-- `(`
 abbrev pub open_paren : ℕ
 open_paren = 40
 
+-- `)`
 abbrev pub close_paren : ℕ
 close_paren = 41
 

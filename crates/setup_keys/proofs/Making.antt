@@ -1,4 +1,4 @@
--- Each plain block has a setup: what is brought into range keeps what the types keep.
+-- Each block in numbers has a setup: what is brought into range keeps what the types keep.
 use Rattle.std.proofs.Common.{◌≡◌, ℕ, ◌==◌, true, Option, Some, None, option_map, List, [], ◌∷◌, map, slice_index_or, refl, ap}
 use Rattle.pio_encode.specs.declared.rule.SideRule.{SideRule}
 use Rattle.pin_matrix.specs.Setups.{ids_are_places}

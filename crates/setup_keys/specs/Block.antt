@@ -1,4 +1,4 @@
--- What a setup says, as plain numbers.
+-- What a setup says, in numbers.
 --   MachineKeys, SpanKeys, BlockKeys   what the setup of a machine, a span and a block say
 --   keys_of_machine, ..                what one of the types says
 use Rattle.std.specs.Prelude.{ℕ, Bool, Option, option_map, List, map}

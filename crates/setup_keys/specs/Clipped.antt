@@ -1,4 +1,4 @@
--- Plain numbers brought into the ranges of their fields: of numbers past a range what is too much is lost.
+-- Numbers brought into the ranges of their fields: of numbers past a range what is too much is lost.
 --   clipped_machine, clipped_span   of a machine and a span
 --   clipped_block                   of a block, whose machines take their places' numbers
 use Rattle.std.specs.Prelude.{ℕ, suc, ◌-◌, ◌%◌, ◌^◌, min, ◌==◌, ◌&&◌, not, if◌then◌else◌, Option, None, option_map, List, [], ◌∷◌, map, slice_index_or}

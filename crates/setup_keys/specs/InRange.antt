@@ -1,4 +1,4 @@
--- Plain numbers in the ranges of their fields: what `pin_matrix`'s types keep, of the numbers alone.
+-- Numbers in the ranges of their fields: what `pin_matrix`'s types keep, of the numbers alone.
 --   IsMachine, IsSpan, IsBlock   of a machine, a span and a block
 use Rattle.std.specs.Prelude.{◌≡◌, ℕ, ◌+◌, ◌^◌, ◌<◌, ◌≤◌, ◌==◌, ◌||◌, ◌&&◌, not, true, Option, Some, None, List, [], ◌∷◌, length}
 use Rattle.std.specs.List.{AllByRecursion}

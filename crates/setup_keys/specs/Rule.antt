@@ -1,4 +1,4 @@
--- What a side-set rule says, as plain numbers (RP2040 Datasheet, section 3.5.1).
+-- What a side-set rule says, in numbers (RP2040 Datasheet, section 3.5.1).
 --   RuleKeys, keys_of_rule   what a rule says
 --   most_bits, clipped_rule  the same with no more bits than there is room for
 use Rattle.std.specs.Prelude.{ℕ, min, Bool, if◌then◌else◌}

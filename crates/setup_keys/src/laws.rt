@@ -7,13 +7,13 @@ ghost use Rattle.setup_keys.specs.Clipped.{clipped_block};
 ghost use Rattle.setup_keys.specs.InRange.{IsBlock};
 ghost use Rattle.setup_keys.specs.Rule.{RuleKeys, clipped_rule, keys_of_rule};
 
-/// Each plain rule, brought into range, is what a side-set rule says.
-pub fn a_plain_rule_has_a_rule()
+/// Each rule in numbers, brought into range, is what a side-set rule says.
+pub fn a_clipped_rule_has_a_rule()
     ensures { (k : RuleKeys) → (r : rule.SideRule) × (keys_of_rule r ≡ clipped_rule k) }
 {}
 
-/// Each plain block, brought into range, is what a setup says.
-pub fn a_plain_block_has_a_setup()
+/// Each block in numbers, brought into range, is what a setup says.
+pub fn a_clipped_block_has_a_setup()
     ensures { (k : BlockKeys) → (s : setup.Setup) × (keys_of_block s ≡ clipped_block k) }
 {}
 

@@ -6,7 +6,7 @@ use Rattle.pio_encode.specs.declared.act.Condition.TheVariants as condition
 use Rattle.pio_encode.specs.declared.act.SetDestination.TheVariants as set_destination
 use Rattle.pin_matrix.specs.declared.machine.MachineSetup.{MachineSetup}
 use Rattle.sm_registers.specs.declared.plan.Plan.{Plan}
-use Rattle.sm_registers.specs.declared.plan.Plan.TheVariants.{Jump, CountX, CountY, Set, Out, Prompt, Whole}
+use Rattle.sm_registers.specs.declared.plan.Plan.TheVariants.{Jump, CountX, CountY, Set, Out, Other, Whole}
 use Rattle.sm_registers.specs.declared.registers.Registers.{Registers}
 use Rattle.sm_registers.specs.View.{View}
 use Rattle.sm_registers.specs.Effects.{Effect, quiet, jmp_effect, out_effect, set_effect, bits_out_to, effect_of}
@@ -20,7 +20,7 @@ HasEffect (CountX target) s v r e = jmp_effect condition.XDecrement target s v r
 HasEffect (CountY target) s v r e = jmp_effect condition.YDecrement target s v r ≡ e
 HasEffect (Set pins bits) s v r e = record (quiet r) { level = (pins, bits) } ≡ e
 HasEffect (Out destination count) s v r e = bits_out_to destination count s r ≡ e
-HasEffect Prompt s v r e = Unit
+HasEffect Other s v r e = Unit
 HasEffect Whole s v r e = Unit
 
 pub has_effect : (s : MachineSetup) (a : Act) (v : View) (q : Queues) (r : Registers) → s.autopull ≡ false → HasEffect (plan_of s a) s v r (effect_of a s v q r)

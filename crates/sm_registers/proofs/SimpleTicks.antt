@@ -184,12 +184,12 @@ writes op s q r e end o is begun =
     rw (begun, is.level, is.direction, side.level, side.direction) refl
 
 -- a tick that is the only one of an instruction from memory
-pub prompted :
+pub only_tick :
     (op : Op) (s : MachineSetup) (v : View) (q : Queues) (r left after : Registers) (end : End) (o : Outputs) → is_ready s r ≡ true
     → op ≡ reading_of (slice_index v.memory r.pc) s.side_rule → effect_by left no_intent end ≡ effect_of op.act s v q r
     → after ≡ after_effect op.delay s r (effect_by left no_intent end)
     → IsMade s v q r after o (written_side (side_of s op.side) (written_end end o))
-prompted op s v q r left after end o h is effect concluded =
+only_tick op s v q r left after end o h is effect concluded =
     let parts = ready s r h in
     let by : tick_of s v q r ≡ tick_by op s q r (effect_by left no_intent end) = by_word op s v q r parts is ∙ sym (ap (tick_by op s q r) effect) in record {
       registers = concluded ∙ sym (ap (λ t. t.0) by ∙ leaves op s q r _ parts.autopull);

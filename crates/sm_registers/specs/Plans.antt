@@ -10,7 +10,7 @@ use Rattle.pio_encode.specs.declared.act.SetDestination.TheVariants as set_desti
 use Rattle.pin_matrix.specs.Pins.{writes_of}
 use Rattle.pin_matrix.specs.declared.machine.MachineSetup.{MachineSetup}
 use Rattle.sm_registers.specs.declared.plan.Plan.{Plan}
-use Rattle.sm_registers.specs.declared.plan.Plan.TheVariants.{Jump, CountX, CountY, Set, Out, Prompt, Whole}
+use Rattle.sm_registers.specs.declared.plan.Plan.TheVariants.{Jump, CountX, CountY, Set, Out, Other, Whole}
 use Rattle.sm_registers.specs.declared.plan.Side.{Side}
 use Rattle.sm_registers.specs.declared.plan.Side.TheVariants.{Nothing, Levels, Directions}
 
@@ -19,12 +19,12 @@ abbrev pub plan_of : MachineSetup → Act → Plan
 plan_of s (act.Jmp condition.Always target) = Jump target
 plan_of s (act.Jmp condition.XDecrement target) = CountX target
 plan_of s (act.Jmp condition.YDecrement target) = CountY target
-plan_of s (act.Jmp c target) = Prompt
+plan_of s (act.Jmp c target) = Other
 plan_of s (act.Set set_destination.Pins value) = let write = writes_of s.set value in Set write.0 write.1
-plan_of s (act.Set destination value) = Prompt
+plan_of s (act.Set destination value) = Other
 plan_of s (act.Out destination count) = Out destination count
-plan_of s (act.Mov destination operation source) = Prompt
-plan_of s act.Nothing = Prompt
+plan_of s (act.Mov destination operation source) = Other
+plan_of s act.Nothing = Other
 plan_of s a = Whole
 
 -- side-set goes to levels, or under a rule of the setup to directions (RP2040 Datasheet, section 3.5.1)

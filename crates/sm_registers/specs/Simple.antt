@@ -1,5 +1,5 @@
--- Simple ticks, which are most of what a busy machine does: they want nothing of FIFOs and flags, and no more than one tick of an
--- instruction is asked for them.
+-- Simple ticks, which are most of what a busy machine does. None of them wants anything of FIFOs and flags, and
+-- none begins or ends a stall.
 --   has_no_wish    an act that never waits, and wants nothing of FIFOs and flags under any setup
 --   never_waits    the same without autopull: OUT, too
 --   begins_anew    the next tick begins an instruction from memory
@@ -7,7 +7,7 @@
 --   is_simple      the next tick is simple
 use Rattle.std.specs.Prelude.{◌==◌, nat_lt, Bool, true, false, not, ◌&&◌, is_some, if◌then◌else◌}
 use Rattle.pio_encode.specs.declared.act.Act.{Act}
-use Rattle.pio_encode.specs.declared.act.Act.TheVariants.{Jmp, Wait, In, Out, Push, Pull, Mov, Irq, Set, Nothing}
+use Rattle.pio_encode.specs.declared.act.Act.TheVariants.{Jmp, Out, Mov, Set, Nothing}
 use Rattle.pio_encode.specs.Word.{reading_of}
 use Rattle.pin_matrix.specs.declared.machine.MachineSetup.{MachineSetup}
 use Rattle.sm_registers.specs.declared.registers.Registers.{Registers}
@@ -18,28 +18,15 @@ use Rattle.sm_registers.specs.Tick.{current_word}
 -- it has all its effects in its first tick, and none of them is at a FIFO or a flag (RP2040 Datasheet, sections 3.4.2, 3.4.8, 3.4.10)
 abbrev pub has_no_wish : Act → Bool
 has_no_wish (Jmp condition address) = true
-has_no_wish (Wait polarity source index) = false
-has_no_wish (In source count) = false
-has_no_wish (Out destination count) = false
-has_no_wish (Push if_full block) = false
-has_no_wish (Pull if_empty block) = false
 has_no_wish (Mov destination operation source) = true
-has_no_wish (Irq clear wait index) = false
 has_no_wish (Set destination value) = true
 has_no_wish Nothing = true
+has_no_wish act = false
 
 -- the same without autopull, where OUT never waits either (section 3.4.5)
 abbrev pub never_waits : Act → Bool
-never_waits (Jmp condition address) = true
-never_waits (Wait polarity source index) = false
-never_waits (In source count) = false
 never_waits (Out destination count) = true
-never_waits (Push if_full block) = false
-never_waits (Pull if_empty block) = false
-never_waits (Mov destination operation source) = true
-never_waits (Irq clear wait index) = false
-never_waits (Set destination value) = true
-never_waits Nothing = true
+never_waits act = has_no_wish act
 
 -- no delay is left, no stall goes on, and no word is pending
 abbrev pub begins_anew : Registers → Bool

@@ -60,14 +60,14 @@ pub(crate) fn effect_of<F: Fifo>(
         Act::Irq { clear, wait, index } => {
             irq_effect(clear, wait, index, setup, view, registers, intent)
         }
-        _ => prompt_effect(act, setup, view, fifos, registers),
+        _ => effect_without_wish(act, setup, view, fifos, registers),
     }
 }
 
 /// The same of JMP, MOV, SET and an act that does nothing. They never wait, and want nothing of FIFOs and flags.
 #[inline(always)]
 #[tactic(auto, unfolding(crate::specs::Effects::effect_of))]
-pub(crate) fn prompt_effect<F: Fifo>(
+pub(crate) fn effect_without_wish<F: Fifo>(
     act: Act,
     setup: &MachineSetup,
     view: &View,

@@ -33,7 +33,7 @@ pub(crate) enum Plan {
         count: u8,
     },
     /// Any other act that never waits: it is done as in any tick.
-    Prompt,
+    Other,
     /// An act that may wait, or wants something of FIFOs and flags: the tick isn't a simple one.
     Whole,
 }
@@ -64,7 +64,7 @@ impl Plan {
                 Plan::Set { pins, bits }
             }
             Act::Out { destination, count } => Plan::Out { destination, count },
-            Act::Jmp { .. } | Act::Mov { .. } | Act::Set { .. } | Act::Nothing => Plan::Prompt,
+            Act::Jmp { .. } | Act::Mov { .. } | Act::Set { .. } | Act::Nothing => Plan::Other,
             _ => Plan::Whole,
         }
     }

@@ -12,7 +12,7 @@ ghost use Rattle.sm_registers.specs.Tick as spec;
 use crate::decoded::{Decoded, Reading};
 use crate::end::End;
 use crate::idling::is_unmet;
-use crate::instruction::prompt_effect;
+use crate::instruction::effect_without_wish;
 use crate::jump::{count_x, count_y};
 use crate::outputs::Outputs;
 use crate::plan::Plan;
@@ -65,12 +65,12 @@ pub(crate) fn simple_tick<F: Fifo>(
             return None;
         }
     }
-    prompt_tick(setup, view, fifos, decoded, registers, outputs)
+    ready_tick(setup, view, fifos, decoded, registers, outputs)
 }
 
 /// The same of a tick that is ready.
 #[inline(always)]
-fn prompt_tick<F: Fifo>(
+fn ready_tick<F: Fifo>(
     setup: &MachineSetup,
     view: &View,
     fifos: &Pair<F>,
@@ -133,7 +133,7 @@ fn planned_effect<F: Fifo>(
         Plan::Out { destination, count } => {
             Some(put_bits_out(destination, count, setup, registers))
         }
-        Plan::Prompt => Some(prompt_effect(reading.op.act, setup, view, fifos, registers)),
+        Plan::Other => Some(effect_without_wish(reading.op.act, setup, view, fifos, registers)),
         Plan::Whole => None,
     }
 }

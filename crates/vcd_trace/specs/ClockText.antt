@@ -1,5 +1,5 @@
 -- What is kept of the line of a clock: words of private clauses.
-use Rattle.std.specs.Prelude.{◌≡◌, ℕ, ◌*◌, ◌≤◌, List, [], ◌∷◌, ◌++◌, decimal, drop}
+use Rattle.std.specs.Prelude.{◌≡◌, ℕ, ◌+◌, ◌*◌, ◌≤◌, Bool, nat_le, nat_lt, ◌&&◌, List, [], ◌∷◌, ◌++◌, decimal, drop}
 use Rattle.vcd_trace.specs.Characters.{newline, hash}
 
 -- from this start the room has the line of a clock of a hundred, whatever its last two digits are
@@ -11,3 +11,12 @@ pub record IsKept (room : List ℕ) (start hundred : ℕ) : Type 0 where
   pub tens : ℕ
   pub ones : ℕ
   pub text : drop start room ≡ hash ∷ (decimal hundreds ++ tens ∷ ones ∷ newline ∷ [])
+
+-- the line of some clock, and that clock with 0 for its last two digits
+pub record Line : Type 0 where
+  pub text : List ℕ
+  pub hundred : ℕ
+
+-- a clock differs in its last two digits at most from the clocks of a hundred
+abbrev pub is_of : (hundred clock : ℕ) → Bool
+is_of hundred clock = nat_le hundred clock && nat_lt clock (hundred + 100)

@@ -2,6 +2,7 @@
 //! written.
 ghost use Rattle.std.specs.Prelude.{◌≡◌, ◌+◌, ◌/◌, ◌%◌, ◌<◌, true};
 ghost use Rattle.pio_edge.specs.Edge.{Takes, PutCounts};
+ghost use Rattle.vcd_trace.specs.ClockText.{is_of};
 ghost use Rattle.vcd_trace.specs.VcdText.{clock_line};
 
 use crate::line::{CLOCK_ROOM, put_clock, write_clock};
@@ -18,12 +19,12 @@ pub(crate) struct ClockLine {
 }
 
 impl Model for ClockLine {
-    ghost use Rattle.std.specs.Prelude.{List, ℕ, drop};
-    ghost use Rattle.vcd_trace.specs.ClockText.{IsKept};
+    ghost use Rattle.std.specs.Prelude.{drop};
+    ghost use Rattle.vcd_trace.specs.ClockText.{IsKept, Line};
 
-    ghost Value = { List ℕ };
+    ghost Value = { Line };
 
-    ghost view = { λ l. drop l.start l.room };
+    ghost view = { λ l. record { text = drop l.start l.room; hundred = l.hundred } };
 
     ghost invariant = { λ l. IsKept l.room l.start l.hundred };
 }
@@ -55,7 +56,8 @@ impl ClockLine {
     // Writes the line of a clock where the last two digits alone are other ones, and says whether it has.
     #[inline(always)]
     fn turn(&mut self, clock: u64) -> bool
-        ensures { result ≡ true → self.new ≡ clock_line clock }
+        ensures turns { result ≡ is_of self.old.hundred clock }
+        ensures text { result ≡ true → self.new.text ≡ clock_line clock }
     {
         if clock < self.hundred || clock - self.hundred >= 100 {
             return false;

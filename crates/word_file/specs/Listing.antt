@@ -26,6 +26,6 @@ lines_from rule place (w ∷ words) = word_line rule place w ++ lines_from rule 
 abbrev pub word_lines : SideRule → List ℕ → List ℕ
 word_lines rule words = lines_from rule 0 words
 
--- the rule of so many side-set bits for levels, at most as many as there is room for (`a_plain_rule_has_a_rule`)
+-- the rule of so many side-set bits for levels, at most as many as there is room for (`a_clipped_rule_has_a_rule`)
 unfoldable pub rule_for : ℕ → Bool → SideRule
 rule_for bits opt = (a_rule_says (record { bits = bits; opt = opt; pindirs = false })).0

@@ -3,7 +3,7 @@ use Rattle.std.proofs.lemmas.Result.{on_err_weaker, on_ok_weaker}
 use Rattle.sample_trace.specs.Told.{IsNext, held_to}
 use Rattle.idle_engine.specs.Kinds.{IsUntil, shown_at}
 use Rattle.idle_engine.proofs.Held.{IsTold, is-held, is-next, is-told, told-after, told-none}
-use Rattle.idle_engine.proofs.Passing.{IsAfterRest, after_rest, course-next, in_clocks, shown-next, shows-again}
+use Rattle.idle_engine.proofs.Leaping.{IsAfterLeap, after_leap, course-next, in_clocks, shown-next, shows-again}
 use Rattle.idle_engine.proofs.Working.{worked-grows, worked-later, worked-none}
 use Rattle.idle_engine.proofs.simulation.run.Given.{Over}
 use Rattle.idle_engine.proofs.simulation.run.Goals as goal
@@ -52,8 +52,8 @@ step-rests-requires-clause-clock g c =
     let inv = c.clocks.invariant in
     subst (λ (h : g.R.Runs.Hosted). g.R.Runs.kind.in_clock h c.clocks.clock) (sym inv.run) (inv.clocks_at c.clocks.clock)
 
-pub rest-clock-requires-clause-clock : goal.rest-clock-requires-clause-clock
-rest-clock-requires-clause-clock g c =
+pub leap-clock-requires-clause-clock : goal.leap-clock-requires-clause-clock
+leap-clock-requires-clause-clock g c =
     let course = g.R.Runs.kind.course (g.R.Runs.lines c.args.ports.now) (g.R.Runs.hosted c.args.runs.now c.args.ports.now) in
     let inv = c.clocks.invariant in
     let k = g.R.Runs.kind in
@@ -89,8 +89,8 @@ returns-in_err-tell-clause-most g c =
     let more = worked-grows test (c.clocks.clock + 1) c.args.clocks (omega arith) in
     omega (arith, inv.worked, one, more, c.count.ensures)
 
--- the run after the clocks that were passed over
-run_after : (g : Over) (c : goal.After-rest-clock g) → IsAfterRest g.R.Runs.kind (g.R.Runs.lines c.args.ports.now) (g.R.Runs.kind.course (g.R.Runs.lines c.args.ports.now) (g.R.Runs.hosted c.args.runs.now c.args.ports.now)) c.clocks.clock c.rest-clock.result c.step-rests.result.0 c.args.clocks (g.R.Runs.hosted c.rest-clock.new.runs c.step-rests.new.ports)
+-- the run after the clocks that were leapt over
+run_after : (g : Over) (c : goal.After-leap-clock g) → IsAfterLeap g.R.Runs.kind (g.R.Runs.lines c.args.ports.now) (g.R.Runs.kind.course (g.R.Runs.lines c.args.ports.now) (g.R.Runs.hosted c.args.runs.now c.args.ports.now)) c.clocks.clock c.leap-clock.result c.step-rests.result.0 c.args.clocks (g.R.Runs.hosted c.leap-clock.new.runs c.step-rests.new.ports)
 run_after g c =
     let course = g.R.Runs.kind.course (g.R.Runs.lines c.args.ports.now) (g.R.Runs.hosted c.args.runs.now c.args.ports.now) in
     let inv = c.clocks.invariant in
@@ -99,11 +99,11 @@ run_after g c =
     let run = course-next k lines (g.R.Runs.lines c.clocks.ports) _ course inv.is_course c.clocks.clock _ _ inv.run inv.lines c.step-rests.ensures.run in
     let own : g.R.Runs.lines c.step-rests.new.ports ≡ lines = c.step-rests.ensures.lines ∙ inv.lines in
     let until = subst (λ (l : g.R.Runs.Lines). IsUntil (k.acts l (g.R.Runs.hosted c.step-rests.new.runs c.step-rests.new.ports)) c.args.clocks (c.clocks.clock + 1) c.step-rests.result.0) own c.step-rests.ensures.until in
-    after_rest k c.is_of_its_kind.ensures.kind lines _ course inv.is_course inv.clocks_at c.clocks.clock c.rest-clock.result c.step-rests.result.0 c.args.clocks _ _ run
-    c.rest-clock.ensures.from c.rest-clock.ensures.until until c.rest-clock.ensures.run c.rest-clock.ensures.calm c.rest-clock.ensures.moves
+    after_leap k c.is_of_its_kind.ensures.kind lines _ course inv.is_course inv.clocks_at c.clocks.clock c.leap-clock.result c.step-rests.result.0 c.args.clocks _ _ run
+    c.leap-clock.ensures.from c.leap-clock.ensures.until until c.leap-clock.ensures.run c.leap-clock.ensures.calm c.leap-clock.ensures.moves
 
 -- what the trace was told of by then
-told_after : (g : Over) (c : goal.After-rest-clock g) → IsTold (shown_at g.R.Runs.kind (g.R.Runs.kind.course (g.R.Runs.lines c.args.ports.now) (g.R.Runs.hosted c.args.runs.now c.args.ports.now))) (g.R.Runs.kind.course (g.R.Runs.lines c.args.ports.now) (g.R.Runs.hosted c.args.runs.now c.args.ports.now)).samples c.rest-clock.result (λ s. (b : Option (List ℕ)) → g.T.Telling.ready c.args.trace.now b → g.T.Telling.holds c.tell.new.trace b s false)
+told_after : (g : Over) (c : goal.After-leap-clock g) → IsTold (shown_at g.R.Runs.kind (g.R.Runs.kind.course (g.R.Runs.lines c.args.ports.now) (g.R.Runs.hosted c.args.runs.now c.args.ports.now))) (g.R.Runs.kind.course (g.R.Runs.lines c.args.ports.now) (g.R.Runs.hosted c.args.runs.now c.args.ports.now)).samples c.leap-clock.result (λ s. (b : Option (List ℕ)) → g.T.Telling.ready c.args.trace.now b → g.T.Telling.holds c.tell.new.trace b s false)
 told_after g c =
     let course = g.R.Runs.kind.course (g.R.Runs.lines c.args.ports.now) (g.R.Runs.hosted c.args.runs.now c.args.ports.now) in
     let inv = c.clocks.invariant in
@@ -111,7 +111,7 @@ told_after g c =
     let n = c.clocks.clock in
     let run = course-next k (g.R.Runs.lines c.args.ports.now) (g.R.Runs.lines c.clocks.ports) _ course inv.is_course n _ _ inv.run inv.lines c.step-rests.ensures.run in
     let s = shown-next k course n _ _ run (c.is_of_its_kind.ensures.shows c.step-rests.new.runs c.step-rests.new.ports) in
-    told-after (shown_at k course) course.samples inv.is_course.samples n c.rest-clock.result _ c.step-rests.result.1 _ _ c.rest-clock.ensures.from (run_after g c).same s
+    told-after (shown_at k course) course.samples inv.is_course.samples n c.leap-clock.result _ c.step-rests.result.1 _ _ c.leap-clock.ensures.from (run_after g c).same s
     (λ old some. shows-again k course n _ _ inv.run run (c.step-rests.ensures.sample old) some) inv.told
     (λ tells holds next b r. c.in_ok-tell.ensures.ok tells b (course.samples inv.told.last) (holds b r) next)
     (λ again l holds b r. subst (λ t. g.T.Telling.holds t b l false) (sym (c.in_ok-tell.ensures.again again)) (holds b r))
@@ -125,14 +125,14 @@ clocks-preserved g c =
     let after = run_after g c in
     let until = c.step-rests.ensures.until in
     let test : ℕ → Bool = λ n. k.stirs lines (course.at n) in
-    let one = worked-later test c.clocks.clock c.rest-clock.result c.rest-clock.ensures.from (λ some. inv.stirs some c.clocks-test.true) after.still in
+    let one = worked-later test c.clocks.clock c.leap-clock.result c.leap-clock.ensures.from (λ some. inv.stirs some c.clocks-test.true) after.still in
     record {
       is_course = inv.is_course;
       clocks_at = inv.clocks_at;
       run = after.run;
       lines = c.step-rests.ensures.lines ∙ inv.lines;
-      ready = c.is_of_its_kind.ensures.waits c.step-rests.new.ports _ (c.clocks.clock + 1) c.rest-clock.result c.step-rests.ensures.ready c.rest-clock.ensures.from (λ j low below. until.rests j low (omega (arith, c.rest-clock.ensures.until)));
-      within = omega (arith, c.rest-clock.ensures.until, until.within);
+      ready = c.is_of_its_kind.ensures.waits c.step-rests.new.ports _ (c.clocks.clock + 1) c.leap-clock.result c.step-rests.ensures.ready c.leap-clock.ensures.from (λ j low below. until.rests j low (omega (arith, c.leap-clock.ensures.until)));
+      within = omega (arith, c.leap-clock.ensures.until, until.within);
       until = after.rests;
       stirs = λ some. after.stirs;
       working = search rules;

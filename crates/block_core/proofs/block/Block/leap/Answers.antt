@@ -1,11 +1,11 @@
 use Rattle.std.proofs.Common.{◌≡◌, ◌-◌, false, subst, sym, ap, ◌∙◌, arith}
 use Rattle.dreq_pacing.specs.Due.{quiet}
 use Rattle.block_core.specs.Block.{Run, Worked, run_from}
-use Rattle.block_core.specs.Resting.{rested}
+use Rattle.block_core.specs.Leaps.{leapt}
 use Rattle.block_core.specs.Stirring.{moves_on}
 use Rattle.block_core.proofs.Leaping.{machines_calm}
-use Rattle.block_core.proofs.Rests.{CalmLaws, rests}
-use Rattle.block_core.proofs.Steps.{clock-rested}
+use Rattle.block_core.proofs.LeaptRun.{CalmLaws, rests}
+use Rattle.block_core.proofs.Steps.{clock-leapt}
 use Rattle.block_core.proofs.block.Block.leap.Goals as goal
 
 pub leap-requires-clause-calm : goal.leap-requires-clause-calm
@@ -16,7 +16,7 @@ leap-requires-clause-calm g c = λ k lt.
 
 pub invariant_of-self : goal.invariant_of-self
 invariant_of-self g c =
-    let clock = ap (λ (r : Run). r.clock) c.leap.ensures ∙ clock-rested c.args.clocks c.self.inside.running in
+    let clock = ap (λ (r : Run). r.clock) c.leap.ensures ∙ clock-leapt c.args.clocks c.self.inside.running in
     (omega (arith, clock, c.self.invariant.0), c.pads-self-inside.ensures)
 
 pub returns-clause-run : goal.returns-clause-run
@@ -30,12 +30,12 @@ returns-clause-run g c =
 pub returns-clause-rests : goal.returns-clause-rests
 returns-clause-rests g c = λ k le.
     let laws : CalmLaws = record { counts = c.a_calm_tick_only_counts.ensures.once; tells = c.a_calm_tick_tells_nothing_new.ensures.calm; fifos = c.a_quiet_clock_changes_nothing.ensures } in
-    subst (λ (w : Worked). run_from w.run (λ c. quiet) k ≡ rested k w.run) c.self.view_is
+    subst (λ (w : Worked). run_from w.run (λ c. quiet) k ≡ leapt k w.run) c.self.view_is
     (rests laws c.self.inside.running c.stalls_are_told.ensures k
     (λ j lt. subst (λ (w : Worked). moves_on quiet (run_from w.run (λ c. quiet) j) ≡ false) (sym c.self.view_is) (c.requires.calm j (omega (arith, lt, le)))))
 
 pub returns-clause-calls : goal.returns-clause-calls
 returns-clause-calls g c =
-    let clock = ap (λ (r : Run). r.clock) c.leap.ensures ∙ clock-rested c.args.clocks c.self.inside.running in
+    let clock = ap (λ (r : Run). r.clock) c.leap.ensures ∙ clock-leapt c.args.clocks c.self.inside.running in
     let calls : c.self.inside.running.clock - c.self.inside.leapt ≡ c.args.self.now.calls = ap (λ (w : Worked). w.calls) c.self.view_is in
     omega (arith, clock, calls, c.self.invariant.0)

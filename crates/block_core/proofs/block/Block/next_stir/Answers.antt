@@ -4,7 +4,7 @@ use Rattle.dreq_pacing.specs.Ports.{IsFirst}
 use Rattle.block_core.specs.Block.{Worked, run_from}
 use Rattle.block_core.specs.Stirring.{moves_on}
 use Rattle.block_core.proofs.Leaping.{first_moves, moves_at_once}
-use Rattle.block_core.proofs.Rests.{CalmLaws}
+use Rattle.block_core.proofs.LeaptRun.{CalmLaws}
 use Rattle.block_core.proofs.block.Block.next_stir.Goals as goal
 
 pub returns-then-pads_change : goal.returns-then-pads_change

@@ -1,7 +1,7 @@
 use Rattle.std.proofs.Common.{◌≡◌, not, subst}
 use Rattle.block_core.specs.Block.{Run}
 use Rattle.block_core.specs.Stirring.{pads_change_over}
-use Rattle.block_core.proofs.PlacesRest.{not_settled}
+use Rattle.block_core.proofs.LeaptPlaces.{not_settled}
 use Rattle.block_core.proofs.running.Running.pads_change.Goals as goal
 
 pub returns : goal.returns

@@ -1,5 +1,5 @@
 use Rattle.block_core.specs.Slots.{Slot}
-use Rattle.block_core.proofs.SlotRests.{calm_ticks}
+use Rattle.block_core.proofs.LeaptSlot.{calm_ticks}
 use Rattle.block_core.proofs.slot.Slot.leap.Goals as goal
 
 pub leap-requires : goal.leap-requires

@@ -5,7 +5,7 @@ use Rattle.sm_registers.specs.declared.registers.Registers.{Registers}
 use Rattle.sm_registers.specs.Intents.{no_intent, written_by}
 use Rattle.dreq_pacing.specs.Due.{quiet}
 use Rattle.block_core.specs.Slots.{Slot, has_tick, slot_after, slot_intent}
-use Rattle.block_core.proofs.Rests.{clock_on}
+use Rattle.block_core.proofs.LeaptRun.{clock_on}
 use Rattle.block_core.proofs.SimpleClocks.{WantsPins, acts_off, after_simple, writes_none}
 use Rattle.block_core.proofs.slot.Slot.simple_clock.Goals as goal
 

@@ -6,7 +6,7 @@ use Rattle.sm_registers.specs.Intents.{written_by}
 use Rattle.sm_registers.specs.State.{MachineState}
 use Rattle.dreq_pacing.specs.Due.{quiet}
 use Rattle.block_core.specs.Slots.{Slot, has_tick, slot_after, slot_intent}
-use Rattle.block_core.proofs.Rests.{clock_on}
+use Rattle.block_core.proofs.LeaptRun.{clock_on}
 use Rattle.block_core.proofs.SimpleClocks.{WantsPins, ticked, acts, after_simple}
 use Rattle.block_core.proofs.slot.Slot.simple_tick.Goals as goal
 

@@ -1,10 +1,10 @@
 use Rattle.std.proofs.Common.{◌≡◌, ℕ, ◌+◌, false, subst, sym, ap, ◌∙◌, arith}
 use Rattle.dreq_pacing.specs.Due.{quiet}
 use Rattle.block_core.specs.Block.{Run}
-use Rattle.block_core.specs.Twin.{WorkedTwin, TwinRun, twin_pads_in, twin_from, twin_moves_on, rested_twin}
-use Rattle.block_core.proofs.Rests.{CalmLaws}
-use Rattle.block_core.proofs.Steps.{clock-rested}
-use Rattle.block_core.proofs.TwinRests.{AreBothTold, twin_rests, twin_machines_calm}
+use Rattle.block_core.specs.Twin.{WorkedTwin, TwinRun, twin_pads_in, twin_from, twin_moves_on, leapt_twin}
+use Rattle.block_core.proofs.LeaptRun.{CalmLaws}
+use Rattle.block_core.proofs.Steps.{clock-leapt}
+use Rattle.block_core.proofs.LeaptTwin.{AreBothTold, twin_leaps, twin_machines_calm}
 use Rattle.block_core.proofs.twin.Twin.leap.Goals as goal
 
 pub leap-requires-clause-calm : goal.leap-requires-clause-calm
@@ -33,8 +33,8 @@ leap-requires-2-clause-clock g c =
 pub invariant_of-self : goal.invariant_of-self
 invariant_of-self g c =
     let b = c.self.inside in
-    let one = ap (λ (r : Run). r.clock) c.leap.ensures ∙ clock-rested c.args.clocks b.first in
-    let other = ap (λ (r : Run). r.clock) c.leap-2.ensures ∙ clock-rested c.args.clocks b.second in
+    let one = ap (λ (r : Run). r.clock) c.leap.ensures ∙ clock-leapt c.args.clocks b.first in
+    let other = ap (λ (r : Run). r.clock) c.leap-2.ensures ∙ clock-leapt c.args.clocks b.second in
     record {
       calls = omega (arith, one, c.self.invariant.calls);
       same = other ∙ ap (λ (n : ℕ). n + c.args.clocks) c.self.invariant.same ∙ sym one;
@@ -47,7 +47,7 @@ returns-clause-twin g c =
     let t : TwinRun = record { own = b.own; first = b.first; second = b.second } in
     let told : AreBothTold t = record { first = c.stalls_are_told.ensures; second = c.stalls_are_told-2.ensures } in
     rw (c.leap.ensures, c.leap-2.ensures)
-    (sym (twin_rests laws t told c.args.clocks
+    (sym (twin_leaps laws t told c.args.clocks
     (λ j below. subst (λ (w : WorkedTwin). twin_moves_on quiet quiet (twin_from w.twin (λ c. quiet) (λ c. quiet) j) ≡ false) (sym c.self.view_is) (c.requires.calm j below)))
     ∙ ap (λ (w : WorkedTwin). twin_from w.twin (λ c. quiet) (λ c. quiet) c.args.clocks) c.self.view_is)
 
@@ -57,6 +57,6 @@ returns-clause-rests g c = λ k le.
     let b = c.self.inside in
     let t : TwinRun = record { own = b.own; first = b.first; second = b.second } in
     let told : AreBothTold t = record { first = c.stalls_are_told.ensures; second = c.stalls_are_told-2.ensures } in
-    subst (λ (w : WorkedTwin). twin_from w.twin (λ c. quiet) (λ c. quiet) k ≡ rested_twin k w.twin) c.self.view_is
-    (twin_rests laws t told k
+    subst (λ (w : WorkedTwin). twin_from w.twin (λ c. quiet) (λ c. quiet) k ≡ leapt_twin k w.twin) c.self.view_is
+    (twin_leaps laws t told k
     (λ j below. subst (λ (w : WorkedTwin). twin_moves_on quiet quiet (twin_from w.twin (λ c. quiet) (λ c. quiet) j) ≡ false) (sym c.self.view_is) (c.requires.calm j (omega (arith, below, le)))))

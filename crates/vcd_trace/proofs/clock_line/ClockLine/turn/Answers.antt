@@ -8,8 +8,8 @@ invariant_of-self c =
     let l = c.self.inside in
     kept-still l.room l.start l.hundred _ _ c.self.invariant (omega arith)
 
-pub returns : goal.returns
-returns c = λ _.
+pub returns-clause-text : goal.returns-clause-text
+returns-clause-text c = λ _.
     let l = c.self.inside in
     let last : ℕ = c.args.clock - l.hundred in
     let whole : l.hundred + last ≡ c.args.clock = omega arith in

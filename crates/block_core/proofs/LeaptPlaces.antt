@@ -1,0 +1,88 @@
+-- When the machines of four places next stir over given pads, and what they are until then.
+use Rattle.std.proofs.Common.{◌≡◌, ℕ, ◌+◌, ◌≤◌, ◌^◌, ◌==◌, Bool, true, false, not, ◌&&◌, ◌||◌, ◌↔◌, IsTrue, Option, Some, None, List, refl, ap, sym, subst, arith}
+use Rattle.std.proofs.lemmas.Bool.Decides.{nat_tests}
+use Rattle.pin_matrix.specs.Pads.{Synchroniser, seen_of}
+use Rattle.sm_registers.specs.View.{View}
+use Rattle.dreq_pacing.specs.Due.{quiet}
+use Rattle.dreq_pacing.specs.Ports.{IsFirst}
+use Rattle.block_core.specs.Kept.{IsInStep, HasTime}
+use Rattle.block_core.specs.Leaps.{leapt_place, leapt, stirs_after}
+use Rattle.block_core.specs.Slots.{Slot}
+use Rattle.block_core.specs.Stirring.{machines_stir_over}
+use Rattle.block_core.proofs.Firsts.{first_same}
+use Rattle.block_core.proofs.LeaptRun.{pads_same}
+use Rattle.block_core.proofs.Unused.{or_false_parts}
+use Rattle.block_core.proofs.Wanting.{view, run}
+
+join : (t a b c e : Bool) → (t || (a || (b || (c || (e || false))))) ≡ ((((t || a) || b) || c) || e)
+join false false false false false = refl
+join false false false false true = refl
+join false false false true e = refl
+join false false true c e = refl
+join false true b c e = refl
+join true a b c e = refl
+
+-- some clocks on, one of the four stirs
+any_stirs : (memory : List ℕ) (clock levels directions flags outside : ℕ) (sync : Synchroniser) (a b c e : Option Slot) (pad seen : ℕ) → seen ≡ seen_of sync.bypass pad sync.pad_2 → (t : Bool) (n : ℕ) → let v = view memory seen flags in (t || machines_stir_over pad quiet (leapt n (run memory clock levels directions flags outside sync a b c e))) ≡ ((((t || stirs_after v a n) || stirs_after v b n) || stirs_after v c n) || stirs_after v e n)
+unfolding leapt
+any_stirs memory clock levels directions flags outside sync a b c e pad seen sees t n =
+    subst (λ x. let v = view memory x flags in (t || machines_stir_over pad quiet (leapt n (run memory clock levels directions flags outside sync a b c e))) ≡ ((((t || stirs_after v a n) || stirs_after v b n) || stirs_after v c n) || stirs_after v e n)) (sym sees)
+    (let v = view memory (seen_of sync.bypass pad sync.pad_2) flags in join t (stirs_after v a n) (stirs_after v b n) (stirs_after v c n) (stirs_after v e n))
+
+pub first_stirs : (memory : List ℕ) (clock levels directions flags outside : ℕ) (sync : Synchroniser) (a b c e : Option Slot) (pad seen : ℕ) (test : ℕ → Bool) (result : Option ℕ) → seen ≡ seen_of sync.bypass pad sync.pad_2 → (let v = view memory seen flags in IsFirst (λ n. (((test n || stirs_after v a n) || stirs_after v b n) || stirs_after v c n) || stirs_after v e n) 0 result) → IsFirst (λ n. test n || machines_stir_over pad quiet (leapt n (run memory clock levels directions flags outside sync a b c e))) 0 result
+first_stirs memory clock levels directions flags outside sync a b c e pad seen test result sees h =
+    first_same _ (λ n. test n || machines_stir_over pad quiet (leapt n (run memory clock levels directions flags outside sync a b c e))) result
+    (λ n. any_stirs memory clock levels directions flags outside sync a b c e pad seen sees (test n) n) h
+
+-- some clocks on, none of the four stirs
+pub record AreCalm (v : View) (a b c e : Option Slot) (n : ℕ) : Type 0 where
+  pub first : stirs_after v a n ≡ false
+  pub second : stirs_after v b n ≡ false
+  pub third : stirs_after v c n ≡ false
+  pub fourth : stirs_after v e n ≡ false
+
+parted : (v : View) (a b c e : Option Slot) (n : ℕ) → (stirs_after v a n || (stirs_after v b n || (stirs_after v c n || (stirs_after v e n || false)))) ≡ false → AreCalm v a b c e n
+parted v a b c e n h =
+    let one = or_false_parts (stirs_after v a n) _ h in
+    let two = or_false_parts (stirs_after v b n) _ one.1 in
+    let three = or_false_parts (stirs_after v c n) _ two.1 in
+    record { first = one.0; second = two.0; third = three.0; fourth = (or_false_parts (stirs_after v e n) false three.1).0 }
+
+pub are_calm : (memory : List ℕ) (clock levels directions flags outside : ℕ) (sync : Synchroniser) (a b c e : Option Slot) (pad seen n : ℕ) → seen ≡ seen_of sync.bypass pad sync.pad_2 → machines_stir_over pad quiet (leapt n (run memory clock levels directions flags outside sync a b c e)) ≡ false → AreCalm (view memory seen flags) a b c e n
+unfolding leapt
+are_calm memory clock levels directions flags outside sync a b c e pad seen n sees h =
+    subst (λ x. AreCalm (view memory x flags) a b c e n) (sym sees) (parted (view memory (seen_of sync.bypass pad sync.pad_2) flags) a b c e n h)
+
+-- the four after clocks in which they rest
+pub leapt_run : (memory : List ℕ) (clock levels directions flags outside : ℕ) (sync : Synchroniser) (a b c e a2 b2 c2 e2 : Option Slot) (n : ℕ) → a2 ≡ leapt_place n a → b2 ≡ leapt_place n b → c2 ≡ leapt_place n c → e2 ≡ leapt_place n e → run memory (clock + n) levels directions flags outside sync a2 b2 c2 e2 ≡ leapt n (run memory clock levels directions flags outside sync a b c e)
+unfolding leapt
+leapt_run memory clock levels directions flags outside sync a b c e a2 b2 c2 e2 n ea eb ec ee = rw (ea, eb, ec, ee) refl
+
+-- that the pads change
+abbrev pub unsettled : (pad : ℕ) → Synchroniser → Bool
+unsettled pad sync = not ((pad == sync.pad_1) && (pad == sync.pad_2))
+
+-- the test of the synchronisers
+is_settled : (pad a b : ℕ) → (pad ≡ a) × (pad ≡ b) → not ((pad == a) && (pad == b)) ≡ false
+is_settled pad a b h =
+    let first : (pad == a) ≡ true = let e = h.0 in grind (arith, nat_tests) in
+    let second : (pad == b) ≡ true = let e = h.1 in grind (arith, nat_tests) in
+    rw (first, second) refl
+
+pub not_settled : (settled : Bool) (pad : ℕ) (sync : Synchroniser) → IsTrue settled ↔ ((pad ≡ sync.pad_1) × (pad ≡ sync.pad_2)) → not settled ≡ unsettled pad sync
+not_settled true pad sync test = sym (is_settled pad sync.pad_1 sync.pad_2 (test.0 refl))
+not_settled false pad sync test = elim (unsettled pad sync) as (λ b. unsettled pad sync ≡ b → true ≡ b) [
+  | true ↦ λ e. refl
+  | false ↦ λ e. let t : false ≡ true = test.1 (pads_same pad sync.pad_1 sync.pad_2 e) in cc
+] refl
+
+-- its places stay in step, and have the time
+pub has_time : (clock n : ℕ) (s : Option Slot) → clock + n ≤ 2 ^ 40 → IsInStep clock s → HasTime n s
+has_time clock n None le h = tt
+has_time clock n (Some s) le h = omega (arith, le, h.0)
+
+pub in_step_leapt : (clock n : ℕ) (s t : Option Slot) → IsInStep clock s → t ≡ leapt_place n s → IsInStep (clock + n) t
+in_step_leapt clock n s t h e = subst (IsInStep (clock + n)) (sym e) (leaps_in_step s h) where
+  leaps_in_step : (s : Option Slot) → IsInStep clock s → IsInStep (clock + n) (leapt_place n s)
+  leaps_in_step None h = tt
+  leaps_in_step (Some s) h = (ap (λ c. c + n) h.0, omega (arith, h.1), omega (arith, h.2))

@@ -1,0 +1,39 @@
+-- A run after clocks in which nothing stirs and the system does nothing: time goes by, and delays count.
+--   ticks_in      how many ticks a machine has in some clocks
+--   leapt_slot    a machine after them
+--   leapt_place   the same of a place in the block
+--   leapt         the run after them
+--   stirs_after   whether the machine of a place stirs in the clock after them
+use Rattle.std.specs.Prelude.{ℕ, ◌+◌, ◌-◌, Bool, Option, option_map, map, if◌then◌else◌}
+use Rattle.clock_divider.specs.Ticks.{tick_count}
+use Rattle.sm_registers.specs.Idling.{stirs}
+use Rattle.sm_registers.specs.View.{View}
+use Rattle.dreq_pacing.specs.Due.{quiet}
+use Rattle.block_core.specs.Slots.{Slot, place_intent}
+use Rattle.block_core.specs.Block.{Run}
+
+-- how many ticks it has in the n clocks from the present one on: none while it is disabled
+abbrev pub ticks_in : ℕ → Slot → ℕ
+ticks_in n s = if s.enabled then tick_count s.timing.restarted s.timing.period s.timing.clock n else 0
+
+-- it after n clocks: its divider runs on, and what is left of a delay counts down by its ticks
+abbrev pub leapt_slot : ℕ → Slot → Slot
+leapt_slot n s = record s {
+  machine = record s.machine { registers = record s.machine.registers { delay = s.machine.registers.delay - ticks_in n s } };
+  timing = record s.timing { clock = s.timing.clock + n };
+}
+
+-- the same of a place, where a machine is configured or not
+abbrev pub leapt_place : ℕ → Option Slot → Option Slot
+leapt_place n place = option_map (leapt_slot n) place
+
+-- the run after n clocks; its pins, flags, FIFOs and synchronisers stay
+unfoldable pub leapt : ℕ → Run → Run
+leapt n r = record r {
+  clock = r.clock + n;
+  state = record r.state { machines = map (leapt_place n) r.state.machines };
+}
+
+-- whether the machine of a place stirs in the clock after n others, where it sees this in each
+abbrev pub stirs_after : View → Option Slot → ℕ → Bool
+stirs_after v place n = stirs (place_intent v quiet (leapt_place n place))
