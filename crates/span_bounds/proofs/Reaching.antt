@@ -18,7 +18,7 @@ use Rattle.span_bounds.specs.declared.entry.Entry.TheVariants.{Absent, Present}
 use Rattle.span_bounds.specs.Numbers.{number_of}
 use Rattle.span_bounds.specs.Tables.{LiesAt, start_context}
 use Rattle.span_bounds.specs.Edges.{at, nexts_at, spot, AllLie, IsClosedAt, Among}
-use Rattle.span_bounds.specs.Reach.{IsHeldBy, holds, Below, AreHeld, plain, rises_left, room, IsNeeded, Sweep, SweepAtRow, Raised}
+use Rattle.span_bounds.specs.Reach.{IsHeldBy, holds, Below, AreHeld, zeroed, rises_left, room, IsNeeded, Sweep, SweepAtRow, Raised}
 use Rattle.span_bounds.proofs.Nexts.{EachNext-at, EachNext-more, EachNext-map, Among-push, Among-pop, same_or_not}
 
 inside_open : (a b : Ages) → IsInside a b → is_open a ≡ true → is_open b ≡ true
@@ -70,24 +70,24 @@ pub Below-refl : (e : Entry) → Below e e
 Below-refl Absent = tt
 Below-refl (Present a) = λ o. o
 
-open_plain : (a : Ages) → is_open (plain a) ≡ is_open a
-open_plain Empty = refl
-open_plain (Between lo hi) = refl
+open_zeroed : (a : Ages) → is_open (zeroed a) ≡ is_open a
+open_zeroed Empty = refl
+open_zeroed (Between lo hi) = refl
 
 -- an entry that is raised holds what it held
-below_raised : (a : Ages) (e : Entry) → holds a e ≡ false → Below e (Present (plain a))
+below_raised : (a : Ages) (e : Entry) → holds a e ≡ false → Below e (Present (zeroed a))
 below_raised a Absent q = tt
 below_raised Empty (Present b) q = absurd (bad q) where
   bad : true ≡ false → ⊥
   bad e = cc
 below_raised (Between lo hi) (Present b) q = λ o. refl
 
-holds_plain : (a : Ages) → IsHeldBy a (Present (plain a))
-holds_plain a = λ o. open_plain a ∙ o
+holds_zeroed : (a : Ages) → IsHeldBy a (Present (zeroed a))
+holds_zeroed a = λ o. open_zeroed a ∙ o
 
-plain_held : (a : Ages) (e : Entry) → IsHeldBy a e → IsHeldBy (plain a) e
-plain_held a Absent h = h
-plain_held a (Present b) h = λ o. h (sym (open_plain a) ∙ o)
+zeroed_held : (a : Ages) (e : Entry) → IsHeldBy a e → IsHeldBy (zeroed a) e
+zeroed_held a Absent h = h
+zeroed_held a (Present b) h = λ o. h (sym (open_zeroed a) ∙ o)
 
 holds_true : (a : Ages) (e : Entry) → holds a e ≡ true → IsHeldBy a e
 holds_true a Absent q = absurd (bad q) where
@@ -113,32 +113,32 @@ below_set g i j e l b = on (same_or_not j i) where
 
 module _ (u : Setup) (sp : Span) (g : List Entry) (w : List ℕ) (s : Sweep u sp g w) (i : ℕ) (a : Ages) (l : i < 139392) (fails : holds a (at g i) ≡ false) (n : IsNeeded u sp i a) where
   g' : List Entry
-  g' = set g i (Present (plain a))
+  g' = set g i (Present (zeroed a))
 
   inside : i < length g
   inside = rw s.size l
 
-  raised_below : (j : ℕ) → Below (at g j) (at (set g i (Present (plain a))) j)
-  raised_below j = below_set g i j (Present (plain a)) inside (below_raised a (at g i) fails)
+  raised_below : (j : ℕ) → Below (at g j) (at (set g i (Present (zeroed a))) j)
+  raised_below j = below_set g i j (Present (zeroed a)) inside (below_raised a (at g i) fails)
 
-  pub AreHeld-raised : (ns : List Next) → AreHeld (at g) ns → AreHeld (at (set g i (Present (plain a)))) ns
-  AreHeld-raised ns h = EachNext-map (λ m. IsHeldBy m.ages (at g (spot m))) (λ m. IsHeldBy m.ages (at (set g i (Present (plain a))) (spot m))) (λ m k. IsHeldBy-below m.ages _ _ k (raised_below (spot m))) ns h
+  pub AreHeld-raised : (ns : List Next) → AreHeld (at g) ns → AreHeld (at (set g i (Present (zeroed a)))) ns
+  AreHeld-raised ns h = EachNext-map (λ m. IsHeldBy m.ages (at g (spot m))) (λ m. IsHeldBy m.ages (at (set g i (Present (zeroed a))) (spot m))) (λ m k. IsHeldBy-below m.ages _ _ k (raised_below (spot m))) ns h
 
-  pub Sweep-raised : Sweep u sp (set g i (Present (plain a))) (i ∷ w)
+  pub Sweep-raised : Sweep u sp (set g i (Present (zeroed a))) (i ∷ w)
   Sweep-raised = record {
-    size = length-set g i (Present (plain a)) ∙ s.size;
+    size = length-set g i (Present (zeroed a)) ∙ s.size;
     near = λ j h. elim h [ inl e ↦ rw e l | inr m ↦ s.near j m ];
     begins = IsHeldBy-below Empty _ _ s.begins (raised_below _);
     steps = λ j b m q. steps j b m q (same_or_not j i);
     least = λ f c j m. least f c j m (same_or_not j i);
   } where
-    steps : (j : ℕ) (b : Ages) → j < 139392 → at (set g i (Present (plain a))) j ≡ Present b → (j ≡ i) ⊎ (j ≢ i) → Among j (i ∷ w) ⊎ AreHeld (at (set g i (Present (plain a)))) (nexts_at u sp j b)
+    steps : (j : ℕ) (b : Ages) → j < 139392 → at (set g i (Present (zeroed a))) j ≡ Present b → (j ≡ i) ⊎ (j ≢ i) → Among j (i ∷ w) ⊎ AreHeld (at (set g i (Present (zeroed a)))) (nexts_at u sp j b)
     steps j b m q (inl e) = inl (inl e)
     steps j b m q (inr d) = elim (s.steps j b m (sym (at_other g i j _ d) ∙ q)) [ inl k ↦ inl (inr k) | inr k ↦ inr (AreHeld-raised _ k) ]
 
-    least : (f : ℕ → Entry) → IsClosedAt u sp f → (j : ℕ) → j < 139392 → (j ≡ i) ⊎ (j ≢ i) → Below (at (set g i (Present (plain a))) j) (f j)
-    least f c j m (inl e) = rw (e, at_same g i (Present (plain a)) inside) (plain_held a (f i) (n.needed f c))
-    least f c j m (inr d) = rw (at_other g i j (Present (plain a)) d) (s.least f c j m)
+    least : (f : ℕ → Entry) → IsClosedAt u sp f → (j : ℕ) → j < 139392 → (j ≡ i) ⊎ (j ≢ i) → Below (at (set g i (Present (zeroed a))) j) (f j)
+    least f c j m (inl e) = rw (e, at_same g i (Present (zeroed a)) inside) (zeroed_held a (f i) (n.needed f c))
+    least f c j m (inr d) = rw (at_other g i j (Present (zeroed a)) d) (s.least f c j m)
 
 -- a number more may wait
 wider : (u : Setup) (sp : Span) (g : List Entry) (w v : List ℕ) → ((j : ℕ) → Among j w → Among j v) → ((j : ℕ) → Among j v → j < 139392) → Sweep u sp g w → Sweep u sp g v
@@ -159,7 +159,7 @@ SweepAtRow-raised u sp g g' w w' i a k d l m below v r = on (holds n.ages (at g 
   n : Next
   n = get_or (nexts_at u sp i a) k d
 
-  on : (z : Bool) → holds n.ages (at g (spot n)) ≡ z → MatchBool z ((g' ≡ g) × (w' ≡ w)) ((g' ≡ set g (spot n) (Present (plain n.ages))) × (w' ≡ w ++ spot n ∷ [])) → SweepAtRow u sp g' w' i a (take (k + 1) (nexts_at u sp i a))
+  on : (z : Bool) → holds n.ages (at g (spot n)) ≡ z → MatchBool z ((g' ≡ g) × (w' ≡ w)) ((g' ≡ set g (spot n) (Present (zeroed n.ages))) × (w' ≡ w ++ spot n ∷ [])) → SweepAtRow u sp g' w' i a (take (k + 1) (nexts_at u sp i a))
   on true q e = rw (e.0, e.1) (record {
     sweep = v.sweep;
     row = v.row;
@@ -169,15 +169,15 @@ SweepAtRow-raised u sp g g' w w' i a k d l m below v r = on (holds n.ages (at g 
   on false q e = rw (e.0, e.1) (record {
     sweep = wider u sp _ (spot n ∷ i ∷ w) (i ∷ (w ++ spot n ∷ [])) there near raised;
     row = v.row;
-    held = EachNext-more (λ x. IsHeldBy x.ages (at (set g (spot n) (Present (plain n.ages))) (spot x))) _ k d m
+    held = EachNext-more (λ x. IsHeldBy x.ages (at (set g (spot n) (Present (zeroed n.ages))) (spot x))) _ k d m
         (AreHeld-raised u sp g (i ∷ w) v.sweep (spot n) n.ages below q needed _ v.held)
-        (rw (at_same g (spot n) (Present (plain n.ages)) (rw v.sweep.size below)) (holds_plain n.ages));
+        (rw (at_same g (spot n) (Present (zeroed n.ages)) (rw v.sweep.size below)) (holds_zeroed n.ages));
     same = same (same_or_not i (spot n)) v.same;
   }) where
     needed : IsNeeded u sp (spot n) n.ages
     needed = IsNeeded-next u sp i a k d l v.row m
 
-    raised : Sweep u sp (set g (spot n) (Present (plain n.ages))) (spot n ∷ i ∷ w)
+    raised : Sweep u sp (set g (spot n) (Present (zeroed n.ages))) (spot n ∷ i ∷ w)
     raised = Sweep-raised u sp g (i ∷ w) v.sweep (spot n) n.ages below q needed
 
     there : (j : ℕ) → Among j (spot n ∷ i ∷ w) → Among j (i ∷ (w ++ spot n ∷ []))
@@ -193,12 +193,12 @@ SweepAtRow-raised u sp g g' w w' i a k d l m below v r = on (holds n.ages (at g 
     near j (inl h) = raised.near j (inr (inl h))
     near j (inr h) = raised.near j (back j (Among-pop j (spot n) w h))
 
-    same : (i ≡ spot n) ⊎ (i ≢ spot n) → (at g i ≡ Present a) ⊎ Among i w → (at (set g (spot n) (Present (plain n.ages))) i ≡ Present a) ⊎ Among i (w ++ spot n ∷ [])
+    same : (i ≡ spot n) ⊎ (i ≢ spot n) → (at g i ≡ Present a) ⊎ Among i w → (at (set g (spot n) (Present (zeroed n.ages))) i ≡ Present a) ⊎ Among i (w ++ spot n ∷ [])
     same (inl h) o = inr (Among-push i (spot n) w (inl h))
     same (inr h) (inl o) = inl (at_other g (spot n) i _ h ∙ o)
     same (inr h) (inr o) = inr (Among-push i (spot n) w (inr o))
 
-left_less : (a : Ages) (e : Entry) → holds a e ≡ false → rises_left (Present (plain a)) + 1 ≤ rises_left e
+left_less : (a : Ages) (e : Entry) → holds a e ≡ false → rises_left (Present (zeroed a)) + 1 ≤ rises_left e
 left_less Empty Absent q = omega arith
 left_less (Between lo hi) Absent q = omega arith
 left_less Empty (Present b) q = absurd (bad q) where
@@ -216,11 +216,11 @@ room_blank g w e q = rw (e, q, sum_by-replicate rises_left 139392 Absent) (omega
 -- a raise makes at most as much wait as it takes from the room
 pub room_raised : (i : ℕ) (a : Ages) (g g' : List Entry) (w w' : List ℕ) → i < length g → Raised i a g g' w w' → room g' + length w' ≤ room g + length w
 room_raised i a g g' w w' l r = on (holds a (at g i)) refl r where
-  on : (z : Bool) → holds a (at g i) ≡ z → MatchBool z ((g' ≡ g) × (w' ≡ w)) ((g' ≡ set g i (Present (plain a))) × (w' ≡ w ++ i ∷ [])) → room g' + length w' ≤ room g + length w
+  on : (z : Bool) → holds a (at g i) ≡ z → MatchBool z ((g' ≡ g) × (w' ≡ w)) ((g' ≡ set g i (Present (zeroed a))) × (w' ≡ w ++ i ∷ [])) → room g' + length w' ≤ room g + length w
   on true q e = rw (e.0, e.1) (omega arith)
-  on false q e = rw (e.0, e.1, length_push w i) (plain_room _ _ _ _ _ (sum_by-set rises_left g i (Present (plain a)) Absent l) (left_less a (at g i) q)) where
-    plain_room : (x y o n v : ℕ) → x + o ≡ y + n → n + 1 ≤ o → x + (v + 1) ≤ y + v
-    plain_room x y o n v h k = omega arith
+  on false q e = rw (e.0, e.1, length_push w i) (room_falls _ _ _ _ _ (sum_by-set rises_left g i (Present (zeroed a)) Absent l) (left_less a (at g i) q)) where
+    room_falls : (x y o n v : ℕ) → x + o ≡ y + n → n + 1 ≤ o → x + (v + 1) ≤ y + v
+    room_falls x y o n v h k = omega arith
 
 -- after the start is raised there is still room
 pub room_starts : (g g' : List Entry) (w w' : List ℕ) (i : ℕ) → g ≡ replicate 139392 Absent → w ≡ [] → i < 139392 → Raised i Empty g g' w w' → room g' + length w' ≤ 278784

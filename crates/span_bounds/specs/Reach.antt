@@ -36,8 +36,8 @@ abbrev pub AreHeld : (ℕ → Entry) → List Next → Type 0
 AreHeld f ns = EachNext (λ n. IsHeldBy n.ages (f (spot n))) ns
 
 -- the ages for a mark: open or not
-abbrev pub plain : Ages → Ages
-plain a = if is_open a then Between 0 0 else Empty
+abbrev pub zeroed : Ages → Ages
+zeroed a = if is_open a then Between 0 0 else Empty
 
 -- how often an entry may still be raised
 abbrev pub rises_left : Entry → ℕ
@@ -75,4 +75,4 @@ pub record IsReach (u : Setup) (sp : Span) (g : List Entry) : Type 0 where
 
 -- what a raise leaves: an entry that holds the ages stays, else it is raised and its number waits
 abbrev pub Raised : (i : ℕ) → Ages → (g new_g : List Entry) (w new_w : List ℕ) → Type 0
-Raised i a g new_g w new_w = MatchBool (holds a (at g i)) ((new_g ≡ g) × (new_w ≡ w)) ((new_g ≡ slice_set g i (Present (plain a))) × (new_w ≡ w ++ i ∷ []))
+Raised i a g new_g w new_w = MatchBool (holds a (at g i)) ((new_g ≡ g) × (new_w ≡ w)) ((new_g ≡ slice_set g i (Present (zeroed a))) × (new_w ≡ w ++ i ∷ []))

@@ -24,5 +24,6 @@ pub use laws::{each_context_has_its_number, each_entry_is_that_of_a_row};
 pub use number::number_of;
 pub use row::Row;
 pub use rows::Rows;
+pub use span_step::{Ages, Cause, Context, Next, step};
 pub use start::start_context;
 pub use table::Table;

@@ -2,7 +2,7 @@
 ghost use Rattle.std.specs.Prelude.{◌≡◌, ◌<◌, IfOk, length, replicate, slice_index_or, slice_set};
 ghost use Rattle.span_bounds.specs.declared.entry.Entry.TheVariants.{Absent, Present};
 ghost use Rattle.span_bounds.specs.Marks as spec;
-ghost use Rattle.span_bounds.specs.Reach.{plain};
+ghost use Rattle.span_bounds.specs.Reach.{zeroed};
 
 use crate::entry::Entry;
 use crate::number::CONTEXTS;
@@ -21,7 +21,7 @@ pub(crate) enum ContextMark {
 impl ContextMark {
     /// The mark of a row with these ages.
     pub(crate) fn of(ages: Ages) -> ContextMark
-        ensures { spec.marked result ≡ Present (plain ages) }
+        ensures { spec.marked result ≡ Present (zeroed ages) }
     {
         if ages.is_open() {
             ContextMark::Open

@@ -3,8 +3,8 @@ ghost use Rattle.std.specs.Prelude.{◌≡◌, ◌≤◌, true, IsSome, None, sl
 
 use pin_matrix::{MachineSetup, Mapping, Setup, Span, SpanUnit, Spans, Stalls};
 use pio_encode::{Name, SideRule};
+use span_bounds::Cause;
 use span_check::{check, recheck};
-use span_step::Cause;
 use span_verdict::Verdict;
 use std::alloc::Global;
 

@@ -6,8 +6,7 @@ ghost use Rattle.span_verdict.specs.Flaws as spec;
 use crate::rechecking::{all_lie_in, has_start};
 use crate::table_flaw::Flaw;
 use pin_matrix::{Setup, Span};
-use span_bounds::{Row, Rows, Table};
-use span_step::step;
+use span_bounds::{Row, Rows, Table, step};
 
 /// What is wrong with the table first: no row for the start, or else the flaw of its least row in context order that has one,
 /// where an open row comes before a bad one. `None` exactly where the table is closed and good. The span's machine is

@@ -3,8 +3,7 @@ ghost use Rattle.std.specs.Prelude.{◌≡◌, IsSome, None, slice_index_or};
 ghost use Rattle.span_verdict.specs.Tables as spec;
 
 use pin_matrix::{Setup, Span};
-use span_bounds::{Row, Table};
-use span_step::step;
+use span_bounds::{Row, Table, step};
 
 /// Whether a step of a row of the table has a from-edge. The span's machine is configured.
 pub fn opens(table: &Table, setup: &Setup, span: &Span) -> bool

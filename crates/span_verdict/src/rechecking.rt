@@ -6,8 +6,7 @@ ghost use Rattle.span_bounds.specs.Tables as tables;
 ghost use Rattle.span_verdict.specs.Tables as spec;
 
 use pin_matrix::{Setup, Span};
-use span_bounds::{Row, Table, start_context};
-use span_step::{Ages, Context, Next, step};
+use span_bounds::{Ages, Context, Next, Row, Table, start_context, step};
 
 /// Whether the table is closed and good, however it was made. The span's machine is configured. It takes no memory.
 pub fn recheck(table: &Table, setup: &Setup, span: &Span) -> bool

@@ -1,5 +1,5 @@
 //! A flaw of a table.
-use span_step::{Cause, Context};
+use span_bounds::{Cause, Context};
 
 /// What is wrong with a table.
 #[derive(Clone, Copy, Debug, PartialEq, Eq)]

@@ -1,6 +1,5 @@
 //! What the checker says of a span.
-use span_bounds::Table;
-use span_step::{Cause, Context};
+use span_bounds::{Cause, Context, Table};
 
 /// What the checker says of a span.
 #[derive(Drop)]

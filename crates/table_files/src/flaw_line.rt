@@ -7,7 +7,7 @@ use crate::writing::known_text;
 use itoa::Buffer;
 use pio_edge::{Sink, SinkFailed, put_all};
 use pio_encode::Name;
-use span_step::{Cause, Context};
+use span_bounds::{Cause, Context};
 use span_verdict::Flaw;
 
 /// Puts the line of a flaw of the table of the span with this name, with a text before it.

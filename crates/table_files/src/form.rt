@@ -9,8 +9,7 @@ use crate::fault::TableKind;
 use crate::fields::Fields;
 use crate::number::number_in;
 use crate::said::Said;
-use span_bounds::{Row, number_of};
-use span_step::{Ages, Context};
+use span_bounds::{Ages, Context, Row, number_of};
 
 /// The row of a line, or what is wrong with it, after rows whose contexts' numbers are all below this one.
 #[tactic(auto, unfolding(crate::specs::Lines::row_at))]

@@ -1,5 +1,5 @@
 //! What the line of a row says.
-use span_step::Ages;
+use span_bounds::Ages;
 
 /// The numbers of a row's line. One that is above every range counts as 16,777,217.
 #[derive(Clone, Copy)]

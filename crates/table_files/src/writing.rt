@@ -5,8 +5,7 @@ ghost use Rattle.table_files.specs.Rows as spec;
 
 use itoa::Buffer;
 use pio_edge::{Sink, SinkFailed, put_all};
-use span_bounds::{Row, Table};
-use span_step::{Ages, Context};
+use span_bounds::{Ages, Context, Row, Table};
 
 /// Puts the text of the table, in pieces of a field or less. It takes no memory.
 pub fn put_table<S: Sink>(sink: &mut S, table: &Table) -> Result<(), SinkFailed>

@@ -7,7 +7,7 @@ use crate::refusal::Refusal;
 use itoa::Buffer;
 use pio_edge::{Sink, SinkFailed, put_all};
 use pio_encode::Name;
-use span_step::{Cause, Context};
+use span_bounds::{Cause, Context};
 
 /// Puts the line of a verdict on the span with this name: whether it opens, or why it isn't proved.
 pub fn put_verdict<S: Sink>(

@@ -2,7 +2,7 @@
 ghost use Rattle.std.specs.Prelude.{◌≡◌};
 ghost use Rattle.verdict_lines.specs.Refusals as spec;
 
-use span_step::{Cause, Context};
+use span_bounds::{Cause, Context};
 use span_verdict::Verdict;
 
 /// Why a span isn't proved.

@@ -5,7 +5,7 @@ ghost use Rattle.span_step.specs.Contexts.{is_small};
 use crate::{Refusal, put_refusal, put_verdict};
 use pio_edge::{MemSink, Sink};
 use pio_encode::Name;
-use span_step::{Cause, Context};
+use span_bounds::{Cause, Context};
 use std::test::Fail;
 
 /// Address, X and Y, 32 where they may be anything, the levels, the cause, and the line of a span `bit`.
