@@ -1,5 +1,6 @@
 pub mod WorkedSetups
 pub mod WorkedRows
+pub mod Breaking
 pub mod Counting
 pub mod Levels
 pub mod Premises

@@ -1,5 +1,5 @@
 -- Worked rows: what the definitions give for runs that were worked out by hand.
-use Rattle.std.proofs.Common.{◌≡◌, ℕ, zero, suc, sym, ◌∙◌, true, false, [], ◌∷◌, refl, arith}
+use Rattle.std.proofs.Common.{◌≡◌, ℕ, zero, suc, ◌<◌, ◌≤◌, Bool, true, false, [], ◌∷◌, refl, subst, arith}
 use Rattle.pin_matrix.specs.declared.setup.Setup.{Setup}
 use Rattle.pin_matrix.specs.declared.span.SpanUnit.TheVariants.{Ticks, Clocks}
 use Rattle.dreq_pacing.specs.declared.line.LineAct.TheVariants.{Tx, Restart, Disable, Enable}
@@ -18,7 +18,7 @@ use Rattle.block_core.specs.Slots.{acted, settled_slot}
 use Rattle.span_check.specs.Marks.{Mark, mark_of}
 use Rattle.span_check.specs.Holding.{counted, measured, IsQuiet, IsFirstToEdge, IsSpokenOf, HoldsFrom}
 use Rattle.span_check.specs.Runs.{marks_in}
-use Rattle.span_check.proofs.WorkedSetups.{plain_machine, side_one, side_one_opt, pin_0, block_of, span_of}
+use Rattle.span_check.proofs.WorkedSetups.{plain_machine, pulling, side_one, side_one_opt, pin_0, block_of, span_of}
 
 -- a UART transmitter: `pull side 1 [7]`, `set x, 7 side 0 [7]`, `out pins, 1`, `jmp x-- 2 [6]`
 uart : Setup
@@ -71,9 +71,9 @@ restarted : ℕ → Mark
 restarted = marks_in (span_of true false 1 1 (omega arith) (omega arith) []) square (record { clock = 6; act = Restart 0 } ∷ [])
 
 -- ticks come in the clocks 0, 2, 5, 6, 8, 11
-restarted-row : ((restarted 0).from ≡ true) × ((restarted 2).to ≡ true) × ((restarted 5).from ≡ true) × ((restarted 6).to ≡ true) × ((restarted 6).breaks ≡ true) × (counted restarted 5 7 ≡ 1) × (measured Clocks restarted 0 3 ≡ 2)
+restarted-row : ((restarted 0).from ≡ true) × ((restarted 2).to ≡ true) × ((restarted 5).from ≡ true) × ((restarted 6).to ≡ true) × ((restarted 6).breaks ≡ true) × ((restarted 5).breaks ≡ false) × (counted restarted 5 7 ≡ 1) × (measured Clocks restarted 0 3 ≡ 2)
 unfolding square restarted mark_of counted hosted_at hosted_next next stepped acted settled_slot is_tick settled merged reading_of act_of push_or_pull_at delay_of side_of set_at mov_at effect_of jmp_effect out_effect pull_effect set_effect mov_effect settled_ports tick_of tick_delay tick_word tick_by after_effect due_in transfers_after requests_of
-restarted-row = (refl, refl, refl, refl, refl, refl, refl)
+restarted-row = (refl, refl, refl, refl, refl, refl, refl, refl)
 
 -- the same with a divider of 1
 fast : Setup
@@ -84,9 +84,9 @@ disabled : ℕ → Mark
 disabled = marks_in (span_of true false 1 1 (omega arith) (omega arith) []) fast (record { clock = 3; act = Disable 0 } ∷ record { clock = 5; act = Enable 0 } ∷ [])
 
 -- pin 0 is high from clock 2 to clock 5, which is one tick, and three clocks
-disabled-row : ((disabled 2).from ≡ true) × ((disabled 5).to ≡ true) × ((disabled 3).breaks ≡ true) × (counted disabled 2 6 ≡ 1) × (measured Clocks disabled 2 6 ≡ 3)
+disabled-row : ((disabled 2).from ≡ true) × ((disabled 5).to ≡ true) × ((disabled 3).breaks ≡ true) × ((disabled 5).breaks ≡ false) × (counted disabled 2 6 ≡ 1) × (measured Clocks disabled 2 6 ≡ 3)
 unfolding fast disabled mark_of counted hosted_at hosted_next next stepped acted settled_slot is_tick settled merged reading_of act_of push_or_pull_at delay_of side_of set_at mov_at effect_of jmp_effect out_effect pull_effect set_effect mov_effect settled_ports tick_of tick_delay tick_word tick_by after_effect due_in transfers_after requests_of
-disabled-row = (refl, refl, refl, refl, refl)
+disabled-row = (refl, refl, refl, refl, refl, refl)
 
 -- of a span in ticks this is said: with at least 2 it doesn't hold
 two_clocks : (m : ℕ → Mark) → (m 3).to ≡ false → (m 4).to ≡ false → IsQuiet m 2 5
@@ -104,11 +104,78 @@ high_until_5 = (record { after = omega arith; first = two_clocks disabled refl r
 disabled-in-ticks : HoldsFrom Ticks 2 2 disabled 6 2 → ⊥
 disabled-in-ticks h = omega (arith, h.least 5 high_until_5.0 (omega arith) tt, high_until_5.1)
 
+never : {b : Bool} → b ≡ true → b ≡ false → ⊥
+never h k = cc
+
 -- of a span in clocks nothing is said
 disabled-in-clocks : IsSpokenOf Clocks disabled 2 6 → ⊥
-disabled-in-clocks h = never (sym (h 3 (omega arith) (omega arith)) ∙ disabled-row.2) where
-  never : false ≡ true → ⊥
-  never e = cc
+disabled-in-clocks h = never disabled-row.2 (h 3 (omega arith) (omega arith))
+
+-- `set pins, 1 [2]`, `set pins, 0`; the machine is enabled in clock 1, as it was before, and another one disabled in clock 2
+undisturbed : ℕ → Mark
+undisturbed = marks_in (span_of true false 4 4 (omega arith) (omega arith) []) (block_of (record plain_machine { wrap_top = 1; wrap_top_in_memory = omega arith }) refl (57857 ∷ 57344 ∷ []) 0) (record { clock = 1; act = Enable 0 } ∷ record { clock = 2; act = Disable 1 } ∷ [])
+
+-- pin 0 is high from clock 0 to clock 3, and nothing breaks a span
+undisturbed-row : ((undisturbed 0).from ≡ true) × ((undisturbed 1).to ≡ false) × ((undisturbed 2).to ≡ false) × ((undisturbed 3).to ≡ true) × ((undisturbed 1).breaks ≡ false) × ((undisturbed 2).breaks ≡ false) × ((undisturbed 3).breaks ≡ false)
+unfolding undisturbed mark_of counted hosted_at hosted_next next stepped acted settled_slot is_tick settled merged reading_of act_of push_or_pull_at delay_of side_of set_at mov_at effect_of jmp_effect out_effect pull_effect set_effect mov_effect settled_ports tick_of tick_delay tick_word tick_by after_effect due_in transfers_after requests_of
+undisturbed-row = (refl, refl, refl, refl, refl, refl, refl)
+
+-- what is so in the clocks 1 to 3 is so in each clock between 0 and 4
+three_clocks : (P : ℕ → Type 0) → P 1 → P 2 → P 3 → (c : ℕ) → 0 < c → c < 4 → P c
+three_clocks P one two three zero after before = absurd (omega (arith, after))
+three_clocks P one two three (suc zero) after before = one
+three_clocks P one two three (suc (suc zero)) after before = two
+three_clocks P one two three (suc (suc (suc zero))) after before = three
+three_clocks P one two three (suc (suc (suc (suc c)))) after before = absurd (omega (arith, before))
+
+high_until_3 : IsFirstToEdge undisturbed 0 3
+high_until_3 = record { after = omega arith; first = λ c after before. first c after before; edge = undisturbed-row.3 } where
+  first : (c : ℕ) → 0 < c → c < 3 → (undisturbed c).to ≡ false
+  first zero after before = absurd (omega (arith, after))
+  first (suc zero) after before = undisturbed-row.1
+  first (suc (suc zero)) after before = undisturbed-row.2
+  first (suc (suc (suc c))) after before = absurd (omega (arith, before))
+
+-- so a span in clocks is spoken of: with at least 4 it doesn't hold
+undisturbed-in-clocks : HoldsFrom Clocks 4 4 undisturbed 4 0 → ⊥
+undisturbed-in-clocks h = omega (arith, h.least 3 high_until_3 (omega arith) (three_clocks (λ c. (undisturbed c).breaks ≡ false) undisturbed-row.4 undisturbed-row.5 undisturbed-row.6))
+
+-- `set pins, 1`, `out pins, 1` with autopull, which waits for one tick: its late tick, in clock 2, is that of the to-edge
+late_fall : ℕ → Mark
+late_fall = marks_in (span_of true false 0 9 (omega arith) (omega arith) []) (block_of pulling refl (57345 ∷ 24577 ∷ []) 0) (record { clock = 0; act = Tx 0 0 } ∷ [])
+
+late_fall-row : ((late_fall 0).from ≡ true) × ((late_fall 1).to ≡ false) × ((late_fall 1).strays ≡ false) × ((late_fall 2).to ≡ true) × ((late_fall 2).strays ≡ true)
+unfolding late_fall mark_of counted hosted_at hosted_next next stepped acted settled_slot is_tick settled merged reading_of act_of push_or_pull_at delay_of side_of set_at mov_at effect_of jmp_effect out_effect pull_effect set_effect mov_effect settled_ports tick_of tick_delay tick_word tick_by after_effect due_in transfers_after requests_of
+late_fall-row = (refl, refl, refl, refl, refl)
+
+one_clock : (c : ℕ) → 0 < c → c < 2 → (late_fall c).to ≡ false
+one_clock zero after before = absurd (omega (arith, after))
+one_clock (suc zero) after before = late_fall-row.1
+one_clock (suc (suc c)) after before = absurd (omega (arith, before))
+
+-- a late tick in the clock of the to-edge is one too many
+late_fall-breaks : HoldsFrom Ticks 0 9 late_fall 3 0 → ⊥
+late_fall-breaks h = never late_fall-row.4 (h.strays 2 (omega arith) (omega arith) one_clock tt)
+
+-- `out pins, 1` with autopull, which waits for two ticks, and `set pins, 0`: its last late tick, in clock 2, is that of the from-edge
+late_rise : ℕ → Mark
+late_rise = marks_in (span_of true false 1 1 (omega arith) (omega arith) []) (block_of pulling refl (24577 ∷ 57344 ∷ []) 0) (record { clock = 0; act = Tx 0 1 } ∷ [])
+
+late_rise-row : ((late_rise 2).from ≡ true) × ((late_rise 2).strays ≡ true) × ((late_rise 3).to ≡ true) × ((late_rise 3).strays ≡ false) × (counted late_rise 2 4 ≡ 1)
+unfolding late_rise mark_of counted hosted_at hosted_next next stepped acted settled_slot is_tick settled merged reading_of act_of push_or_pull_at delay_of side_of set_at mov_at effect_of jmp_effect out_effect pull_effect set_effect mov_effect settled_ports tick_of tick_delay tick_word tick_by after_effect due_in transfers_after requests_of
+late_rise-row = (refl, refl, refl, refl, refl)
+
+between : (P : ℕ → Type 0) → P 3 → (c : ℕ) → 2 < c → c < 4 → P c
+between P three c after before = let e : 3 ≡ c = omega (arith, after, before) in subst P e three
+
+-- a late tick in the clock of the from-edge isn't
+late_rise-holds : HoldsFrom Ticks 1 1 late_rise 4 2
+late_rise-holds = record {
+  least = λ e to before spoken. between (λ c. 1 ≤ counted late_rise 2 (suc c)) (omega (arith, late_rise-row.4)) e to.after before;
+  most = λ e to before spoken. between (λ c. counted late_rise 2 (suc c) ≤ 1) (omega (arith, late_rise-row.4)) e to.after before;
+  unclosed = λ quiet spoken. absurd (never late_rise-row.2 (quiet 3 (omega arith) (omega arith)));
+  strays = λ c after before quiet spoken. between (λ k. (late_rise k).strays ≡ false) late_rise-row.3 c after before;
+}
 
 -- `set pins, 1 [2]`, `set pins, 0`: from a rise to the next one, which is both an end and a new begin
 periods : ℕ → Mark

@@ -69,6 +69,10 @@ plain_machine = record {
   status_in_field = omega arith;
 }
 
+-- the same with OUT on pin 0 and autopull, over two words
+abbrev pub pulling : MachineSetup
+pulling = record plain_machine { out = pin_0; autopull = true; wrap_top = 1; wrap_top_in_memory = omega arith }
+
 -- a block with this machine alone, these words from address 0 on, and pin 0 at this level
 abbrev pub block_of : (m : MachineSetup) → IsTrue (ids_are_places 0 (Some m ∷ None ∷ None ∷ None ∷ [])) → (words : List ℕ) → (level : ℕ) → Setup
 block_of m there words level = record {

@@ -1,10 +1,12 @@
-//! The law of the timing checker, on a function that does nothing.
-ghost use Rattle.std.specs.Prelude.{IsSome, None, slice_index_or};
+//! Laws of the timing checker, each on a function that does nothing.
+ghost use Rattle.std.specs.Prelude.{◌≡◌, ℕ, IsSome, List, None, slice_index_or};
 ghost use Rattle.pin_matrix.specs.declared.setup.Setup.{Setup};
 ghost use Rattle.pin_matrix.specs.declared.span.Span.{Span};
+ghost use Rattle.dreq_pacing.specs.declared.line.Line.{Line};
 ghost use Rattle.span_bounds.specs.Tables.{IsProvable};
 ghost use Rattle.span_verdict.specs.Sharing.{IsUnshared};
 ghost use Rattle.span_check.specs.Proved.{HoldsInEveryRun};
+ghost use Rattle.span_check.specs.Runs.{has_breaking, marks_in};
 
 use block_core::{
     a_pin_of_one_machine, a_stimulus_is_a_system, clocks_are_counted, each_place_goes_its_own_way,
@@ -29,6 +31,16 @@ pub fn a_provable_span_holds_in_every_run()
     each_place_goes_its_own_way();
     a_pin_of_one_machine();
     tick_test();
+    a_stimulus_is_a_system();
+    clocks_are_counted();
+}
+
+/// A clock of a run breaks a span in clocks exactly where a line of it disables the span's machine, or restarts its divider. No
+/// other line does, nor a transfer, nor what is done to another machine.
+pub fn only_a_disable_or_a_restart_breaks_a_span()
+    ensures { (u : Setup) (sp : Span) (lines : List Line) (clock : ℕ) →
+        (marks_in sp u lines clock).breaks ≡ has_breaking sp.machine lines clock }
+{
     a_stimulus_is_a_system();
     clocks_are_counted();
 }

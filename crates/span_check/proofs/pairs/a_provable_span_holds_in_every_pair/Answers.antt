@@ -1,4 +1,4 @@
-use Rattle.std.proofs.Common.{ℕ, ap, ◌∙◌}
+use Rattle.std.proofs.Common.{ℕ, ap}
 use Rattle.block_core.specs.HostedTwin.{hosted_twin_at}
 use Rattle.block_core.specs.Twin.{TwinRun, first_twin, twin_at}
 use Rattle.span_check.specs.Pairs.{first_does, second_does, pair_sees}
