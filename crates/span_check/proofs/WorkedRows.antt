@@ -111,14 +111,15 @@ never h k = cc
 disabled-in-clocks : IsSpokenOf Clocks disabled 2 6 → ⊥
 disabled-in-clocks h = never disabled-row.2 (h 3 (omega arith) (omega arith))
 
--- `set pins, 1 [2]`, `set pins, 0`; the machine is enabled in clock 1, as it was before, and another one disabled in clock 2
+-- `set pins, 1 [2]`, `set pins, 0`; the machine is restarted in clock 0, enabled in clock 1, as it was before, and disabled in clock
+-- 4, and another one in clock 2
 undisturbed : ℕ → Mark
-undisturbed = marks_in (span_of true false 4 4 (omega arith) (omega arith) []) (block_of (record plain_machine { wrap_top = 1; wrap_top_in_memory = omega arith }) refl (57857 ∷ 57344 ∷ []) 0) (record { clock = 1; act = Enable 0 } ∷ record { clock = 2; act = Disable 1 } ∷ [])
+undisturbed = marks_in (span_of true false 4 4 (omega arith) (omega arith) []) (block_of (record plain_machine { wrap_top = 1; wrap_top_in_memory = omega arith }) refl (57857 ∷ 57344 ∷ []) 0) (record { clock = 0; act = Restart 0 } ∷ record { clock = 1; act = Enable 0 } ∷ record { clock = 2; act = Disable 1 } ∷ record { clock = 4; act = Disable 0 } ∷ [])
 
--- pin 0 is high from clock 0 to clock 3, and nothing breaks a span
-undisturbed-row : ((undisturbed 0).from ≡ true) × ((undisturbed 1).to ≡ false) × ((undisturbed 2).to ≡ false) × ((undisturbed 3).to ≡ true) × ((undisturbed 1).breaks ≡ false) × ((undisturbed 2).breaks ≡ false) × ((undisturbed 3).breaks ≡ false)
+-- pin 0 is high from clock 0 to clock 3, and nothing breaks a span after clock 0 and up to clock 3
+undisturbed-row : ((undisturbed 0).from ≡ true) × ((undisturbed 1).to ≡ false) × ((undisturbed 2).to ≡ false) × ((undisturbed 3).to ≡ true) × ((undisturbed 1).breaks ≡ false) × ((undisturbed 2).breaks ≡ false) × ((undisturbed 3).breaks ≡ false) × ((undisturbed 0).breaks ≡ true) × ((undisturbed 4).breaks ≡ true)
 unfolding undisturbed mark_of counted hosted_at hosted_next next stepped acted settled_slot is_tick settled merged reading_of act_of push_or_pull_at delay_of side_of set_at mov_at effect_of jmp_effect out_effect pull_effect set_effect mov_effect settled_ports tick_of tick_delay tick_word tick_by after_effect due_in transfers_after requests_of
-undisturbed-row = (refl, refl, refl, refl, refl, refl, refl)
+undisturbed-row = (refl, refl, refl, refl, refl, refl, refl, refl, refl)
 
 -- what is so in the clocks 1 to 3 is so in each clock between 0 and 4
 three_clocks : (P : ℕ → Type 0) → P 1 → P 2 → P 3 → (c : ℕ) → 0 < c → c < 4 → P c
@@ -128,17 +129,29 @@ three_clocks P one two three (suc (suc zero)) after before = two
 three_clocks P one two three (suc (suc (suc zero))) after before = three
 three_clocks P one two three (suc (suc (suc (suc c)))) after before = absurd (omega (arith, before))
 
-high_until_3 : IsFirstToEdge undisturbed 0 3
-high_until_3 = record { after = omega arith; first = λ c after before. first c after before; edge = undisturbed-row.3 } where
-  first : (c : ℕ) → 0 < c → c < 3 → (undisturbed c).to ≡ false
-  first zero after before = absurd (omega (arith, after))
-  first (suc zero) after before = undisturbed-row.1
-  first (suc (suc zero)) after before = undisturbed-row.2
-  first (suc (suc (suc c))) after before = absurd (omega (arith, before))
+high_before_3 : IsQuiet undisturbed 0 3
+high_before_3 zero after before = absurd (omega (arith, after))
+high_before_3 (suc zero) after before = undisturbed-row.1
+high_before_3 (suc (suc zero)) after before = undisturbed-row.2
+high_before_3 (suc (suc (suc c))) after before = absurd (omega (arith, before))
 
--- so a span in clocks is spoken of: with at least 4 it doesn't hold
-undisturbed-in-clocks : HoldsFrom Clocks 4 4 undisturbed 4 0 → ⊥
-undisturbed-in-clocks h = omega (arith, h.least 3 high_until_3 (omega arith) (three_clocks (λ c. (undisturbed c).breaks ≡ false) undisturbed-row.4 undisturbed-row.5 undisturbed-row.6))
+high_until_3 : IsFirstToEdge undisturbed 0 3
+high_until_3 = record { after = omega arith; first = high_before_3; edge = undisturbed-row.3 }
+
+-- so a span in clocks is spoken of
+undisturbed-spoken : IsSpokenOf Clocks undisturbed 0 4
+undisturbed-spoken = three_clocks (λ c. (undisturbed c).breaks ≡ false) undisturbed-row.4 undisturbed-row.5 undisturbed-row.6
+
+-- with at least 4, or at most 2, it doesn't hold
+undisturbed-early : HoldsFrom Clocks 4 4 undisturbed 4 0 → ⊥
+undisturbed-early h = omega (arith, h.least 3 high_until_3 (omega arith) undisturbed-spoken)
+
+undisturbed-late : HoldsFrom Clocks 0 2 undisturbed 4 0 → ⊥
+undisturbed-late h = omega (arith, h.most 3 high_until_3 (omega arith) undisturbed-spoken)
+
+-- nor up to clock 3, where no to-edge came, with at most 1
+undisturbed-unclosed : HoldsFrom Clocks 0 1 undisturbed 3 0 → ⊥
+undisturbed-unclosed h = omega (arith, h.unclosed high_before_3 (λ c after before. undisturbed-spoken c after (omega (arith, before))))
 
 -- `set pins, 1`, `out pins, 1` with autopull, which waits for one tick: its late tick, in clock 2, is that of the to-edge
 late_fall : ℕ → Mark
