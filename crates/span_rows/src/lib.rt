@@ -2,6 +2,10 @@
 #![tactic(auto)]
 
 #[cfg(test)]
+mod step_rows;
+#[cfg(test)]
+mod step_tests;
+#[cfg(test)]
 mod table_tests;
 #[cfg(test)]
 mod verdict_tests;
