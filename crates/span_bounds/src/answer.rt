@@ -1,5 +1,5 @@
 //! The least closed table of a span.
-ghost use Rattle.std.specs.Prelude.{◌≡◌, ◌+◌, ◌*◌, ◌<◌, ◌≤◌, IfOk, IsSome, MatchOption, None, slice_index_or};
+ghost use Rattle.std.specs.Prelude.{◌≡◌, ◌+◌, ◌*◌, ◌<◌, ◌≤◌, IfOk, IsSome, MatchOption, OnErr, None, slice_index_or};
 ghost use Rattle.span_bounds.specs.Answers as spec;
 ghost use Rattle.span_bounds.specs.Answers.{IsAnswer, IsBadAt, AreGoodBelow, cause_at};
 
@@ -47,7 +47,8 @@ fn counted<L: Ledger>(
     derive_counted(alloc, setup, span, &mut steps)
 }
 
-/// The answer by the three sweeps, in at most five row steps for each of the 139,392 contexts, whatever the bounds.
+/// The answer by the three sweeps, in at most five row steps for each of the 139,392 contexts, whatever the bounds. Want of
+/// memory comes before the first of them.
 fn derive_counted<L: Ledger>(
     alloc: Global,
     setup: &Setup,
@@ -57,6 +58,7 @@ fn derive_counted<L: Ledger>(
     requires { IsSome (slice_index_or setup.now.machines span.now.machine None) }
     ensures answer { IfOk result (λ derived. IsAnswer setup.now span.now derived) }
     ensures steps { steps.new ≤ steps.old + 5 * 139392 }
+    ensures early { OnErr result (steps.new ≤ steps.old) }
 {
     let mut table = Grid::new(alloc)?;
     let mut left = Marks::new(alloc)?;
