@@ -54,7 +54,7 @@ each_up_to : (n : ℕ) (ns : List Next) → AllUpTo n ns → EachNext (λ m. Are
 each_up_to n [] h = tt
 each_up_to n (m ∷ ms) h = (h.0, each_up_to n ms h.1)
 
-capped : (u : Setup) (sp : Span) (i : ℕ) (a : Ages) → EachNext (λ m. AreUpTo (most_of u sp + 1) m.ages) (nexts_at u sp i a)
+pub capped : (u : Setup) (sp : Span) (i : ℕ) (a : Ages) → EachNext (λ m. AreUpTo (most_of u sp + 1) m.ages) (nexts_at u sp i a)
 unfolding nexts_at
 capped u sp i a = each_up_to _ _ (AllUpTo-context_steps u sp _ a)
 
@@ -62,7 +62,7 @@ less_reached : (a : Ages) (n : ℕ) → ReachesAge (n + 1) a → ReachesAge n a
 less_reached Empty n h = h
 less_reached (Between lo hi) n h = omega arith
 
-both_inside : (a b : Ages) → IsInside a b → IsInside b a → a ≡ b
+pub both_inside : (a b : Ages) → IsInside a b → IsInside b a → a ≡ b
 both_inside Empty Empty h k = refl
 both_inside Empty (Between lo hi) h k = absurd k
 both_inside (Between lo hi) Empty h k = absurd h
@@ -74,7 +74,7 @@ clash : {b : Bool} → b ≡ true → b ≡ false → ⊥
 clash p q = cc
 
 -- a grid that is closed has the rows of a closed table
-closed_rows : (u : Setup) (sp : Span) (g : List Entry) → length g ≡ 139392 → IsClosedAt u sp (at g) → IsClosed u sp (rows_from 0 g)
+pub closed_rows : (u : Setup) (sp : Span) (g : List Entry) → length g ≡ 139392 → IsClosedAt u sp (at g) → IsClosed u sp (rows_from 0 g)
 unfolding nexts_at
 closed_rows u sp g e c = record {
   starts = rw (entry_at-rows_from g (number_of (start_context u sp))) c.starts;

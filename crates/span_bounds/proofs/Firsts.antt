@@ -12,26 +12,26 @@ use Rattle.span_bounds.specs.declared.entry.Entry.{Entry}
 use Rattle.span_bounds.specs.declared.entry.Entry.TheVariants.{Absent}
 use Rattle.span_bounds.specs.declared.row.Row.{Row}
 use Rattle.span_bounds.specs.Numbers.{number_of, context_at}
-use Rattle.span_bounds.specs.Tables.{entry_at, rows_from, IsTableFrom, first_bad}
+use Rattle.span_bounds.specs.Tables.{entry_at, IsTableFrom, IsLeast, first_bad}
 use Rattle.span_bounds.specs.Edges.{at}
 use Rattle.span_bounds.specs.Take.{IsTaken}
-use Rattle.span_bounds.specs.Answers.{cause_by, cause_at, filled, IsBadAt, AreGoodBelow, IsFirstBad}
+use Rattle.span_bounds.specs.Answers.{cause_by, cause_at, IsBadAt, AreGoodBelow, IsFirstBad}
 use Rattle.span_bounds.proofs.Placing.{context_at-number_of}
-use Rattle.span_bounds.proofs.Grids.{entry_at-rows_from}
 use Rattle.span_bounds.proofs.Ends.{IsBadEverywhere-ends}
-use Rattle.span_bounds.proofs.Filled.{filled_all, at_filled, table, closed_table, same_first}
+use Rattle.span_bounds.proofs.Filled.{same_first}
+use Rattle.span_bounds.proofs.Least.{least_rows}
 
-same_number : (n m : ℕ) → n ≡ m → (n == m) ≡ true
+pub same_number : (n m : ℕ) → n ≡ m → (n == m) ≡ true
 same_number n m e = grind (arith, nat_tests)
 
-other_number : (n m : ℕ) → n ≢ m → (n == m) ≡ false
+pub other_number : (n m : ℕ) → n ≢ m → (n == m) ≡ false
 other_number n m e = grind (arith, nat_tests)
 
 from_below : (n m : ℕ) → nat_lt n (m + 1) ≡ true → n ≤ m
 from_below n m e = grind (arith, nat_tests)
 
 -- no row comes before the first
-absent_before : (m i : ℕ) (rows : List Row) → IsTableFrom m rows → i < m → entry_at rows i ≡ Absent
+pub absent_before : (m i : ℕ) (rows : List Row) → IsTableFrom m rows → i < m → entry_at rows i ≡ Absent
 absent_before m i [] t l = refl
 absent_before m i (r ∷ rows) t l =
     let b : m ≤ number_of r.context = from_below m (number_of r.context) t.1.0 in
@@ -74,25 +74,15 @@ AreGoodBelow-more u sp l x n h e = record {
   good = λ i m. elim (cases_lt i n) [ inl b ↦ h.good i b | inr a ↦ (let same : i ≡ n = omega arith in rw same e) ];
 }
 
--- the first bad row of every least closed table, and of a closed one
+-- the first bad row of the least closed table
 pub IsFirstBad-ends : (u : Setup) (sp : Span) (l x : List Entry) (f : ℕ × Cause) → IsTaken u sp l x → IsConfigured u sp → IsBadAt u sp l x f → IsFirstBad u sp (context_at f.0) f.1
-IsFirstBad-ends u sp l x f t ready b = record {
-  first = λ rows least. first_at u sp f.0 f.1 0 rows least.table
-      (λ i o m. same_first u sp l x t ready rows least i (omega (arith, b.below)) ∙ b.first.good i m)
-      (same_first u sp l x t ready rows least f.0 b.below ∙ b.cause);
-  shown = (
-    rows_from 0 (filled_all l x),
-    (
-      table u sp l x t ready,
-      (
-        closed_table u sp l x t ready,
-        first_at u sp f.0 f.1 0 _ (table u sp l x t ready)
-            (λ i o m. rw (entry i) (b.first.good i m))
-            (rw (entry f.0) b.cause),
-      ),
-    ),
-  );
-  everywhere = IsBadEverywhere-ends u sp l x f.0 f.1 t ready b.below b.cause;
-} where
-  entry : (i : ℕ) → entry_at (rows_from 0 (filled_all l x)) i ≡ filled (at l i) (at x i)
-  entry i = entry_at-rows_from (filled_all l x) i ∙ at_filled u sp l x t ready i
+IsFirstBad-ends u sp l x f t ready b = on (least_rows u sp) where
+  on : (rows : List Row) × IsLeast u sp rows → IsFirstBad u sp (context_at f.0) f.1
+  on w = record {
+    rows = w.0;
+    least = w.1;
+    first = first_at u sp f.0 f.1 0 w.0 w.1.table
+        (λ i o m. same_first u sp l x t ready w.0 w.1 i (omega (arith, b.below)) ∙ b.first.good i m)
+        (same_first u sp l x t ready w.0 w.1 f.0 b.below ∙ b.cause);
+    everywhere = IsBadEverywhere-ends u sp l x f.0 f.1 t ready b.below b.cause;
+  }

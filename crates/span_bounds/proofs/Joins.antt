@@ -60,7 +60,7 @@ lies_joined : (a c : Ages) (e : Entry) → LiesAt c e → LiesAt c (Present (joi
 lies_joined a c Absent h = absurd h
 lies_joined a c (Present b) h = inside_trans c b (join a b) h (inside_right a b)
 
-join_lies : (a : Ages) (e f : Entry) → LiesAt a f → EntryIn e f → LiesAt (join_into a e) f
+pub join_lies : (a : Ages) (e f : Entry) → LiesAt a f → EntryIn e f → LiesAt (join_into a e) f
 join_lies a Absent f h k = h
 join_lies a (Present b) Absent h k = absurd h
 join_lies a (Present b) (Present c) h k = join_inside a b c h k

@@ -8,7 +8,9 @@ pub mod Totals
 pub mod Takes
 pub mod Ends
 pub mod Filled
+pub mod Least
 pub mod Firsts
+pub mod Only
 pub mod Members
 pub mod Prefix
 pub mod Pushed

@@ -41,11 +41,12 @@ pub record IsGoodLeast (u : Setup) (sp : Span) (rows : List Row) : Type 0 where
 pub record IsBadEverywhere (u : Setup) (sp : Span) (k : Context) (cause : Cause) : Type 0 where
   pub bad : (rows : List Row) → IsTable rows → IsClosed u sp rows → (a : Ages) × ((entry_at rows (number_of k) ≡ Present a) × HasCause cause (context_steps u sp k a).causes)
 
--- the first bad row in context order of every least closed table is this one, with this first cause; so it is in some closed
--- table too, and in every closed one it is bad for this cause
+-- the least closed table has this first bad row in context order, with this first cause; in every closed table it is bad for this
+-- cause
 pub record IsFirstBad (u : Setup) (sp : Span) (k : Context) (cause : Cause) : Type 0 where
-  pub first : (rows : List Row) → IsLeast u sp rows → first_bad u sp rows ≡ Some (k, cause)
-  pub shown : (rows : List Row) × (IsTable rows × (IsClosed u sp rows × (first_bad u sp rows ≡ Some (k, cause))))
+  pub rows : List Row
+  pub least : IsLeast u sp rows
+  pub first : first_bad u sp rows ≡ Some (k, cause)
   pub everywhere : IsBadEverywhere u sp k cause
 
 -- what an answer says

@@ -1,5 +1,7 @@
 //! Laws of tables, each on a function that does nothing.
 ghost use Rattle.std.specs.Prelude.{◌≡◌, ℕ, ◌<◌, List, true};
+ghost use Rattle.pin_matrix.specs.declared.setup.Setup as setup;
+ghost use Rattle.pin_matrix.specs.declared.span.Span as span;
 ghost use Rattle.std.specs.List.{Contains};
 ghost use Rattle.span_step.specs.declared.ages.Ages as ages;
 ghost use Rattle.span_step.specs.Contexts as contexts;
@@ -7,7 +9,7 @@ ghost use Rattle.span_step.specs.Contexts.{is_placed};
 ghost use Rattle.span_bounds.specs.declared.entry.Entry.TheVariants.{Present};
 ghost use Rattle.span_bounds.specs.declared.row.Row as row;
 ghost use Rattle.span_bounds.specs.Numbers.{number_of, context_at};
-ghost use Rattle.span_bounds.specs.Tables.{IsTable, entry_at};
+ghost use Rattle.span_bounds.specs.Tables.{IsLeast, IsTable, entry_at};
 
 /// A context in range has a number below 139,392, and is the one at its number.
 pub fn each_context_has_its_number()
@@ -21,4 +23,11 @@ pub fn each_entry_is_that_of_a_row()
     ensures { (rows : List row.Row) (k : contexts.Context) (a : ages.Ages)
         → IsTable rows → is_placed k.address k.x k.y ≡ true → entry_at rows (number_of k) ≡ Present a
         → Contains rows (record { context = k; ages = a }) }
+{}
+
+/// The least closed table exists, good or not, and there is one alone.
+pub fn a_least_closed_table_exists()
+    ensures exists { (u : setup.Setup) (sp : span.Span) → (rows : List row.Row) × IsLeast u sp rows }
+    ensures one { (u : setup.Setup) (sp : span.Span) (rows others : List row.Row)
+        → IsLeast u sp rows → IsLeast u sp others → rows ≡ others }
 {}

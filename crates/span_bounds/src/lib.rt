@@ -20,7 +20,9 @@ mod take;
 
 pub use answer::derive;
 pub use derived::Derived;
-pub use laws::{each_context_has_its_number, each_entry_is_that_of_a_row};
+pub use laws::{
+    a_least_closed_table_exists, each_context_has_its_number, each_entry_is_that_of_a_row,
+};
 pub use number::number_of;
 pub use row::Row;
 pub use rows::Rows;

@@ -66,6 +66,6 @@ EntriesAreRows = (rows : List Row) (k : Context) (a : Ages) → IsTable rows →
 pub unprovable : EntriesAreRows → (u : Setup) (sp : Span) (k : Context) (cause : Cause) → IsFirstBad u sp k cause → IsProvable u sp → ⊥
 unprovable law u sp k cause f p =
     let bad = f.everywhere.bad p.rows p.table p.closed in
-    let there = placed u sp 0 f.shown.0 k cause f.shown.1.0 f.shown.1.1.1 in
+    let there = placed u sp 0 f.rows k cause f.least.table f.first in
     has_first cause _ bad.1.1
     (each_at (λ r. first_cause (context_steps u sp r.context r.ages).causes ≡ None) p.rows (record { context = k; ages = bad.0 }) p.good (law p.rows k bad.0 p.table there bad.1.0))
