@@ -6,12 +6,13 @@ use Rattle.pin_matrix.specs.declared.machine.MachineSetup.{MachineSetup}
 use Rattle.sm_registers.specs.declared.registers.Registers.{Registers}
 use Rattle.serial_receiver.specs.declared.frame.Frame.{Frame}
 use Rattle.serial_receiver.specs.Frames.{frames_from, middle}
-use Rattle.pio_uart.proofs.Rows.{row}
+use Rattle.program_runs.specs.Levels.{row}
+use Rattle.program_runs.specs.Steps.{IsAtInstruction, IsStep, takes}
+use Rattle.program_runs.proofs.Taking.{takes-split, takes-none}
 use Rattle.pio_uart.proofs.Whole.{IsFrame, frame_of, stays_high, cut_off, given}
 use Rattle.pio_uart.specs.Transmitter.{uart_memory, IsUartMachine}
 use Rattle.pio_uart.specs.Sending.{IsSent}
-use Rattle.pio_uart.specs.Phases.{IsAtInstruction}
-use Rattle.pio_uart.proofs.TickRuns.{IsStep, takes, takes-split, takes-none, Keeps}
+use Rattle.pio_uart.proofs.Keeping.{Keeps}
 use Rattle.pio_uart.proofs.Transmitting.{IsReady, IsWaiting, pulls, rests, sends, pull, wait, wait_for, weaken, high}
 
 -- the level of a tick

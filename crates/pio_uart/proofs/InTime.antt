@@ -7,11 +7,12 @@ use Rattle.sm_registers.specs.declared.registers.Registers.{Registers}
 use Rattle.serial_receiver.specs.declared.frame.Frame.{Frame}
 use Rattle.serial_receiver.specs.Frames.{frames_from}
 use Rattle.pio_uart.specs.Transmitter.{uart_memory, IsUartMachine}
-use Rattle.pio_uart.proofs.Rows.{row}
+use Rattle.program_runs.specs.Levels.{row}
+use Rattle.program_runs.specs.Steps.{IsAtInstruction, IsStep}
 use Rattle.pio_uart.proofs.Whole.{frame_of, stays_high, cut_off, given}
-use Rattle.pio_uart.specs.Phases.{IsAtInstruction, IsPulling}
+use Rattle.pio_uart.specs.Phases.{IsPulling}
 use Rattle.pio_uart.proofs.Instructions.{pull_tick, stall_tick}
-use Rattle.pio_uart.proofs.TickRuns.{IsStep, Keeps}
+use Rattle.pio_uart.proofs.Keeping.{Keeps}
 use Rattle.pio_uart.proofs.Transmitting.{IsThere, IsReady, pulls, side_one, rests_for, sends, wait_for}
 use Rattle.pio_uart.proofs.Framed.{is_up, ready, nothing_before, whole}
 

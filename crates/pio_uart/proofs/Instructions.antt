@@ -20,7 +20,8 @@ use Rattle.sm_registers.specs.View.{View}
 use Rattle.sm_registers.specs.Queues.{Queues}
 use Rattle.sm_registers.specs.Effects.{Effect, quiet, stall, osr_filled, effect_of, jmp_effect, out_effect, pull_effect, set_effect}
 use Rattle.sm_registers.specs.Tick.{tick_of, tick_delay, tick_word, tick_by, after_effect, current_word, word_at}
-use Rattle.pio_uart.specs.Phases.{IsAtInstruction, IsPulling}
+use Rattle.program_runs.specs.Steps.{IsAtInstruction}
+use Rattle.pio_uart.specs.Phases.{IsPulling}
 use Rattle.pio_uart.specs.Transmitter.{uart_memory, IsUartRule, IsUartMachine}
 
 -- what a tick leaves: an address and a delay, X and OSR; whether it takes a word; and pin 0's level after it

@@ -7,7 +7,8 @@ use Rattle.sm_registers.specs.Queues.{Queues}
 use Rattle.sm_registers.specs.State.{first_registers}
 use Rattle.sm_registers.specs.Tick.{tick_of}
 use Rattle.pio_uart.specs.Transmitter.{uart_memory, IsUartMachine}
-use Rattle.pio_uart.specs.Phases.{IsAtInstruction, IsPulling, IsOnCourse, pulls, ends, starts, sends, counts, phase_of, MovesOn}
+use Rattle.program_runs.specs.Steps.{IsAtInstruction}
+use Rattle.pio_uart.specs.Phases.{IsPulling, IsOnCourse, pulls, ends, starts, sends, counts, phase_of, MovesOn}
 use Rattle.pio_uart.proofs.Instructions.{delay_tick, set_tick, out_tick, loop_tick, last_tick, pull_tick, stall_tick}
 
 phase-0 : (r : Registers) (d : ℕ) → r.pc ≡ 0 → r.delay ≡ d → phase_of r ≡ (80 - d) % 80

@@ -6,7 +6,9 @@ use Rattle.std.proofs.lemmas.Bool.Decides.{nat_tests}
 use Rattle.std.proofs.Math.Nat.{mul-le-mul_right}
 use Rattle.serial_receiver.specs.declared.frame.Frame.{Frame}
 use Rattle.serial_receiver.specs.Frames.{falls, frame_at, frames_from, level_in, middle}
-use Rattle.pio_uart.proofs.Rows.{row, get-row, row-split, row-same, level_stays, frame_of_row, same_frame}
+use Rattle.program_runs.specs.Levels.{row}
+use Rattle.program_runs.proofs.Rows.{get-row, row-split, row-same}
+use Rattle.pio_uart.proofs.Rows.{level_stays, frame_of_row, same_frame}
 
 -- a frame by the clock of its fall, where it has the tick's number and a tick comes every so many clocks
 abbrev pub at_clock : ℕ → Frame → Frame

@@ -1,24 +1,20 @@
 -- The transmitter sends what one feed gives it, each frame at its clock.
-use Rattle.std.proofs.Common.{◌≡◌, ℕ, ◌+◌, ◌-◌, ◌*◌, ◌%◌, ◌<◌, ◌≤◌, ◌⊎◌, inl, inr, Bool, true, false, cond, ltb, option_to_list, List, [], ◌∷◌, ◌++◌, map, slice_get, refl, ap, ◌∙◌, arith, length, subst, suc}
+use Rattle.std.proofs.Common.{◌≡◌, ℕ, ◌+◌, ◌-◌, ◌*◌, ◌%◌, ◌<◌, ◌≤◌, ◌⊎◌, inl, inr, Bool, true, false, cond, ltb, List, [], ◌∷◌, map, slice_get, refl, ap, ◌∙◌, arith, length, subst, suc}
 use Rattle.std.proofs.Math.Nat.{mul-le-mul_right}
 use Rattle.std.proofs.lemmas.Bool.Decides.{nat_tests}
 use Rattle.pin_matrix.specs.declared.machine.MachineSetup.{MachineSetup}
 use Rattle.pin_matrix.specs.declared.setup.Setup.{Setup}
 use Rattle.serial_receiver.specs.declared.frame.Frame.{Frame}
-use Rattle.pio_uart.specs.Sending.{IsSteady}
-use Rattle.pio_uart.specs.Feeding.{fed, frames_fed, SendsInTime, SendsAll}
+use Rattle.program_runs.specs.Clocks.{tx_in, taken_in, regs_in, level_in}
+use Rattle.program_runs.specs.Feeding.{fed, IsSupplied}
+use Rattle.program_runs.specs.Runs.{ticks_in, GoesByTicks}
+use Rattle.pio_uart.specs.Sending.{frames_in}
+use Rattle.pio_uart.specs.Feeding.{frames_fed, SendsInTime, SendsAll}
 use Rattle.pio_uart.specs.Transmitter.{IsTransmitter}
 use Rattle.pio_uart.proofs.Scaling.{at_clock}
 use Rattle.pio_uart.proofs.Whole.{frame_of}
-use Rattle.pio_uart.proofs.Clocks.{Laws, tx_in, taken_in, regs_in, level_in}
-use Rattle.pio_uart.proofs.Ticks.{left_by_ticks, none_between}
-use Rattle.pio_uart.proofs.Sent.{ticks_in, ticks_most, ticks_least, nothing_times, own, left, run_fed, frames_are, ready_at_first, high_at_first}
-use Rattle.pio_uart.proofs.Fed.{left_in, goes, front_is, at_first}
+use Rattle.pio_uart.proofs.Sent.{AreTold, step, front, frames_are, ready_at_first, high_at_first, ticks_most, ticks_least}
 use Rattle.pio_uart.proofs.InTime.{frames_after, from_the_start}
-
-steady : (words : List ℕ) → IsSteady (fed words)
-steady [] = tt
-steady (word ∷ words) = (refl, tt)
 
 cases_le : (a b : ℕ) → (a ≤ b) ⊎ (b < a)
 cases_le a b = grind arith
@@ -52,20 +48,16 @@ in_clocks int n ticks k (word ∷ words) most least =
     ∙ ap (λ m. map (at_clock int) (frames_after (1 + 80 * (k + 1)) m words)) (let e : ticks - 6 - 80 * k - 80 ≡ ticks - 6 - 80 * (k + 1) = omega arith in e)
     ∙ in_clocks int n ticks (k + 1) words most least)
 
-pub sends_in_time : Laws → (int : ℕ) → 1 ≤ int → (u : Setup) → IsTransmitter int u → SendsInTime int u
-sends_in_time laws int some u t words n =
+pub sends_in_time : AreTold → (int : ℕ) → 1 ≤ int → (u : Setup) → (t : IsTransmitter int u) → (words : List ℕ) → GoesByTicks u (fed words) 0 t.machine 0 int
+    → IsSupplied words (λ k. taken_in u (fed words) t.machine (int * k)) (λ k. tx_in u (fed words) t.machine (int * k)) → (n : ℕ) → frames_in u (fed words) (8 * int) n ≡ frames_fed int n 0 words
+sends_in_time told int some u t words run supply n =
     let lines = fed words in
-    let h = steady words in
     let s : MachineSetup = t.machine in
     let ticks = ticks_in int n in
-    let tick_words : (k : ℕ) → option_to_list (taken_in u lines s (int * k)) ++ left_in u words s (int * (k + 1)) ≡ left_in u words s (int * k) =
-    left_by_ticks int some (taken_in u lines s) (none_between laws u lines 0 s 0 (own laws int some u t lines h) (left laws int some u t lines h) int some t.is_set_up.divider t.is_set_up.frac) (left_in u words s) (goes laws u words s (own laws int some u t lines h) (left laws int some u t lines h) (t.is_set_up.join_tx, t.is_set_up.join_rx)) in
-    frames_are laws int some u t lines h n
-    ∙ ap (map (at_clock int)) (from_the_start int s t.is_set_up (λ k. regs_in u lines s (int * k)) (λ k. level_in u lines 0 (int * k)) (λ k. taken_in u lines s (int * k)) (λ k. (run_fed laws int some u t lines h k).0)
-    (λ k. left_in u words s (int * k)) tick_words
-    (λ k l. (run_fed laws int some u t lines h k).1 ∙ front_is laws u words s (own laws int some u t lines h) (left laws int some u t lines h) (t.is_set_up.join_tx, t.is_set_up.join_rx) (int * k) (let m = mul_up int 1 k l in omega (arith, m, some)))
-    words ticks (ready_at_first laws int some u t lines h) (high_at_first laws int some u t lines h) ((run_fed laws int some u t lines h 0).1 ∙ ap (λ c. slice_get (tx_in u lines s c) 0) (nothing_times int))
-    (ap (left_in u words s) (nothing_times int) ∙ at_first laws u words s (own laws int some u t lines h) (left laws int some u t lines h) (t.is_set_up.join_tx, t.is_set_up.join_rx)))
+    frames_are told int some u t lines run n
+    ∙ ap (map (at_clock int)) (from_the_start int s t.is_set_up (λ k. regs_in u lines s (int * k)) (λ k. level_in u lines 0 (int * k)) (λ k. taken_in u lines s (int * k)) (step told int some u t lines run)
+    supply.left supply.goes (λ k l. front told int some u t lines run k ∙ supply.front k l)
+    words ticks (ready_at_first told int some u t lines run) (high_at_first told int some u t lines run) (front told int some u t lines run 0 ∙ ap (λ ws. slice_get ws 0) run.first_tx) supply.first)
     ∙ ap (λ m. map (at_clock int) (frames_after 1 m words)) (let e : ticks - 6 ≡ ticks - 6 - 80 * 0 = omega arith in e)
     ∙ in_clocks int n ticks 0 words (ticks_most int n some) (ticks_least int n some)
 

@@ -8,9 +8,10 @@ use Rattle.sm_registers.specs.View.{View}
 use Rattle.sm_registers.specs.Queues.{Queues}
 use Rattle.sm_registers.specs.Tick.{tick_of}
 use Rattle.pio_uart.specs.Transmitter.{uart_memory, IsUartMachine}
-use Rattle.pio_uart.specs.Phases.{IsAtInstruction, IsPulling}
+use Rattle.program_runs.specs.Steps.{IsAtInstruction, IsStep, takes}
+use Rattle.pio_uart.specs.Phases.{IsPulling}
 use Rattle.pio_uart.proofs.Instructions.{IsTicked, delay_tick, set_tick, out_tick, loop_tick, last_tick, pull_tick, stall_tick}
-use Rattle.pio_uart.proofs.TickRuns.{IsStep, takes, Keeps, keeps-join, keeps-one}
+use Rattle.pio_uart.proofs.Keeping.{Keeps, keeps-join, keeps-one}
 
 -- the machine at the start of a tick: where it is, with X, OSR and pin 0's level
 pub record IsThere (r : Registers) (now : ℕ) (address left x osr level : ℕ) : Type 0 where

@@ -6,7 +6,9 @@ use Rattle.std.proofs.lemmas.Bool.Decides.{nat_tests}
 use Rattle.std.proofs.lemmas.Nat.{mod-pow-add}
 use Rattle.serial_receiver.specs.declared.frame.Frame.{Frame}
 use Rattle.serial_receiver.specs.Frames.{bits_read, bit_value, falls, frame_at, frames_from, level_in, middle}
-use Rattle.pio_uart.proofs.Rows.{row, get-row, no_fall, frame_of_row, same_frame}
+use Rattle.program_runs.specs.Levels.{row}
+use Rattle.program_runs.proofs.Rows.{get-row}
+use Rattle.pio_uart.proofs.Rows.{no_fall, frame_of_row, same_frame}
 
 -- bit i of a word as a level
 abbrev pub bit_level : (word i : ℕ) → Bool

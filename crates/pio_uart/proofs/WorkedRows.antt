@@ -16,9 +16,10 @@ use Rattle.block_core.specs.Hosted.{hosted_at, hosted_next, samples}
 use Rattle.block_core.specs.Slots.{acted, settled_slot}
 use Rattle.serial_receiver.specs.declared.frame.Frame.{Frame}
 use Rattle.serial_receiver.specs.Frames.{frame_at, frames_from}
-use Rattle.pio_uart.specs.Accepted.{accepted}
+use Rattle.program_runs.specs.Accepted.{accepted}
 use Rattle.pio_uart.specs.Sending.{frames_in, IsSent, SendsWhatItIsFed}
-use Rattle.pio_uart.specs.Feeding.{fed, frames_fed, SendsInTime}
+use Rattle.program_runs.specs.Feeding.{fed}
+use Rattle.pio_uart.specs.Feeding.{frames_fed, SendsInTime}
 use Rattle.pio_uart.specs.Transmitter.{uart_words}
 
 -- the transmitter's machine, with a tick in each clock

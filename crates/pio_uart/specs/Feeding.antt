@@ -1,20 +1,12 @@
 -- When a transmitter sends what one feed gives it from clock 0 on.
---   fed              the stimulus: one feed of machine 0
 --   frames_fed       the frames that are whole by some clock
 --   SendsInTime      so it is
 --   SendsAll         in the end all words are sent
 use Rattle.std.specs.Prelude.{◌≡◌, ℕ, ◌+◌, ◌*◌, ◌%◌, ◌<◌, true, List, [], ◌∷◌, length, map, nat_lt, if◌then◌else◌}
 use Rattle.pin_matrix.specs.declared.setup.Setup.{Setup}
-use Rattle.dreq_pacing.specs.declared.line.LineAct.TheVariants.{Feed}
-use Rattle.dreq_pacing.specs.declared.line.Line.{Line}
 use Rattle.serial_receiver.specs.declared.frame.Frame.{Frame}
 use Rattle.pio_uart.specs.Sending.{frames_in}
-
--- From clock 0 on a feed writes these words to the TX of machine 0, one a clock where there is room. There is no feed
--- of no words.
-abbrev pub fed : List ℕ → List Line
-fed [] = []
-fed (word ∷ words) = record { clock = 0; act = Feed 0 1 (word ∷ words) } ∷ []
+pub use Rattle.program_runs.specs.Feeding.{fed}
 
 -- Frame j of these words and those after it, as far as their stop bits are read before the last of these clocks, with
 -- a tick every `int` clocks. The first word is pulled at tick 1, and a frame begins eight ticks after its word is

@@ -1,18 +1,11 @@
 -- The phase of the transmitter's machine: 80 ticks from the PULL of a word to that of the next one.
---   IsAtInstruction  it is at an address, with so many ticks of delay left before it
 --   IsPulling        it is at the PULL, having stalled or not
 --   IsOnCourse       it is where the program brings it
 --   phase_of         its phase
 --   MovesOn          what a tick makes of it
-use Rattle.std.specs.Prelude.{◌≡◌, ℕ, ◌+◌, ◌-◌, ◌*◌, ◌%◌, ◌==◌, ◌≤◌, ◌⊎◌, false, Option, None, if◌then◌else◌}
+use Rattle.std.specs.Prelude.{◌≡◌, ℕ, ◌+◌, ◌-◌, ◌*◌, ◌%◌, ◌==◌, ◌≤◌, ◌⊎◌, Option, None, if◌then◌else◌}
 use Rattle.sm_registers.specs.declared.registers.Registers.{Registers}
-
--- at an instruction, or in the delay before it, with nothing pending and nothing begun
-pub record IsAtInstruction (address left : ℕ) (r : Registers) : Type 0 where
-  pub pc : r.pc ≡ address
-  pub delay : r.delay ≡ left
-  pub pending : r.pending ≡ None
-  pub begun : r.begun ≡ false
+use Rattle.program_runs.specs.Steps.{IsAtInstruction}
 
 -- at the PULL
 pub record IsPulling (r : Registers) : Type 0 where

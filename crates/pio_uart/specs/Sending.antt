@@ -1,36 +1,19 @@
 -- What it means that a transmitter sends what it is fed.
---   IsSteady           a stimulus leaves the machines' ticks alone
 --   frames_in          the frames on pin 0 in a run
 --   IsFirstPart        a list begins with another one
 --   IsSent             frames are those of words
 --   SendsWhatItIsFed   so it is in every run
-use Rattle.std.specs.Prelude.{◌≡◌, ℕ, ◌%◌, Bool, true, false, List, ◌++◌, map}
+use Rattle.std.specs.Prelude.{◌≡◌, ℕ, ◌%◌, true, List, ◌++◌, map}
 use Rattle.std.specs.List.{AllByRecursion}
 use Rattle.pin_matrix.specs.declared.setup.Setup.{Setup}
 use Rattle.pin_matrix.specs.Pins.{is_high}
-use Rattle.dreq_pacing.specs.declared.line.LineAct.{LineAct}
-use Rattle.dreq_pacing.specs.declared.line.LineAct.TheVariants.{Pin, Tx, Rx, Feed, Drain, Enable, Disable, Restart}
 use Rattle.dreq_pacing.specs.declared.line.Line.{Line}
 use Rattle.block_core.specs.Block.{first_run}
 use Rattle.block_core.specs.Hosted.{samples}
 use Rattle.serial_receiver.specs.declared.frame.Frame.{Frame}
 use Rattle.serial_receiver.specs.Frames.{frames, levels_of}
-use Rattle.pio_uart.specs.Accepted.{accepted}
-
--- the act enables or disables no machine, and restarts no divider
-abbrev pub is_steady : LineAct → Bool
-is_steady (Pin pin level) = true
-is_steady (Tx machine word) = true
-is_steady (Rx machine) = true
-is_steady (Feed machine every words) = true
-is_steady (Drain machine every) = true
-is_steady (Enable machine) = false
-is_steady (Disable machine) = false
-is_steady (Restart machine) = false
-
--- no line enables, disables or restarts a machine
-abbrev pub IsSteady : List Line → Type 0
-IsSteady lines = AllByRecursion (λ l. is_steady l.act ≡ true) lines
+use Rattle.program_runs.specs.Accepted.{accepted}
+use Rattle.program_runs.specs.Steady.{IsSteady}
 
 -- the frames that a serial receiver hears on pin 0 in the first n clocks of a setup's run beside these lines, where a
 -- bit takes so many clocks

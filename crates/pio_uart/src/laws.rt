@@ -12,8 +12,9 @@ ghost use Rattle.pio_uart.specs.Transmitter.{uart_memory, IsTransmitter, IsUartM
 ghost use Rattle.pio_uart.specs.Sending.{SendsWhatItIsFed};
 ghost use Rattle.pio_uart.specs.Feeding.{SendsAll, SendsInTime};
 
-use block_core::{a_block_sees_its_own_pads, a_pin_of_one_machine, each_place_goes_its_own_way};
-use clock_divider::tick_test;
+use program_runs::{
+    a_feed_never_lets_tx_run_dry, a_machine_goes_tick_by_tick, samples_tell_the_levels,
+};
 
 /// A transmitter whose divider is this whole number sends what it is fed, a bit in eight times as many
 /// clocks: whatever the stimulus, where it leaves the machines' ticks alone, and whatever the length of the
@@ -21,10 +22,8 @@ use clock_divider::tick_test;
 pub fn a_transmitter_sends_what_it_is_fed()
     ensures { (int : ℕ) (u : Setup) → 1 ≤ int → IsTransmitter int u → SendsWhatItIsFed (8 * int) u }
 {
-    a_block_sees_its_own_pads();
-    each_place_goes_its_own_way();
-    a_pin_of_one_machine();
-    tick_test();
+    a_machine_goes_tick_by_tick();
+    samples_tell_the_levels();
 }
 
 /// Fed by one feed with a word a clock, such a transmitter sends exactly these words, each frame at its
@@ -33,10 +32,9 @@ pub fn a_transmitter_sends_in_time()
     ensures frames { (int : ℕ) (u : Setup) → 1 ≤ int → IsTransmitter int u → SendsInTime int u }
     ensures whole { (int : ℕ) (u : Setup) → 1 ≤ int → IsTransmitter int u → SendsAll int u }
 {
-    a_block_sees_its_own_pads();
-    each_place_goes_its_own_way();
-    a_pin_of_one_machine();
-    tick_test();
+    a_feed_never_lets_tx_run_dry();
+    a_machine_goes_tick_by_tick();
+    samples_tell_the_levels();
 }
 
 /// The machine has 80 phases. It begins at phase 0, the PULL, and each tick moves it to the next one modulo 80,

@@ -1,5 +1,4 @@
 -- Beside a stimulus that leaves the machines' ticks alone, the system enables, disables and restarts none.
---   IsLeft           it does nothing of the kind to a machine in a clock
 use Rattle.std.proofs.Common.{◌≡◌, ◌==◌, ℕ, zero, suc, true, false, cond, List, [], ◌∷◌, slice_index_or, refl, ap, ◌∙◌}
 use Rattle.dreq_pacing.specs.declared.line.LineAct.{LineAct}
 use Rattle.dreq_pacing.specs.declared.line.LineAct.TheVariants.{Pin, Tx, Rx, Feed, Drain, Enable, Disable, Restart}
@@ -10,13 +9,7 @@ use Rattle.dreq_pacing.specs.Due.{quiet, no_machine, with_act, with_lines}
 use Rattle.dreq_pacing.specs.Ports.{due_in}
 use Rattle.block_core.specs.Block.{Run}
 use Rattle.block_core.specs.Hosted.{hosted_at, host_of}
-use Rattle.pio_uart.specs.Sending.{is_steady, IsSteady}
-
--- nothing enables, disables or restarts the machine in this clock
-pub record IsLeft (d : Due) (id : ℕ) : Type 0 where
-  pub enable : slice_index_or d.enable id false ≡ false
-  pub disable : slice_index_or d.disable id false ≡ false
-  pub restart : slice_index_or d.restart id false ≡ false
+use Rattle.program_runs.specs.Steady.{is_steady, IsSteady, IsLeft}
 
 -- the same machines are enabled, disabled and restarted
 record IsAlike (d e : Due) : Type 0 where

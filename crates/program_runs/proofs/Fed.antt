@@ -18,9 +18,10 @@ use Rattle.block_core.specs.Slots.{settled_slot}
 use Rattle.block_core.specs.Block.{first_run, next}
 use Rattle.block_core.specs.Hosted.{hosted_at, hosted_next}
 use Rattle.block_core.specs.Shown.{shown_in, requests_of}
-use Rattle.pio_uart.specs.Feeding.{fed}
-use Rattle.pio_uart.proofs.Steady.{IsLeft}
-use Rattle.pio_uart.proofs.Clocks.{Laws, IsOwn, host_in, state_in, view_in, slots, act_in, tx_in, taken_in, place_is, setup_is, tx_after_clock}
+use Rattle.program_runs.specs.Clocks.{IsOwn, host_in, state_in, view_in, slots, act_in, tx_in, taken_in}
+use Rattle.program_runs.specs.Feeding.{fed}
+use Rattle.program_runs.specs.Steady.{IsLeft}
+use Rattle.program_runs.proofs.Clocks.{Laws, place_is, setup_is, tx_after_clock}
 
 -- TX and the words that the feed has left, after a clock in which a word moves where there is room
 record IsMoved (take : Bool) (room : ℕ) (tx : List ℕ) (clock : ℕ) (f : Feeding) : Type 0 where
@@ -117,7 +118,7 @@ first_due : (words : List ℕ) → (begun 0 (lines_in 0 (fed words)) transfers.u
 first_due [] = omega arith
 first_due (word ∷ words) = omega arith
 
-module _ (laws : Laws) (u : Setup) (words : List ℕ) (s : MachineSetup) (own : IsOwn u 0 s 0) (left : (clock : ℕ) → IsLeft (host_in u (fed words) clock) s.id) (joins : (s.join_tx ≡ false) × (s.join_rx ≡ false)) where
+module _ (laws : Laws) (u : Setup) (words : List ℕ) (s : MachineSetup) (pin : ℕ) (own : IsOwn u 0 s pin) (left : (clock : ℕ) → IsLeft (host_in u (fed words) clock) s.id) (joins : (s.join_tx ≡ false) × (s.join_rx ≡ false)) where
   room_is : (c : ℕ) → (slots u (fed words) s c).machine.ports.fifos.tx_room ≡ 4
   unfolding settled_slot settled_ports settled
   room_is zero = rw (joins.0, joins.1) refl
@@ -128,7 +129,7 @@ module _ (laws : Laws) (u : Setup) (words : List ℕ) (s : MachineSetup) (own : 
   unfolding requests_of
   asks c =
       get_or-map (λ m. not (shown_in m).tx_full) (state_in u (fed words) c).machines 0 None
-      ∙ ap (λ p. not (shown_in p).tx_full) (place_is laws u (fed words) 0 s 0 own left c)
+      ∙ ap (λ p. not (shown_in p).tx_full) (place_is laws u (fed words) 0 s pin own left c)
       ∙ ap (λ r. not (is_full r (tx_in u (fed words) s c))) (room_is c)
 
   -- the word that moves in a clock
@@ -174,7 +175,7 @@ module _ (laws : Laws) (u : Setup) (words : List ℕ) (s : MachineSetup) (own : 
       let d = host_in u (fed words) c in
       tx_after_clock (view_in u (fed words) c) d m
       ∙ ap (λ r. queued (if_room r m.machine.ports.fifos.tx (slice_index_or d.word m.machine.setup.id None)) (less_front (act_in u (fed words) s c).1.take m.machine.ports.fifos.tx)) (room_is c)
-      ∙ ap (λ (x : MachineSetup). queued (if_room 4 m.machine.ports.fifos.tx (slice_index_or d.word x.id None)) (less_front (act_in u (fed words) s c).1.take m.machine.ports.fifos.tx)) (setup_is laws u (fed words) 0 s 0 own left c)
+      ∙ ap (λ (x : MachineSetup). queued (if_room 4 m.machine.ports.fifos.tx (slice_index_or d.word x.id None)) (less_front (act_in u (fed words) s c).1.take m.machine.ports.fifos.tx)) (setup_is laws u (fed words) 0 s pin own left c)
       ∙ ap (λ i. queued (if_room 4 m.machine.ports.fifos.tx (slice_index_or d.word i None)) (less_front (act_in u (fed words) s c).1.take m.machine.ports.fifos.tx)) own.number
       ∙ ap (λ w. queued (if_room 4 m.machine.ports.fifos.tx w) (less_front (act_in u (fed words) s c).1.take m.machine.ports.fifos.tx)) (word_in c)
 

@@ -6,10 +6,12 @@ use Rattle.clock_divider.specs.Ticks.{is_tick}
 use Rattle.pin_matrix.specs.declared.machine.MachineSetup.{MachineSetup}
 use Rattle.pin_matrix.specs.declared.setup.Setup.{Setup}
 use Rattle.dreq_pacing.specs.declared.line.Line.{Line}
-use Rattle.pio_uart.proofs.Pacing.{period, on_tick, off_tick}
-use Rattle.pio_uart.proofs.Steady.{IsLeft}
-use Rattle.pio_uart.proofs.TickRuns.{IsStep, takes, takes-split, takes-none}
-use Rattle.pio_uart.proofs.Clocks.{Laws, IsOwn, host_in, regs_in, level_in, taken_in, idle_regs, idle_level, idle_taken, tx_in, tick_fed}
+use Rattle.program_runs.specs.Clocks.{IsOwn, host_in, regs_in, level_in, taken_in, tx_in}
+use Rattle.program_runs.specs.Steady.{IsLeft}
+use Rattle.program_runs.specs.Steps.{IsStep, takes}
+use Rattle.program_runs.proofs.Pacing.{period, on_tick, off_tick}
+use Rattle.program_runs.proofs.Taking.{takes-split, takes-none}
+use Rattle.program_runs.proofs.Clocks.{Laws, idle_regs, idle_level, idle_taken, tick_fed}
 
 cases_le : (a b : ℕ) → (a ≤ b) ⊎ (b < a)
 cases_le a b = grind arith

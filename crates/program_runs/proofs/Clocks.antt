@@ -1,9 +1,7 @@
 -- A machine clock by clock, in the run of a setup beside a stimulus that leaves its ticks alone: what its place holds, and what a
 -- clock with a tick and one without do.
 --   Laws             what the laws of the crates below say, as one premise
---   IsOwn            the machine and the pin that are looked at
---   slots            its place at the start of each clock
-use Rattle.std.proofs.Common.{◌≡◌, ℕ, zero, suc, ◌+◌, ◌<◌, Bool, true, false, ◌&&◌, cond, Option, Some, None, option_map, option_to_list, List, [], ◌∷◌, ◌++◌, slice_get, slice_index_or, refl, sym, ap, ◌∙◌, arith, add-one, append-nil, append_assoc}
+use Rattle.std.proofs.Common.{◌≡◌, ℕ, zero, suc, ◌<◌, Bool, true, false, ◌&&◌, cond, Option, Some, None, option_map, option_to_list, List, [], ◌∷◌, ◌++◌, slice_get, slice_index_or, refl, sym, ap, ◌∙◌, add-one, append-nil, append_assoc}
 use Rattle.std.specs.Int.{bit_at}
 use Rattle.std.proofs.lemmas.Nat.Bits.{bit_at-zero}
 use Rattle.clock_divider.specs.Timing.{Timing, period_of}
@@ -27,10 +25,12 @@ use Rattle.block_core.specs.Block.{BlockState, first_run, first_state, first_pla
 use Rattle.block_core.specs.Following.{Follows, place_at, intent_in, OthersLeave}
 use Rattle.block_core.specs.History.{pad_at, pad_before}
 use Rattle.block_core.specs.Hosted.{hosted_at, host_of}
-use Rattle.pio_uart.specs.Accepted.{accepted_in, accepted}
-use Rattle.pio_uart.proofs.Pacing.{AreTested}
-use Rattle.pio_uart.proofs.Steady.{IsLeft}
-use Rattle.pio_uart.proofs.TickRuns.{IsStep, takes, takes-split}
+use Rattle.program_runs.specs.Accepted.{accepted_in, accepted}
+use Rattle.program_runs.specs.Clocks.{IsOwn, host_in, state_in, view_in, slots, act_in, regs_in, tx_in, level_in, taken_in}
+use Rattle.program_runs.specs.Steady.{IsLeft}
+use Rattle.program_runs.specs.Steps.{IsStep, takes}
+use Rattle.program_runs.proofs.Pacing.{AreTested}
+use Rattle.program_runs.proofs.Taking.{takes-more}
 
 -- what the laws of block_core and clock_divider say
 pub record Laws : Type 0 where
@@ -48,14 +48,6 @@ pub record Laws : Type 0 where
       ≡ last_of pin (bit_at (states clock).levels pin) (two_writes (intent_in memory (seen clock) (host clock) (states clock) id).level)
   -- what the test for a tick means
   pub tick_test : AreTested
-
--- the machine with this number is configured so, and no other one is mapped to the pin
-pub record IsOwn (u : Setup) (id : ℕ) (s : MachineSetup) (pin : ℕ) : Type 0 where
-  pub in_block : id < 4
-  pub configured : slice_index_or u.machines id None ≡ Some s
-  pub number : s.id ≡ id
-  pub is_pin : pin < 32
-  pub alone : OthersLeave id pin u.machines
 
 -- the front of a FIFO, where it is taken, and what is left
 front_and_rest : (take : Bool) (tx : List ℕ) → option_to_list (cond take (slice_get tx 0) None) ++ less_front take tx ≡ tx
@@ -82,45 +74,6 @@ unwritten pin old = rw (bit_at-zero pin) refl
 
 regroup : (a b c d : List ℕ) → (a ++ (b ++ c)) ++ d ≡ (a ++ b) ++ (c ++ d)
 regroup a b c d = simp append_assoc
-
-takes-more : (taken : ℕ → Option ℕ) (n : ℕ) → takes taken 0 (suc n) ≡ takes taken 0 n ++ option_to_list (taken n)
-takes-more taken n =
-    ap (takes taken 0) (let e : suc n ≡ n + 1 = omega arith in e) ∙ takes-split taken 0 n 1
-    ∙ ap (λ k. takes taken 0 n ++ (option_to_list (taken k) ++ [])) (let e : 0 + n ≡ n = omega arith in e)
-    ∙ ap (λ ws. takes taken 0 n ++ ws) (append-nil (option_to_list (taken n)))
-
--- what the system does in a clock of the setup's run beside a stimulus, the state at its start, and what the machines see
-abbrev pub host_in : Setup → List Line → ℕ → Due
-host_in u lines c = host_of (first_run u) lines c
-
-abbrev pub state_in : Setup → List Line → ℕ → BlockState
-state_in u lines c = (hosted_at (first_run u) lines c).run.state
-
-abbrev pub view_in : Setup → List Line → ℕ → View
-view_in u lines c = view_of u.memory (seen_of u.bypass (pad_at u (host_in u lines) c) (pad_before u (host_in u lines) c)) (state_in u lines c)
-
--- a machine's place at the start of each clock
-abbrev pub slots : Setup → List Line → MachineSetup → ℕ → Slot
-slots u lines s zero = first_slot s
-slots u lines s (suc c) = slot_after (view_in u lines c) (host_in u lines c) (slots u lines s c)
-
--- what the machine does in a clock
-abbrev pub act_in : Setup → List Line → MachineSetup → ℕ → Registers × Intent
-act_in u lines s c = acted (view_in u lines c) (lined (host_in u lines c) (slots u lines s c))
-
--- its registers, its words in TX and the pin's level at the start of a clock
-abbrev pub regs_in : Setup → List Line → MachineSetup → ℕ → Registers
-regs_in u lines s c = (slots u lines s c).machine.registers
-
-abbrev pub tx_in : Setup → List Line → MachineSetup → ℕ → List ℕ
-tx_in u lines s c = (slots u lines s c).machine.ports.fifos.tx
-
-abbrev pub level_in : Setup → List Line → (pin c : ℕ) → ℕ
-level_in u lines pin c = bit_at (state_in u lines c).levels pin
-
--- the word that it takes from TX in a clock, if any
-abbrev pub taken_in : Setup → List Line → MachineSetup → ℕ → Option ℕ
-taken_in u lines s c = cond (act_in u lines s c).1.take (slice_get (tx_in u lines s c) 0) None
 
 -- it has its setup, is enabled, and its divider runs from clock 0 on
 record IsTimed (s : MachineSetup) (c : ℕ) (m : Slot) : Type 0 where

@@ -1,0 +1,9 @@
+pub mod Rows
+pub mod Taking
+pub mod Told
+pub mod Steady
+pub mod Pacing
+pub mod Clocks
+pub mod Ticks
+pub mod Fed
+pub mod ByTicks

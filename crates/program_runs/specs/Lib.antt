@@ -1,0 +1,7 @@
+pub mod Steady
+pub mod Accepted
+pub mod Feeding
+pub mod Steps
+pub mod Clocks
+pub mod Levels
+pub mod Runs
