@@ -7,3 +7,4 @@ pub mod Clocks
 pub mod Ticks
 pub mod Fed
 pub mod ByTicks
+pub mod Words

@@ -1,5 +1,6 @@
 pub mod Steady
 pub mod Accepted
+pub mod Words
 pub mod Feeding
 pub mod Steps
 pub mod Clocks

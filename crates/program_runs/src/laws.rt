@@ -1,5 +1,6 @@
 //! Laws of one machine in a run beside a stimulus, each on a function that does nothing.
-ghost use Rattle.std.specs.Prelude.{◌≡◌, ℕ, suc, ◌+◌, ◌*◌, ◌<◌, ◌≤◌, ◌++◌, true, false, Some, List};
+ghost use Rattle.std.specs.Prelude.{◌≡◌, ℕ, suc, ◌+◌, ◌*◌, ◌^◌, ◌<◌, ◌≤◌, ◌++◌, true, false, Some, List};
+ghost use Rattle.std.specs.List.{AllByRecursion};
 ghost use Rattle.clock_divider.specs.Timing.{period_of};
 ghost use Rattle.clock_divider.specs.Ticks.{is_tick};
 ghost use Rattle.pin_matrix.specs.declared.machine.MachineSetup.{MachineSetup};
@@ -16,6 +17,7 @@ ghost use Rattle.program_runs.specs.Levels.{levels_in, row, up_in};
 ghost use Rattle.program_runs.specs.Runs.{GoesByTicks};
 ghost use Rattle.program_runs.specs.Steady.{IsLeft, IsSteady};
 ghost use Rattle.program_runs.specs.Steps.{IsStep, takes};
+ghost use Rattle.program_runs.specs.Words.{AreWords};
 
 use block_core::{a_block_sees_its_own_pads, a_pin_of_one_machine, each_place_goes_its_own_way};
 use clock_divider::tick_test;
@@ -70,11 +72,18 @@ pub fn a_machine_goes_tick_by_tick()
     tick_test();
 }
 
+/// Beside a stimulus whose words have 32 bits, so have those that a TX accepts.
+pub fn accepted_words_have_32_bits()
+    ensures { (start : Run) (lines : List Line) → AreWords lines → (id n : ℕ)
+        → AllByRecursion (λ w. w < 2 ^ 32) (accepted start lines id n) }
+{}
+
 /// A feed from clock 0 on with a word a clock is a steady stimulus. Beside it the TX of machine 0, of four words, has a word at each
 /// tick from the second one on, wherever one is left.
 pub fn a_feed_never_lets_tx_run_dry()
     ensures stimulus { (words : List ℕ) → IsSchedule (fed words) }
     ensures steady { (words : List ℕ) → IsSteady (fed words) }
+    ensures words { (words : List ℕ) → AllByRecursion (λ w. w < 2 ^ 32) words → AreWords (fed words) }
     ensures supply { (u : Setup) (words : List ℕ) (s : MachineSetup) (pin int : ℕ)
         → IsOwn u 0 s pin → 1 ≤ int → s.int ≡ int → s.frac ≡ 0 → s.join_tx ≡ false → s.join_rx ≡ false
         → IsSupplied words (λ t. taken_in u (fed words) s (int * t)) (λ t. tx_in u (fed words) s (int * t)) }
