@@ -1,0 +1,25 @@
+-- From ticks to clocks: a bit and a wait in the levels after each clock.
+use Rattle.std.proofs.Common.{◌≡◌, ℕ, zero, suc, ◌+◌, ◌-◌, ◌*◌, ◌<◌, ◌≤◌, ◌⊎◌, inl, inr, Bool, ap, ◌∙◌, arith}
+
+cases_lt : (a b : ℕ) → (a < b) ⊎ (b ≤ a)
+cases_lt a b = grind arith
+
+pub mul_suc : (int a : ℕ) → int * (a + 1) ≡ int * a + int
+mul_suc int a = grind arith
+
+suc_mul : (int k : ℕ) → suc k * int ≡ k * int + int
+suc_mul int k = grind arith
+
+pub mul_add : (int a b : ℕ) → int * (a + b) ≡ int * a + b * int
+mul_add int a b = grind arith
+
+-- levels that stay for some ticks stay for `int` times as many clocks
+pub stay : (int : ℕ) (at up : ℕ → Bool) → ((t e : ℕ) → e < int → at (int * t + e) ≡ up t) → (k a : ℕ) (v : Bool) → ((j : ℕ) → j < k → up (a + j) ≡ v)
+    → (j : ℕ) → j < k * int → at (int * a + j) ≡ v
+stay int at up held zero a v h j l = absurd (let e : 0 * int ≡ 0 = omega arith in omega (arith, l, e))
+stay int at up held (suc k) a v h j l = elim (cases_lt j int) [
+  | inl first ↦ held a j first ∙ ap up (let e : a ≡ a + 0 = omega arith in e) ∙ h 0 (omega arith)
+  | inr later ↦
+      ap at (let m = mul_suc int a in let e : int * a + j ≡ int * (a + 1) + (j - int) = omega (arith, m, later) in e)
+      ∙ stay int at up held k (a + 1) v (λ i m. ap up (let e : a + 1 + i ≡ a + (i + 1) = omega arith in e) ∙ h (i + 1) (omega (arith, m))) (j - int) (let m = suc_mul int k in omega (arith, l, m, later))
+]

@@ -1,0 +1,11 @@
+pub mod Bits
+pub mod Instructions
+pub mod Transmitting
+pub mod PulseRows
+pub mod Places
+pub mod Clocked
+pub mod Sent
+pub mod Running
+pub mod InTime
+pub mod Timely
+pub mod WorkedRows

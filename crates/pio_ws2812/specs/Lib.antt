@@ -1,0 +1,4 @@
+pub mod Pulses
+pub mod Transmitter
+pub mod Sending
+pub mod Feeding
