@@ -1,3 +1,4 @@
+pub use Rattle.program_runs.specs.Accepted
 pub mod Transmitter
 pub mod OneSetup
 pub mod Phases

@@ -5,7 +5,7 @@
 --   MovesOn          what a tick makes of it
 use Rattle.std.specs.Prelude.{◌≡◌, ℕ, ◌+◌, ◌-◌, ◌*◌, ◌%◌, ◌==◌, ◌≤◌, ◌⊎◌, Option, None, if◌then◌else◌}
 use Rattle.sm_registers.specs.declared.registers.Registers.{Registers}
-use Rattle.program_runs.specs.Steps.{IsAtInstruction}
+pub use Rattle.program_runs.specs.Steps.{IsAtInstruction}
 
 -- at the PULL
 pub record IsPulling (r : Registers) : Type 0 where

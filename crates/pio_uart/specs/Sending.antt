@@ -13,7 +13,7 @@ use Rattle.block_core.specs.Hosted.{samples}
 use Rattle.serial_receiver.specs.declared.frame.Frame.{Frame}
 use Rattle.serial_receiver.specs.Frames.{frames, levels_of}
 use Rattle.program_runs.specs.Accepted.{accepted}
-use Rattle.program_runs.specs.Steady.{IsSteady}
+pub use Rattle.program_runs.specs.Steady.{is_steady, IsSteady}
 
 -- the frames that a serial receiver hears on pin 0 in the first n clocks of a setup's run beside these lines, where a
 -- bit takes so many clocks
