@@ -1,17 +1,6 @@
 -- From ticks to clocks: a bit and a wait in the levels after each clock.
-use Rattle.std.proofs.Common.{◌≡◌, ℕ, zero, suc, ◌+◌, ◌-◌, ◌*◌, ◌<◌, ◌≤◌, ◌⊎◌, inl, inr, Bool, ap, ◌∙◌, arith}
-
-cases_lt : (a b : ℕ) → (a < b) ⊎ (b ≤ a)
-cases_lt a b = grind arith
-
-pub mul_suc : (int a : ℕ) → int * (a + 1) ≡ int * a + int
-mul_suc int a = grind arith
-
-suc_mul : (int k : ℕ) → suc k * int ≡ k * int + int
-suc_mul int k = grind arith
-
-pub mul_add : (int a b : ℕ) → int * (a + b) ≡ int * a + b * int
-mul_add int a b = grind arith
+use Rattle.std.proofs.Common.{◌≡◌, ℕ, zero, suc, ◌+◌, ◌-◌, ◌*◌, ◌<◌, inl, inr, Bool, ap, ◌∙◌, arith}
+use Rattle.pio_ws2812.proofs.Numbers.{cases_lt, mul_suc, suc_mul}
 
 -- levels that stay for some ticks stay for `int` times as many clocks
 pub stay : (int : ℕ) (at up : ℕ → Bool) → ((t e : ℕ) → e < int → at (int * t + e) ≡ up t) → (k a : ℕ) (v : Bool) → ((j : ℕ) → j < k → up (a + j) ≡ v)

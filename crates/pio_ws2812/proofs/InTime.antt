@@ -1,7 +1,6 @@
 -- The transmitter where a word is there whenever one is left: exactly which pulses it sends, and when.
 --   lead_fed         how long the pin is low before the first of some bits
-use Rattle.std.proofs.Common.{◌≡◌, ◌==◌, ℕ, zero, suc, ◌+◌, ◌-◌, ◌*◌, ◌^◌, ◌<◌, ◌≤◌, ◌⊎◌, inl, inr, nat_lt, min, Bool, true, false, cond, Option, Some, None, option_to_list, List, [], ◌∷◌, ◌++◌, slice_get, refl, sym, ap, subst, ◌∙◌, arith, append_assoc}
-use Rattle.std.proofs.lemmas.Bool.Decides.{nat_tests}
+use Rattle.std.proofs.Common.{◌≡◌, ◌==◌, ℕ, zero, suc, ◌+◌, ◌-◌, ◌*◌, ◌^◌, ◌<◌, ◌≤◌, inl, inr, min, Bool, true, false, cond, Option, Some, None, option_to_list, List, [], ◌∷◌, ◌++◌, slice_get, refl, sym, ap, subst, ◌∙◌, arith, append_assoc}
 use Rattle.std.proofs.lemmas.Grind.{flat_map-append}
 use Rattle.std.proofs.Math.Nat.{mul-le-mul_right}
 use Rattle.pin_matrix.specs.declared.machine.MachineSetup.{MachineSetup}
@@ -13,8 +12,9 @@ use Rattle.pio_ws2812.specs.Pulses.{lows, pulses_from}
 use Rattle.pio_ws2812.specs.Sending.{word_bits, bits_of, high_of, low_of}
 use Rattle.pio_ws2812.specs.Feeding.{low_fed, pulses_fed}
 use Rattle.pio_ws2812.specs.Transmitter.{ws2812_memory, IsLightMachine}
-use Rattle.pio_ws2812.proofs.Clocked.{stay, mul_add}
+use Rattle.pio_ws2812.proofs.Clocked.{stay}
 use Rattle.pio_ws2812.proofs.Instructions.{AreMapped}
+use Rattle.pio_ws2812.proofs.Numbers.{cases_lt, less_true, less_false, mul_add}
 use Rattle.pio_ws2812.proofs.PulseRows.{row_at, no_pulses, stays, lows-for, low_in, before_pulse, pulse_of, lead_of}
 use Rattle.pio_ws2812.proofs.Sent.{bit_row}
 use Rattle.pio_ws2812.proofs.Transmitting.{IsReady, sends, waits}
@@ -23,15 +23,6 @@ use Rattle.pio_ws2812.proofs.Transmitting.{IsReady, sends, waits}
 abbrev lead_fed : (int n : ℕ) → List Bool → ℕ
 lead_fed int n [] = n
 lead_fed int n (bit ∷ bits) = min (3 * int) n
-
-cases_lt : (a b : ℕ) → (a < b) ⊎ (b ≤ a)
-cases_lt a b = grind arith
-
-less_true : (a b : ℕ) → a < b → nat_lt a b ≡ true
-less_true a b h = grind (arith, nat_tests)
-
-less_false : (a b : ℕ) → b ≤ a → nat_lt a b ≡ false
-less_false a b h = grind (arith, nat_tests)
 
 -- lists
 none_of : (o : Option ℕ) (ws : List ℕ) → option_to_list o ++ ws ≡ [] → (o ≡ None) × (ws ≡ [])

@@ -30,6 +30,7 @@ use Rattle.program_runs.specs.Steps.{IsAtInstruction}
 use Rattle.pio_ws2812.specs.Sending.{bits_down, word_bits, bits_of}
 use Rattle.pio_ws2812.specs.Transmitter.{ws2812_memory, IsLightRule, IsLightMachine}
 use Rattle.pio_ws2812.proofs.Bits.{one_more, none, word_bits-is, bits_down-shift, top_bit}
+use Rattle.pio_ws2812.proofs.Numbers.{le_true, le_false, le_means, less_means}
 
 -- what the law of pin_matrix says of a mapped pin
 pub record AreMapped : Type 0 where
@@ -97,21 +98,6 @@ positive d = grind (arith, nat_tests)
 
 less_one : (d : ℕ) → suc d - 1 ≡ d
 less_one d = omega arith
-
-not_zero : (x : ℕ) → (suc x == 0) ≡ false
-not_zero x = grind (arith, nat_tests)
-
-le_true : (a b : ℕ) → a ≤ b → nat_le a b ≡ true
-le_true a b h = grind (arith, nat_tests)
-
-le_false : (a b : ℕ) → b < a → nat_le a b ≡ false
-le_false a b h = grind (arith, nat_tests)
-
-le_means : (a b : ℕ) → nat_le a b ≡ true → a ≤ b
-le_means a b h = grind (arith, nat_tests)
-
-less_means : (a b : ℕ) → nat_le a b ≡ false → b < a
-less_means a b h = grind (arith, nat_tests)
 
 -- no bit is left where 24 are out, and else the top one of the OSR is the next
 all_out : (r : Registers) → Holds r [] → 24 ≤ r.out_count

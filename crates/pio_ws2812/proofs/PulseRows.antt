@@ -1,8 +1,9 @@
 -- The pulses of levels in a row: none begins where the level stays, and one begins where it rises.
-use Rattle.std.proofs.Common.{◌≡◌, ℕ, zero, suc, ◌+◌, ◌-◌, ◌*◌, ◌<◌, ◌≤◌, ◌⊎◌, inl, inr, min, Bool, true, false, cond, List, [], ◌∷◌, drop, refl, sym, ap, ◌∙◌, arith}
+use Rattle.std.proofs.Common.{◌≡◌, ℕ, zero, suc, ◌+◌, ◌-◌, ◌*◌, ◌<◌, ◌≤◌, inl, inr, min, Bool, true, false, cond, List, [], ◌∷◌, drop, refl, sym, ap, ◌∙◌, arith}
 use Rattle.program_runs.specs.Levels.{row}
 use Rattle.pio_ws2812.specs.Pulses.{Pulse, highs, lows, pulse_at, pulses_from, rises}
 use Rattle.pio_ws2812.specs.Sending.{high_of}
+use Rattle.pio_ws2812.proofs.Numbers.{cases_lt}
 
 -- the same row, from another clock or of another length
 pub row_at : (at : ℕ → Bool) (a b m n : ℕ) → a ≡ b → m ≡ n → row at a m ≡ row at b n
@@ -81,14 +82,11 @@ drop-row zero clock n at = row_at at clock (clock + 0) n (n - 0) (omega arith) (
 drop-row (suc k) clock zero at = ap (row at (clock + suc k)) (let e : 0 ≡ 0 - suc k = omega arith in e)
 drop-row (suc k) clock (suc n) at = drop-row k (clock + 1) n at ∙ row_at at (clock + 1 + k) (clock + suc k) (n - k) (suc n - suc k) (omega arith) (omega arith)
 
-cases_le : (a b : ℕ) → (a ≤ b) ⊎ (b < a)
-cases_le a b = grind arith
-
 -- of a row that ends before the level falls nothing is left
 past : (clock high n : ℕ) (at : ℕ → Bool) → row at (clock + min high n) (n - min high n) ≡ row at (clock + high) (n - high)
-past clock high n at = elim (cases_le n high) [
-  | inl short ↦ ap (row at (clock + min high n)) (let e : n - min high n ≡ 0 = omega (arith, short) in e) ∙ ap (row at (clock + high)) (let e : 0 ≡ n - high = omega (arith, short) in e)
-  | inr long ↦ row_at at (clock + min high n) (clock + high) (n - min high n) (n - high) (omega (arith, long)) (omega (arith, long))
+past clock high n at = elim (cases_lt high n) [
+  | inr short ↦ ap (row at (clock + min high n)) (let e : n - min high n ≡ 0 = omega (arith, short) in e) ∙ ap (row at (clock + high)) (let e : 0 ≡ n - high = omega (arith, short) in e)
+  | inl long ↦ row_at at (clock + min high n) (clock + high) (n - min high n) (n - high) (omega (arith, long)) (omega (arith, long))
 ]
 
 -- a pulse, which the end of the row may cut off
@@ -143,9 +141,9 @@ pulse_of int clock n at true some h long =
     ∙ ap (λ c. record { start = clock + 3 * int; high = min (7 * int) (n - 3 * int); low = lows (row at (clock + 10 * int) (n - 10 * int)) } ∷ pulses_from c false (row at (clock + 10 * int) (n - 10 * int))) (let e : clock + 3 * int + 7 * int ≡ clock + 10 * int = omega arith in e)
     ∙ ap (λ l. record { start = clock + 3 * int; high = min (7 * int) (n - 3 * int); low = l } ∷ pulses_from (clock + 10 * int) false (row at (clock + 10 * int) (n - 10 * int))) (let e : lows (row at (clock + 10 * int) (n - 10 * int)) ≡ 0 + lows (row at (clock + 10 * int) (n - 10 * int)) = omega arith in e) where
       up : (j : ℕ) → j < 7 * int → at (clock + 3 * int + j) ≡ true
-      up j l = elim (cases_le (2 * int) j) [
-        | inl later ↦ ap at (let e : clock + 3 * int + j ≡ clock + 5 * int + (j - 2 * int) = omega (arith, later) in e) ∙ h.third (j - 2 * int) (omega (arith, l, later))
-        | inr first ↦ h.second j first
+      up j l = elim (cases_lt j (2 * int)) [
+        | inr later ↦ ap at (let e : clock + 3 * int + j ≡ clock + 5 * int + (j - 2 * int) = omega (arith, later) in e) ∙ h.third (j - 2 * int) (omega (arith, l, later))
+        | inl first ↦ h.second j first
       ]
 pulse_of int clock n at false some h long =
     stays (3 * int) clock n at false h.first

@@ -1,9 +1,7 @@
 -- The pulses of the transmitter: those of the bits that it has and takes.
 --   IsSoFar          what it sends in some clocks, from a tick on at which it begins an OUT
 use Rattle.std.proofs.Common.{◌≡◌, ◌==◌, ℕ, zero, suc, ◌+◌, ◌-◌, ◌*◌, ◌^◌, ◌<◌, ◌≤◌, ◌⊎◌, inl, inr, nat_lt, min, Bool, true, false, cond, Option, Some, option_to_list, List, [], ◌∷◌, ◌++◌, length, refl, sym, ap, subst, ◌∙◌, arith}
-use Rattle.std.proofs.lemmas.Bool.Decides.{nat_tests}
 use Rattle.std.proofs.lemmas.Grind.{flat_map-append}
-use Rattle.std.proofs.Math.Nat.{mul-le-mul_right}
 use Rattle.pin_matrix.specs.declared.machine.MachineSetup.{MachineSetup}
 use Rattle.sm_registers.specs.declared.registers.Registers.{Registers}
 use Rattle.program_runs.specs.Levels.{row}
@@ -11,8 +9,9 @@ use Rattle.program_runs.specs.Steps.{IsStep, takes}
 use Rattle.pio_ws2812.specs.Pulses.{Pulse, lows, pulses_from, bits_read}
 use Rattle.pio_ws2812.specs.Sending.{word_bits, bits_of, high_of, low_of, low_after, IsLow, IsLastLow, AreLows, IsFirstPart, IsSent}
 use Rattle.pio_ws2812.specs.Transmitter.{ws2812_memory, IsLightMachine}
-use Rattle.pio_ws2812.proofs.Clocked.{stay, mul_suc, mul_add}
+use Rattle.pio_ws2812.proofs.Clocked.{stay}
 use Rattle.pio_ws2812.proofs.Instructions.{AreMapped}
+use Rattle.pio_ws2812.proofs.Numbers.{cases_lt, less_true, less_false, is_some, mul_suc, mul_add, mul_up}
 use Rattle.pio_ws2812.proofs.Places.{place_of, most, new_place, last_place, other_place, place_next}
 use Rattle.pio_ws2812.proofs.PulseRows.{IsBitRow, no_pulses, stays, lows-for, lows-most, low_in, before_pulse, pulse_of, lead_of}
 use Rattle.pio_ws2812.proofs.Transmitting.{IsReady, IsBit, bits-join, sends, waits, low_next}
@@ -36,18 +35,6 @@ nothing int hand bits lead few = record {
   most = few;
 }
 
-cases_lt : (a b : ℕ) → (a < b) ⊎ (b ≤ a)
-cases_lt a b = grind arith
-
-less_true : (a b : ℕ) → a < b → nat_lt a b ≡ true
-less_true a b h = grind (arith, nat_tests)
-
-less_false : (a b : ℕ) → b ≤ a → nat_lt a b ≡ false
-less_false a b h = grind (arith, nat_tests)
-
-is_zero : (n : ℕ) → (n == 0) ≡ false → 1 ≤ n
-is_zero n h = grind (arith, nat_tests)
-
 -- a pulse that has ended has its whole length
 ended : (int n lead : ℕ) (bit : Bool) → lead ≤ n - 10 * int → 1 ≤ low_in int n bit + lead → min (high_of int bit) (n - 3 * int) ≡ high_of int bit
 ended int n lead true m l = omega (arith, m, l)
@@ -67,7 +54,7 @@ read_one int n lead bound bit read rest most l m f = by (low_in int n bit + lead
   by : (z : Bool) → (low_in int n bit + lead == 0) ≡ z → IsFirstPart (cond z [] (nat_lt bound (min (high_of int bit) (n - 3 * int)) ∷ read)) (bit ∷ rest)
   by true e = record { rest = bit ∷ rest; parts = refl }
   by false e =
-      let same : nat_lt bound (min (high_of int bit) (n - 3 * int)) ≡ bit = ap (nat_lt bound) (ended int n lead bit most (is_zero (low_in int n bit + lead) e)) ∙ told_by int bound bit l m in
+      let same : nat_lt bound (min (high_of int bit) (n - 3 * int)) ≡ bit = ap (nat_lt bound) (ended int n lead bit most (is_some (low_in int n bit + lead) e)) ∙ told_by int bound bit l m in
       record { rest = f.rest; parts = ap (λ b. b ∷ rest) (sym same) ∙ ap (λ bs. nat_lt bound (min (high_of int bit) (n - 3 * int)) ∷ bs) f.parts }
 
 -- how long the pin is low
@@ -143,9 +130,6 @@ module _ (int : ℕ) (some : 1 ≤ int) (pin : ℕ) (s : MachineSetup) (h : IsLi
         ∙ ap (λ n. n == 1) (low_next int pin s h is_pin mapped regs levels taken run words (t + 10) (bits ++ bits_of (takes taken t 10)) b.next);
   }
 
-  mul_up : (a b : ℕ) → a ≤ b → int * a ≤ int * b
-  mul_up a b h = let m = mul-le-mul_right {m = a} {n = b} int h in grind arith
-
   at_clock : (hand bits : List Bool) (a b m n : ℕ) → a ≡ b → m ≡ n → IsSoFar int hand bits (lows (row at a m)) (pulses_from a false (row at a m)) → IsSoFar int hand bits (lows (row at b n)) (pulses_from b false (row at b n))
   at_clock hand bits a b m n e f k =
       subst (λ c. IsSoFar int hand bits (lows (row at c n)) (pulses_from c false (row at c n))) e (subst (λ j. IsSoFar int hand bits (lows (row at a j)) (pulses_from a false (row at a j))) f k)
@@ -209,6 +193,6 @@ module _ (int : ℕ) (some : 1 ≤ int) (pin : ℕ) (s : MachineSetup) (h : IsLi
             (at_clock (bits ++ bits_of (takes taken t 10)) ((bits ++ bits_of (takes taken t 10)) ++ bits_of (takes taken (t + 10) (suc k - 10))) (int * (t + 10)) (int * t + 10 * int) (n - 10 * int) (n - 10 * int) (mul_add int t 10) refl
             (all_sent fuel (suc k - 10) (n - 10 * int) (t + 10) (bits ++ bits_of (takes taken t 10)) (omega (arith, l)) (omega (arith, few, few')) b.next))
         | inl short ↦
-            let few' : n - 10 * int ≡ 0 = let m = mul_up (suc k) 10 (omega (arith, short)) in let e : int * 10 ≡ 10 * int = omega arith in omega (arith, few, m, e) in
+            let few' : n - 10 * int ≡ 0 = let m = mul_up int (suc k) 10 (omega (arith, short)) in let e : int * 10 ≡ 10 * int = omega arith in omega (arith, few, m, e) in
             at_clock (bits ++ bits_of (takes taken t 10)) (bits ++ bits_of (takes taken t (suc k))) (int * t + 10 * int) (int * t + 10 * int) 0 (n - 10 * int) refl (sym few') (no_clocks (bits ++ bits_of (takes taken t 10)) (bits ++ bits_of (takes taken t (suc k))) (int * t + 10 * int))
       ])

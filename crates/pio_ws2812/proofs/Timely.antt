@@ -1,7 +1,5 @@
 -- The transmitter sends what one feed gives it, each bit at its clock, and in the end a light reads all of them.
-use Rattle.std.proofs.Common.{◌≡◌, ◌==◌, ℕ, suc, ◌+◌, ◌-◌, ◌*◌, ◌^◌, ◌<◌, ◌≤◌, nat_lt, min, Bool, true, false, cond, List, [], ◌∷◌, length, slice_get, refl, ap, subst, ◌∙◌, arith}
-use Rattle.std.proofs.lemmas.Bool.Decides.{nat_tests}
-use Rattle.std.proofs.Math.Nat.{mul-le-mul_right}
+use Rattle.std.proofs.Common.{◌≡◌, ℕ, suc, ◌+◌, ◌-◌, ◌*◌, ◌^◌, ◌<◌, ◌≤◌, nat_lt, min, Bool, true, false, cond, List, [], ◌∷◌, length, slice_get, refl, ap, subst, ◌∙◌, arith}
 use Rattle.std.specs.List.{AllByRecursion}
 use Rattle.pin_matrix.specs.declared.setup.Setup.{Setup}
 use Rattle.block_core.specs.Block.{first_run}
@@ -14,9 +12,9 @@ use Rattle.pio_ws2812.specs.Pulses.{Pulse, bits_read}
 use Rattle.pio_ws2812.specs.Sending.{bits_of, high_of, pulses_in}
 use Rattle.pio_ws2812.specs.Feeding.{low_fed, pulses_fed, SendsInTime, SendsAll}
 use Rattle.pio_ws2812.specs.Transmitter.{IsTransmitter}
-use Rattle.pio_ws2812.proofs.Clocked.{mul_add}
 use Rattle.pio_ws2812.proofs.InTime.{from_the_start}
 use Rattle.pio_ws2812.proofs.Instructions.{AreMapped}
+use Rattle.pio_ws2812.proofs.Numbers.{less_true, not_zero, mul_add, mul_up}
 use Rattle.pio_ws2812.proofs.Places.{length-bits_of}
 use Rattle.pio_ws2812.proofs.Running.{AreTold, step, front, step_words, held, ready, pulses_are}
 use Rattle.pio_ws2812.proofs.Sent.{told_by}
@@ -31,16 +29,6 @@ sends_in_time told mapped int some pin u t ws run words supply n =
     (step told mapped int some pin u t lines run words) (step_words told mapped int some pin u t lines run words) (up_in u lines pin) (held told mapped int some pin u t lines run words)
     supply.left supply.goes (λ k l. front told mapped int some pin u t lines run words k ∙ supply.front k l)
     n ws (ready told mapped int some pin u t lines run words) (front told mapped int some pin u t lines run words 0 ∙ ap (λ xs. slice_get xs 0) run.first_tx) supply.first
-
--- in the end
-mul_up : (int a b : ℕ) → a ≤ b → int * a ≤ int * b
-mul_up int a b h = let m = mul-le-mul_right {m = a} {n = b} int h in grind arith
-
-less_true : (a b : ℕ) → a < b → nat_lt a b ≡ true
-less_true a b h = grind (arith, nat_tests)
-
-not_zero : (n : ℕ) → 1 ≤ n → (n == 0) ≡ false
-not_zero n h = grind (arith, nat_tests)
 
 some_low : (int clocks : ℕ) (bit : Bool) (bits : List Bool) → 1 ≤ int → 1 ≤ clocks → 1 ≤ low_fed int clocks bit bits
 some_low int clocks bit [] some l = l
