@@ -72,11 +72,8 @@ class Program:
         self.out, self.err = (os.memfd_create(name) for name in ("out", "err"))
         self.actions = [(os.POSIX_SPAWN_DUP2, self.out, 1), (os.POSIX_SPAWN_DUP2, self.err, 2)]
         self.actions.insert(0, (os.POSIX_SPAWN_OPEN, 0, "/dev/null", os.O_RDONLY, 0))
+        self.environment = dict(os.environb)
         signal.signal(signal.SIGALRM, too_long)
-
-    @property
-    def calls(self):
-        return sum(self.counts.values())
 
     def take(self, files):
         """Writes these files, where they aren't there yet."""
@@ -86,16 +83,13 @@ class Program:
                 self.contents[name] = content
 
     def call(self, *words):
-        """How a call ends, which is looked at by itself. One call in four is made again, and ends alike."""
-        ended = self.one(words)
-        if self.calls % 4 == 0 and not ended.is_like(again := self.one(words)):
-            raise Violation(f"two calls alike end in two ways: {ended.differs(again)}", words)
-        return ended
-
-    def one(self, words):
-        ended, used = self.spawn([self.path, *words])
+        """How a call ends, which is made twice and counted once. Each of the two is looked at by itself, and they end alike."""
+        (ended, used), (again, used_again) = (self.spawn([self.path, *words]) for _ in range(2))
         self.counts[words[0] if words else "", ended.status] += 1
         self.look(ended, used)
+        self.look(again, used_again)
+        if not ended.is_like(again):
+            raise Violation(f"two calls alike end in two ways: {ended.differs(again)}", words)
         return ended
 
     def within(self, kilobytes, *words):
@@ -110,7 +104,7 @@ class Program:
             os.lseek(file, 0, os.SEEK_SET)
             os.ftruncate(file, 0)
         self.last = told = tuple(words[1:])
-        pid = os.posix_spawn(words[0], words, os.environ, file_actions=self.actions)
+        pid = os.posix_spawn(words[0], words, self.environment, file_actions=self.actions)
         signal.setitimer(signal.ITIMER_REAL, LONGEST_WAIT)
         try:
             _, state, used = os.wait4(pid, 0)
