@@ -17,7 +17,7 @@ MACHINE |= {"divider": 1, "set_count": 5, "in_right": True, "out_right": True, "
 SECOND_KEYS = ["level", "out", "bypass", "own"]
 # What docs/DECISIONS.md, "What is TOML?", names as taken here and not by Python's reader, or the other way round.
 OTHERWISE = [rb"[{]", rb"\\[ex]", rb"\d\d:\d\d(?!:)", rb":60", rb"\b0000-", rb"\xef\xbb\xbf"]
-OTHERWISE += [rb"\d[\d_]{17}", rb"0[xob][\da-fA-F_]{16}", rb"\[{80}", rb"(?:\w+\.){80}"]
+OTHERWISE += [rb"\d[\d_]{17}", rb"0[xob][\da-fA-F_]{16}", rb"\d[eE]\+?[\d_]{3}", rb"\[{80}", rb"(?:\w+\.){80}"]
 OTHERWISE = re.compile(b"|".join(OTHERWISE))
 
 
