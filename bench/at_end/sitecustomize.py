@@ -13,7 +13,8 @@ STARTED = {}
 
 def note(pid, used, **more):
     """Adds a line, in one write, since others write too."""
-    line = json.dumps({"pid": pid, "above": os.getppid() if pid == os.getpid() else os.getpid(), "used": used.ru_utime + used.ru_stime} | more)
+    above = os.getppid() if pid == os.getpid() else os.getpid()
+    line = json.dumps({"pid": pid, "above": above, "used": used.ru_utime + used.ru_stime} | more)
     os.write(NOTES, line.encode() + b"\n")
 
 
