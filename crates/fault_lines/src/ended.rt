@@ -1,5 +1,6 @@
 //! The end of a call, told on the error output.
 ghost use Rattle.std.specs.Prelude.{◌≡◌};
+ghost use Rattle.std.specs.Process.{exit_status};
 ghost use Rattle.fault_lines.specs.Output.{output_of};
 ghost use Rattle.fault_lines.specs.Told as told_spec;
 ghost use Rattle.fault_lines.specs.Told.{TellsFault, TellsLine, fault_line};
@@ -7,6 +8,7 @@ ghost use Rattle.fault_lines.specs.Told.{TellsFault, TellsLine, fault_line};
 use crate::fault::Fault;
 use crate::told::{put_fault, status_of};
 use pio_edge::{Sink, SinkFailed};
+use std::process::ExitCode;
 
 /// How a call ended.
 #[derive(Drop)]
@@ -16,6 +18,15 @@ pub struct Ended {
     pub status: u8,
     /// Why, where not all was done.
     pub fault: Option<Fault>,
+}
+
+impl Ended {
+    /// The status, as that of the process.
+    pub fn exit_code(&self) -> ExitCode
+        ensures { exit_status result ≡ self.now.status }
+    {
+        ExitCode::from(self.status)
+    }
 }
 
 /// Ends with a fault, which its line tells, or with none. Where the line fails there is nobody left to tell.

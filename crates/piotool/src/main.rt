@@ -2,12 +2,15 @@
 //! Here real files, standard output and standard error are handed to the one call that does everything.
 #![tactic(auto)]
 
-ghost use Rattle.std.specs.Prelude.{◌≡◌};
+ghost use Rattle.std.specs.Prelude.{◌≡◌, ◌≢◌, Some, None};
+ghost use Rattle.fault_lines.specs.Told.{status_of};
+ghost use Rattle.fault_lines.specs.declared.fault.Fault.TheVariants as spec_fault;
 
 use command_line::advice;
 use commands::piotool;
 use fault_lines::{Ended, Fault, end_with};
 use pio_edge::{ErrSink, FileShelf, OutSink};
+use std::alloc::Global;
 use std::env;
 use std::io::{self, ErrorKind, Write};
 use std::marker::Brand;
@@ -17,8 +20,7 @@ use std::sync::ledger::{Blank, Ledger};
 use step_count::Steps;
 
 fn main(rt: HostRuntime) -> ExitCode {
-    let end = counted::<Brand, HostRuntime, _>(&rt, rt.stderr(), Blank::new(1));
-    ExitCode::from(end.status)
+    counted::<Brand, HostRuntime, _>(&rt, rt.stderr(), Blank::new(1)).exit_code()
 }
 
 /// The call over the real outside, which counts its steps in one ledger.
@@ -30,13 +32,16 @@ fn counted<L: Ledger, R: Env + Files + Print + Eprint + AllocGlobal, W: Write + 
     requires name { blank.name ≡ L.name }
     requires parts { blank.parts ≡ L.parts }
     requires whole { blank.parts ≡ 1 }
+    ensures status { result.status ≡ status_of result.fault }
 {
     let mut steps = Steps::<L>::new(blank);
     let mut err = ErrSink::new(err);
     match words_of(rt) {
         Ok(words) => {
             let ended = over_outside(rt, &words, &mut err, &mut steps);
-            advise(rt, &words, &ended);
+            if let Some(text) = advice_after(rt.alloc(), &words, &ended) {
+                let _ = rt.eprint(&text);
+            }
             ended
         }
         Err(fault) => end_with(&mut err, Some(fault)),
@@ -63,7 +68,9 @@ fn over_outside<L: Ledger, R: Files + Print + AllocGlobal, W: Write + Drop>(
     words: &[String],
     err: &mut ErrSink<W>,
     steps: &mut Steps<L>,
-) -> Ended {
+) -> Ended
+    ensures status { result.status ≡ status_of result.fault }
+{
     let mut shelf = FileShelf::new(rt);
     match OutSink::new(rt.alloc(), io::writer(rt)) {
         Ok(mut out) => piotool(rt.alloc(), words, &mut shelf, &mut out, err, steps),
@@ -71,12 +78,13 @@ fn over_outside<L: Ledger, R: Files + Print + AllocGlobal, W: Write + Drop>(
     }
 }
 
-/// After words that ask for nothing, what there is to say of them: the help, or the mistake with its usage. It is told as far
-/// as memory and standard error allow, since the call's line is already there.
-fn advise<R: Eprint + AllocGlobal>(rt: &R, words: &[String], ended: &Ended) {
-    if let Some(Fault::Usage) = ended.fault {
-        if let Ok(Some(text)) = advice(rt.alloc(), words) {
-            let _ = rt.eprint(&text);
-        }
+/// After words that ask for nothing, what there is to say of them: the help, or the mistake with its usage; and else nothing. It is
+/// told as far as memory and standard error allow, since the call's line is already there.
+fn advice_after(alloc: Global, words: &[String], ended: &Ended) -> Option<String>
+    ensures { ended.now.fault ≢ Some spec_fault.Usage → result ≡ None }
+{
+    match ended.fault {
+        Some(Fault::Usage) => advice(alloc, words).ok().flatten(),
+        _ => None,
     }
 }
