@@ -36,20 +36,20 @@ pub data Asked : Type 0 where
 -- what an order asks for
 abbrev pub asked_by : Order → Asked
 asked_by (Asm file) = asm file.now
-asked_by (Run source config stimulus clocks) = run source.now (option_map (λ t. t.now) config) (option_map (λ t. t.now) stimulus) clocks
+asked_by (Run files clocks) = run files.source.now (option_map (λ t. t.now) files.config) (option_map (λ t. t.now) files.stimulus) clocks
 asked_by (Check source config) = check source.now (option_map (λ t. t.now) config)
 asked_by (Table source config span) = table source.now (option_map (λ t. t.now) config) span.now
 asked_by (Recheck source config span file) = recheck source.now (option_map (λ t. t.now) config) span.now file.now
 asked_by (Shares source config) = shares source.now (option_map (λ t. t.now) config)
 asked_by (Gen seed clocks) = gen seed clocks
 asked_by (Dis file side opt) = dis file.now side opt
-asked_by (Measure source config stimulus clocks) =
-    measure source.now (option_map (λ t. t.now) config) (option_map (λ t. t.now) stimulus) clocks
-asked_by (Receive source config stimulus clocks pin bit) =
-    receive source.now (option_map (λ t. t.now) config) (option_map (λ t. t.now) stimulus) clocks pin bit
+asked_by (Measure files clocks) =
+    measure files.source.now (option_map (λ t. t.now) files.config) (option_map (λ t. t.now) files.stimulus) clocks
+asked_by (Receive files clocks line) =
+    receive files.source.now (option_map (λ t. t.now) files.config) (option_map (λ t. t.now) files.stimulus) clocks line.pin line.bit
 asked_by (Uart send divider clocks) = uart send.now divider clocks
-asked_by (Pair source config second stimulus clocks) =
-    pair source.now config.now second.now (option_map (λ t. t.now) stimulus) clocks
+asked_by (Pair files clocks) =
+    pair files.source.now files.config.now files.second.now (option_map (λ t. t.now) files.stimulus) clocks
 
 -- ---- what clap's matches of a subcommand ask for
 

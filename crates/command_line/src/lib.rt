@@ -15,5 +15,5 @@ pub use laws::{
     asm_words, check_words, dis_words, gen_words, measure_words, pair_words, receive_words,
     recheck_words, run_words, shares_words, table_words, uart_words,
 };
-pub use order::{Order, WordsFault};
+pub use order::{Order, PairFiles, RunFiles, SerialLine, WordsFault};
 pub use orders::read;

@@ -24,6 +24,30 @@ pub const LEAST_DIVIDER: u64 = 1;
 /// The most of its divider: a bit takes eight times as many clocks, and at most `MOST_BIT`.
 pub const MOST_DIVIDER: u64 = 8_191;
 
+/// The names of the files that a run reads.
+#[derive(Clone, Copy, PartialEq)]
+pub struct RunFiles<'a> {
+    pub source: &'a str,
+    pub config: Option<&'a str>,
+    pub stimulus: Option<&'a str>,
+}
+
+/// The names of the files that a run of two blocks reads.
+#[derive(Clone, Copy, PartialEq)]
+pub struct PairFiles<'a> {
+    pub source: &'a str,
+    pub config: &'a str,
+    pub second: &'a str,
+    pub stimulus: Option<&'a str>,
+}
+
+/// A line of one pin, 0 to 31, and the clocks of a bit on it, 2 to 65,535.
+#[derive(Clone, Copy, PartialEq)]
+pub struct SerialLine {
+    pub pin: u8,
+    pub bit: u16,
+}
+
 /// What the words of a call ask for.
 #[derive(Clone, Copy, PartialEq)]
 pub enum Order<'a> {
@@ -34,9 +58,7 @@ pub enum Order<'a> {
     /// The trace of so many clocks (0 to 10^12) of the programs in a source, under a configuration and a stimulus where
     /// they are named.
     Run {
-        source: &'a str,
-        config: Option<&'a str>,
-        stimulus: Option<&'a str>,
+        files: RunFiles<'a>,
         clocks: u64,
     },
     /// The verdict on each span of a configuration over the programs in a source; without a configuration there are none.
@@ -77,20 +99,15 @@ pub enum Order<'a> {
     /// How many clocks each span of a configuration takes in so many clocks (0 to 10^12) of the programs in a source, beside
     /// a stimulus where one is named.
     Measure {
-        source: &'a str,
-        config: Option<&'a str>,
-        stimulus: Option<&'a str>,
+        files: RunFiles<'a>,
         clocks: u64,
     },
-    /// The bytes that a pin (0 to 31) sends at so many clocks a bit (2 to 65,535), in so many clocks (0 to 10^12) of the
-    /// programs in a source, under a configuration and beside a stimulus where they are named.
+    /// The bytes that a pin sends on a line, in so many clocks (0 to 10^12) of the programs in a source, under a configuration
+    /// and beside a stimulus where they are named.
     Receive {
-        source: &'a str,
-        config: Option<&'a str>,
-        stimulus: Option<&'a str>,
+        files: RunFiles<'a>,
         clocks: u64,
-        pin: u8,
-        bit: u16,
+        line: SerialLine,
     },
     /// What the UART transmitter sends of a file's bytes in so many clocks (0 to 10^12), with a tick every so many clocks
     /// (1 to 8,191).
@@ -102,10 +119,7 @@ pub enum Order<'a> {
     /// The trace of so many clocks (0 to 10^12) of two blocks on the same pins, each of the programs in a source under its
     /// own configuration, beside a stimulus where one is named.
     Pair {
-        source: &'a str,
-        config: &'a str,
-        second: &'a str,
-        stimulus: Option<&'a str>,
+        files: PairFiles<'a>,
         clocks: u64,
     },
 }

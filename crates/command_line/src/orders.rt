@@ -1,18 +1,18 @@
 //! From the words of a call to an order, by clap's matches: one function for each subcommand.
-ghost use Rattle.std.specs.Prelude.{◌≡◌, ◌≢◌, Err, IfErr, IfOk, Some, map, string_bytes, true};
+ghost use Rattle.std.specs.Prelude.{◌≡◌, ◌≢◌, Err, IfErr, IfOk, Some, codes, map, string_bytes, true};
 ghost use Rattle.clap.specs.Matches.{found_of, has_subcommand};
 ghost use Rattle.clap.specs.Simple.{subcommand_rows_of};
-ghost use Rattle.clap.specs.Walk.{rows_of};
+ghost use Rattle.clap.specs.Walk.{first_of, rows_of};
 ghost use Rattle.std.specs.Option.{option_map};
 ghost use Rattle.command_line.specs.Asking.{checker_asked, observer_asked};
 ghost use Rattle.command_line.specs.Words.{Asks, IsFaultOfWords, WordsAreTaken, IsWithinRange, asked_by, asm_asked, check_asked, dis_asked, gen_asked, measure_asked, pair_asked};
-ghost use Rattle.command_line.specs.Words.{has_no_room as has_no_room_of, receive_asked, recheck_asked, run_asked, shares_asked, subcommand_asked, table_asked, uart_asked};
+ghost use Rattle.command_line.specs.Words.{has_no_room as has_no_room_of, receive_asked, recheck_asked, run_asked, shares_asked, subcommand_asked, table_asked, text_at, uart_asked};
 
 use crate::getters::{flag, number, option_text, text};
 use crate::matching::matched;
 use crate::order::{
     LAST_PIN, LEAST_BIT, LEAST_DIVIDER, MOST_BIT, MOST_CLOCKS, MOST_DIVIDER, MOST_SEED,
-    MOST_SIDE_BITS, Order, WordsFault,
+    MOST_SIDE_BITS, Order, PairFiles, RunFiles, SerialLine, WordsFault,
 };
 use clap::ArgMatches;
 use std::alloc::Global;
@@ -125,10 +125,21 @@ fn run_order<'a>(matches: &ArgMatches<'a>) -> Order<'a>
     ensures { asked_by result ≡ run_asked (rows_of (found_of matches.now)) }
 {
     Order::Run {
+        files: run_files(matches),
+        clocks: number(matches, "clocks", MOST_CLOCKS),
+    }
+}
+
+/// The names of the files of a run.
+fn run_files<'a>(matches: &ArgMatches<'a>) -> RunFiles<'a>
+    ensures source { result.source.now ≡ text_at (codes "source") (rows_of (found_of matches.now)) }
+    ensures config { option_map (λ t. t.now) result.config ≡ first_of (codes "config") (rows_of (found_of matches.now)) }
+    ensures stimulus { option_map (λ t. t.now) result.stimulus ≡ first_of (codes "stimulus") (rows_of (found_of matches.now)) }
+{
+    RunFiles {
         source: text(matches, "source"),
         config: option_text(matches, "config"),
         stimulus: option_text(matches, "stimulus"),
-        clocks: number(matches, "clocks", MOST_CLOCKS),
     }
 }
 
@@ -195,9 +206,7 @@ fn measure_order<'a>(matches: &ArgMatches<'a>) -> Order<'a>
     ensures { asked_by result ≡ measure_asked (rows_of (found_of matches.now)) }
 {
     Order::Measure {
-        source: text(matches, "source"),
-        config: option_text(matches, "config"),
-        stimulus: option_text(matches, "stimulus"),
+        files: run_files(matches),
         clocks: number(matches, "clocks", MOST_CLOCKS),
     }
 }
@@ -208,12 +217,12 @@ fn receive_order<'a>(matches: &ArgMatches<'a>) -> Order<'a>
     let pin = number(matches, "pin", LAST_PIN);
     let bit = number(matches, "bit", MOST_BIT).max(LEAST_BIT);
     Order::Receive {
-        source: text(matches, "source"),
-        config: option_text(matches, "config"),
-        stimulus: option_text(matches, "stimulus"),
+        files: run_files(matches),
         clocks: number(matches, "clocks", MOST_CLOCKS),
-        pin: pin as u8,
-        bit: bit as u16,
+        line: SerialLine {
+            pin: pin as u8,
+            bit: bit as u16,
+        },
     }
 }
 
@@ -232,10 +241,12 @@ fn pair_order<'a>(matches: &ArgMatches<'a>) -> Order<'a>
     ensures { asked_by result ≡ pair_asked (rows_of (found_of matches.now)) }
 {
     Order::Pair {
-        source: text(matches, "source"),
-        config: text(matches, "config"),
-        second: text(matches, "second"),
-        stimulus: option_text(matches, "stimulus"),
+        files: PairFiles {
+            source: text(matches, "source"),
+            config: text(matches, "config"),
+            second: text(matches, "second"),
+            stimulus: option_text(matches, "stimulus"),
+        },
         clocks: number(matches, "clocks", MOST_CLOCKS),
     }
 }

@@ -1,3 +1,14 @@
 pub mod NeverBoth
 pub mod Quiet
 pub mod Wanting
+pub mod Passing
+pub mod Working
+pub mod VerdictText
+pub mod Verdicts
+pub mod Ending
+pub mod Telling
+pub mod LineByLine
+pub mod Seen
+pub mod Stopping
+pub mod Enough
+pub mod Sent

@@ -5,7 +5,7 @@ use Rattle.pin_matrix.specs.declared.setup.Setup.{Setup}
 use Rattle.pin_matrix.specs.declared.span.Span.{Span}
 use Rattle.verdict_lines.specs.declared.refusal.Refusal.{Refusal}
 use Rattle.verdict_lines.specs.declared.refusal.Refusal.TheVariants.{Unproved, Shared}
-use Rattle.span_stage.specs.Spans.{IsProvableAlone, IsRefused, IsFirstRefused}
+use Rattle.stages.specs.Spans.{IsProvableAlone, IsRefused, IsFirstRefused}
 
 -- a span isn't both
 pub not_both : (u : Setup) (sp : Span) (r : Refusal) → IsProvableAlone u sp → IsRefused u sp r → ⊥

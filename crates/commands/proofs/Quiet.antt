@@ -12,25 +12,25 @@ use Rattle.fault_lines.specs.declared.fault.Fault.{Fault}
 use Rattle.fault_lines.specs.declared.fault.Fault.TheVariants as fault
 use Rattle.clap.specs.Walk.{Text}
 use Rattle.command_line.specs.Words.{Asked, WordsAreTaken}
-use Rattle.file_stages.specs.Judged.{Judged, right, wrong, IfRight}
-use Rattle.file_stages.specs.Stages.{HasSuch}
-use Rattle.call_ends.specs.Tasks.{Task, need_of, judge, file_in, HasText}
-use Rattle.call_ends.specs.Needs.{Need, nothing, all_spans, both_spans, one_span, by_table, IsMet, IsRefusedBy, IsSecondRefusedBy, IsFlawed}
-use Rattle.call_ends.specs.Outside.{Call}
-use Rattle.call_ends.specs.Promise.{Ends}
+use Rattle.stages.specs.Judged.{Judged, right, wrong, IfRight}
+use Rattle.stages.specs.Stages.{HasSuch}
+use Rattle.commands.specs.Tasks.{Task, need_of, judge, file_in, HasText}
+use Rattle.commands.specs.Needs.{Need, nothing, all_spans, both_spans, one_span, by_table, IsMet, IsRefusedBy, IsSecondRefusedBy, IsFlawed}
+use Rattle.commands.specs.Outside.{Call}
+use Rattle.commands.specs.Promise.{Ends}
 use Rattle.commands.specs.Ends.{EndsAs}
 use Rattle.commands.specs.Wanted.{wanted}
 use Rattle.commands.specs.Complete.{EndsByTask, EndsByFiles, FilesDecide}
 use Rattle.commands.proofs.NeverBoth.{not_both, never_both}
 
 -- of files that are told, what holds of them holds
-of_told : (P : Files → Type 0) (files : Option Files) (f : Files) → files ≡ Some f → IfSome files P → P f
+pub of_told : (P : Files → Type 0) (files : Option Files) (f : Files) → files ≡ Some f → IfSome files P → P f
 of_told P files f e h =
     let k : IfSome (Some f) P = subst (λ (o : Option Files). IfSome o P) e h in
     k
 
 -- the text of a task was taken
-abbrev TookText : Call → Task → Type 0
+abbrev pub TookText : Call → Task → Type 0
 TookText c task = HasText task (λ text. c.out_after.taken ≡ with_bytes c.out_before.taken text)
 
 -- another machine may write a pin of a span, or none

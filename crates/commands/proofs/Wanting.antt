@@ -7,8 +7,8 @@ use Rattle.command_line.specs.Tool.{tool, side_limit}
 use Rattle.command_line.specs.Words.{Asked, Asks, WordsAreRefused, IsWithinRange, asm, run, check, table, recheck, shares, gen, dis, measure, receive, uart, pair, asked_of, has_no_room}
 use Rattle.fault_lines.specs.declared.fault.Fault.{Fault}
 use Rattle.fault_lines.specs.declared.fault.Fault.TheVariants.{Usage}
-use Rattle.call_ends.specs.Outside.{Call, Untouched}
-use Rattle.call_ends.specs.Promise.{Ends, CommandEnds}
+use Rattle.commands.specs.Outside.{Call, Untouched}
+use Rattle.commands.specs.Promise.{Ends, CommandEnds}
 use Rattle.commands.specs.Wanted.{wanted, with_room, unless_faulty}
 use Rattle.commands.specs.Ends.{EndsAs, WorkEnds}
 

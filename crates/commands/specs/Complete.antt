@@ -14,12 +14,12 @@ use Rattle.span_bounds.specs.Tables.{IsClosed, IsGood}
 use Rattle.span_verdict.specs.Flaws.{first_flaw}
 use Rattle.span_verdict.specs.Sharing.{IsUnshared, IsLeastSharer}
 use Rattle.span_verdict.specs.declared.table_flaw.Flaw.{Flaw}
-use Rattle.file_stages.specs.Judged.{Judged, right, wrong}
-use Rattle.file_stages.specs.Stages.{HasSuch}
-use Rattle.span_stage.specs.Spans.{IsProvableAlone, AreProvable, IsRefused, IsFirstRefused}
-use Rattle.call_ends.specs.Needs.{Need, IsProvedBy, nothing, all_spans, both_spans, one_span, by_table}
-use Rattle.call_ends.specs.Tasks.{Task, need_of, judge, HasText}
-use Rattle.call_ends.specs.Outside.{Call}
+use Rattle.stages.specs.Judged.{Judged, right, wrong}
+use Rattle.stages.specs.Stages.{HasSuch}
+use Rattle.stages.specs.Spans.{IsProvableAlone, AreProvable, IsRefused, IsFirstRefused}
+use Rattle.commands.specs.Needs.{Need, IsProvedBy, nothing, all_spans, both_spans, one_span, by_table}
+use Rattle.commands.specs.Tasks.{Task, need_of, judge, HasText}
+use Rattle.commands.specs.Outside.{Call}
 use Rattle.commands.specs.Wanted.{wanted}
 
 -- `tool` takes the words, the files are told, memory sufficed, and no count rose

@@ -2,8 +2,8 @@
 use Rattle.std.specs.Prelude.{Option, Some, None, List, Result, Ok, Err}
 use Rattle.clap.specs.Walk.{Text}
 use Rattle.fault_lines.specs.declared.fault.Fault.{Fault}
-use Rattle.call_ends.specs.Outside.{Call}
-use Rattle.call_ends.specs.Promise.{Ends}
+use Rattle.commands.specs.Outside.{Call}
+use Rattle.commands.specs.Promise.{Ends}
 use Rattle.commands.specs.Wanted.{wanted}
 
 -- how a call of these words ends

@@ -1,4 +1,15 @@
 pub mod Wanted
+pub mod Outside
+pub mod Needs
+pub mod Tasks
+pub mod Promise
 pub mod Ends
 pub mod Complete
+pub mod Worked
 pub mod Steps
+pub mod Written
+pub mod Passed
+pub mod Verdicts
+pub mod Tables
+pub mod Lines
+pub mod Whole

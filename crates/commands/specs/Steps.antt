@@ -4,7 +4,7 @@ use Rattle.std.specs.Option.{option_map_or}
 use Rattle.pio_edge.specs.Edge.{Files}
 use Rattle.clap.specs.Walk.{Text}
 use Rattle.command_line.specs.Words.{asked_of}
-use Rattle.call_ends.specs.Worked.{most_worked}
+use Rattle.commands.specs.Worked.{most_worked}
 
 -- at most the clocks that stir, and one more, of what the words ask for
 abbrev pub worked_for : Option Files → List Text → ℕ

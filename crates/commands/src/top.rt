@@ -1,29 +1,29 @@
 //! The call: the words, then what they ask for, and its end told.
 ghost use Rattle.std.specs.Prelude.{◌≡◌, ◌≢◌, ◌+◌, ◌≤◌, map, Some, Err, string_bytes};
 ghost use Rattle.command_line.specs.Words.{WordsAreTaken, IsWithinRange, asked_by, clocks_asked, most_clocks};
-ghost use Rattle.call_ends.specs.Outside.{call_of};
-ghost use Rattle.call_ends.specs.Promise.{CommandEnds};
-ghost use Rattle.call_ends.specs.Worked.{most_worked};
+ghost use Rattle.commands.specs.Outside.{call_by, output_by};
+ghost use Rattle.commands.specs.Promise.{CommandEnds};
+ghost use Rattle.commands.specs.Worked.{most_worked};
 ghost use Rattle.commands.specs.Complete.{FilesDecide};
 ghost use Rattle.commands.specs.Ends.{EndsAs, WorkEnds};
 ghost use Rattle.commands.specs.Steps.{worked_for};
-ghost use Rattle.fault_lines.specs.Output.{output_of};
 ghost use Rattle.fault_lines.specs.Told as told_spec;
 ghost use Rattle.fault_lines.specs.Told.{TellsFault};
 
-use command_check::check;
-use command_gen::generate;
+use crate::asm::asm;
+use crate::check::check;
+use crate::dis::dis;
+use crate::generate::generate;
+use crate::measure::measure;
+use crate::pair::pair;
+use crate::receive::receive;
+use crate::recheck::recheck;
+use crate::run::run;
+use crate::shares::shares;
+use crate::table::table;
+use crate::uart::uart;
 use command_line::{Order, WordsFault, read};
-use command_listing::{asm, dis};
-use command_measure::measure;
-use command_pair::pair;
-use command_receive::{SerialLine, receive};
-use command_run::run;
-use command_shares::shares;
-use command_table::{recheck, table};
-use command_uart::uart;
 use fault_lines::{Ended, Fault, end_with};
-use file_stages::{PairFiles, RunFiles};
 use pio_edge::{Shelf, Sink};
 use std::alloc::Global;
 use std::sync::ledger::Ledger;
@@ -39,19 +39,12 @@ pub fn piotool<F: Shelf, O: Sink, E: Sink, L: Ledger>(
     steps: &mut Steps<L>,
 ) -> Ended
     ensures ends { EndsAs (map string_bytes words.now)
-        (call_of (F.holds shelf.old) (F.faults shelf.old) (F.faults shelf.new)
-        (output_of (O.taken out.old) (O.waiting out.old) (O.faults out.old))
-        (output_of (O.taken out.new) (O.waiting out.new) (O.faults out.new)))
-        result.fault }
+        (call_by F.holds F.faults O.taken O.waiting O.faults shelf.old shelf.new out.old out.new) result.fault }
     ensures complete { FilesDecide (map string_bytes words.now)
-        (call_of (F.holds shelf.old) (F.faults shelf.old) (F.faults shelf.new)
-        (output_of (O.taken out.old) (O.waiting out.old) (O.faults out.old))
-        (output_of (O.taken out.new) (O.waiting out.new) (O.faults out.new)))
-        result.fault }
+        (call_by F.holds F.faults O.taken O.waiting O.faults shelf.old shelf.new out.old out.new) result.fault }
     ensures taken { WordsAreTaken (map string_bytes words.now) → result.fault ≢ Some Fault.Usage }
     ensures status { result.status ≡ told_spec.status_of result.fault }
-    ensures told { TellsFault (output_of (E.taken err.old) (E.waiting err.old) (E.faults err.old))
-        (output_of (E.taken err.new) (E.waiting err.new) (E.faults err.new))
+    ensures told { TellsFault (output_by E.taken E.waiting E.faults err.old) (output_by E.taken E.waiting E.faults err.new)
         result.fault }
     ensures same { F.holds shelf.new ≡ F.holds shelf.old }
     ensures steps { steps.new ≤ steps.old + most_clocks (map string_bytes words.now) }
@@ -70,10 +63,7 @@ fn work<F: Shelf, O: Sink, L: Ledger>(
     steps: &mut Steps<L>,
 ) -> Result<(), Fault>
     ensures ends { WorkEnds (map string_bytes words.now)
-        (call_of (F.holds shelf.old) (F.faults shelf.old) (F.faults shelf.new)
-        (output_of (O.taken out.old) (O.waiting out.old) (O.faults out.old))
-        (output_of (O.taken out.new) (O.waiting out.new) (O.faults out.new)))
-        result }
+        (call_by F.holds F.faults O.taken O.waiting O.faults shelf.old shelf.new out.old out.new) result }
     ensures taken { WordsAreTaken (map string_bytes words.now) → result ≢ Err Fault.Usage }
     ensures same { F.holds shelf.new ≡ F.holds shelf.old }
     ensures steps { steps.new ≤ steps.old + most_clocks (map string_bytes words.now) }
@@ -96,10 +86,7 @@ fn obey<F: Shelf, O: Sink, L: Ledger>(
 ) -> Result<(), Fault>
     requires { IsWithinRange (asked_by order) }
     ensures ends { CommandEnds (asked_by order.entry)
-        (call_of (F.holds shelf.old) (F.faults shelf.old) (F.faults shelf.new)
-        (output_of (O.taken out.old) (O.waiting out.old) (O.faults out.old))
-        (output_of (O.taken out.new) (O.waiting out.new) (O.faults out.new)))
-        result }
+        (call_by F.holds F.faults O.taken O.waiting O.faults shelf.old shelf.new out.old out.new) result }
     ensures asked { result ≢ Err Fault.Usage }
     ensures same { F.holds shelf.new ≡ F.holds shelf.old }
     ensures steps { steps.new ≤ steps.old + clocks_asked (asked_by order.entry) }
@@ -107,19 +94,7 @@ fn obey<F: Shelf, O: Sink, L: Ledger>(
 {
     match order {
         Order::Asm { file } => asm(alloc, file, shelf, out),
-        Order::Run {
-            source,
-            config,
-            stimulus,
-            clocks,
-        } => {
-            let files = RunFiles {
-                source,
-                config,
-                stimulus,
-            };
-            run(alloc, files, clocks, shelf, out, steps)
-        }
+        Order::Run { files, clocks } => run(alloc, files, clocks, shelf, out, steps),
         Order::Check { source, config } => check(alloc, source, config, shelf, out),
         Order::Table {
             source,
@@ -135,54 +110,17 @@ fn obey<F: Shelf, O: Sink, L: Ledger>(
         Order::Shares { source, config } => shares(alloc, source, config, shelf, out),
         Order::Gen { seed, clocks } => generate(alloc, seed, clocks, shelf, out, steps),
         Order::Dis { file, side, opt } => dis(alloc, file, side, opt, shelf, out),
-        Order::Measure {
-            source,
-            config,
-            stimulus,
-            clocks,
-        } => {
-            let files = RunFiles {
-                source,
-                config,
-                stimulus,
-            };
-            measure(alloc, files, clocks, shelf, out, steps)
-        }
+        Order::Measure { files, clocks } => measure(alloc, files, clocks, shelf, out, steps),
         Order::Receive {
-            source,
-            config,
-            stimulus,
+            files,
             clocks,
-            pin,
-            bit,
-        } => {
-            let files = RunFiles {
-                source,
-                config,
-                stimulus,
-            };
-            let line = SerialLine { pin, bit };
-            receive(alloc, files, clocks, line, shelf, out, steps)
-        }
+            line,
+        } => receive(alloc, files, clocks, line, shelf, out, steps),
         Order::Uart {
             send,
             divider,
             clocks,
         } => uart(alloc, send, divider, clocks, shelf, out, steps),
-        Order::Pair {
-            source,
-            config,
-            second,
-            stimulus,
-            clocks,
-        } => {
-            let files = PairFiles {
-                source,
-                config,
-                second,
-                stimulus,
-            };
-            pair(alloc, files, clocks, shelf, out, steps)
-        }
+        Order::Pair { files, clocks } => pair(alloc, files, clocks, shelf, out, steps),
     }
 }

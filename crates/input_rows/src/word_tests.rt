@@ -1,6 +1,6 @@
 //! What word lists ask for. A row has the words after the program's name, and what they give, worked by hand from the
 //! usage of the subcommands and the rules of Rust's crate clap, version 4.
-use command_line::{Order, WordsFault, advice, read};
+use command_line::{Order, RunFiles, SerialLine, WordsFault, advice, read};
 use std::alloc::{AllocError, Global};
 use std::test::Fail;
 
@@ -346,12 +346,12 @@ static REFUSED: [&[&str]; 71] = [
 #[test]
 fn runs(rt: HostRuntime) -> Result<(), Fail> {
     for &(words, source, clocks) in &RUNS {
-        let order = Order::Run {
+        let files = RunFiles {
             source,
             config: None,
             stimulus: None,
-            clocks,
         };
+        let order = Order::Run { files, clocks };
         assert!(rt; gives(rt.alloc(), words, Ok(order))?, "{words:?}");
     }
     Ok(())
@@ -360,12 +360,12 @@ fn runs(rt: HostRuntime) -> Result<(), Fail> {
 #[test]
 fn driven_runs(rt: HostRuntime) -> Result<(), Fail> {
     for &(words, config, stimulus) in &DRIVEN {
-        let order = Order::Run {
+        let files = RunFiles {
             source: "a.pio",
             config,
             stimulus,
-            clocks: 8,
         };
+        let order = Order::Run { files, clocks: 8 };
         assert!(rt; gives(rt.alloc(), words, Ok(order))?, "{words:?}");
     }
     Ok(())
@@ -422,12 +422,12 @@ fn measured(rt: HostRuntime) -> Result<(), Fail> {
         "c",
         "--stimulus=t",
     ];
-    let order = Order::Measure {
+    let files = RunFiles {
         source: "a.pio",
         config: Some("c"),
         stimulus: Some("t"),
-        clocks: 8,
     };
+    let order = Order::Measure { files, clocks: 8 };
     assert!(rt; gives(rt.alloc(), words, Ok(order))?, "{words:?}");
     Ok(())
 }
@@ -435,13 +435,16 @@ fn measured(rt: HostRuntime) -> Result<(), Fail> {
 #[test]
 fn heard(rt: HostRuntime) -> Result<(), Fail> {
     for &(words, clocks, pin, bit) in &HEARD {
-        let order = Order::Receive {
+        let files = RunFiles {
             source: "a.pio",
             config: None,
             stimulus: None,
+        };
+        let line = SerialLine { pin, bit };
+        let order = Order::Receive {
+            files,
             clocks,
-            pin,
-            bit,
+            line,
         };
         assert!(rt; gives(rt.alloc(), words, Ok(order))?, "{words:?}");
     }

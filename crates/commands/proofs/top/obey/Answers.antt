@@ -1,7 +1,7 @@
 use Rattle.std.proofs.Common.{◌+◌, ◌≤◌, sym, subst}
 use Rattle.command_line.specs.Words.{asked_by}
 use Rattle.command_line.specs.declared.order.Order.{Order}
-use Rattle.call_ends.specs.Worked.{most_worked}
+use Rattle.commands.specs.Worked.{most_worked}
 use Rattle.commands.proofs.top.obey.Goals as goal
 
 pub returns-in-Gen-clause-worked : goal.returns-in-Gen-clause-worked

@@ -1,2 +1,0 @@
-pub mod LineByLine
-pub mod Seen

@@ -1,6 +1,0 @@
-use Rattle.std.proofs.Common.{ℕ, List, inl, ap}
-use Rattle.fault_lines.specs.declared.fault.Fault.TheVariants as fault
-use Rattle.command_table.proofs.fault.flawed.Goals as goal
-
-pub returns-in-Ok : goal.returns-in-Ok
-returns-in-Ok c = inl (ap (λ (name : List ℕ). fault.Flaw name c.args.flaw) c.in-Ok.ensures)

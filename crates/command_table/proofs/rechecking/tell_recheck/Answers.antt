@@ -1,5 +1,0 @@
-use Rattle.command_table.proofs.Telling.{shared_tells}
-use Rattle.command_table.proofs.rechecking.tell_recheck.Goals as goal
-
-pub returns-in-Some : goal.returns-in-Some
-returns-in-Some g c = shared_tells _ _ _ _ _ _ c.in-Some.ensures c.unproved.ensures

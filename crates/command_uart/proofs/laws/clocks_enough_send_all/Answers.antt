@@ -1,9 +1,0 @@
-use Rattle.std.proofs.Common.{ap}
-use Rattle.call_ends.specs.Tasks.{sent_text}
-use Rattle.serial_receiver.specs.FrameText.{frames_text}
-use Rattle.command_uart.proofs.Enough.{all_of}
-use Rattle.command_uart.proofs.laws.clocks_enough_send_all.Goals as goal
-
-pub returns : goal.returns
-unfolding sent_text
-returns c = λ divider clocks bytes enough. ap frames_text (all_of divider clocks bytes enough)

@@ -1,0 +1,34 @@
+-- What is told of verdicts where their lines failed.
+use Rattle.std.proofs.Common.{◌≡◌, Bool, List, Result, Err, subst}
+use Rattle.pin_matrix.specs.declared.setup.Setup.{Setup}
+use Rattle.pin_matrix.specs.declared.span.Span.{Span}
+use Rattle.fault_lines.specs.Output.{Output}
+use Rattle.fault_lines.specs.declared.fault.Fault.{Fault}
+use Rattle.fault_lines.specs.declared.fault.Fault.TheVariants as fault
+use Rattle.verdict_lines.specs.declared.refusal.Refusal.{Refusal}
+use Rattle.stages.specs.Spans.{AreVerdicts, verdict_text}
+use Rattle.commands.specs.Written.{Writes}
+use Rattle.commands.specs.Verdicts.{TellsVerdicts}
+
+pub tells_fails : (u : Setup) (found : List (Result Bool Refusal)) (before after : Output) (e : Fault) → AreVerdicts u u.spans found → Writes before after (verdict_text u.spans found) (Err e) → TellsVerdicts u before after (Err e)
+tells_fails u found before after fault.Out v h = (found, v, h)
+tells_fails u found before after fault.Memory v h = h
+tells_fails u found before after fault.Usage v h = absurd h
+tells_fails u found before after (fault.SecondUnproved name refusal) v h = absurd h
+tells_fails u found before after (fault.Shelf role) v h = absurd h
+tells_fails u found before after (fault.TooLong role) v h = absurd h
+tells_fails u found before after (fault.Words line kind) v h = absurd h
+tells_fails u found before after (fault.Source line kind) v h = absurd h
+tells_fails u found before after (fault.Config key kind) v h = absurd h
+tells_fails u found before after (fault.Second key kind) v h = absurd h
+tells_fails u found before after (fault.Stim line kind) v h = absurd h
+tells_fails u found before after fault.NoSpan v h = absurd h
+tells_fails u found before after (fault.Table line kind) v h = absurd h
+tells_fails u found before after (fault.Unproved name refusal) v h = absurd h
+tells_fails u found before after (fault.Flaw name flaw) v h = absurd h
+
+-- the same where spans and verdicts are seen by equations
+pub tells_failing : (u : Setup) (spans : List Span) (seen found : List (Result Bool Refusal)) (before after : Output) (e : Fault) → spans ≡ u.spans → seen ≡ found → AreVerdicts u u.spans found → Writes before after (verdict_text spans seen) (Err e) → TellsVerdicts u before after (Err e)
+tells_failing u spans seen found before after e is has v h =
+    tells_fails u found before after e v
+    (subst (λ (l : List Span). Writes before after (verdict_text l found) (Err e)) is (subst (λ (fs : List (Result Bool Refusal)). Writes before after (verdict_text spans fs) (Err e)) has h))

@@ -1,0 +1,9 @@
+use Rattle.std.proofs.Common.{refl}
+use Rattle.span_meter.specs.Meters.{first_told, watched}
+use Rattle.commands.proofs.Seen.{names}
+use Rattle.commands.proofs.measure.meter_run.Goals as goal
+
+pub returns-clause-measured : goal.returns-clause-measured
+returns-clause-measured g c = λ levels ends h.
+    let t = c.args.meter.now in
+    c.in-Ok.ensures.ok (first_told t.first (watched t.meters)) refl levels ends (names levels ends t h)

@@ -1,0 +1,20 @@
+use Rattle.std.proofs.Common.{option_map}
+use Rattle.std.proofs.lemmas.Result.{err_from_is_err_and}
+use Rattle.commands.proofs.Ending.{recheck_unread, no_span_recheck_ends, recheck_found_ends}
+use Rattle.commands.proofs.recheck.recheck.Goals as goal
+
+pub returns-in_err-setup-clause-ends : goal.returns-in_err-setup-clause-ends
+returns-in_err-setup-clause-ends g c =
+    let p = err_from_is_err_and c.from_residual.result c.from_residual.ensures.1 in
+    rw (p.1, p.2) (recheck_unread _ _ _ _ c.args.source.now (option_map (λ t. t.now) c.args.config) c.args.name.now c.args.table.now _ c.in_err-setup.ensures.stage)
+
+pub returns-in-Some-clause-ends : goal.returns-in-Some-clause-ends
+returns-in-Some-clause-ends g c =
+    recheck_found_ends _ _ _ _ _ _ _ c.args.source.now (option_map (λ t. t.now) c.args.config) c.args.name.now c.args.table.now _ _ _ _
+    c.in_ok-setup.ensures.same c.in_ok-setup.ensures.stage.0 c.in_ok-setup.ensures.stage.1 c.in-Some.ensures.first
+    (c.recheck_span.ensures.ends c.args.source.now (option_map (λ t. t.now) c.args.config) c.args.name.now)
+
+pub returns-clause-ends : goal.returns-clause-ends
+returns-clause-ends g c =
+    no_span_recheck_ends _ _ _ _ c.args.source.now (option_map (λ t. t.now) c.args.config) c.args.name.now c.args.table.now _ _
+    c.in_ok-setup.ensures.stage.0 c.in_ok-setup.ensures.stage.1 c.in-None.ensures.first

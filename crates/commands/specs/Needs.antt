@@ -1,0 +1,83 @@
+-- What a task needs of the spans of a setup, beside its text.
+--   Need        nothing; that each span is provable, of one setup or of two; that one span is; or that a table proves one
+--   IsMet       it is so
+--   AllRunsHold what it says of every run
+--   IsRefusedBy the first span that isn't provable, and why
+--   IsSecondRefusedBy   the same of a second block
+--   IsFlawed    what is wrong with the table first
+use Rattle.std.specs.Prelude.{◌≡◌, ℕ, Some, List}
+use Rattle.pin_matrix.specs.declared.setup.Setup.{Setup}
+use Rattle.pin_matrix.specs.declared.span.Span.{Span}
+use Rattle.span_bounds.specs.declared.row.Row.{Row}
+use Rattle.span_bounds.specs.Tables.{IsClosed, IsGood}
+use Rattle.span_verdict.specs.Flaws.{first_flaw}
+use Rattle.span_verdict.specs.Sharing.{IsUnshared, IsLeastSharer}
+use Rattle.span_verdict.specs.declared.table_flaw.Flaw.{Flaw}
+use Rattle.span_check.specs.Proved.{HoldsInEveryRun}
+use Rattle.verdict_lines.specs.declared.refusal.Refusal.{Refusal}
+use Rattle.verdict_lines.specs.declared.refusal.Refusal.TheVariants.{Unproved, Shared}
+use Rattle.stages.specs.Pairs.{AllHoldInPairs}
+use Rattle.stages.specs.Spans.{IsProvableAlone, AreProvable, AllHold, IsRefused, IsFirstRefused}
+
+-- what a task needs: nothing; that each span of a setup is provable; that each span of two setups is; that one span of a setup is; or
+-- that these rows prove one
+pub data Need : Type 0 where
+  nothing : Need
+  all_spans : Setup → Need
+  both_spans : (first second : Setup) → Need
+  one_span : Setup → Span → Need
+  by_table : Setup → Span → List Row → Need
+
+-- a table proves a span: it is closed and good, and no other machine may write a pin of the span
+pub record IsProvedBy (u : Setup) (sp : Span) (rows : List Row) : Type 0 where
+  pub alone : IsUnshared u sp
+  pub closed : IsClosed u sp rows
+  pub good : IsGood u sp rows
+
+-- this is wrong first with a table, so it isn't both closed and good; no other machine may write a pin of the span
+pub record HasFlaw (u : Setup) (sp : Span) (rows : List Row) (flaw : Flaw) : Type 0 where
+  pub alone : IsUnshared u sp
+  pub first : first_flaw u sp rows ≡ Some flaw
+  pub unproved : IsClosed u sp rows → IsGood u sp rows → ⊥
+
+-- it is so
+abbrev pub IsMet : Need → Type 0
+IsMet nothing = Unit {0}
+IsMet (all_spans u) = AreProvable u
+IsMet (both_spans s t) = AreProvable s × AreProvable t
+IsMet (one_span u sp) = IsProvableAlone u sp
+IsMet (by_table u sp rows) = IsProvedBy u sp rows
+
+-- the spans hold in every run of the setup, or of two blocks on one set of pins, whatever the stimulus and the length
+abbrev pub AllRunsHold : Need → Type 0
+AllRunsHold nothing = Unit {0}
+AllRunsHold (all_spans u) = AllHold u
+AllRunsHold (both_spans s t) = AllHoldInPairs s t
+AllRunsHold (one_span u sp) = HoldsInEveryRun u sp
+AllRunsHold (by_table u sp rows) = HoldsInEveryRun u sp
+
+-- the refusal is the least other machine that may write a pin of the span
+abbrev pub IsSharedBy : Setup → Span → Refusal → Type 0
+IsSharedBy u sp (Unproved k cause) = ⊥
+IsSharedBy u sp (Shared m) = IsLeastSharer u sp m
+
+-- the first span that isn't provable has this name, and this is why; a table proves no span of which another machine may write a pin
+abbrev pub IsRefusedBy : Need → List ℕ → Refusal → Type 0
+IsRefusedBy nothing name refusal = ⊥
+IsRefusedBy (all_spans u) name refusal = IsFirstRefused u u.spans name refusal
+IsRefusedBy (both_spans s t) name refusal = IsFirstRefused s s.spans name refusal
+IsRefusedBy (one_span u sp) name refusal = (sp.name ≡ name) × IsRefused u sp refusal
+IsRefusedBy (by_table u sp rows) name refusal = (sp.name ≡ name) × IsSharedBy u sp refusal
+
+-- the spans of the first block are provable, the first span of the second that isn't has this name, and this is why
+abbrev pub IsSecondRefusedBy : Need → List ℕ → Refusal → Type 0
+IsSecondRefusedBy (both_spans s t) name refusal = AreProvable s × IsFirstRefused t t.spans name refusal
+IsSecondRefusedBy need name refusal = ⊥
+
+-- this is wrong first with the table of the span with this name, of which no other machine may write a pin
+abbrev pub IsFlawed : Need → List ℕ → Flaw → Type 0
+IsFlawed nothing name flaw = ⊥
+IsFlawed (all_spans u) name flaw = ⊥
+IsFlawed (both_spans s t) name flaw = ⊥
+IsFlawed (one_span u sp) name flaw = ⊥
+IsFlawed (by_table u sp rows) name flaw = (sp.name ≡ name) × HasFlaw u sp rows flaw

@@ -1,0 +1,97 @@
+-- The promise: which end a command has, what it wrote, and why.
+use Rattle.std.specs.Prelude.{◌≡◌, ℕ, true, Option, Some, None, IfSome, List, [], Result, Ok, Err}
+use Rattle.pio_edge.specs.Count.{failed_at}
+use Rattle.pio_edge.specs.Edge.{Rose, with_bytes, TakesPrefix}
+use Rattle.fault_lines.specs.declared.fault.File.{File}
+use Rattle.fault_lines.specs.declared.fault.Fault.{Fault}
+use Rattle.fault_lines.specs.declared.fault.Fault.TheVariants as fault
+use Rattle.span_verdict.specs.declared.table_flaw.Flaw.{Flaw}
+use Rattle.verdict_lines.specs.declared.refusal.Refusal.{Refusal}
+use Rattle.command_line.specs.Words.{Asked, asm, run, check, table, recheck, shares, gen, dis, measure, receive, uart, pair}
+use Rattle.stages.specs.Judged.{wrong}
+use Rattle.stages.specs.Stages.{HasSuch}
+use Rattle.commands.specs.Outside.{Call, Untouched, SameShelf, SameOut}
+use Rattle.commands.specs.Needs.{IsMet, AllRunsHold, IsRefusedBy, IsSecondRefusedBy, IsFlawed}
+use Rattle.commands.specs.Tasks.{judge, ComesTo, HasText, need_of, AskedBefore, file_in, reaches}
+
+-- the output took exactly the text, and handed all of it on
+pub record WritesText (c : Call) (a : Asked) : Type 0 where
+  pub text : ComesTo c a (λ task. HasText task (λ text. c.out_after.taken ≡ with_bytes c.out_before.taken text))
+  pub handed : c.out_after.waiting ≡ []
+  pub out : c.out_after.faults ≡ c.out_before.faults
+
+-- all was done: the text was written, each span that was asked is provable or proved by a table, so it holds in every run; nothing
+-- failed
+pub record Passes (c : Call) (a : Asked) : Type 0 where
+  pub writes : WritesText c a
+  pub spans : ComesTo c a (λ task. IsMet (need_of task))
+  pub holds : ComesTo c a (λ task. AllRunsHold (need_of task))
+  pub shelf : SameShelf c
+
+-- what is written where a span isn't provable: the whole text by `check`, and nothing by the other commands that ask spans
+abbrev pub WritesRefused : Asked → Call → Type 0
+WritesRefused (asm name) c = ⊥
+WritesRefused (run source config stimulus clocks) c = SameOut c
+WritesRefused (check source config) c = WritesText c (check source config)
+WritesRefused (table source config name) c = SameOut c
+WritesRefused (recheck source config name file) c = SameOut c
+WritesRefused (shares source config) c = ⊥
+WritesRefused (gen seed clocks) c = ⊥
+WritesRefused (dis name side opt) c = ⊥
+WritesRefused (measure source config stimulus clocks) c = ⊥
+WritesRefused (receive source config stimulus clocks pin bit) c = ⊥
+WritesRefused (uart send divider clocks) c = ⊥
+WritesRefused (pair source config second stimulus clocks) c = SameOut c
+
+-- this is the first span that isn't provable, and why; nothing failed
+pub record RefusesSpan (c : Call) (a : Asked) (name : List ℕ) (refusal : Refusal) : Type 0 where
+  pub first : ComesTo c a (λ task. IsRefusedBy (need_of task) name refusal)
+  pub out : WritesRefused a c
+  pub shelf : SameShelf c
+
+-- this is the first span of the second block that isn't provable, and why; nothing was written, and nothing failed
+pub record RefusesSecond (c : Call) (a : Asked) (name : List ℕ) (refusal : Refusal) : Type 0 where
+  pub first : ComesTo c a (λ task. IsSecondRefusedBy (need_of task) name refusal)
+  pub untouched : Untouched c
+
+-- this is wrong first with the table, and nothing was written
+pub record Flawed (c : Call) (a : Asked) (name : List ℕ) (flaw : Flaw) : Type 0 where
+  pub first : ComesTo c a (λ task. IsFlawed (need_of task) name flaw)
+  pub untouched : Untouched c
+
+-- one fetch failed, and it was that of the command's file of this role, to which it comes
+pub record ShelfFails (c : Call) (a : Asked) (role : File) : Type 0 where
+  pub named : HasSuch (file_in a role) (λ name. c.shelf_after ≡ failed_at name c.shelf_before)
+  pub reached : IfSome c.files (λ f. reaches f a role ≡ true)
+  pub out : SameOut c
+
+-- the output failed, after a first part of the text
+pub record OutFails (c : Call) (a : Asked) : Type 0 where
+  pub part : ComesTo c a (λ task. HasText task (λ text. TakesPrefix c.out_before.taken text c.out_after.taken))
+  pub spans : ComesTo c a AskedBefore
+  pub rose : Rose c.out_before.faults c.out_after.faults
+  pub shelf : SameShelf c
+
+-- the told files come to this fault first, and nothing was written
+pub record Faulty (c : Call) (a : Asked) (e : Fault) : Type 0 where
+  pub judged : IfSome c.files (λ f. judge f a ≡ wrong e)
+  pub untouched : Untouched c
+
+-- how a call ends whose words ask for this, or for nothing
+abbrev pub Ends : Option Asked → Call → Option Fault → Type 0
+Ends (Some a) c None = Passes c a
+Ends None c (Some fault.Usage) = Untouched c
+Ends asked c (Some fault.Memory) = Untouched c
+Ends (Some a) c (Some (fault.Shelf role)) = ShelfFails c a role
+Ends (Some a) c (Some (fault.Unproved name refusal)) = RefusesSpan c a name refusal
+Ends (Some a) c (Some (fault.SecondUnproved name refusal)) = RefusesSecond c a name refusal
+Ends (Some a) c (Some (fault.Flaw name flaw)) = Flawed c a name flaw
+Ends (Some a) c (Some fault.Out) = OutFails c a
+Ends None c found = ⊥
+Ends (Some a) c (Some fault.Usage) = ⊥
+Ends (Some a) c (Some e) = Faulty c a e
+
+-- a command that was asked for ends as promised
+abbrev pub CommandEnds : Asked → Call → Result (Unit {0}) Fault → Type 0
+CommandEnds a c (Ok _) = Ends (Some a) c None
+CommandEnds a c (Err e) = Ends (Some a) c (Some e)

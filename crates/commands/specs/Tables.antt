@@ -1,0 +1,62 @@
+-- What it means that a table is told, and that a table was rechecked.
+--   TellsTable    the text of the least closed table was taken and handed on, or why not
+--   TellsRecheck  the line of a table that proves a span was taken and handed on, or why not
+use Rattle.std.specs.Prelude.{◌≡◌, ◌⊎◌, List, Result, Ok, Err}
+use Rattle.pin_matrix.specs.declared.setup.Setup.{Setup}
+use Rattle.pin_matrix.specs.declared.span.Span.{Span}
+use Rattle.span_bounds.specs.declared.row.Row.{Row}
+use Rattle.span_check.specs.Proved.{HoldsInEveryRun}
+use Rattle.span_verdict.specs.declared.table_flaw.Flaw.{Flaw}
+use Rattle.span_bounds.specs.Answers.{IsGoodLeast}
+use Rattle.span_verdict.specs.declared.verdict.Verdict.{Verdict}
+use Rattle.span_verdict.specs.declared.verdict.Verdict.TheVariants as verdict
+use Rattle.verdict_lines.specs.declared.refusal.Refusal.{Refusal}
+use Rattle.verdict_lines.specs.declared.refusal.Refusal.TheVariants as refusal
+use Rattle.fault_lines.specs.declared.fault.Fault.{Fault}
+use Rattle.fault_lines.specs.declared.fault.Fault.TheVariants as fault
+use Rattle.fault_lines.specs.Output.{Output}
+use Rattle.table_files.specs.FlawLines.{rechecked_line}
+use Rattle.stages.specs.Spans.{IsProvableAlone, IsRefused}
+use Rattle.commands.specs.Needs.{HasFlaw, IsProvedBy, IsSharedBy}
+use Rattle.commands.specs.Tasks.{HasTable}
+use Rattle.commands.specs.Written.{HasTaken, TakesPart}
+
+-- the table of a proved span, or why it isn't proved
+abbrev pub table_or : Verdict → Result (List Row) Refusal
+table_or (verdict.Proved rows opens) = Ok rows
+table_or (verdict.Unproved k cause) = Err (refusal.Unproved k cause)
+table_or (verdict.Shared m) = Err (refusal.Shared m)
+
+-- the span is provable and holds in every run, and these are the rows of its least closed table; or this is why it isn't
+abbrev pub IsTableVerdict : Setup → Span → Result (List Row) Refusal → Type 0
+IsTableVerdict u sp (Ok rows) = IsProvableAlone u sp × (HoldsInEveryRun u sp × IsGoodLeast u sp rows)
+IsTableVerdict u sp (Err why) = IsRefused u sp why
+
+-- the fault is that of a span that is refused, or want of memory
+abbrev pub IsRefusalOf : Span → Refusal → Fault → Type 0
+IsRefusalOf sp why e = (e ≡ fault.Unproved sp.name why) ⊎ (e ≡ fault.Memory)
+
+-- the fault is that of a table that has this flaw, or want of memory
+abbrev pub IsFlawOf : Span → Flaw → Fault → Type 0
+IsFlawOf sp flaw e = (e ≡ fault.Flaw sp.name flaw) ⊎ (e ≡ fault.Memory)
+
+-- The span is provable and holds in every run, and the text of its least closed table was taken and handed on, or a first part of
+-- it where the output failed; or the span isn't provable, and this is why; or memory ran out. Of the last two nothing is written.
+abbrev pub TellsTable : Setup → Span → Output → Output → Result (Unit {0}) Fault → Type 0
+TellsTable u sp before after (Ok _) = IsProvableAlone u sp × (HoldsInEveryRun u sp × HasTable u sp (λ text. HasTaken before text after))
+TellsTable u sp before after (Err fault.Out) = IsProvableAlone u sp × HasTable u sp (λ text. TakesPart before text after)
+TellsTable u sp before after (Err fault.Memory) = after ≡ before
+TellsTable u sp before after (Err (fault.Unproved name why)) = ((sp.name ≡ name) × IsRefused u sp why) × (after ≡ before)
+TellsTable u sp before after (Err e) = ⊥
+
+-- The table proves the span, which holds in every run, and its line was taken and handed on, or a first part of it where the output
+-- failed; or another machine may write a pin of the span; or the table has a flaw first; or memory ran out. Of the last three
+-- nothing is written.
+abbrev pub TellsRecheck : Setup → Span → List Row → Output → Output → Result (Unit {0}) Fault → Type 0
+TellsRecheck u sp rows before after (Ok _) = IsProvedBy u sp rows × (HoldsInEveryRun u sp × HasTaken before (rechecked_line sp.name) after)
+TellsRecheck u sp rows before after (Err fault.Out) = IsProvedBy u sp rows × TakesPart before (rechecked_line sp.name) after
+TellsRecheck u sp rows before after (Err fault.Memory) = after ≡ before
+TellsRecheck u sp rows before after (Err (fault.Unproved name why)) = ((sp.name ≡ name) × IsSharedBy u sp why) × (after ≡ before)
+TellsRecheck u sp rows before after (Err (fault.Flaw name flaw)) =
+    ((sp.name ≡ name) × HasFlaw u sp rows flaw) × (after ≡ before)
+TellsRecheck u sp rows before after (Err e) = ⊥

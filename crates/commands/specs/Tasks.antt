@@ -1,0 +1,169 @@
+-- What a command comes to, from its files alone: a task, or the first fault in the order of reading.
+--   Task        what the files have a command do
+--   judge       what a command comes to
+--   HasText     the text of a task is such; ComesTo: the told files come to a task that is such
+--   need_of     what a task needs of spans, beside its text
+--   file_in     which file a command reads in a role; reaches: when it comes to it
+use Rattle.std.specs.Prelude.{ℕ, Bool, true, Option, None, IfSome, List}
+use Rattle.std.specs.FinMap.{get}
+use Rattle.std.specs.List.{flat_map}
+use Rattle.pio_edge.specs.Edge.{Files}
+use Rattle.fault_lines.specs.declared.fault.File.{File}
+use Rattle.fault_lines.specs.declared.fault.File.TheVariants.{Send}
+use Rattle.vcd_trace.specs.TwinText.{twin_text}
+use Rattle.vcd_trace.specs.VcdText.{vcd_text}
+use Rattle.span_meter.specs.Measured.{ends_in, measured, seen_of}
+use Rattle.span_meter.specs.SeenText.{seen_line}
+use Rattle.span_meter.specs.declared.seen.SeenDistances.{SeenDistances}
+use Rattle.serial_receiver.specs.Frames.{frames, levels_of}
+use Rattle.serial_receiver.specs.FrameText.{frames_text}
+use Rattle.pio_uart.specs.Feeding.{frames_fed}
+use Rattle.pin_matrix.specs.Pins.{is_high}
+use Rattle.dreq_pacing.specs.declared.line.Line.{Line}
+use Rattle.block_core.specs.Block.{Run, first_run}
+use Rattle.block_core.specs.Hosted.{samples}
+use Rattle.block_core.specs.HostedTwin.{twin_samples}
+use Rattle.block_core.specs.Twin.{TwinRun, first_twin}
+use Rattle.pin_matrix.specs.declared.setup.Setup.{Setup}
+use Rattle.pin_matrix.specs.declared.span.Span.{Span}
+use Rattle.span_bounds.specs.declared.row.Row.{Row}
+use Rattle.span_bounds.specs.Answers.{IsGoodLeast}
+use Rattle.table_files.specs.Rows.{table_text}
+use Rattle.table_files.specs.FlawLines.{rechecked_line}
+use Rattle.command_line.specs.Words.{Asked, asm, run, check, table, recheck, shares, gen, dis, measure, receive, uart, pair}
+use Rattle.program_listing.specs.Listing.{listing_text}
+use Rattle.word_file.specs.Listing.{word_lines, rule_for}
+use Rattle.block_shares.specs.Report.{shares_text}
+use Rattle.load_summary.specs.Summaries.{summary_of, summary_text}
+use Rattle.stages.specs.Spans.{HasVerdicts}
+use Rattle.stages.specs.Judged.{Judged, right, and_then, IfRight, source_at, words_at, prepared_at, span_at, recheck_at, read_at, pair_at}
+use Rattle.stages.specs.Roles.{source_alone, words_alone, send_alone, run_files, no_file, run_reaches, recheck_files, recheck_reaches, pair_files, pair_reaches}
+use Rattle.commands.specs.Outside.{Call}
+use Rattle.stages.specs.declared.pair.TwoBlocks.{TwoBlocks}
+use Rattle.commands.specs.Needs.{Need, nothing, all_spans, both_spans, one_span, by_table, IsMet}
+
+-- What the files have a command do: write a text; write a text where each span of a setup, or of two, is provable; write the lines of the
+-- verdicts on the spans of a setup; write the table of a span where it is provable; or tell that a table proves a span.
+pub data Task : Type 0 where
+  listing : List ℕ → Task
+  trace : Setup → List ℕ → Task
+  twin_trace : (first second : Setup) → List ℕ → Task
+  verdicts : Setup → Task
+  tabled : Setup → Span → Task
+  rechecked : Setup → Span → List Row → Task
+
+-- the text of so many clocks from a start, beside the lines of a stimulus
+unfoldable pub trace_text : Run → List Line → ℕ → List ℕ
+trace_text start lines clocks = vcd_text (samples start lines clocks)
+
+-- two blocks in clock 0
+abbrev pub twin_start : TwoBlocks → TwinRun
+twin_start p = first_twin p.own p.first p.second
+
+-- the text of so many clocks of two blocks from a start, beside the lines of each
+unfoldable pub twin_trace_text : TwinRun → (first second : List Line) → ℕ → List ℕ
+twin_trace_text start first second clocks = twin_text (twin_samples start first second clocks)
+
+-- what a span measures in so many clocks from a start, beside the lines of a stimulus: before clock 0 the levels are the start's
+abbrev pub seen_in : Run → Span → List Line → ℕ → SeenDistances
+seen_in start sp lines clocks = seen_of (measured (ends_in sp) start.state.levels (samples start lines clocks))
+
+-- the line of what each span measures, in order
+unfoldable pub measured_text : Run → List Span → List Line → ℕ → List ℕ
+measured_text start spans lines clocks = flat_map (λ sp. seen_line sp.name (seen_in start sp lines clocks)) spans
+
+-- the line of each frame that a pin sends at so many clocks a bit: before clock 0 its level is the start's
+unfoldable pub received_text : Run → (pin bit : ℕ) → List Line → ℕ → List ℕ
+received_text start pin bit lines clocks =
+    frames_text (frames bit (is_high start.state.levels pin) (levels_of pin (samples start lines clocks)))
+
+-- the line of each byte that the transmitter sends in so many clocks of a run that feeds it these bytes: byte j at its clock
+unfoldable pub sent_text : (divider : ℕ) → (bytes : List ℕ) → (clocks : ℕ) → List ℕ
+sent_text divider bytes clocks = frames_text (frames_fed divider clocks 0 bytes)
+
+-- what a command comes to; `check`, `table` and `shares` read what a run without a stimulus reads
+unfoldable pub judge : Files → Asked → Judged Task
+judge files (asm name) = and_then (source_at files name) (λ programs. right (listing (listing_text programs)))
+judge files (run source config stimulus clocks) =
+    and_then (prepared_at files source config stimulus)
+    (λ prepared. right (trace prepared.0 (trace_text (first_run prepared.0) prepared.1 clocks)))
+judge files (check source config) = and_then (prepared_at files source config None) (λ prepared. right (verdicts prepared.0))
+judge files (table source config name) = and_then (span_at files source config name) (λ asked. right (tabled asked.0 asked.1))
+judge files (recheck source config name file) =
+    and_then (recheck_at files source config name file) (λ asked. right (rechecked asked.0.0 asked.0.1 asked.1))
+judge files (shares source config) =
+    and_then (prepared_at files source config None) (λ prepared. right (listing (shares_text prepared.0)))
+judge files (gen seed clocks) = right (listing (summary_text (summary_of seed clocks)))
+judge files (dis name side opt) = and_then (words_at files name) (λ words. right (listing (word_lines (rule_for side opt) words)))
+judge files (measure source config stimulus clocks) =
+    and_then (prepared_at files source config stimulus)
+    (λ prepared. right (listing (measured_text (first_run prepared.0) prepared.0.spans prepared.1 clocks)))
+judge files (receive source config stimulus clocks pin bit) =
+    and_then (prepared_at files source config stimulus)
+    (λ prepared. right (listing (received_text (first_run prepared.0) pin bit prepared.1 clocks)))
+judge files (uart send divider clocks) =
+    and_then (read_at Send (get files send)) (λ bytes. right (listing (sent_text divider bytes clocks)))
+judge files (pair source config second stimulus clocks) =
+    and_then (pair_at files source config second stimulus)
+    (λ p. right (twin_trace p.first p.second (twin_trace_text (twin_start p) p.first_lines p.second_lines clocks)))
+
+-- the told files come to a task that is such
+abbrev pub ComesTo : Call → Asked → (Task → Type 0) → Type 0
+ComesTo c a P = IfSome c.files (λ f. IfRight (judge f a) P)
+
+-- the text of the least closed table of a span, which is good, is such
+abbrev pub HasTable : Setup → Span → (List ℕ → Type 0) → Type 0
+HasTable u sp P = (rows : List Row) × IsGoodLeast u sp rows × P (table_text rows)
+
+-- the text that a task writes is such
+abbrev pub HasText : Task → (List ℕ → Type 0) → Type 0
+HasText (listing text) P = P text
+HasText (trace u text) P = P text
+HasText (twin_trace s t text) P = P text
+HasText (verdicts u) P = HasVerdicts u P
+HasText (tabled u sp) P = HasTable u sp P
+HasText (rechecked u sp rows) P = P (rechecked_line sp.name)
+
+-- what a task needs, beside its text
+abbrev pub need_of : Task → Need
+need_of (listing text) = nothing
+need_of (trace u text) = all_spans u
+need_of (twin_trace s t text) = both_spans s t
+need_of (verdicts u) = all_spans u
+need_of (tabled u sp) = one_span u sp
+need_of (rechecked u sp rows) = by_table u sp rows
+
+-- what is asked before anything is written is met; `check` asks its spans, and writes before it ends with the first refusal
+abbrev pub AskedBefore : Task → Type 0
+AskedBefore (verdicts u) = Unit {0}
+AskedBefore task = IsMet (need_of task)
+
+-- the name of the file that a command reads in this role, where it reads one
+abbrev pub file_in : Asked → File → Option (List ℕ)
+file_in (asm name) role = source_alone name role
+file_in (run source config stimulus clocks) role = run_files source config stimulus role
+file_in (check source config) role = run_files source config None role
+file_in (table source config name) role = run_files source config None role
+file_in (recheck source config name file) role = recheck_files source config file role
+file_in (shares source config) role = run_files source config None role
+file_in (gen seed clocks) role = no_file role
+file_in (dis name side opt) role = words_alone name role
+file_in (measure source config stimulus clocks) role = run_files source config stimulus role
+file_in (receive source config stimulus clocks pin bit) role = run_files source config stimulus role
+file_in (uart send divider clocks) role = send_alone send role
+file_in (pair source config second stimulus clocks) role = pair_files source config second stimulus role
+
+-- a command comes to the file of this role: what it reads before is right
+abbrev pub reaches : Files → Asked → File → Bool
+reaches files (asm name) role = true
+reaches files (run source config stimulus clocks) role = run_reaches files source config role
+reaches files (check source config) role = run_reaches files source config role
+reaches files (table source config name) role = run_reaches files source config role
+reaches files (recheck source config name file) role = recheck_reaches files source config name role
+reaches files (shares source config) role = run_reaches files source config role
+reaches files (gen seed clocks) role = true
+reaches files (dis name side opt) role = true
+reaches files (measure source config stimulus clocks) role = run_reaches files source config role
+reaches files (receive source config stimulus clocks pin bit) role = run_reaches files source config role
+reaches files (uart send divider clocks) role = true
+reaches files (pair source config second stimulus clocks) role = pair_reaches files source config second role

@@ -1,0 +1,68 @@
+-- How many clocks a command works out singly at most.
+--   run_worked    of a run whose files come to this
+--   sent_worked   of a transmitter whose file comes to this
+--   pair_worked   of two blocks whose files come to this
+--   worked_of     of a run, where the files are told or not
+--   most_worked   of a command, where the files are told or not
+use Rattle.std.specs.Prelude.{ℕ, ◌+◌, Option, Some, None, List}
+use Rattle.std.specs.FinMap.{get}
+use Rattle.pio_edge.specs.Edge.{Files}
+use Rattle.dreq_pacing.specs.declared.line.Line.{Line}
+use Rattle.block_core.specs.Block.{first_run}
+use Rattle.block_core.specs.Stirring.{stirring}
+use Rattle.block_core.specs.HostedTwin.{twin_stirring}
+use Rattle.pin_matrix.specs.declared.setup.Setup.{Setup}
+use Rattle.drawn_load.specs.Loads.{lines_of}
+use Rattle.load_summary.specs.Summaries.{start_of}
+use Rattle.fault_lines.specs.declared.fault.File.TheVariants.{Send}
+use Rattle.pio_uart.specs.Feeding.{fed}
+use Rattle.pio_uart.specs.OneSetup.{transmitter_of}
+use Rattle.command_line.specs.Words.{Asked, asm, run, check, table, recheck, shares, gen, dis, measure, receive, uart, pair}
+use Rattle.stages.specs.Judged.{Judged, right, wrong, prepared_at, read_at, pair_at}
+use Rattle.stages.specs.declared.pair.TwoBlocks.{TwoBlocks}
+use Rattle.commands.specs.Tasks.{twin_start}
+
+-- the clocks of a run that stir, and one more; none where its files have a fault
+abbrev pub run_worked : ℕ → Judged (Setup × List Line) → ℕ
+run_worked clocks (right prepared) = stirring (first_run prepared.0) prepared.1 clocks + 1
+run_worked clocks (wrong e) = 0
+
+-- At most the clocks that stir, and one more. Of files that aren't told no more is said than that it is the clocks asked.
+abbrev pub worked_of : Option Files → (source : List ℕ) → (config stimulus : Option (List ℕ)) → (clocks : ℕ) → ℕ
+worked_of (Some files) source config stimulus clocks = run_worked clocks (prepared_at files source config stimulus)
+worked_of None source config stimulus clocks = clocks
+
+-- the same of a transmitter with this divider that is fed a file's bytes
+abbrev pub sent_worked : (divider clocks : ℕ) → Judged (List ℕ) → ℕ
+sent_worked divider clocks (right bytes) = stirring (first_run (transmitter_of divider)) (fed bytes) clocks + 1
+sent_worked divider clocks (wrong e) = 0
+
+-- and where its file is told or not
+abbrev pub uart_worked : Option Files → (send : List ℕ) → (divider clocks : ℕ) → ℕ
+uart_worked (Some files) send divider clocks = sent_worked divider clocks (read_at Send (get files send))
+uart_worked None send divider clocks = clocks
+
+-- the same of two blocks, of which either may stir
+abbrev pub pair_worked : ℕ → Judged TwoBlocks → ℕ
+pair_worked clocks (right p) = twin_stirring (twin_start p) p.first_lines p.second_lines clocks + 1
+pair_worked clocks (wrong e) = 0
+
+-- and where their files are told or not
+abbrev pub twin_worked : Option Files → (source config second : List ℕ) → (stimulus : Option (List ℕ)) → (clocks : ℕ) → ℕ
+twin_worked (Some files) source config second stimulus clocks = pair_worked clocks (pair_at files source config second stimulus)
+twin_worked None source config second stimulus clocks = clocks
+
+-- the same of a command
+abbrev pub most_worked : Option Files → Asked → ℕ
+most_worked files (run source config stimulus clocks) = worked_of files source config stimulus clocks
+most_worked files (measure source config stimulus clocks) = worked_of files source config stimulus clocks
+most_worked files (receive source config stimulus clocks pin bit) = worked_of files source config stimulus clocks
+most_worked files (uart send divider clocks) = uart_worked files send divider clocks
+most_worked files (pair source config second stimulus clocks) = twin_worked files source config second stimulus clocks
+most_worked files (gen seed clocks) = stirring (start_of seed) (lines_of seed) clocks + 1
+most_worked files (asm name) = 0
+most_worked files (check source config) = 0
+most_worked files (table source config name) = 0
+most_worked files (recheck source config name file) = 0
+most_worked files (shares source config) = 0
+most_worked files (dis name side opt) = 0

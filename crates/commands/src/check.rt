@@ -1,0 +1,91 @@
+//! The command `check`: the verdict on each span that a configuration asks of the programs of a source.
+ghost use Rattle.std.specs.Prelude.{◌≡◌, [], length, option_map};
+ghost use Rattle.command_line.specs.Words.{check as check_asked};
+ghost use Rattle.pio_edge.specs.Edge.{PutCounts, Takes};
+ghost use Rattle.verdict_lines.specs.Lines.{verdict_line};
+ghost use Rattle.stages.specs.Configured.{AreConfigured};
+ghost use Rattle.stages.specs.Spans.{AreJudged, verdict_text};
+ghost use Rattle.commands.specs.Outside.{call_by, output_by};
+ghost use Rattle.commands.specs.Promise.{CommandEnds};
+ghost use Rattle.commands.specs.Written.{SinkWrites};
+ghost use Rattle.commands.specs.Verdicts.{TellsVerdicts};
+
+use crate::handing::hand_on;
+use fault_lines::Fault;
+use pin_matrix::{Setup, Span};
+use pio_edge::{Shelf, Sink, SinkFailed};
+use stages::{Verdicts, judge_spans, prepare_setup, refuse};
+use std::alloc::Global;
+use verdict_lines::{Refusal, put_verdict};
+
+/// Writes the line of the verdict on each span of a setup, and then ends with the fault of the first one that isn't provable,
+/// if there is one. All memory is taken before the first piece is put.
+#[tactic(auto, unfolding(crate::specs::Tasks::judge))]
+pub fn check<F: Shelf, O: Sink>(
+    alloc: Global,
+    source: &str,
+    config: Option<&str>,
+    shelf: &mut F,
+    out: &mut O,
+) -> Result<(), Fault>
+    ensures ends { CommandEnds (check_asked source.now (option_map (λ t. t.now) config.entry))
+        (call_by F.holds F.faults O.taken O.waiting O.faults shelf.old shelf.new out.old out.new) result }
+    ensures same { F.holds shelf.new ≡ F.holds shelf.old }
+{
+    let setup = prepare_setup(alloc, shelf, source, config)?;
+    let verdicts = judge_spans(alloc, &setup)?;
+    tell_verdicts(out, &setup, verdicts)
+}
+
+/// Writes the lines of verdicts, and then ends with the fault of the first span that isn't provable, if there is one.
+fn tell_verdicts<O: Sink>(out: &mut O, setup: &Setup, verdicts: Verdicts) -> Result<(), Fault>
+    requires configured { AreConfigured setup.now }
+    requires judged { AreJudged setup.now setup.now.spans verdicts.found.items verdicts.refused }
+    ensures { TellsVerdicts setup.now
+        (output_by O.taken O.waiting O.faults out.old) (output_by O.taken O.waiting O.faults out.new) result }
+{
+    write_verdicts(out, setup.spans.as_slice(), &verdicts.found)?;
+    refuse(setup, verdicts.refused)
+}
+
+/// Writes the lines of the verdicts on spans, and hands on what the output still keeps.
+fn write_verdicts<O: Sink>(
+    out: &mut O,
+    spans: &[Span],
+    found: &[Result<bool, Refusal>],
+) -> Result<(), Fault>
+    requires { length found.now ≡ length spans.now }
+    ensures { SinkWrites O.taken O.waiting O.faults out.old out.new
+        (verdict_text spans.now found.now) result }
+{
+    let put = put_verdicts(out, spans, found);
+    hand_on(out, put)
+}
+
+/// Puts the lines of the verdicts on spans.
+fn put_verdicts<O: Sink>(
+    out: &mut O,
+    spans: &[Span],
+    found: &[Result<bool, Refusal>],
+) -> Result<(), SinkFailed>
+    requires { length found.now ≡ length spans.now }
+    ensures bytes { Takes (O.taken out.old) (verdict_text spans.now found.now) (O.taken out.new) result }
+    ensures cause { PutCounts (O.faults out.old) (O.faults out.new) result }
+{
+    for place in 0..spans.len() {
+        put_line(out, &spans[place], &found[place])?;
+    }
+    Ok(())
+}
+
+/// Puts the line of the verdict on a span.
+fn put_line<O: Sink>(
+    out: &mut O,
+    span: &Span,
+    found: &Result<bool, Refusal>,
+) -> Result<(), SinkFailed>
+    ensures bytes { Takes (O.taken out.old) (verdict_line [] span.now.name found.now) (O.taken out.new) result }
+    ensures cause { PutCounts (O.faults out.old) (O.faults out.new) result }
+{
+    put_verdict(out, &span.name, found)
+}

@@ -1,0 +1,115 @@
+//! The command `measure`: what each span of a configuration measures in the first clocks of a run.
+ghost use Rattle.std.specs.Prelude.{◌≡◌, ◌+◌, ◌≤◌, ◌^◌, ℕ, IfOk, List, [], map, option_map};
+ghost use Rattle.block_core.specs.Block.{first_run};
+ghost use Rattle.block_core.specs.Hosted.{samples};
+ghost use Rattle.block_core.specs.Stirring.{stirring};
+ghost use Rattle.command_line.specs.Words.{measure as measure_asked};
+ghost use Rattle.commands.specs.Tasks.{measured_text, seen_in};
+ghost use Rattle.commands.specs.Outside.{call_by};
+ghost use Rattle.commands.specs.Promise.{CommandEnds};
+ghost use Rattle.commands.specs.Worked.{most_worked};
+ghost use Rattle.commands.specs.Written.{SinkWrites};
+ghost use Rattle.span_meter.specs.Measured.{SpanEdges};
+ghost use Rattle.span_meter.specs.Meters.{HasMeasured, seen_so_far};
+
+use crate::measured_lines::write_lines;
+use block_core::Block;
+use command_line::RunFiles;
+use dreq_pacing::Schedule;
+use fault_lines::Fault;
+use fifo_pair::{Fifo, RingFifo};
+use idle_engine::simulate;
+use pin_matrix::Setup;
+use pio_edge::{Shelf, Sink};
+use sample_trace::TraceFailed;
+use span_meter::SpanMeter;
+use stages::prepare;
+use std::alloc::{AllocError, Global};
+use std::sync::ledger::Ledger;
+use step_count::Steps;
+
+/// Writes a line for each span of the block that a source sets up, by a configuration or by default: what it measures in so
+/// many clocks, beside a stimulus where one is named. It doesn't ask whether a span is provable. All memory is taken before the
+/// first piece is put.
+#[tactic(auto, unfolding(crate::specs::Tasks::judge), using(crate::proofs::Working::worked_by))]
+pub fn measure<F: Shelf, O: Sink, L: Ledger>(
+    alloc: Global,
+    files: RunFiles,
+    clocks: u64,
+    shelf: &mut F,
+    out: &mut O,
+    steps: &mut Steps<L>,
+) -> Result<(), Fault>
+    requires { clocks ≤ 10 ^ 12 }
+    ensures ends { CommandEnds
+        (measure_asked files.entry.source.now (option_map (λ t. t.now) files.entry.config) (option_map (λ t. t.now) files.entry.stimulus) clocks)
+        (call_by F.holds F.faults O.taken O.waiting O.faults shelf.old shelf.new out.old out.new) result }
+    ensures same { F.holds shelf.new ≡ F.holds shelf.old }
+    ensures steps { steps.new ≤ steps.old + clocks }
+    ensures worked { steps.new ≤ steps.old + most_worked (F.holds shelf.old)
+        (measure_asked files.entry.source.now (option_map (λ t. t.now) files.entry.config) (option_map (λ t. t.now) files.entry.stimulus) clocks) }
+{
+    let (setup, schedule) = prepare(alloc, shelf, files)?;
+    write_measured(alloc, &setup, &schedule, clocks, out, steps)
+}
+
+/// Writes the lines of what the spans of a setup measure in so many clocks, or answers want of memory before it has put
+/// anything.
+fn write_measured<O: Sink, L: Ledger>(
+    alloc: Global,
+    setup: &Setup,
+    schedule: &Schedule,
+    clocks: u64,
+    out: &mut O,
+    steps: &mut Steps<L>,
+) -> Result<(), Fault>
+    requires { clocks ≤ 10 ^ 12 }
+    ensures ends { SinkWrites O.taken O.waiting O.faults out.old out.new
+        (measured_text (first_run setup.now) setup.now.spans schedule.now clocks) result }
+    ensures steps { steps.new ≤ steps.old + clocks }
+    ensures stirring { steps.new ≤ steps.old + stirring (first_run setup.now) schedule.now clocks + 1 }
+{
+    let meter = metered(alloc, setup, schedule, clocks, steps)?;
+    write_lines(out, setup.spans.as_slice(), &meter)
+}
+
+/// A meter that was told so many clocks of a setup. All memory is taken before the first clock; the error is want of it.
+fn metered<L: Ledger>(
+    alloc: Global,
+    setup: &Setup,
+    schedule: &Schedule,
+    clocks: u64,
+    steps: &mut Steps<L>,
+) -> Result<SpanMeter, AllocError>
+    requires { clocks ≤ 10 ^ 12 }
+    ensures seen { IfOk result (λ meter. seen_so_far meter
+        ≡ map (λ sp. seen_in (first_run setup.now) sp schedule.now clocks) setup.now.spans) }
+    ensures steps { steps.new ≤ steps.old + clocks }
+    ensures stirring { steps.new ≤ steps.old + stirring (first_run setup.now) schedule.now clocks + 1 }
+{
+    let mut block = Block::<RingFifo>::new(alloc, setup)?;
+    let mut meter = SpanMeter::new(alloc, setup.spans.as_slice(), block.view().level)?;
+    meter_run(&mut block, schedule, clocks, &mut meter, steps);
+    Ok(meter)
+}
+
+/// Tells a meter so many clocks of a block.
+fn meter_run<F: Fifo, L: Ledger>(
+    block: &mut Block<F>,
+    schedule: &Schedule,
+    clocks: u64,
+    meter: &mut SpanMeter,
+    steps: &mut Steps<L>,
+)
+    requires fresh { block.old.run.clock ≡ 0 }
+    requires within { clocks ≤ 10 ^ 12 }
+    ensures measured { (levels : ℕ) (ends : List SpanEdges) → HasMeasured levels ends [] meter.old
+        → HasMeasured levels ends (samples block.old.run schedule.now clocks) meter.new }
+    ensures steps { steps.new ≤ steps.old + clocks }
+    ensures stirring { steps.new ≤ steps.old + stirring block.old.run schedule.now clocks + 1 }
+{
+    match simulate(block, schedule, clocks, meter, steps) {
+        Ok(()) => {}
+        Err(TraceFailed) => unreachable!(),
+    }
+}

@@ -1,0 +1,128 @@
+//! The command `recheck`: whether the table of a file proves a span, without deriving one.
+ghost use Rattle.std.specs.Prelude.{◌≡◌, ℕ, IfSome, IsSome, List, MatchOption, None, Option, option_map, slice_index_or};
+ghost use Rattle.command_line.specs.Words.{recheck as recheck_asked};
+ghost use Rattle.table_files.specs.FlawLines.{rechecked_line};
+ghost use Rattle.span_check.specs.Proved.{HoldsInEveryRun};
+ghost use Rattle.span_verdict.specs.Sharing.{IsUnshared};
+ghost use Rattle.stages.specs.Judged.{right, span_at};
+ghost use Rattle.commands.specs.Needs.{HasFlaw, IsProvedBy};
+ghost use Rattle.commands.specs.Outside.{call_by, output_by};
+ghost use Rattle.commands.specs.Promise.{CommandEnds};
+ghost use Rattle.commands.specs.Written.{SinkWrites};
+ghost use Rattle.commands.specs.Tables.{TellsRecheck};
+
+use crate::handing::hand_on;
+use crate::span_fault::{flawed, unproved};
+use fault_lines::Fault;
+use pin_matrix::{Setup, Span};
+use pio_edge::{Shelf, Sink};
+use pio_encode::Name;
+use span_bounds::Table;
+use span_check::a_provable_span_holds_in_every_run;
+use span_verdict::{Flaw, flaw, shared_by};
+use stages::{fetch_table, prepare_setup, span_named};
+use std::alloc::Global;
+use table_files::put_rechecked;
+use verdict_lines::Refusal;
+
+/// Writes that the table of a file proves the first span of this name, where it does; else nothing. All memory is taken before
+/// the first piece is put.
+pub fn recheck<F: Shelf, O: Sink>(
+    alloc: Global,
+    source: &str,
+    config: Option<&str>,
+    name: &str,
+    table: &str,
+    shelf: &mut F,
+    out: &mut O,
+) -> Result<(), Fault>
+    ensures ends { CommandEnds (recheck_asked source.now (option_map (λ t. t.now) config.entry) name.now table.now)
+        (call_by F.holds F.faults O.taken O.waiting O.faults shelf.old shelf.new out.old out.new) result }
+    ensures same { F.holds shelf.new ≡ F.holds shelf.old }
+{
+    let setup = prepare_setup(alloc, shelf, source, config)?;
+    match span_named(&setup, name) {
+        Some(span) => recheck_span(alloc, &setup, span, table, shelf, out),
+        None => Err(Fault::NoSpan),
+    }
+}
+
+/// Reads a table file, and writes that its table proves a span, whose machine is configured, where it does.
+fn recheck_span<F: Shelf, O: Sink>(
+    alloc: Global,
+    setup: &Setup,
+    span: &Span,
+    table: &str,
+    shelf: &mut F,
+    out: &mut O,
+) -> Result<(), Fault>
+    requires { IsSome (slice_index_or setup.now.machines span.now.machine None) }
+    ensures ends { (source : List ℕ) (config : Option (List ℕ)) (name : List ℕ)
+        → IfSome (F.holds shelf.old) (λ files. span_at files source config name ≡ right (setup.now, span.now))
+        → CommandEnds (recheck_asked source config name table.now)
+        (call_by F.holds F.faults O.taken O.waiting O.faults shelf.old shelf.new out.old out.new) result }
+    ensures same { F.holds shelf.new ≡ F.holds shelf.old }
+{
+    let rows = fetch_table(alloc, shelf, table)?;
+    tell_recheck(alloc, setup, span, &rows, out)
+}
+
+/// Writes that a table proves a span, whose machine is configured, where it does.
+fn tell_recheck<O: Sink>(
+    alloc: Global,
+    setup: &Setup,
+    span: &Span,
+    table: &Table,
+    out: &mut O,
+) -> Result<(), Fault>
+    requires { IsSome (slice_index_or setup.now.machines span.now.machine None) }
+    ensures { TellsRecheck setup.now span.now table.now
+        (output_by O.taken O.waiting O.faults out.old) (output_by O.taken O.waiting O.faults out.new) result }
+{
+    match shared_by(setup, span) {
+        Some(machine) => Err(unproved(alloc, span, Refusal::Shared(machine))),
+        None => tell_flaw(alloc, setup, span, table, out),
+    }
+}
+
+/// The same of a span of which no other machine may write a pin.
+fn tell_flaw<O: Sink>(
+    alloc: Global,
+    setup: &Setup,
+    span: &Span,
+    table: &Table,
+    out: &mut O,
+) -> Result<(), Fault>
+    requires configured { IsSome (slice_index_or setup.now.machines span.now.machine None) }
+    requires alone { IsUnshared setup.now span.now }
+    ensures { TellsRecheck setup.now span.now table.now
+        (output_by O.taken O.waiting O.faults out.old) (output_by O.taken O.waiting O.faults out.new) result }
+{
+    match first_flaw(setup, span, table) {
+        Some(found) => Err(flawed(alloc, span, found)),
+        None => write_rechecked(out, &span.name),
+    }
+}
+
+/// What is wrong with a table first. Where nothing is, it proves the span, so the span holds in every run.
+fn first_flaw(setup: &Setup, span: &Span, table: &Table) -> Option<Flaw>
+    requires configured { IsSome (slice_index_or setup.now.machines span.now.machine None) }
+    requires alone { IsUnshared setup.now span.now }
+    ensures { MatchOption result (IsProvedBy setup.now span.now table.now × HoldsInEveryRun setup.now span.now)
+        (λ found. HasFlaw setup.now span.now table.now found) }
+{
+    a_provable_span_holds_in_every_run();
+    match flaw(table, setup, span) {
+        Some(found) => Some(found),
+        None => None,
+    }
+}
+
+/// Writes that a table proves the span with this name, and hands on what the output still keeps.
+fn write_rechecked<O: Sink>(out: &mut O, name: &Name) -> Result<(), Fault>
+    ensures { SinkWrites O.taken O.waiting O.faults out.old out.new
+        (rechecked_line name.now) result }
+{
+    let put = put_rechecked(out, name);
+    hand_on(out, put)
+}

@@ -1,0 +1,136 @@
+//! The command `run`: the trace of the first clocks of a block that a source and a configuration set up, beside a stimulus.
+ghost use Rattle.std.specs.Prelude.{◌≡◌, ◌+◌, ◌≤◌, ◌^◌, false, option_map};
+ghost use Rattle.block_core.specs.Block.{first_run};
+ghost use Rattle.block_core.specs.Stirring.{stirring};
+ghost use Rattle.command_line.specs.Words.{run as run_asked};
+ghost use Rattle.pio_edge.specs.Edge.{PutCounts, Takes};
+ghost use Rattle.commands.specs.Tasks.{trace_text};
+ghost use Rattle.commands.specs.Outside.{call_by};
+ghost use Rattle.commands.specs.Promise.{CommandEnds};
+ghost use Rattle.commands.specs.Worked.{most_worked};
+ghost use Rattle.commands.specs.Written.{SinkWrites};
+
+use crate::handing::hand_on;
+use block_core::Block;
+use command_line::RunFiles;
+use dreq_pacing::Schedule;
+use fault_lines::Fault;
+use fifo_pair::RingFifo;
+use idle_engine::{a_stopped_run_leaves_a_first_part, simulate};
+use pin_matrix::Setup;
+use pio_edge::{Shelf, Sink, SinkFailed};
+use stages::{ask_spans, prepare};
+use std::alloc::Global;
+use std::sync::ledger::Ledger;
+use step_count::Steps;
+use vcd_trace::{TraceFailed, VcdTrace, failing_early_leaves_a_first_part};
+
+/// Writes the trace of so many clocks of the block that a source sets up, by a configuration or by default, beside a
+/// stimulus where one is named. Each span of the block has to be provable; the first one that isn't ends the run, and nothing
+/// is written. All memory is taken before the first piece is put.
+#[tactic(auto, unfolding(crate::specs::Tasks::judge), using(crate::proofs::Working::worked_by))]
+pub fn run<F: Shelf, O: Sink, L: Ledger>(
+    alloc: Global,
+    files: RunFiles,
+    clocks: u64,
+    shelf: &mut F,
+    out: &mut O,
+    steps: &mut Steps<L>,
+) -> Result<(), Fault>
+    requires { clocks ≤ 10 ^ 12 }
+    ensures ends { CommandEnds
+        (run_asked files.entry.source.now (option_map (λ t. t.now) files.entry.config) (option_map (λ t. t.now) files.entry.stimulus) clocks)
+        (call_by F.holds F.faults O.taken O.waiting O.faults shelf.old shelf.new out.old out.new) result }
+    ensures same { F.holds shelf.new ≡ F.holds shelf.old }
+    ensures steps { steps.new ≤ steps.old + clocks }
+    ensures worked { steps.new ≤ steps.old + most_worked (F.holds shelf.old)
+        (run_asked files.entry.source.now (option_map (λ t. t.now) files.entry.config) (option_map (λ t. t.now) files.entry.stimulus) clocks) }
+{
+    let (setup, schedule) = prepare(alloc, shelf, files)?;
+    ask_spans(alloc, &setup)?;
+    write_run(alloc, &setup, &schedule, clocks, out, steps)
+}
+
+/// Writes the text of so many clocks from a setup, or answers want of memory before it has put anything.
+fn write_run<O: Sink, L: Ledger>(
+    alloc: Global,
+    setup: &Setup,
+    schedule: &Schedule,
+    clocks: u64,
+    out: &mut O,
+    steps: &mut Steps<L>,
+) -> Result<(), Fault>
+    requires { clocks ≤ 10 ^ 12 }
+    ensures ends { SinkWrites O.taken O.waiting O.faults out.old out.new
+        (trace_text (first_run setup.now) schedule.now clocks) result }
+    ensures steps { steps.new ≤ steps.old + clocks }
+    ensures stirring { steps.new ≤ steps.old + stirring (first_run setup.now) schedule.now clocks + 1 }
+{
+    let mut block = Block::<RingFifo>::new(alloc, setup)?;
+    write_trace(&mut block, schedule, clocks, out, steps)
+}
+
+/// Writes the text of so many clocks, and hands on what the output still keeps.
+fn write_trace<O: Sink, L: Ledger>(
+    block: &mut Block<RingFifo>,
+    schedule: &Schedule,
+    clocks: u64,
+    out: &mut O,
+    steps: &mut Steps<L>,
+) -> Result<(), Fault>
+    requires fresh { block.old.run.clock ≡ 0 }
+    requires within { clocks ≤ 10 ^ 12 }
+    ensures ends { SinkWrites O.taken O.waiting O.faults out.old out.new
+        (trace_text block.old.run schedule.now clocks) result }
+    ensures steps { steps.new ≤ steps.old + clocks }
+    ensures stirring { steps.new ≤ steps.old + stirring block.old.run schedule.now clocks + 1 }
+{
+    let put = put_trace(block, schedule, clocks, out, steps);
+    hand_on(out, put)
+}
+
+/// Puts the text of so many clocks.
+fn put_trace<O: Sink, L: Ledger>(
+    block: &mut Block<RingFifo>,
+    schedule: &Schedule,
+    clocks: u64,
+    out: &mut O,
+    steps: &mut Steps<L>,
+) -> Result<(), SinkFailed>
+    requires fresh { block.old.run.clock ≡ 0 }
+    requires within { clocks ≤ 10 ^ 12 }
+    ensures bytes { Takes (O.taken out.old) (trace_text block.old.run schedule.now clocks) (O.taken out.new) result }
+    ensures cause { PutCounts (O.faults out.old) (O.faults out.new) result }
+    ensures steps { steps.new ≤ steps.old + clocks }
+    ensures stirring { steps.new ≤ steps.old + stirring block.old.run schedule.now clocks + 1 }
+{
+    let mut trace = VcdTrace::new(out);
+    trace_run(block, schedule, clocks, &mut trace, steps)
+}
+
+/// Tells a trace so many clocks.
+#[tactic(auto, unfolding(crate::specs::Tasks::trace_text))]
+fn trace_run<O: Sink, L: Ledger>(
+    block: &mut Block<RingFifo>,
+    schedule: &Schedule,
+    clocks: u64,
+    trace: &mut VcdTrace<'_, O>,
+    steps: &mut Steps<L>,
+) -> Result<(), SinkFailed>
+    requires fresh { block.old.run.clock ≡ 0 }
+    requires within { clocks ≤ 10 ^ 12 }
+    requires working { trace.old.failed ≡ false }
+    ensures bytes { Takes (O.taken trace.old.sink.now) (trace_text block.old.run schedule.now clocks)
+        (O.taken trace.new.sink.now) result }
+    ensures cause { PutCounts (O.faults trace.old.sink.now) (O.faults trace.new.sink.now) result }
+    ensures same { trace.new.sink.ghost_name ≡ trace.old.sink.ghost_name }
+    ensures steps { steps.new ≤ steps.old + clocks }
+    ensures stirring { steps.new ≤ steps.old + stirring block.old.run schedule.now clocks + 1 }
+{
+    a_stopped_run_leaves_a_first_part();
+    failing_early_leaves_a_first_part();
+    match simulate(block, schedule, clocks, trace, steps) {
+        Ok(()) => Ok(()),
+        Err(TraceFailed) => Err(SinkFailed),
+    }
+}

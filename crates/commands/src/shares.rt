@@ -1,0 +1,42 @@
+//! The command `shares`: the report on the block that a source and a configuration set up.
+ghost use Rattle.std.specs.Prelude.{◌≡◌, option_map};
+ghost use Rattle.block_shares.specs.Report.{shares_text};
+ghost use Rattle.command_line.specs.Words.{shares as shares_asked};
+ghost use Rattle.commands.specs.Outside.{call_by};
+ghost use Rattle.commands.specs.Promise.{CommandEnds};
+ghost use Rattle.commands.specs.Written.{SinkWrites};
+
+use crate::handing::hand_on;
+use block_shares::put_shares;
+use fault_lines::Fault;
+use pin_matrix::Setup;
+use pio_edge::{Shelf, Sink};
+use stages::prepare_setup;
+use std::alloc::Global;
+
+/// Writes the report on what the machines of a setup share, by a configuration or by default. No span is asked. All memory is
+/// taken before the first piece is put.
+#[tactic(auto, unfolding(crate::specs::Tasks::judge))]
+pub fn shares<F: Shelf, O: Sink>(
+    alloc: Global,
+    source: &str,
+    config: Option<&str>,
+    shelf: &mut F,
+    out: &mut O,
+) -> Result<(), Fault>
+    ensures ends { CommandEnds (shares_asked source.now (option_map (λ t. t.now) config.entry))
+        (call_by F.holds F.faults O.taken O.waiting O.faults shelf.old shelf.new out.old out.new) result }
+    ensures same { F.holds shelf.new ≡ F.holds shelf.old }
+{
+    let setup = prepare_setup(alloc, shelf, source, config)?;
+    write_shares(out, &setup)
+}
+
+/// Writes the report on a setup, and hands on what the output still keeps.
+fn write_shares<O: Sink>(out: &mut O, setup: &Setup) -> Result<(), Fault>
+    ensures { SinkWrites O.taken O.waiting O.faults out.old out.new
+        (shares_text setup.now) result }
+{
+    let put = put_shares(out, setup);
+    hand_on(out, put)
+}

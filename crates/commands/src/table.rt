@@ -1,0 +1,89 @@
+//! The command `table`: the table that proves a span, as a text that anyone can recheck.
+ghost use Rattle.std.specs.Prelude.{◌≡◌, IfOk, IsSome, None, option_map, slice_index_or};
+ghost use Rattle.command_line.specs.Words.{table as table_asked};
+ghost use Rattle.table_files.specs.Rows.{table_text};
+ghost use Rattle.commands.specs.Outside.{call_by, output_by};
+ghost use Rattle.commands.specs.Promise.{CommandEnds};
+ghost use Rattle.commands.specs.Written.{SinkWrites};
+ghost use Rattle.commands.specs.Tables as spec;
+ghost use Rattle.commands.specs.Tables.{IsTableVerdict, TellsTable};
+
+use crate::handing::hand_on;
+use crate::span_fault::unproved;
+use fault_lines::Fault;
+use pin_matrix::{Setup, Span};
+use pio_edge::{Shelf, Sink};
+use span_bounds::Table;
+use span_check::check;
+use span_verdict::Verdict;
+use stages::{prepare_setup, span_named};
+use std::alloc::{AllocError, Global};
+use table_files::put_table;
+use verdict_lines::Refusal;
+
+/// Writes the table of the first span of this name, the least closed one, where the span is provable; else nothing. All memory is
+/// taken before the first piece is put.
+pub fn table<F: Shelf, O: Sink>(
+    alloc: Global,
+    source: &str,
+    config: Option<&str>,
+    name: &str,
+    shelf: &mut F,
+    out: &mut O,
+) -> Result<(), Fault>
+    ensures ends { CommandEnds (table_asked source.now (option_map (λ t. t.now) config.entry) name.now)
+        (call_by F.holds F.faults O.taken O.waiting O.faults shelf.old shelf.new out.old out.new) result }
+    ensures same { F.holds shelf.new ≡ F.holds shelf.old }
+{
+    let setup = prepare_setup(alloc, shelf, source, config)?;
+    match span_named(&setup, name) {
+        Some(span) => tell_table(alloc, &setup, span, out),
+        None => Err(Fault::NoSpan),
+    }
+}
+
+/// Writes the table of a span, whose machine is configured, where it is provable.
+fn tell_table<O: Sink>(alloc: Global, setup: &Setup, span: &Span, out: &mut O) -> Result<(), Fault>
+    requires { IsSome (slice_index_or setup.now.machines span.now.machine None) }
+    ensures { TellsTable setup.now span.now
+        (output_by O.taken O.waiting O.faults out.old) (output_by O.taken O.waiting O.faults out.new) result }
+{
+    let found = found_table(alloc, setup, span)?;
+    match found {
+        Ok(table) => write_table(out, &table),
+        Err(refusal) => Err(unproved(alloc, span, refusal)),
+    }
+}
+
+/// The table of a span, whose machine is configured, or why it isn't provable. The error is want of memory.
+fn found_table(
+    alloc: Global,
+    setup: &Setup,
+    span: &Span,
+) -> Result<Result<Table, Refusal>, AllocError>
+    requires { IsSome (slice_index_or setup.now.machines span.now.machine None) }
+    ensures { IfOk result (λ found. IsTableVerdict setup.now span.now found) }
+{
+    let verdict = check(alloc, setup, span)?;
+    Ok(table_or(verdict))
+}
+
+/// The table of a verdict that is proved, or why it isn't.
+fn table_or(verdict: Verdict) -> Result<Table, Refusal>
+    ensures { result ≡ spec.table_or verdict }
+{
+    match verdict {
+        Verdict::Proved { table, .. } => Ok(table),
+        Verdict::Unproved(context, cause) => Err(Refusal::Unproved(context, cause)),
+        Verdict::Shared(machine) => Err(Refusal::Shared(machine)),
+    }
+}
+
+/// Writes the text of a table, and hands on what the output still keeps.
+fn write_table<O: Sink>(out: &mut O, table: &Table) -> Result<(), Fault>
+    ensures { SinkWrites O.taken O.waiting O.faults out.old out.new
+        (table_text table.now) result }
+{
+    let put = put_table(out, table);
+    hand_on(out, put)
+}

@@ -1,0 +1,97 @@
+//! The command `uart`: what the proved transmitter sends of a file's bytes in the first clocks of a run.
+ghost use Rattle.std.specs.Prelude.{◌≡◌, ◌+◌, ◌≤◌, ◌^◌, ℕ, List};
+ghost use Rattle.block_core.specs.Block.{first_run};
+ghost use Rattle.block_core.specs.Stirring.{stirring};
+ghost use Rattle.commands.specs.Outside.{call_by};
+ghost use Rattle.commands.specs.Promise.{CommandEnds};
+ghost use Rattle.commands.specs.Tasks.{sent_text};
+ghost use Rattle.commands.specs.Worked.{most_worked};
+ghost use Rattle.commands.specs.Written.{SinkWrites};
+ghost use Rattle.command_line.specs.Words.{uart as uart_asked};
+ghost use Rattle.pio_uart.specs.Feeding.{fed};
+ghost use Rattle.pio_uart.specs.OneSetup.{transmitter_of};
+
+use crate::laws::a_transmitter_sends_this_text;
+use crate::receive::write_received;
+use command_line::SerialLine;
+use dreq_pacing::Schedule;
+use fault_lines::{Fault, File};
+use pio_edge::{Shelf, Sink};
+use pio_uart::{feed, uart_setup};
+use stages::fetch_file;
+use std::alloc::Global;
+use std::sync::ledger::Ledger;
+use step_count::Steps;
+
+/// Writes a line for each byte of a file that the transmitter sends in so many clocks, with a tick every `divider` clocks, 1 to 8,191.
+/// All memory is taken before the first piece is put.
+#[tactic(auto, unfolding(crate::specs::Tasks::judge), using(crate::proofs::Working::sent_by))]
+pub fn uart<F: Shelf, O: Sink, L: Ledger>(
+    alloc: Global,
+    send: &str,
+    divider: u16,
+    clocks: u64,
+    shelf: &mut F,
+    out: &mut O,
+    steps: &mut Steps<L>,
+) -> Result<(), Fault>
+    requires within { clocks ≤ 10 ^ 12 }
+    requires some { 1 ≤ divider }
+    requires most { divider ≤ 8191 }
+    ensures ends { CommandEnds (uart_asked send.now divider clocks)
+        (call_by F.holds F.faults O.taken O.waiting O.faults shelf.old shelf.new out.old out.new) result }
+    ensures same { F.holds shelf.new ≡ F.holds shelf.old }
+    ensures steps { steps.new ≤ steps.old + clocks }
+    ensures worked { steps.new ≤ steps.old + most_worked (F.holds shelf.old) (uart_asked send.now divider clocks) }
+{
+    let bytes = fetch_file(alloc, shelf, File::Send, send)?;
+    send_bytes(alloc, &bytes, divider, clocks, out, steps)
+}
+
+/// Writes a line for each of some bytes that the transmitter sends, or answers want of memory before it has put anything.
+fn send_bytes<O: Sink, L: Ledger>(
+    alloc: Global,
+    bytes: &[u8],
+    divider: u16,
+    clocks: u64,
+    out: &mut O,
+    steps: &mut Steps<L>,
+) -> Result<(), Fault>
+    requires within { clocks ≤ 10 ^ 12 }
+    requires some { 1 ≤ divider }
+    requires most { divider ≤ 8191 }
+    ensures ends { SinkWrites O.taken O.waiting O.faults out.old out.new
+        (sent_text divider bytes.now clocks) result }
+    ensures steps { steps.new ≤ steps.old + clocks }
+    ensures stirring { steps.new ≤ steps.old + stirring (first_run (transmitter_of divider)) (fed bytes.now) clocks + 1 }
+{
+    let schedule = feed(alloc, bytes)?;
+    write_sent(alloc, &schedule, divider, clocks, out, steps)
+}
+
+/// Writes a line for each byte that the transmitter sends beside this feed, or answers want of memory before it has put anything.
+fn write_sent<O: Sink, L: Ledger>(
+    alloc: Global,
+    schedule: &Schedule,
+    divider: u16,
+    clocks: u64,
+    out: &mut O,
+    steps: &mut Steps<L>,
+) -> Result<(), Fault>
+    requires within { clocks ≤ 10 ^ 12 }
+    requires some { 1 ≤ divider }
+    requires most { divider ≤ 8191 }
+    ensures ends { (bytes : List ℕ) → schedule.now ≡ fed bytes
+        → SinkWrites O.taken O.waiting O.faults out.old out.new
+        (sent_text divider bytes clocks) result }
+    ensures steps { steps.new ≤ steps.old + clocks }
+    ensures stirring { steps.new ≤ steps.old + stirring (first_run (transmitter_of divider)) schedule.now clocks + 1 }
+{
+    a_transmitter_sends_this_text();
+    let setup = uart_setup(alloc, divider);
+    let line = SerialLine {
+        pin: 0,
+        bit: 8 * divider,
+    };
+    write_received(alloc, &setup, schedule, clocks, line, out, steps)
+}

@@ -1,4 +1,0 @@
-pub mod Configured
-pub mod Parts
-pub mod Preparing
-pub mod Pairing

@@ -1,4 +1,0 @@
-pub mod Configured
-pub mod Named
-pub mod Spans
-pub mod Pairs

@@ -1,0 +1,7 @@
+pub mod Judging
+pub mod Naming
+pub mod Paired
+pub mod Configured
+pub mod Pairing
+pub mod Parts
+pub mod Preparing

@@ -1,0 +1,59 @@
+-- A stage that reads a part of what another one reads: what it fails with, the whole fails with.
+use Rattle.std.proofs.Common.{◌≡◌, ℕ, true, Option, Some, None, IfSome, subst}
+use Rattle.pio_edge.specs.Count.{Faults, failed_at}
+use Rattle.pio_edge.specs.Edge.{Files}
+use Rattle.fault_lines.specs.declared.fault.File.{File}
+use Rattle.fault_lines.specs.declared.fault.Fault.{Fault}
+use Rattle.fault_lines.specs.declared.fault.Fault.TheVariants as fault
+use Rattle.stages.specs.Judged.{wrong}
+use Rattle.stages.specs.Stages.{HasSuch, Plan, ReadFails, shelved}
+
+-- of told files, what follows from one thing
+pub told : (files : Option Files) (P R : Files → Type 0) → ((f : Files) → P f → R f) → IfSome files P → IfSome files R
+told None P R so p = tt
+told (Some f) P R so p = so f p
+
+-- and from two
+pub both_told : (files : Option Files) (P Q R : Files → Type 0) → ((f : Files) → P f → Q f → R f) → IfSome files P → IfSome files Q → IfSome files R
+both_told None P Q R so p q = tt
+both_told (Some f) P Q R so p q = so f p q
+
+-- what is so of all files is so of the told ones
+pub of_all : (files : Option Files) (R : Files → Type 0) → ((f : Files) → R f) → IfSome files R
+of_all None R so = tt
+of_all (Some f) R so = so f
+
+-- Each file of the part is the whole's file of the same role, to which it comes, and a fault of the part's files is the whole's.
+pub record IsPart {X Y : Type 0} (files : Option Files) (part : Plan X) (whole : Plan Y) : Type 0 where
+  pub named : (role : File) (before after : Faults) → HasSuch (part.file_in role) (λ name. after ≡ failed_at name before)
+      → HasSuch (whole.file_in role) (λ name. after ≡ failed_at name before)
+  pub reached : (role : File) (before after : Faults) → HasSuch (part.file_in role) (λ name. after ≡ failed_at name before)
+      → IfSome files (λ f. whole.reaches f role ≡ true)
+  pub faults : (e : Fault) → IfSome files (λ f. part.comes_to f ≡ wrong e) → IfSome files (λ f. whole.comes_to f ≡ wrong e)
+
+part_fails : {X Y : Type 0} (files : Option Files) (before after : Faults) (part : Plan X) (whole : Plan Y) (e : Fault)
+    → IsPart files part whole → ReadFails (shelved files before after) part e → ReadFails (shelved files before after) whole e
+part_fails files before after part whole (fault.Shelf role) is h = (is.named role before after h.0, is.reached role before after h.0)
+part_fails files before after part whole fault.Memory is h = h
+part_fails files before after part whole fault.Usage is h = absurd h
+part_fails files before after part whole fault.Out is h = absurd h
+part_fails files before after part whole (fault.Unproved name refusal) is h = absurd h
+part_fails files before after part whole (fault.SecondUnproved name refusal) is h = absurd h
+part_fails files before after part whole (fault.Flaw name flaw) is h = absurd h
+part_fails files before after part whole (fault.TooLong role) is h = (h.0, is.faults (fault.TooLong role) h.1)
+part_fails files before after part whole (fault.Words line kind) is h = (h.0, is.faults (fault.Words line kind) h.1)
+part_fails files before after part whole (fault.Source line kind) is h = (h.0, is.faults (fault.Source line kind) h.1)
+part_fails files before after part whole (fault.Config key kind) is h = (h.0, is.faults (fault.Config key kind) h.1)
+part_fails files before after part whole (fault.Second key kind) is h = (h.0, is.faults (fault.Second key kind) h.1)
+part_fails files before after part whole (fault.Stim line kind) is h = (h.0, is.faults (fault.Stim line kind) h.1)
+part_fails files before after part whole (fault.Table line kind) is h = (h.0, is.faults (fault.Table line kind) h.1)
+part_fails files before after part whole fault.NoSpan is h = (h.0, is.faults fault.NoSpan h.1)
+
+-- where the shelf before the part is told by equations
+pub fails : {X Y : Type 0} (files mid_files : Option Files) (before mid after : Faults) (part : Plan X) (whole : Plan Y) (e : Fault)
+    → mid_files ≡ files → mid ≡ before → IsPart files part whole → ReadFails (shelved mid_files mid after) part e
+    → ReadFails (shelved files before after) whole e
+fails files mid_files before mid after part whole e same quiet is h =
+    let there = subst (λ (fs : Option Files). ReadFails (shelved fs mid after) part e) same h in
+    let here = subst (λ (m : Faults). ReadFails (shelved files m after) part e) quiet there in
+    part_fails files before after part whole e is here

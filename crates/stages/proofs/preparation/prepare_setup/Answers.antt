@@ -1,0 +1,20 @@
+use Rattle.std.proofs.Common.{None, map, option_map, refl}
+use Rattle.std.proofs.lemmas.Result.{err_from_is_err_and}
+use Rattle.pio_assemble.specs.Program.{assembled_of}
+use Rattle.stages.proofs.Parts.{fails}
+use Rattle.stages.proofs.Preparing.{source_part, setup_part}
+use Rattle.stages.proofs.preparation.prepare_setup.Goals as goal
+
+pub returns-in_err-programs-clause-stage : goal.returns-in_err-programs-clause-stage
+returns-in_err-programs-clause-stage g c =
+    let p = err_from_is_err_and c.from_residual.result c.from_residual.ensures.1 in
+    let part = source_part _ c.args.source.now (option_map (λ t. t.now) c.args.config) None in
+    rw (p.1, p.2) (fails _ _ _ _ _ _ _ _ refl refl part c.in_err-programs.ensures.stage)
+
+pub returns-in_err-setup-clause-stage : goal.returns-in_err-setup-clause-stage
+returns-in_err-setup-clause-stage g c =
+    let p = err_from_is_err_and c.from_residual-in_err-setup.result c.from_residual-in_err-setup.ensures.1 in
+    let part = setup_part _ c.args.source.now (option_map (λ t. t.now) c.args.config) None
+    (map assembled_of c.in_ok-programs.programs.items) c.in_ok-programs.ensures.stage.1 in
+    rw (p.1, p.2) (fails _ _ _ _ _ _ _ _ c.in_ok-programs.ensures.same c.in_ok-programs.ensures.stage.0 part
+    (rw c.deref.ensures.value at c.in_err-setup.ensures.stage))

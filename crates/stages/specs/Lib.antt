@@ -1,0 +1,7 @@
+pub mod Configured
+pub mod Named
+pub mod Spans
+pub mod Pairs
+pub mod Judged
+pub mod Roles
+pub mod Stages

@@ -1,0 +1,32 @@
+-- What is said of the spans of two blocks on one set of pins.
+--   AllHoldInPairs   each span of both holds in every run of both
+--   AreBothAsked     how a command ends that asks the spans of both
+use Rattle.std.specs.Prelude.{ℕ, List, Result, Ok, Err}
+use Rattle.std.specs.List.{AllByRecursion}
+use Rattle.pin_matrix.specs.declared.setup.Setup.{Setup}
+use Rattle.dreq_pacing.specs.declared.line.Line.{Line}
+use Rattle.span_check.specs.Pairs.{HoldsInFirst, HoldsInSecond}
+use Rattle.fault_lines.specs.declared.fault.Fault.{Fault}
+use Rattle.fault_lines.specs.declared.fault.Fault.TheVariants as fault
+use Rattle.stages.specs.Spans.{AreProvable, IsFirstRefused}
+
+-- Each span of both holds in every run of both: whichever pins the second owns, and whatever the stimuli and the length.
+pub record AllHoldInPairs (s t : Setup) : Type 0 where
+  pub first : (own : ℕ) (lines others : List Line) (n : ℕ) → AllByRecursion (λ sp. HoldsInFirst sp own s t lines others n) s.spans
+  pub second : (own : ℕ) (lines others : List Line) (n : ℕ) → AllByRecursion (λ sp. HoldsInSecond sp own s t lines others n) t.spans
+
+-- how a command ends that asks the spans of the second block: each is provable, or the first one that isn't is told
+abbrev pub AreSecondAsked : Setup → Result (Unit {0}) Fault → Type 0
+AreSecondAsked t (Ok done) = AreProvable t
+AreSecondAsked t (Err (fault.SecondUnproved name refusal)) = IsFirstRefused t t.spans name refusal
+AreSecondAsked t (Err fault.Memory) = Unit {0}
+AreSecondAsked t (Err e) = ⊥
+
+-- How a command ends that asks the spans of both: each is provable and holds in every run of both, or the first one that isn't is
+-- told. Those of the first block come first.
+abbrev pub AreBothAsked : (s t : Setup) → Result (Unit {0}) Fault → Type 0
+AreBothAsked s t (Ok done) = (AreProvable s × AreProvable t) × AllHoldInPairs s t
+AreBothAsked s t (Err (fault.Unproved name refusal)) = IsFirstRefused s s.spans name refusal
+AreBothAsked s t (Err (fault.SecondUnproved name refusal)) = AreProvable s × IsFirstRefused t t.spans name refusal
+AreBothAsked s t (Err fault.Memory) = Unit {0}
+AreBothAsked s t (Err e) = ⊥

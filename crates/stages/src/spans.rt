@@ -1,0 +1,122 @@
+//! The verdicts on the spans of a setup.
+ghost use Rattle.std.specs.Prelude.{◌≡◌, ◌≢◌, ◌++◌, ◌∷◌, [], IfOk, IsSome, None, Err, slice_index_or};
+ghost use Rattle.stages.specs.Spans.{AreAsked, AreJudged, IsFirstOf, IsNextVerdict, IsVerdictOn};
+ghost use Rattle.stages.specs.Configured.{AreConfigured};
+ghost use Rattle.stages.specs.Spans as spec;
+
+use fault_lines::Fault;
+use pin_matrix::{Setup, Span};
+use pio_encode::Name;
+use span_check::{a_provable_span_holds_in_every_run, check};
+use std::alloc::{AllocError, Global};
+use verdict_lines::{Refusal, found_by};
+
+/// The verdicts on all spans of a setup, in order; and the name of the first one that isn't provable, and why.
+#[derive(Drop)]
+pub struct Verdicts {
+    pub found: Vec<Result<bool, Refusal>>,
+    pub refused: Option<(Name, Refusal)>,
+}
+
+/// Asks that each span be provable; then each holds in every run. The machines of the spans are configured. The fault is that of
+/// the first span that isn't provable, or want of memory.
+pub fn ask_spans(alloc: Global, setup: &Setup) -> Result<(), Fault>
+    requires { AreConfigured setup.now }
+    ensures { AreAsked setup.now result }
+{
+    let verdicts = judge_spans(alloc, setup)?;
+    refuse(setup, verdicts.refused)
+}
+
+/// Ends with the fault of the first span that isn't provable, where there is one. Else each holds in every run.
+pub fn refuse(setup: &Setup, refused: Option<(Name, Refusal)>) -> Result<(), Fault>
+    requires configured { AreConfigured setup.now }
+    requires first { IsFirstOf setup.now setup.now.spans refused }
+    ensures asked { AreAsked setup.now result }
+    ensures memory { result ≢ Err Fault.Memory }
+{
+    a_provable_span_holds_in_every_run();
+    match refused {
+        Some((name, refusal)) => Err(Fault::Unproved(name, refusal)),
+        None => Ok(()),
+    }
+}
+
+/// The verdicts on the spans of a setup, whose machines are configured. Room for all is made first, and each table is
+/// dropped as it comes. The error is want of memory.
+pub fn judge_spans(alloc: Global, setup: &Setup) -> Result<Verdicts, AllocError>
+    requires { AreConfigured setup.now }
+    ensures { IfOk result (λ verdicts. AreJudged setup.now setup.now.spans verdicts.found.items verdicts.refused) }
+{
+    let spans = setup.spans.as_slice();
+    let mut verdicts = Verdicts {
+        found: Vec::with_capacity(alloc, spans.len())?,
+        refused: None,
+    };
+    for place in 0..spans.len() {
+        judge_next(alloc, setup, &spans[place], &mut verdicts)?;
+    }
+    Ok(verdicts)
+}
+
+/// Adds the verdict on a span, whose machine is configured. The error is want of memory.
+fn judge_next(
+    alloc: Global,
+    setup: &Setup,
+    span: &Span,
+    verdicts: &mut Verdicts,
+) -> Result<(), AllocError>
+    requires { IsSome (slice_index_or setup.now.machines span.now.machine None) }
+    ensures { IfOk result (λ _. IsNextVerdict setup.now span.now verdicts.old.found.items verdicts.new.found.items
+        verdicts.old.refused verdicts.new.refused) }
+{
+    let found = judge_span(alloc, setup, span)?;
+    note_refusal(alloc, span, &found, &mut verdicts.refused)?;
+    keep(&mut verdicts.found, found)
+}
+
+/// Adds a verdict to those that are found. The error is want of memory.
+fn keep(
+    verdicts: &mut Vec<Result<bool, Refusal>>,
+    found: Result<bool, Refusal>,
+) -> Result<(), AllocError>
+    ensures { IfOk result (λ _. verdicts.new.items ≡ verdicts.old.items ++ found ∷ []) }
+{
+    verdicts.push(found)?;
+    Ok(())
+}
+
+/// The verdict on a span, whose machine is configured, without its table. The error is want of memory.
+fn judge_span(
+    alloc: Global,
+    setup: &Setup,
+    span: &Span,
+) -> Result<Result<bool, Refusal>, AllocError>
+    requires { IsSome (slice_index_or setup.now.machines span.now.machine None) }
+    ensures { IfOk result (λ found. IsVerdictOn setup.now span.now found) }
+{
+    let verdict = check(alloc, setup, span)?;
+    Ok(found_by(verdict))
+}
+
+/// Keeps the refusal that came before, else takes that of this span, if it isn't proved. The error is want of memory.
+fn note_refusal(
+    alloc: Global,
+    span: &Span,
+    found: &Result<bool, Refusal>,
+    refused: &mut Option<(Name, Refusal)>,
+) -> Result<(), AllocError>
+    ensures { IfOk result (λ _. refused.new ≡ spec.first_refused refused.old span.now.name found.now) }
+{
+    if refused.is_some() {
+        return Ok(());
+    }
+    match found {
+        Ok(_) => Ok(()),
+        Err(refusal) => {
+            let text = String::from_str(alloc, span.name.as_str())?;
+            *refused = Some((Name::new(text), *refusal));
+            Ok(())
+        }
+    }
+}

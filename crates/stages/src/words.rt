@@ -1,0 +1,28 @@
+//! From the name of a file of words to its words.
+ghost use Rattle.std.specs.Prelude.{◌≡◌};
+ghost use Rattle.stages.specs.Stages.{Reads, shelved, words_plan};
+
+use crate::fetch::fetch_file;
+use arrayvec::ArrayVec;
+use fault_lines::{Fault, File};
+use pio_edge::Shelf;
+use std::alloc::Global;
+use word_file::read_words;
+
+/// The words of a file.
+#[tactic(auto, unfolding(crate::specs::Judged::words_at))]
+pub fn fetch_words<F: Shelf>(
+    alloc: Global,
+    shelf: &mut F,
+    name: &str,
+) -> Result<ArrayVec<u16, 32>, Fault>
+    ensures same { F.holds shelf.new ≡ F.holds shelf.old }
+    ensures stage { Reads (λ words. words.items) (shelved (F.holds shelf.old) (F.faults shelf.old) (F.faults shelf.new))
+        (words_plan name.now) result }
+{
+    let bytes = fetch_file(alloc, shelf, File::Words, name)?;
+    match read_words(&bytes) {
+        Ok(words) => Ok(words),
+        Err(fault) => Err(Fault::Words(fault.line, fault.kind)),
+    }
+}
