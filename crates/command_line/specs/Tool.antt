@@ -61,7 +61,7 @@ config_rule = option_rule (codes "config")
 
 -- `--config A`: the name of a configuration, which is in each call
 unfoldable pub needed_config_rule : Rule
-needed_config_rule = required config_rule
+needed_config_rule = required (option_rule (codes "config"))
 
 -- `--second B`: the name of the second block's configuration
 unfoldable pub second_rule : Rule

@@ -308,7 +308,7 @@ fn traced<'a>(
 }
 
 /// A subcommand that takes a source and the configurations of two blocks.
-#[tactic(auto, unfolding(crate::specs::Tool::source_rule, crate::specs::Tool::needed_config_rule, crate::specs::Tool::config_rule, crate::specs::Tool::second_rule,))]
+#[tactic(auto, unfolding(crate::specs::Tool::source_rule, crate::specs::Tool::needed_config_rule, crate::specs::Tool::second_rule))]
 fn paired<'a>(
     alloc: Global,
     name: &'a str,

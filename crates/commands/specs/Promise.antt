@@ -7,7 +7,7 @@ use Rattle.fault_lines.specs.declared.fault.Fault.{Fault}
 use Rattle.fault_lines.specs.declared.fault.Fault.TheVariants as fault
 use Rattle.span_verdict.specs.declared.table_flaw.Flaw.{Flaw}
 use Rattle.verdict_lines.specs.declared.refusal.Refusal.{Refusal}
-use Rattle.command_line.specs.Words.{Asked, asm, run, check, table, recheck, shares, gen, dis, measure, receive, uart, pair}
+use Rattle.command_line.specs.Words.{Asked, run, check, table, recheck, pair}
 use Rattle.stages.specs.Judged.{wrong}
 use Rattle.stages.specs.Stages.{HasSuch}
 use Rattle.commands.specs.Outside.{Call, Untouched, SameShelf, SameOut}
@@ -28,20 +28,15 @@ pub record Passes (c : Call) (a : Asked) : Type 0 where
   pub holds : ComesTo c a (λ task. AllRunsHold (need_of task))
   pub shelf : SameShelf c
 
--- what is written where a span isn't provable: the whole text by `check`, and nothing by the other commands that ask spans
+-- what is written where a span isn't provable: the whole text by `check`, and nothing by the other commands that ask spans; the rest
+-- ask none
 abbrev pub WritesRefused : Asked → Call → Type 0
-WritesRefused (asm name) c = ⊥
 WritesRefused (run source config stimulus clocks) c = SameOut c
 WritesRefused (check source config) c = WritesText c (check source config)
 WritesRefused (table source config name) c = SameOut c
 WritesRefused (recheck source config name file) c = SameOut c
-WritesRefused (shares source config) c = ⊥
-WritesRefused (gen seed clocks) c = ⊥
-WritesRefused (dis name side opt) c = ⊥
-WritesRefused (measure source config stimulus clocks) c = ⊥
-WritesRefused (receive source config stimulus clocks pin bit) c = ⊥
-WritesRefused (uart send divider clocks) c = ⊥
 WritesRefused (pair source config second stimulus clocks) c = SameOut c
+WritesRefused a c = ⊥
 
 -- this is the first span that isn't provable, and why; nothing failed
 pub record RefusesSpan (c : Call) (a : Asked) (name : List ℕ) (refusal : Refusal) : Type 0 where

@@ -3,7 +3,7 @@
 --   judge       what a command comes to
 --   HasText     the text of a task is such; ComesTo: the told files come to a task that is such
 --   need_of     what a task needs of spans, beside its text
---   file_in     which file a command reads in a role; reaches: when it comes to it
+--   reads_of    what a command reads: which file in a role, and when it comes to it
 use Rattle.std.specs.Prelude.{ℕ, Bool, true, Option, None, IfSome, List}
 use Rattle.std.specs.FinMap.{get}
 use Rattle.std.specs.List.{flat_map}
@@ -138,32 +138,55 @@ abbrev pub AskedBefore : Task → Type 0
 AskedBefore (verdicts u) = Unit {0}
 AskedBefore task = IsMet (need_of task)
 
+-- What a command reads: the file of each role, where it reads one, and whether it comes to it, since what it reads before is right.
+pub record Reads : Type 0 where
+  pub file_in : File → Option (List ℕ)
+  pub reaches : Files → File → Bool
+
+-- one file at most, which comes first
+abbrev pub reads_first : (File → Option (List ℕ)) → Reads
+reads_first file = record { file_in = file; reaches = λ files role. true }
+
+-- a source, and a configuration and a stimulus where they are named
+abbrev pub reads_run : List ℕ → (config stimulus : Option (List ℕ)) → Reads
+reads_run source config stimulus = record {
+  file_in = run_files source config stimulus;
+  reaches = λ files role. run_reaches files source config role;
+}
+
+-- a source, a configuration where it is named, and where a span has the name, its table
+abbrev pub reads_recheck : List ℕ → Option (List ℕ) → (name table : List ℕ) → Reads
+reads_recheck source config name file = record {
+  file_in = recheck_files source config file;
+  reaches = λ files role. recheck_reaches files source config name role;
+}
+
+-- a source, the configurations of two blocks, and a stimulus where it is named
+abbrev pub reads_pair : (source config second : List ℕ) → Option (List ℕ) → Reads
+reads_pair source config second stimulus = record {
+  file_in = pair_files source config second stimulus;
+  reaches = λ files role. pair_reaches files source config second role;
+}
+
+-- what each command reads
+abbrev pub reads_of : Asked → Reads
+reads_of (asm name) = reads_first (source_alone name)
+reads_of (run source config stimulus clocks) = reads_run source config stimulus
+reads_of (check source config) = reads_run source config None
+reads_of (table source config name) = reads_run source config None
+reads_of (recheck source config name file) = reads_recheck source config name file
+reads_of (shares source config) = reads_run source config None
+reads_of (gen seed clocks) = reads_first no_file
+reads_of (dis name side opt) = reads_first (words_alone name)
+reads_of (measure source config stimulus clocks) = reads_run source config stimulus
+reads_of (receive source config stimulus clocks pin bit) = reads_run source config stimulus
+reads_of (uart send divider clocks) = reads_first (send_alone send)
+reads_of (pair source config second stimulus clocks) = reads_pair source config second stimulus
+
 -- the name of the file that a command reads in this role, where it reads one
 abbrev pub file_in : Asked → File → Option (List ℕ)
-file_in (asm name) role = source_alone name role
-file_in (run source config stimulus clocks) role = run_files source config stimulus role
-file_in (check source config) role = run_files source config None role
-file_in (table source config name) role = run_files source config None role
-file_in (recheck source config name file) role = recheck_files source config file role
-file_in (shares source config) role = run_files source config None role
-file_in (gen seed clocks) role = no_file role
-file_in (dis name side opt) role = words_alone name role
-file_in (measure source config stimulus clocks) role = run_files source config stimulus role
-file_in (receive source config stimulus clocks pin bit) role = run_files source config stimulus role
-file_in (uart send divider clocks) role = send_alone send role
-file_in (pair source config second stimulus clocks) role = pair_files source config second stimulus role
+file_in a role = (reads_of a).file_in role
 
 -- a command comes to the file of this role: what it reads before is right
 abbrev pub reaches : Files → Asked → File → Bool
-reaches files (asm name) role = true
-reaches files (run source config stimulus clocks) role = run_reaches files source config role
-reaches files (check source config) role = run_reaches files source config role
-reaches files (table source config name) role = run_reaches files source config role
-reaches files (recheck source config name file) role = recheck_reaches files source config name role
-reaches files (shares source config) role = run_reaches files source config role
-reaches files (gen seed clocks) role = true
-reaches files (dis name side opt) role = true
-reaches files (measure source config stimulus clocks) role = run_reaches files source config role
-reaches files (receive source config stimulus clocks pin bit) role = run_reaches files source config role
-reaches files (uart send divider clocks) role = true
-reaches files (pair source config second stimulus clocks) role = pair_reaches files source config second role
+reaches files a role = (reads_of a).reaches files role

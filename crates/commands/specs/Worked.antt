@@ -17,7 +17,7 @@ use Rattle.load_summary.specs.Summaries.{start_of}
 use Rattle.fault_lines.specs.declared.fault.File.TheVariants.{Send}
 use Rattle.pio_uart.specs.Feeding.{fed}
 use Rattle.pio_uart.specs.OneSetup.{transmitter_of}
-use Rattle.command_line.specs.Words.{Asked, asm, run, check, table, recheck, shares, gen, dis, measure, receive, uart, pair}
+use Rattle.command_line.specs.Words.{Asked, run, gen, measure, receive, uart, pair}
 use Rattle.stages.specs.Judged.{Judged, right, wrong, prepared_at, read_at, pair_at}
 use Rattle.stages.specs.declared.pair.TwoBlocks.{TwoBlocks}
 use Rattle.commands.specs.Tasks.{twin_start}
@@ -52,7 +52,7 @@ abbrev pub twin_worked : Option Files → (source config second : List ℕ) → 
 twin_worked (Some files) source config second stimulus clocks = pair_worked clocks (pair_at files source config second stimulus)
 twin_worked None source config second stimulus clocks = clocks
 
--- the same of a command
+-- the same of a command; those that run nothing work out no clock
 abbrev pub most_worked : Option Files → Asked → ℕ
 most_worked files (run source config stimulus clocks) = worked_of files source config stimulus clocks
 most_worked files (measure source config stimulus clocks) = worked_of files source config stimulus clocks
@@ -60,9 +60,4 @@ most_worked files (receive source config stimulus clocks pin bit) = worked_of fi
 most_worked files (uart send divider clocks) = uart_worked files send divider clocks
 most_worked files (pair source config second stimulus clocks) = twin_worked files source config second stimulus clocks
 most_worked files (gen seed clocks) = stirring (start_of seed) (lines_of seed) clocks + 1
-most_worked files (asm name) = 0
-most_worked files (check source config) = 0
-most_worked files (table source config name) = 0
-most_worked files (recheck source config name file) = 0
-most_worked files (shares source config) = 0
-most_worked files (dis name side opt) = 0
+most_worked files a = 0

@@ -27,7 +27,7 @@ use verdict_lines::Refusal;
 
 /// Writes that the table of a file proves the first span of this name, where it does; else nothing. All memory is taken before
 /// the first piece is put.
-pub fn recheck<F: Shelf, O: Sink>(
+pub fn recheck_file<F: Shelf, O: Sink>(
     alloc: Global,
     source: &str,
     config: Option<&str>,

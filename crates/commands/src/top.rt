@@ -17,7 +17,7 @@ use crate::generate::generate;
 use crate::measure::measure;
 use crate::pair::pair;
 use crate::receive::receive;
-use crate::recheck::recheck;
+use crate::recheck::recheck_file;
 use crate::run::run;
 use crate::shares::shares;
 use crate::table::table;
@@ -106,7 +106,7 @@ fn obey<F: Shelf, O: Sink, L: Ledger>(
             config,
             span,
             table,
-        } => recheck(alloc, source, config, span, table, shelf, out),
+        } => recheck_file(alloc, source, config, span, table, shelf, out),
         Order::Shares { source, config } => shares(alloc, source, config, shelf, out),
         Order::Gen { seed, clocks } => generate(alloc, seed, clocks, shelf, out, steps),
         Order::Dis { file, side, opt } => dis(alloc, file, side, opt, shelf, out),

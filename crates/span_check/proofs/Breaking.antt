@@ -14,7 +14,7 @@ use Rattle.dreq_pacing.specs.Due.{quiet, with_act, with_lines}
 use Rattle.dreq_pacing.specs.Lines.{lines_in}
 use Rattle.dreq_pacing.specs.Ports.{due_in}
 use Rattle.block_core.specs.Block.{first_run}
-use Rattle.block_core.specs.Hosted.{hosted_at, host_of}
+use Rattle.block_core.specs.Hosted.{hosted_at}
 use Rattle.span_check.specs.Marks.{is_broken, mark_of}
 use Rattle.span_check.specs.Runs.{marks_in, is_breaking, has_breaking}
 

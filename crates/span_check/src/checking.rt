@@ -8,7 +8,7 @@ ghost use Rattle.span_verdict.specs.Verdicts.{IsVerdict};
 use crate::laws::a_provable_span_holds_in_every_run;
 use pin_matrix::{Setup, Span};
 use span_bounds::Table;
-use span_verdict::{Verdict, judge};
+use span_verdict::{Verdict, is_proof, judge};
 use std::alloc::{AllocError, Global};
 
 /// The verdict on a span, as `judge` of `span_verdict` gives it; a span that is proved holds in every run of the setup, whatever
@@ -30,5 +30,5 @@ pub fn recheck(table: &Table, setup: &Setup, span: &Span) -> bool
     ensures holds { IsTrue result → IsUnshared setup.now span.now → HoldsInEveryRun setup.now span.now }
 {
     a_provable_span_holds_in_every_run();
-    span_verdict::recheck(table, setup, span)
+    is_proof(table, setup, span)
 }

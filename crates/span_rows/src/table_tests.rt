@@ -4,7 +4,7 @@ ghost use Rattle.std.specs.Prelude.{◌≡◌, ◌<◌, true, IsSome, None, slic
 use pin_matrix::{MachineSetup, Setup, Span, SpanUnit, Spans, Stalls};
 use pio_edge::MemSink;
 use pio_encode::{Name, SideRule};
-use span_verdict::{Verdict, flaw, judge, recheck};
+use span_verdict::{Verdict, flaw, is_proof, judge};
 use std::alloc::Global;
 use table_files::{TableFault, put_flaw, put_rechecked, put_table, read_table};
 
@@ -255,7 +255,7 @@ fn told_of(alloc: Global, case: &Case) -> Option<(MemSink, bool)> {
         None => put_rechecked(&mut sink, &span.name).ok()?,
         Some(flaw) => put_flaw(&mut sink, "", &span.name, &flaw).ok()?,
     }
-    Some((sink, recheck(&table, &setup, &span)))
+    Some((sink, is_proof(&table, &setup, &span)))
 }
 
 #[test]

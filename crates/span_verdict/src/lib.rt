@@ -12,7 +12,7 @@ mod verdict;
 pub use flawing::flaw;
 pub use judging::judge;
 pub use opening::opens;
-pub use rechecking::recheck;
+pub use rechecking::is_proof;
 pub use sharing::shared_by;
 pub use table_flaw::Flaw;
 pub use verdict::Verdict;

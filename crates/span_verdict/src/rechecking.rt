@@ -8,8 +8,8 @@ ghost use Rattle.span_verdict.specs.Tables as spec;
 use pin_matrix::{Setup, Span};
 use span_bounds::{Ages, Context, Next, Row, Table, start_context, step};
 
-/// Whether the table is closed and good, however it was made. The span's machine is configured. It takes no memory.
-pub fn recheck(table: &Table, setup: &Setup, span: &Span) -> bool
+/// Whether the table is a proof: closed and good, however it was made. The span's machine is configured. It takes no memory.
+pub fn is_proof(table: &Table, setup: &Setup, span: &Span) -> bool
     requires { IsSome (slice_index_or setup.now.machines span.now.machine None) }
     ensures sound { IsTrue result ↔ (IsClosed setup.now span.now table.now × IsGood setup.now span.now table.now) }
     ensures table { IsTable table.now }

@@ -6,7 +6,7 @@ use Rattle.span_step.specs.declared.ages.Ages.TheVariants.{Empty}
 use Rattle.span_bounds.specs.Tables.{start_context}
 use Rattle.span_verdict.specs.Tables.{is_right, lies_in}
 use Rattle.span_verdict.proofs.Checks.{closed_and_good, tests_pass}
-use Rattle.span_verdict.proofs.rechecking.recheck.Goals as goal
+use Rattle.span_verdict.proofs.rechecking.is_proof.Goals as goal
 
 pub returns-then-has_start-clause-sound : goal.returns-then-has_start-clause-sound
 returns-then-has_start-clause-sound c =

@@ -1,7 +1,7 @@
 use Rattle.std.proofs.Common.{option_map}
 use Rattle.std.proofs.lemmas.Result.{err_from_is_err_and}
 use Rattle.commands.proofs.Ending.{recheck_unread, no_span_recheck_ends, recheck_found_ends}
-use Rattle.commands.proofs.recheck.recheck.Goals as goal
+use Rattle.commands.proofs.recheck.recheck_file.Goals as goal
 
 pub returns-in_err-setup-clause-ends : goal.returns-in_err-setup-clause-ends
 returns-in_err-setup-clause-ends g c =
