@@ -24,58 +24,58 @@ pub record HasPlaceOf (r x : Registers) : Type 0 where
   pub pending : x.pending ≡ r.pending
 
 -- an effect that neither jumps nor makes a word pending
-pub record IsPlain (r : Registers) (e : Effect) : Type 0 where
+pub record KeepsPlace (r : Registers) (e : Effect) : Type 0 where
   pub jump : e.jump ≡ None
   pub pending : e.pending ≡ None
   pub registers : HasPlaceOf r e.registers
 
-plain_if : (b : Bool) (r : Registers) (x y : Effect) → IsPlain r x → IsPlain r y → IsPlain r (cond b x y)
-plain_if true r x y h k = h
-plain_if false r x y h k = k
+stays_if : (b : Bool) (r : Registers) (x y : Effect) → KeepsPlace r x → KeepsPlace r y → KeepsPlace r (cond b x y)
+stays_if true r x y h k = h
+stays_if false r x y h k = k
 
 place_if : (b : Bool) (r x y : Registers) → HasPlaceOf r x → HasPlaceOf r y → HasPlaceOf r (cond b x y)
 place_if true r x y h k = h
 place_if false r x y h k = k
 
-plain : (r : Registers) (e : Effect) → e.jump ≡ None → e.pending ≡ None → e.registers.pc ≡ r.pc → e.registers.pending ≡ r.pending → IsPlain r e
-plain r e h k l m = record { jump = h; pending = k; registers = record { pc = l; pending = m } }
+stays : (r : Registers) (e : Effect) → e.jump ≡ None → e.pending ≡ None → e.registers.pc ≡ r.pc → e.registers.pending ≡ r.pending → KeepsPlace r e
+stays r e h k l m = record { jump = h; pending = k; registers = record { pc = l; pending = m } }
 
-plain_autopushed : (s : MachineSetup) (q : Queues) (r x : Registers) → HasPlaceOf r x → IsPlain r (autopushed s q x)
-plain_autopushed s q r x h = search (rules, plain_if)
+stays_autopushed : (s : MachineSetup) (q : Queues) (r x : Registers) → HasPlaceOf r x → KeepsPlace r (autopushed s q x)
+stays_autopushed s q r x h = search (rules, stays_if)
 
 in_place : (b : Bool) (w n : ℕ) (s : MachineSetup) (r : Registers) → HasPlaceOf r (cond b r (with_bits_in w n s r))
 in_place true w n s r = record { pc = refl; pending = refl }
 in_place false w n s r = record { pc = refl; pending = refl }
 
-plain_out_to : (d : OutDestination) (value n k : ℕ) (s : MachineSetup) (r : Registers) → is_wild_out d ≡ false → IsPlain r (out_to d value n s (with_bits_out k s r))
-plain_out_to out_destination.Pins value n k s r h = plain r _ refl refl refl refl
-plain_out_to out_destination.X value n k s r h = plain r _ refl refl refl refl
-plain_out_to out_destination.Y value n k s r h = plain r _ refl refl refl refl
-plain_out_to out_destination.Null value n k s r h = plain r _ refl refl refl refl
-plain_out_to out_destination.Pindirs value n k s r h = plain r _ refl refl refl refl
-plain_out_to out_destination.Pc value n k s r h = cc
-plain_out_to out_destination.Isr value n k s r h = plain r _ refl refl refl refl
-plain_out_to out_destination.Exec value n k s r h = cc
+stays_out_to : (d : OutDestination) (value n k : ℕ) (s : MachineSetup) (r : Registers) → is_wild_out d ≡ false → KeepsPlace r (out_to d value n s (with_bits_out k s r))
+stays_out_to out_destination.Pins value n k s r h = stays r _ refl refl refl refl
+stays_out_to out_destination.X value n k s r h = stays r _ refl refl refl refl
+stays_out_to out_destination.Y value n k s r h = stays r _ refl refl refl refl
+stays_out_to out_destination.Null value n k s r h = stays r _ refl refl refl refl
+stays_out_to out_destination.Pindirs value n k s r h = stays r _ refl refl refl refl
+stays_out_to out_destination.Pc value n k s r h = cc
+stays_out_to out_destination.Isr value n k s r h = stays r _ refl refl refl refl
+stays_out_to out_destination.Exec value n k s r h = cc
 
-plain_mov_to : (d : MovDestination) (value : ℕ) (s : MachineSetup) (r : Registers) → is_wild_mov d ≡ false → IsPlain r (mov_to d value s r)
-plain_mov_to mov_destination.Pins value s r h = plain r _ refl refl refl refl
-plain_mov_to mov_destination.X value s r h = plain r _ refl refl refl refl
-plain_mov_to mov_destination.Y value s r h = plain r _ refl refl refl refl
-plain_mov_to mov_destination.Exec value s r h = cc
-plain_mov_to mov_destination.Pc value s r h = cc
-plain_mov_to mov_destination.Isr value s r h = plain r _ refl refl refl refl
-plain_mov_to mov_destination.Osr value s r h = plain r _ refl refl refl refl
+stays_mov_to : (d : MovDestination) (value : ℕ) (s : MachineSetup) (r : Registers) → is_wild_mov d ≡ false → KeepsPlace r (mov_to d value s r)
+stays_mov_to mov_destination.Pins value s r h = stays r _ refl refl refl refl
+stays_mov_to mov_destination.X value s r h = stays r _ refl refl refl refl
+stays_mov_to mov_destination.Y value s r h = stays r _ refl refl refl refl
+stays_mov_to mov_destination.Exec value s r h = cc
+stays_mov_to mov_destination.Pc value s r h = cc
+stays_mov_to mov_destination.Isr value s r h = stays r _ refl refl refl refl
+stays_mov_to mov_destination.Osr value s r h = stays r _ refl refl refl refl
 
-plain_set : (d : SetDestination) (value : ℕ) (s : MachineSetup) (r : Registers) → IsPlain r (set_effect d value s r)
+stays_set : (d : SetDestination) (value : ℕ) (s : MachineSetup) (r : Registers) → KeepsPlace r (set_effect d value s r)
 unfolding set_effect
-plain_set set_destination.Pins value s r = plain r _ refl refl refl refl
-plain_set set_destination.X value s r = plain r _ refl refl refl refl
-plain_set set_destination.Y value s r = plain r _ refl refl refl refl
-plain_set set_destination.Pindirs value s r = plain r _ refl refl refl refl
+stays_set set_destination.Pins value s r = stays r _ refl refl refl refl
+stays_set set_destination.X value s r = stays r _ refl refl refl refl
+stays_set set_destination.Y value s r = stays r _ refl refl refl refl
+stays_set set_destination.Pindirs value s r = stays r _ refl refl refl refl
 
-plain_pulled : (front : Option ℕ) (block : Bool) (r : Registers) → IsPlain r (pulled front block r)
-plain_pulled None block r = search (rules, plain_if, plain)
-plain_pulled (Some word) block r = plain r _ refl refl refl refl
+stays_pulled : (front : Option ℕ) (block : Bool) (r : Registers) → KeepsPlace r (pulled front block r)
+stays_pulled None block r = search (rules, stays_if, stays)
+stays_pulled (Some word) block r = stays r _ refl refl refl refl
 
 -- where PC goes: to the jump's target, else to the next address
 abbrev pub target : ℕ → Option ℕ → ℕ
@@ -88,9 +88,9 @@ pub record IsTameEffect (act : Act) (next : ℕ) (r : Registers) (e : Effect) : 
   pub pending : e.pending ≡ None
   pub registers : HasPlaceOf r e.registers
 
--- a plain one goes to the next address
-from_plain : (act : Act) (next : ℕ) (r : Registers) (e : Effect) → has (leads_to act next) next ≡ true → IsPlain r e → IsTameEffect act next r e
-from_plain act next r e h p = record {
+-- one that keeps its place goes to the next address
+from_stays : (act : Act) (next : ℕ) (r : Registers) (e : Effect) → has (leads_to act next) next ≡ true → KeepsPlace r e → IsTameEffect act next r e
+from_stays act next r e h p = record {
   goes = ap (λ (j : Option ℕ). has (leads_to act next) (target next j)) p.jump ∙ h;
   pending = p.pending;
   registers = p.registers;
@@ -123,12 +123,12 @@ jump_goes condition.OsrNotEmpty address next s v r = either_way (jumps condition
 pub tame_effect : (act : Act) (next : ℕ) (s : MachineSetup) (v : View) (q : Queues) (r : Registers) → is_wild act ≡ false → IsTameEffect act next r (effect_of act s v q r)
 unfolding effect_of jmp_effect wait_effect in_effect out_effect push_effect pull_effect mov_effect irq_effect
 tame_effect (Jmp c address) next s v q r tame = record { goes = jump_goes c address next s v r; pending = refl; registers = counted_place c r }
-tame_effect (Wait polarity source index) next s v q r tame = from_plain (Wait polarity source index) next r _ (has_own next) (search (rules, plain_if, plain))
-tame_effect (In source n) next s v q r tame = from_plain (In source n) next r _ (has_own next) (plain_autopushed s q r _ (in_place r.begun (in_word source s v r) n s r))
-tame_effect (Out d n) next s v q r tame = from_plain (Out d n) next r _ (has_own next) (search (rules, plain_if, plain, plain_out_to, tame))
-tame_effect (Push if_full block) next s v q r tame = from_plain (Push if_full block) next r _ (has_own next) (search (rules, plain_if, plain) depth 20)
-tame_effect (Pull if_empty block) next s v q r tame = from_plain (Pull if_empty block) next r _ (has_own next) (search (rules, plain_if, plain, plain_pulled) depth 20)
-tame_effect (Mov d o source) next s v q r tame = from_plain (Mov d o source) next r _ (has_own next) (plain_mov_to d _ s r tame)
-tame_effect (Irq clear waits index) next s v q r tame = from_plain (Irq clear waits index) next r _ (has_own next) (search (rules, plain_if, plain) depth 20)
-tame_effect (Set d value) next s v q r tame = from_plain (Set d value) next r _ (has_own next) (plain_set d value s r)
-tame_effect Nothing next s v q r tame = from_plain Nothing next r _ (has_own next) (plain r _ refl refl refl refl)
+tame_effect (Wait polarity source index) next s v q r tame = from_stays (Wait polarity source index) next r _ (has_own next) (search (rules, stays_if, stays))
+tame_effect (In source n) next s v q r tame = from_stays (In source n) next r _ (has_own next) (stays_autopushed s q r _ (in_place r.begun (in_word source s v r) n s r))
+tame_effect (Out d n) next s v q r tame = from_stays (Out d n) next r _ (has_own next) (search (rules, stays_if, stays, stays_out_to, tame))
+tame_effect (Push if_full block) next s v q r tame = from_stays (Push if_full block) next r _ (has_own next) (search (rules, stays_if, stays) depth 20)
+tame_effect (Pull if_empty block) next s v q r tame = from_stays (Pull if_empty block) next r _ (has_own next) (search (rules, stays_if, stays, stays_pulled) depth 20)
+tame_effect (Mov d o source) next s v q r tame = from_stays (Mov d o source) next r _ (has_own next) (stays_mov_to d _ s r tame)
+tame_effect (Irq clear waits index) next s v q r tame = from_stays (Irq clear waits index) next r _ (has_own next) (search (rules, stays_if, stays) depth 20)
+tame_effect (Set d value) next s v q r tame = from_stays (Set d value) next r _ (has_own next) (stays_set d value s r)
+tame_effect Nothing next s v q r tame = from_stays Nothing next r _ (has_own next) (stays r _ refl refl refl refl)
