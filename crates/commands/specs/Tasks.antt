@@ -3,7 +3,7 @@
 --   judge       what a command comes to
 --   HasText     the text of a task is such; ComesTo: the told files come to a task that is such
 --   need_of     what a task needs of spans, beside its text
---   reads_of    what a command reads: which file in a role, and when it comes to it
+--   inputs_of   what a command reads: which file in a role, and when it comes to it
 use Rattle.std.specs.Prelude.{ℕ, Bool, true, Option, None, IfSome, List}
 use Rattle.std.specs.FinMap.{get}
 use Rattle.std.specs.List.{flat_map}
@@ -139,54 +139,54 @@ AskedBefore (verdicts u) = Unit {0}
 AskedBefore task = IsMet (need_of task)
 
 -- What a command reads: the file of each role, where it reads one, and whether it comes to it, since what it reads before is right.
-pub record Reads : Type 0 where
+pub record Inputs : Type 0 where
   pub file_in : File → Option (List ℕ)
   pub reaches : Files → File → Bool
 
 -- one file at most, which comes first
-abbrev pub reads_first : (File → Option (List ℕ)) → Reads
-reads_first file = record { file_in = file; reaches = λ files role. true }
+abbrev pub one_input : (File → Option (List ℕ)) → Inputs
+one_input file = record { file_in = file; reaches = λ files role. true }
 
 -- a source, and a configuration and a stimulus where they are named
-abbrev pub reads_run : List ℕ → (config stimulus : Option (List ℕ)) → Reads
-reads_run source config stimulus = record {
+abbrev pub run_inputs : List ℕ → (config stimulus : Option (List ℕ)) → Inputs
+run_inputs source config stimulus = record {
   file_in = run_files source config stimulus;
   reaches = λ files role. run_reaches files source config role;
 }
 
 -- a source, a configuration where it is named, and where a span has the name, its table
-abbrev pub reads_recheck : List ℕ → Option (List ℕ) → (name table : List ℕ) → Reads
-reads_recheck source config name file = record {
+abbrev pub recheck_inputs : List ℕ → Option (List ℕ) → (name table : List ℕ) → Inputs
+recheck_inputs source config name file = record {
   file_in = recheck_files source config file;
   reaches = λ files role. recheck_reaches files source config name role;
 }
 
 -- a source, the configurations of two blocks, and a stimulus where it is named
-abbrev pub reads_pair : (source config second : List ℕ) → Option (List ℕ) → Reads
-reads_pair source config second stimulus = record {
+abbrev pub pair_inputs : (source config second : List ℕ) → Option (List ℕ) → Inputs
+pair_inputs source config second stimulus = record {
   file_in = pair_files source config second stimulus;
   reaches = λ files role. pair_reaches files source config second role;
 }
 
 -- what each command reads
-abbrev pub reads_of : Asked → Reads
-reads_of (asm name) = reads_first (source_alone name)
-reads_of (run source config stimulus clocks) = reads_run source config stimulus
-reads_of (check source config) = reads_run source config None
-reads_of (table source config name) = reads_run source config None
-reads_of (recheck source config name file) = reads_recheck source config name file
-reads_of (shares source config) = reads_run source config None
-reads_of (gen seed clocks) = reads_first no_file
-reads_of (dis name side opt) = reads_first (words_alone name)
-reads_of (measure source config stimulus clocks) = reads_run source config stimulus
-reads_of (receive source config stimulus clocks pin bit) = reads_run source config stimulus
-reads_of (uart send divider clocks) = reads_first (send_alone send)
-reads_of (pair source config second stimulus clocks) = reads_pair source config second stimulus
+abbrev pub inputs_of : Asked → Inputs
+inputs_of (asm name) = one_input (source_alone name)
+inputs_of (run source config stimulus clocks) = run_inputs source config stimulus
+inputs_of (check source config) = run_inputs source config None
+inputs_of (table source config name) = run_inputs source config None
+inputs_of (recheck source config name file) = recheck_inputs source config name file
+inputs_of (shares source config) = run_inputs source config None
+inputs_of (gen seed clocks) = one_input no_file
+inputs_of (dis name side opt) = one_input (words_alone name)
+inputs_of (measure source config stimulus clocks) = run_inputs source config stimulus
+inputs_of (receive source config stimulus clocks pin bit) = run_inputs source config stimulus
+inputs_of (uart send divider clocks) = one_input (send_alone send)
+inputs_of (pair source config second stimulus clocks) = pair_inputs source config second stimulus
 
 -- the name of the file that a command reads in this role, where it reads one
 abbrev pub file_in : Asked → File → Option (List ℕ)
-file_in a role = (reads_of a).file_in role
+file_in a role = (inputs_of a).file_in role
 
 -- a command comes to the file of this role: what it reads before is right
 abbrev pub reaches : Files → Asked → File → Bool
-reaches files a role = (reads_of a).reaches files role
+reaches files a role = (inputs_of a).reaches files role
