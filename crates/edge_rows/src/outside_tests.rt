@@ -43,7 +43,7 @@ static FILE_ROWS: [FileRow; 4] = [
 #[test]
 fn files_are_fetched_up_to_cap(rt: HostRuntime) -> Result<(), Fail> {
     let path = format!(in rt.alloc(); "/tmp/pio_edge_files_{}", process::id(rt.process()))?;
-    let mut shelf = FileShelf::new(&rt);
+    let mut shelf = FileShelf::new(rt.alloc(), &rt);
     for row in &FILE_ROWS {
         fs::write(&rt, path.as_str(), row.bytes)?;
         let is_so = is_fetched(rt.alloc(), &mut shelf, path.as_str(), row);
@@ -66,7 +66,7 @@ fn a_file_of_many_blocks_is_fetched_in_order(rt: HostRuntime) -> Result<(), Fail
     let path = format!(in rt.alloc(); "/tmp/pio_edge_blocks_{}", process::id(rt.process()))?;
     let written = numbers(rt.alloc())?;
     fs::write(&rt, path.as_str(), written.as_slice())?;
-    let mut shelf = FileShelf::new(&rt);
+    let mut shelf = FileShelf::new(rt.alloc(), &rt);
     for cap in &CAPS {
         let is_so = begins(rt.alloc(), &mut shelf, path.as_str(), *cap, &written);
         assert!(rt; is_so, "at {cap}");
@@ -97,7 +97,7 @@ static UNREAD: [&str; 4] = ["/tmp/pio_edge/absent", "", "/tmp\0", "/"];
 
 #[test]
 fn a_file_that_can_not_be_read_is_a_fault(rt: HostRuntime) {
-    let mut shelf = FileShelf::new(&rt);
+    let mut shelf = FileShelf::new(rt.alloc(), &rt);
     let mut count = 0u64;
     for path in &UNREAD {
         count = count.saturating_add(1);

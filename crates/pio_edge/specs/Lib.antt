@@ -4,3 +4,4 @@ pub mod Count
 pub mod Stock
 pub mod Bucket
 pub mod Held
+pub mod Fetched

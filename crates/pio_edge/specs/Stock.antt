@@ -8,13 +8,15 @@ use Rattle.pio_edge.specs.Edge.{Files}
 use Rattle.pio_edge.specs.declared.shelf.Fetch.{Fetch}
 use Rattle.pio_edge.specs.declared.shelf.Fetch.TheVariants.{Failed, Memory}
 use Rattle.pio_edge.specs.Count.{Faults, faults_code, one_more, after_fetch}
+use Rattle.pio_edge.specs.Fetched.{Fetched, fetched_code, after_fetching}
 
--- the files, the numbers of the fetches that fail, how many fetches there were, and the faults
+-- the files, the numbers of the fetches that fail, how many calls there were, the faults, and the fetches that gave a file or failed
 pub record Stock : Type 0 where
   pub files : Files
   pub fails : List ℕ
   pub calls : ℕ
   pub faults : Faults
+  pub fetched : List Fetched
 
 -- files are stored as their entries
 abbrev pub files_code : Coded Files
@@ -24,10 +26,10 @@ files_code = code (coded_list coded_ℕ) (coded_list coded_ℕ)
 abbrev pub stock_code : Coded Stock
 stock_code =
     code_by
-    (Files × (List ℕ × (ℕ × Faults)))
-    (coded× files_code (coded× (coded_list coded_ℕ) (coded× coded_ℕ faults_code)))
-    (λ s. (s.files, (s.fails, (s.calls, s.faults))))
-    (λ p. record { files = p.0; fails = p.1.0; calls = p.1.1.0; faults = p.1.1.1 })
+    (Files × (List ℕ × (ℕ × (Faults × List Fetched))))
+    (coded× files_code (coded× (coded_list coded_ℕ) (coded× coded_ℕ (coded× faults_code fetched_code))))
+    (λ s. (s.files, (s.fails, (s.calls, (s.faults, s.fetched)))))
+    (λ p. record { files = p.0; fails = p.1.0; calls = p.1.1.0; faults = p.1.1.1.0; fetched = p.1.1.1.1 })
     (λ _. refl)
 
 -- what a call finds of what is held: nothing where its number is listed
@@ -38,9 +40,13 @@ found_at fails call held = if list_any (λ n. n == call) fails then None else he
 abbrev pub fetch_fails : Stock → List ℕ → Bool
 fetch_fails s name = is_none (found_at s.fails (one_more s.calls) (get s.files name))
 
--- the shelf after a fetch that answered so: one more call, and one more fault where it failed
-abbrev pub after_call : {T : Type 0} → List ℕ → Result T Fetch → Stock → Stock
-after_call name result s = record s { calls = one_more s.calls; faults = after_fetch name result s.faults }
+-- the shelf after a fetch that answered so: one more call, one more fault where it failed, and one more fetch unless memory ran out
+abbrev pub after_call : {T : Type 0} → List ℕ → ℕ → Result T Fetch → Stock → Stock
+after_call name cap result s = record s {
+  calls = one_more s.calls;
+  faults = after_fetch name result s.faults;
+  fetched = after_fetching name cap result s.fetched;
+}
 
 -- what a fetch answers besides want of memory: a file exactly where the fetch isn't to fail
 abbrev pub FetchesUnless : {T : Type 0} → Bool → Result T Fetch → Type 0

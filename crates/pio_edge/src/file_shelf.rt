@@ -1,9 +1,11 @@
 //! A shelf over the files of the runtime: a name is a path.
-ghost use Rattle.std.specs.Prelude.{◌≡◌, ◌≤◌, None, IfOk, vec_len};
+ghost use Rattle.std.specs.Prelude.{◌≡◌, ◌≤◌, [], None, IfOk, vec_len};
 ghost use Rattle.pio_edge.specs.Edge.{IsFetched};
 ghost use Rattle.pio_edge.specs.Count.{after_fetch};
+ghost use Rattle.pio_edge.specs.Fetched.{after_fetching};
 
 use crate::failures::Failures;
+use crate::fetches::Fetches;
 use crate::shelf::{Fetch, Shelf};
 use std::alloc::Global;
 use std::fs;
@@ -17,16 +19,19 @@ use std::rt::Files;
 pub struct FileShelf<'a, R: Files> {
     runtime: &'a R,
     failures: Failures,
+    fetches: Fetches,
 }
 
 impl<'a, R: Files> FileShelf<'a, R> {
-    /// The files that the runtime reaches.
-    pub fn new(runtime: &'a R) -> Self
-        ensures { result.failures ≡ record { count = 0; last = None } }
+    /// The files that the runtime reaches. No fetch was made. It takes no memory.
+    pub fn new(alloc: Global, runtime: &'a R) -> Self
+        ensures failures { result.failures ≡ record { count = 0; last = None } }
+        ensures fetches { result.fetches ≡ [] }
     {
         FileShelf {
             runtime,
             failures: Failures::none(),
+            fetches: Fetches::none(alloc),
         }
     }
 
@@ -43,16 +48,26 @@ impl<R: Files> Shelf for FileShelf<'_, R> {
 
     ghost faults = { λ s. s.failures };
 
+    ghost fetched = { λ s. s.fetches };
+
     fn fetch(&mut self, alloc: Global, name: &str, cap: usize) -> Result<Vec<u8>, Fetch>
         ensures capped { IfOk result (λ bytes. vec_len bytes ≤ cap) }
         ensures bytes { IfOk result (λ bytes. IsFetched None name.now cap bytes.items) }
         // One fault, at this name, exactly where it answers Failed.
         ensures cause { self.new.failures ≡ after_fetch name.now result self.old.failures }
+        ensures asked { self.new.fetches ≡ after_fetching name.now cap result self.old.fetches }
     {
-        match read_file(self.runtime, alloc, name, cap) {
-            Err(Fetch::Failed) => Err(self.failures.note(alloc, name)),
-            fetched => fetched,
+        if self.fetches.keep(alloc, name, cap).is_err() {
+            return Err(Fetch::Memory);
         }
+        let answer = match read_file(self.runtime, alloc, name, cap) {
+            Err(Fetch::Failed) => Err(self.failures.note(alloc, name)),
+            read => read,
+        };
+        if let Err(Fetch::Memory) = answer {
+            self.fetches.forget();
+        }
+        answer
     }
 }
 

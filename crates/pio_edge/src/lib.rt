@@ -4,6 +4,7 @@
 mod answer;
 mod err_sink;
 mod failures;
+mod fetches;
 mod file_shelf;
 mod held;
 mod memory_shelf;

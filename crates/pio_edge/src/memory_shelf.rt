@@ -1,11 +1,14 @@
 //! A shelf in memory, whose fetches fail as its maker lists. Tests use it in place of real files.
-ghost use Rattle.std.specs.Prelude.{◌≡◌, ◌≤◌, Some, None, IfOk, OnOk, OnErr, take, vec_len};
-ghost use Rattle.std.specs.FinMap.{empty, insert};
+ghost use Rattle.std.specs.Prelude.{◌≡◌, ◌≤◌, [], Some, None, IfOk, OnOk, OnErr, take, vec_len};
+ghost use Rattle.std.specs.Option.{is_none};
+ghost use Rattle.std.specs.FinMap.{empty, get, insert};
 ghost use Rattle.pio_edge.specs.Edge.{IsFetched};
 ghost use Rattle.pio_edge.specs.Count.{after_fetch};
-ghost use Rattle.pio_edge.specs.Stock.{FetchesUnless, fetch_fails, after_call};
+ghost use Rattle.pio_edge.specs.Fetched.{after_fetching};
+ghost use Rattle.pio_edge.specs.Stock.{FetchesUnless, fetch_fails, found_at, after_call};
 
 use crate::failures::Failures;
+use crate::fetches::Fetches;
 use crate::held::{Held, found};
 use crate::shelf::{Fetch, Shelf};
 use std::alloc::{AllocError, Global};
@@ -20,6 +23,7 @@ pub struct MemShelf {
     fails: Vec<u64>,
     calls: u64,
     failures: Failures,
+    fetches: Fetches,
 }
 
 impl Model for MemShelf {
@@ -35,6 +39,7 @@ impl Model for MemShelf {
       fails = s.fails.items;
       calls = s.calls;
       faults = s.failures;
+      fetched = s.fetches;
     } };
 }
 
@@ -42,13 +47,14 @@ impl MemShelf {
     /// An empty shelf. `fails` has the numbers, from 1 on, of the fetches that are to fail.
     pub fn new(alloc: Global, fails: &[u64]) -> Result<Self, AllocError>
         ensures { IfOk result (λ s.
-            s ≡ record { files = empty; fails = fails.now; calls = 0; faults = record { count = 0; last = None } }) }
+            s ≡ record { files = empty; fails = fails.now; calls = 0; faults = record { count = 0; last = None }; fetched = [] }) }
     {
         Ok(MemShelf {
             held: VecDeque::new(alloc),
             fails: fails.to_vec(alloc)?,
             calls: 0,
             failures: Failures::none(),
+            fetches: Fetches::none(alloc),
         })
     }
 
@@ -69,6 +75,23 @@ impl MemShelf {
         Ok(())
     }
 
+    // What the fetch of the present call answers.
+    fn answer_of(&mut self, alloc: Global, name: &str, cap: usize) -> Result<Vec<u8>, Fetch>
+        ensures capped { IfOk result (λ bytes. vec_len bytes ≤ cap) }
+        ensures bytes { IfOk result (λ bytes.
+            IsFetched (Some self.old.files) name.now cap bytes.items) }
+        ensures failed { FetchesUnless (is_none (found_at self.old.fails self.old.calls (get self.old.files name.now))) result }
+        ensures after { self.new ≡ record self.old { faults = after_fetch name.now result self.old.faults } }
+    {
+        let Some(all) = found(&self.held, name, &self.fails, self.calls) else {
+            return Err(self.failures.note(alloc, name));
+        };
+        match first_bytes(alloc, all, cap) {
+            Ok(bytes) => Ok(bytes),
+            Err(AllocError) => Err(Fetch::Memory),
+        }
+    }
+
     /// How many fetches failed, up to `u64::MAX`.
     pub fn faults(&self) -> u64
         ensures { result ≡ self.now.faults.count }
@@ -82,6 +105,8 @@ impl Shelf for MemShelf {
 
     ghost faults = { λ s. s.faults };
 
+    ghost fetched = { λ s. s.fetched };
+
     fn fetch(&mut self, alloc: Global, name: &str, cap: usize) -> Result<Vec<u8>, Fetch>
         ensures capped { IfOk result (λ bytes. vec_len bytes ≤ cap) }
         ensures bytes { IfOk result (λ bytes.
@@ -91,16 +116,18 @@ impl Shelf for MemShelf {
         ensures cause { self.new.faults ≡ after_fetch name.now result self.old.faults }
         // Failed exactly at a listed fetch and at an absent name, unless memory ran out.
         ensures failed { FetchesUnless (fetch_fails self.old name.now) result }
-        ensures after { self.new ≡ after_call name.now result self.old }
+        ensures asked { self.new.fetched ≡ after_fetching name.now cap result self.old.fetched }
+        ensures after { self.new ≡ after_call name.now cap result self.old }
     {
         self.calls = self.calls.saturating_add(1);
-        let Some(all) = found(&self.held, name, &self.fails, self.calls) else {
-            return Err(self.failures.note(alloc, name));
-        };
-        match first_bytes(alloc, all, cap) {
-            Ok(bytes) => Ok(bytes),
-            Err(AllocError) => Err(Fetch::Memory),
+        if self.fetches.keep(alloc, name, cap).is_err() {
+            return Err(Fetch::Memory);
         }
+        let answer = self.answer_of(alloc, name, cap);
+        if let Err(Fetch::Memory) = answer {
+            self.fetches.forget();
+        }
+        answer
     }
 }
 

@@ -71,7 +71,7 @@ fn over_outside<L: Ledger, R: Files + Print + AllocGlobal, W: Write + Drop>(
 ) -> Ended
     ensures status { result.status ≡ status_of result.fault }
 {
-    let mut shelf = FileShelf::new(rt);
+    let mut shelf = FileShelf::new(rt.alloc(), rt);
     match OutSink::new(rt.alloc(), io::writer(rt)) {
         Ok(mut out) => piotool(rt.alloc(), words, &mut shelf, &mut out, err, steps),
         Err(_) => end_with(err, Some(Fault::Memory)),
