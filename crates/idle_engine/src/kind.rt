@@ -28,7 +28,7 @@ pub(crate) trait Runs<V, P>: Shows<V> {
     /// The lines of the ports.
     ghost lines: { P → Lines };
 
-    /// No line is passed over where the ports are asked of this clock next.
+    /// The ports may be asked of this clock next: no line of a clock before it is left out.
     ghost ready: { P → ℕ → Type 0 };
 
     /// How many clocks were worked out singly.

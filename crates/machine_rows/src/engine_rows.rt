@@ -1,4 +1,4 @@
-//! Rows of runs in which most clocks are passed over. Which clocks stir, and so are worked out, was worked by hand from the
+//! Rows of runs in which most clocks are leapt over. Which clocks stir, and so are worked out, was worked by hand from the
 //! rules: those in which a line acts, a transfer's word moves, an instruction begins or finishes, an OSR is refilled, or the
 //! pads aren't those of both clocks before. Clock 0 is always worked out.
 //! `Leap` and `TwinLeap` are the form of a row, over that of `block_row.rt`.

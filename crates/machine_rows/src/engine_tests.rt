@@ -1,4 +1,4 @@
-//! The table of runs in which most clocks are passed over, with both kinds of FIFO. A trace is told of no clock but those
+//! The table of runs in which most clocks are leapt over, with both kinds of FIFO. A trace is told of no clock but those
 //! that are worked out.
 ghost use Rattle.std.specs.Prelude.{◌≡◌, ◌≤◌, ◌^◌, false};
 
