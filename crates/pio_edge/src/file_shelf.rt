@@ -64,8 +64,8 @@ impl<R: Files> Shelf for FileShelf<'_, R> {
             Err(Fetch::Failed) => Err(self.failures.note(alloc, name)),
             read => read,
         };
-        if let Err(Fetch::Memory) = answer {
-            self.fetches.forget();
+        if let Err(why) = answer {
+            self.fetches.end(why);
         }
         answer
     }

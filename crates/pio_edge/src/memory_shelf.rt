@@ -124,8 +124,8 @@ impl Shelf for MemShelf {
             return Err(Fetch::Memory);
         }
         let answer = self.answer_of(alloc, name, cap);
-        if let Err(Fetch::Memory) = answer {
-            self.fetches.forget();
+        if let Err(why) = answer {
+            self.fetches.end(why);
         }
         answer
     }

@@ -23,7 +23,7 @@ pub trait Shelf {
     /// How many fetches failed, and the name of the last one that did.
     ghost faults: { Self → Faults };
 
-    /// The fetches that gave a file or failed, in order: what it was asked for.
+    /// The fetches that gave a file or failed, in order: what it was asked for, and whether it gave it.
     ghost fetched: { Self → List Fetched };
 
     /// The first `cap` bytes of a file, all of them where it is shorter.

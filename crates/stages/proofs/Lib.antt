@@ -5,3 +5,4 @@ pub mod Configured
 pub mod Pairing
 pub mod Parts
 pub mod Preparing
+pub mod Asking

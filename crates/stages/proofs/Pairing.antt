@@ -11,6 +11,7 @@ use Rattle.fault_lines.specs.declared.fault.File.TheVariants as file
 use Rattle.stages.specs.declared.pair.TwoBlocks.{TwoBlocks}
 use Rattle.stages.specs.Judged.{Judged, right, and_then, is_right, source_at, config_at, second_at, schedules_at, two_blocks, pair_at}
 use Rattle.stages.specs.Roles.{first_is_right, both_are_right}
+use Rattle.stages.specs.Fetching.{name_in}
 use Rattle.stages.specs.Stages.{HasSuch, source_plan, setup_plan, second_plan, schedules_plan, pair_plan}
 use Rattle.stages.proofs.Parts.{IsPart, told, both_told, of_all}
 
@@ -54,7 +55,7 @@ pair_beside f source config second stimulus programs first owning p q r =
 
 -- the source
 source-named : (source config second : List ℕ) (stimulus : Option (List ℕ)) (role : File) (before after : Faults)
-    → HasSuch ((source_plan source).file_in role) (λ name. after ≡ failed_at name before) → HasSuch ((pair_plan source config second stimulus).file_in role) (λ name. after ≡ failed_at name before)
+    → HasSuch (name_in (source_plan source).slots role) (λ name. after ≡ failed_at name before) → HasSuch (name_in (pair_plan source config second stimulus).slots role) (λ name. after ≡ failed_at name before)
 source-named source config second stimulus file.Source before after h = h
 source-named source config second stimulus file.Words before after h = absurd h
 source-named source config second stimulus file.Config before after h = absurd h
@@ -64,7 +65,7 @@ source-named source config second stimulus file.Table before after h = absurd h
 source-named source config second stimulus file.Send before after h = absurd h
 
 source-reached : (files : Option Files) (source config second : List ℕ) (stimulus : Option (List ℕ)) (role : File) (before after : Faults)
-    → HasSuch ((source_plan source).file_in role) (λ name. after ≡ failed_at name before) → IfSome files (λ f. (pair_plan source config second stimulus).reaches f role ≡ true)
+    → HasSuch (name_in (source_plan source).slots role) (λ name. after ≡ failed_at name before) → IfSome files (λ f. (pair_plan source config second stimulus).reaches f role ≡ true)
 source-reached files source config second stimulus file.Source before after h = of_all files _ (λ f. refl)
 source-reached files source config second stimulus file.Words before after h = absurd h
 source-reached files source config second stimulus file.Config before after h = absurd h
@@ -96,7 +97,7 @@ AreSet files source config second programs first owning =
 
 -- the first setup
 first-named : (source config second : List ℕ) (stimulus : Option (List ℕ)) (programs : List Assembled) (role : File) (before after : Faults)
-    → HasSuch ((setup_plan (Some config) programs).file_in role) (λ name. after ≡ failed_at name before) → HasSuch ((pair_plan source config second stimulus).file_in role) (λ name. after ≡ failed_at name before)
+    → HasSuch (name_in (setup_plan (Some config) programs).slots role) (λ name. after ≡ failed_at name before) → HasSuch (name_in (pair_plan source config second stimulus).slots role) (λ name. after ≡ failed_at name before)
 first-named source config second stimulus programs file.Source before after h = absurd h
 first-named source config second stimulus programs file.Words before after h = absurd h
 first-named source config second stimulus programs file.Config before after h = h
@@ -106,7 +107,7 @@ first-named source config second stimulus programs file.Table before after h = a
 first-named source config second stimulus programs file.Send before after h = absurd h
 
 first-reached : (files : Option Files) (source config second : List ℕ) (stimulus : Option (List ℕ)) (programs : List Assembled) → IsRead files source programs → (role : File) (before after : Faults)
-    → HasSuch ((setup_plan (Some config) programs).file_in role) (λ name. after ≡ failed_at name before) → IfSome files (λ f. (pair_plan source config second stimulus).reaches f role ≡ true)
+    → HasSuch (name_in (setup_plan (Some config) programs).slots role) (λ name. after ≡ failed_at name before) → IfSome files (λ f. (pair_plan source config second stimulus).reaches f role ≡ true)
 unfolding IsRead
 first-reached files source config second stimulus programs p file.Source before after h = absurd h
 first-reached files source config second stimulus programs p file.Words before after h = absurd h
@@ -128,7 +129,7 @@ first_part files source config second stimulus programs p = record {
 
 -- the second setup
 second-named : (source config second : List ℕ) (stimulus : Option (List ℕ)) (programs : List Assembled) (role : File) (before after : Faults)
-    → HasSuch ((second_plan second programs).file_in role) (λ name. after ≡ failed_at name before) → HasSuch ((pair_plan source config second stimulus).file_in role) (λ name. after ≡ failed_at name before)
+    → HasSuch (name_in (second_plan second programs).slots role) (λ name. after ≡ failed_at name before) → HasSuch (name_in (pair_plan source config second stimulus).slots role) (λ name. after ≡ failed_at name before)
 second-named source config second stimulus programs file.Source before after h = absurd h
 second-named source config second stimulus programs file.Words before after h = absurd h
 second-named source config second stimulus programs file.Config before after h = absurd h
@@ -143,7 +144,7 @@ is_first_right f source config programs first p q =
     ap (λ (j : Judged (List Assembled)). is_right (and_then j (config_at f config))) p ∙ ap is_right q
 
 second-reached : (files : Option Files) (source config second : List ℕ) (stimulus : Option (List ℕ)) (programs : List Assembled) (first : Setup) → IsSet files source config programs first → (role : File) (before after : Faults)
-    → HasSuch ((second_plan second programs).file_in role) (λ name. after ≡ failed_at name before) → IfSome files (λ f. (pair_plan source config second stimulus).reaches f role ≡ true)
+    → HasSuch (name_in (second_plan second programs).slots role) (λ name. after ≡ failed_at name before) → IfSome files (λ f. (pair_plan source config second stimulus).reaches f role ≡ true)
 unfolding IsSet
 second-reached files source config second stimulus programs first p file.Source before after h = absurd h
 second-reached files source config second stimulus programs first p file.Words before after h = absurd h
@@ -170,7 +171,7 @@ second_part files source config second stimulus programs first p q = second_part
 
 -- the stimulus
 lines-named : (source config second : List ℕ) (stimulus : Option (List ℕ)) (role : File) (before after : Faults)
-    → HasSuch ((schedules_plan stimulus).file_in role) (λ name. after ≡ failed_at name before) → HasSuch ((pair_plan source config second stimulus).file_in role) (λ name. after ≡ failed_at name before)
+    → HasSuch (name_in (schedules_plan stimulus).slots role) (λ name. after ≡ failed_at name before) → HasSuch (name_in (pair_plan source config second stimulus).slots role) (λ name. after ≡ failed_at name before)
 lines-named source config second stimulus file.Source before after h = absurd h
 lines-named source config second stimulus file.Words before after h = absurd h
 lines-named source config second stimulus file.Config before after h = absurd h
@@ -188,7 +189,7 @@ are_both_right f source config second programs first owning p q r =
 
 lines-reached : (files : Option Files) (source config second : List ℕ) (stimulus : Option (List ℕ)) (programs : List Assembled) (first : Setup) (owning : OwningSetup)
     → AreSet files source config second programs first owning → (role : File) (before after : Faults)
-    → HasSuch ((schedules_plan stimulus).file_in role) (λ name. after ≡ failed_at name before) → IfSome files (λ f. (pair_plan source config second stimulus).reaches f role ≡ true)
+    → HasSuch (name_in (schedules_plan stimulus).slots role) (λ name. after ≡ failed_at name before) → IfSome files (λ f. (pair_plan source config second stimulus).reaches f role ≡ true)
 unfolding AreSet
 lines-reached files source config second stimulus programs first owning p file.Source before after h = absurd h
 lines-reached files source config second stimulus programs first owning p file.Words before after h = absurd h

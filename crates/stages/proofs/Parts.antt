@@ -6,6 +6,7 @@ use Rattle.fault_lines.specs.declared.fault.File.{File}
 use Rattle.fault_lines.specs.declared.fault.Fault.{Fault}
 use Rattle.fault_lines.specs.declared.fault.Fault.TheVariants as fault
 use Rattle.stages.specs.Judged.{wrong}
+use Rattle.stages.specs.Fetching.{name_in}
 use Rattle.stages.specs.Stages.{HasSuch, Plan, ReadFails, shelved}
 
 -- of told files, what follows from one thing
@@ -25,9 +26,9 @@ of_all (Some f) R so = so f
 
 -- Each file of the part is the whole's file of the same role, to which it comes, and a fault of the part's files is the whole's.
 pub record IsPart {X Y : Type 0} (files : Option Files) (part : Plan X) (whole : Plan Y) : Type 0 where
-  pub named : (role : File) (before after : Faults) → HasSuch (part.file_in role) (λ name. after ≡ failed_at name before)
-      → HasSuch (whole.file_in role) (λ name. after ≡ failed_at name before)
-  pub reached : (role : File) (before after : Faults) → HasSuch (part.file_in role) (λ name. after ≡ failed_at name before)
+  pub named : (role : File) (before after : Faults) → HasSuch (name_in part.slots role) (λ name. after ≡ failed_at name before)
+      → HasSuch (name_in whole.slots role) (λ name. after ≡ failed_at name before)
+  pub reached : (role : File) (before after : Faults) → HasSuch (name_in part.slots role) (λ name. after ≡ failed_at name before)
       → IfSome files (λ f. whole.reaches f role ≡ true)
   pub faults : (e : Fault) → IfSome files (λ f. part.comes_to f ≡ wrong e) → IfSome files (λ f. whole.comes_to f ≡ wrong e)
 

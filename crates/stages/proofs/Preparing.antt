@@ -8,6 +8,7 @@ use Rattle.dreq_pacing.specs.declared.line.Line.{Line}
 use Rattle.fault_lines.specs.declared.fault.File.{File}
 use Rattle.fault_lines.specs.declared.fault.File.TheVariants as file
 use Rattle.stages.specs.Judged.{Judged, right, and_then, is_right, source_at, setup_at, schedule_at, prepared_at}
+use Rattle.stages.specs.Fetching.{name_in}
 use Rattle.stages.specs.Stages.{HasSuch, source_plan, setup_plan, schedule_plan, run_plan}
 use Rattle.stages.proofs.Parts.{IsPart, told, both_told, of_all}
 
@@ -40,7 +41,7 @@ prepared_with f source config stimulus programs setup p q =
 
 -- the source
 source-named : (source : List ℕ) (config stimulus : Option (List ℕ)) (role : File) (before after : Faults)
-    → HasSuch ((source_plan source).file_in role) (λ name. after ≡ failed_at name before) → HasSuch ((run_plan source config stimulus).file_in role) (λ name. after ≡ failed_at name before)
+    → HasSuch (name_in (source_plan source).slots role) (λ name. after ≡ failed_at name before) → HasSuch (name_in (run_plan source config stimulus).slots role) (λ name. after ≡ failed_at name before)
 source-named source config stimulus file.Source before after h = h
 source-named source config stimulus file.Words before after h = absurd h
 source-named source config stimulus file.Config before after h = absurd h
@@ -50,7 +51,7 @@ source-named source config stimulus file.Table before after h = absurd h
 source-named source config stimulus file.Send before after h = absurd h
 
 source-reached : (files : Option Files) (source : List ℕ) (config stimulus : Option (List ℕ)) (role : File) (before after : Faults)
-    → HasSuch ((source_plan source).file_in role) (λ name. after ≡ failed_at name before) → IfSome files (λ f. (run_plan source config stimulus).reaches f role ≡ true)
+    → HasSuch (name_in (source_plan source).slots role) (λ name. after ≡ failed_at name before) → IfSome files (λ f. (run_plan source config stimulus).reaches f role ≡ true)
 source-reached files source config stimulus file.Source before after h = of_all files _ (λ f. refl)
 source-reached files source config stimulus file.Words before after h = absurd h
 source-reached files source config stimulus file.Config before after h = absurd h
@@ -68,7 +69,7 @@ source_part files source config stimulus = record {
 
 -- the setup, after a source that came out right
 setup-named : (source : List ℕ) (config stimulus : Option (List ℕ)) (programs : List Assembled) (role : File) (before after : Faults)
-    → HasSuch ((setup_plan config programs).file_in role) (λ name. after ≡ failed_at name before) → HasSuch ((run_plan source config stimulus).file_in role) (λ name. after ≡ failed_at name before)
+    → HasSuch (name_in (setup_plan config programs).slots role) (λ name. after ≡ failed_at name before) → HasSuch (name_in (run_plan source config stimulus).slots role) (λ name. after ≡ failed_at name before)
 setup-named source config stimulus programs file.Source before after h = absurd h
 setup-named source config stimulus programs file.Words before after h = absurd h
 setup-named source config stimulus programs file.Config before after h = h
@@ -81,7 +82,7 @@ IsRead : Option Files → List ℕ → List Assembled → Type 0
 IsRead files source programs = IfSome files (λ f. source_at f source ≡ right programs)
 
 setup-reached : (files : Option Files) (source : List ℕ) (config stimulus : Option (List ℕ)) (programs : List Assembled) → IsRead files source programs → (role : File) (before after : Faults)
-    → HasSuch ((setup_plan config programs).file_in role) (λ name. after ≡ failed_at name before) → IfSome files (λ f. (run_plan source config stimulus).reaches f role ≡ true)
+    → HasSuch (name_in (setup_plan config programs).slots role) (λ name. after ≡ failed_at name before) → IfSome files (λ f. (run_plan source config stimulus).reaches f role ≡ true)
 unfolding IsRead
 setup-reached files source config stimulus programs p file.Source before after h = absurd h
 setup-reached files source config stimulus programs p file.Words before after h = absurd h
@@ -102,7 +103,7 @@ setup_part files source config stimulus programs p = record {
 
 -- the stimulus, after a setup that did too
 lines-named : (source : List ℕ) (config stimulus : Option (List ℕ)) (role : File) (before after : Faults)
-    → HasSuch ((schedule_plan stimulus).file_in role) (λ name. after ≡ failed_at name before) → HasSuch ((run_plan source config stimulus).file_in role) (λ name. after ≡ failed_at name before)
+    → HasSuch (name_in (schedule_plan stimulus).slots role) (λ name. after ≡ failed_at name before) → HasSuch (name_in (run_plan source config stimulus).slots role) (λ name. after ≡ failed_at name before)
 lines-named source config stimulus file.Source before after h = absurd h
 lines-named source config stimulus file.Words before after h = absurd h
 lines-named source config stimulus file.Config before after h = absurd h
@@ -123,7 +124,7 @@ stimulus_reached f source config programs setup p q =
     ap (λ (j : Judged (List Assembled)). is_right (and_then j (setup_at f config))) p ∙ ap is_right q
 
 lines-reached : (files : Option Files) (source : List ℕ) (config stimulus : Option (List ℕ)) (programs : List Assembled) (setup : Setup) → AreRead files source config programs setup → (role : File) (before after : Faults)
-    → HasSuch ((schedule_plan stimulus).file_in role) (λ name. after ≡ failed_at name before) → IfSome files (λ f. (run_plan source config stimulus).reaches f role ≡ true)
+    → HasSuch (name_in (schedule_plan stimulus).slots role) (λ name. after ≡ failed_at name before) → IfSome files (λ f. (run_plan source config stimulus).reaches f role ≡ true)
 unfolding AreRead
 lines-reached files source config stimulus programs setup p file.Source before after h = absurd h
 lines-reached files source config stimulus programs setup p file.Words before after h = absurd h

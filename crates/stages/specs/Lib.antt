@@ -4,4 +4,5 @@ pub mod Spans
 pub mod Pairs
 pub mod Judged
 pub mod Roles
+pub mod Fetching
 pub mod Stages

@@ -17,7 +17,8 @@ use Rattle.fault_lines.specs.declared.fault.Fault.{Fault}
 use Rattle.fault_lines.specs.declared.fault.Fault.TheVariants as fault
 use Rattle.stages.specs.declared.pair.TwoBlocks.{TwoBlocks}
 use Rattle.stages.specs.Judged.{Judged, right, wrong, read_at, source_at, words_at, setup_at, second_at, schedule_at, schedules_at, prepared_at, pair_at, table_at}
-use Rattle.stages.specs.Roles.{source_alone, words_alone, config_alone, second_alone, stimulus_alone, table_alone, send_alone, run_files, run_reaches, pair_files, pair_reaches}
+use Rattle.stages.specs.Roles.{run_reaches, pair_reaches}
+use Rattle.stages.specs.Fetching.{Slot, name_in, one_slot, run_slots, pair_slots}
 
 -- there is one, and it is such
 abbrev pub HasSuch : {X : Type 0} → Option X → (X → Type 0) → Type 0
@@ -34,16 +35,16 @@ pub record Shelved : Type 0 where
 abbrev pub shelved : Option Files → Faults → Faults → Shelved
 shelved files before after = record { files = files; before = before; after = after }
 
--- what a stage's files come to, their names by role, and which of them it comes to
+-- what a stage's files come to, the files in the order of reading, and which of them it comes to
 pub record Plan (X : Type 0) : Type 0 where
   pub comes_to : Files → Judged X
-  pub file_in : File → Option (List ℕ)
+  pub slots : List Slot
   pub reaches : Files → File → Bool
 
 -- a stage that reads ends with a fault: one failed fetch, of a file that it comes to; want of memory; or the fault of the files
 abbrev pub ReadFails : {X : Type 0} → Shelved → Plan X → Fault → Type 0
 ReadFails shelf plan (fault.Shelf role) =
-    HasSuch (plan.file_in role) (λ name. shelf.after ≡ failed_at name shelf.before)
+    HasSuch (name_in plan.slots role) (λ name. shelf.after ≡ failed_at name shelf.before)
     × IfSome shelf.files (λ files. plan.reaches files role ≡ true)
 ReadFails shelf plan fault.Memory = shelf.after ≡ shelf.before
 ReadFails shelf plan fault.Usage = ⊥
@@ -59,59 +60,49 @@ Reads view shelf plan (Ok y) =
     (shelf.after ≡ shelf.before) × IfSome shelf.files (λ files. plan.comes_to files ≡ right (view y))
 Reads view shelf plan (Err e) = ReadFails shelf plan e
 
--- the file of one role, and no other
-abbrev pub alone : File → List ℕ → File → Option (List ℕ)
-alone file.Source name role = source_alone name role
-alone file.Words name role = words_alone name role
-alone file.Config name role = config_alone (Some name) role
-alone file.Second name role = second_alone name role
-alone file.Stimulus name role = stimulus_alone (Some name) role
-alone file.Table name role = table_alone name role
-alone file.Send name role = send_alone name role
-
 -- ---- what each stage reads
 
 -- a plan of files that all are reached
-abbrev pub plan_of : {X : Type 0} → (Files → Judged X) → (File → Option (List ℕ)) → Plan X
-plan_of comes_to file_in = record { comes_to = comes_to; file_in = file_in; reaches = λ files role. true }
+abbrev pub plan_of : {X : Type 0} → (Files → Judged X) → List Slot → Plan X
+plan_of comes_to slots = record { comes_to = comes_to; slots = slots; reaches = λ files role. true }
 
 -- one file's bytes
 abbrev pub file_plan : File → List ℕ → Plan (List ℕ)
-file_plan role name = plan_of (λ files. read_at role (get files name)) (alone role name)
+file_plan role name = plan_of (λ files. read_at role (get files name)) (one_slot role (Some name))
 
 -- a source's programs
 abbrev pub source_plan : List ℕ → Plan (List Assembled)
-source_plan name = plan_of (λ files. source_at files name) (source_alone name)
+source_plan name = plan_of (λ files. source_at files name) (one_slot file.Source (Some name))
 
 -- a file's words
 abbrev pub words_plan : List ℕ → Plan (List ℕ)
-words_plan name = plan_of (λ files. words_at files name) (words_alone name)
+words_plan name = plan_of (λ files. words_at files name) (one_slot file.Words (Some name))
 
 -- the setup of programs under a configuration, or under none
 abbrev pub setup_plan : Option (List ℕ) → List Assembled → Plan Setup
-setup_plan name programs = plan_of (λ files. setup_at files name programs) (config_alone name)
+setup_plan name programs = plan_of (λ files. setup_at files name programs) (one_slot file.Config name)
 
 -- the setup of programs under a second block's configuration, and the pins that it owns
 abbrev pub second_plan : List ℕ → List Assembled → Plan OwningSetup
-second_plan name programs = plan_of (λ files. second_at files name programs) (second_alone name)
+second_plan name programs = plan_of (λ files. second_at files name programs) (one_slot file.Second (Some name))
 
 -- the lines of a stimulus, or of none
 abbrev pub schedule_plan : Option (List ℕ) → Plan (List Line)
-schedule_plan name = plan_of (λ files. schedule_at files name) (stimulus_alone name)
+schedule_plan name = plan_of (λ files. schedule_at files name) (one_slot file.Stimulus name)
 
 -- the lines of each block in the stimulus of two, or in none
 abbrev pub schedules_plan : Option (List ℕ) → Plan (List Line × List Line)
-schedules_plan name = plan_of (λ files. schedules_at files name) (stimulus_alone name)
+schedules_plan name = plan_of (λ files. schedules_at files name) (one_slot file.Stimulus name)
 
 -- a table file's rows
 abbrev pub table_plan : List ℕ → Plan (List Row)
-table_plan name = plan_of (λ files. table_at files name) (table_alone name)
+table_plan name = plan_of (λ files. table_at files name) (one_slot file.Table (Some name))
 
 -- a setup and the lines of a stimulus
 abbrev pub run_plan : List ℕ → Option (List ℕ) → Option (List ℕ) → Plan (Setup × List Line)
 run_plan source config stimulus = record {
   comes_to = λ files. prepared_at files source config stimulus;
-  file_in = run_files source config stimulus;
+  slots = run_slots source config stimulus;
   reaches = λ files role. run_reaches files source config role;
 }
 
@@ -119,6 +110,6 @@ run_plan source config stimulus = record {
 abbrev pub pair_plan : (source config second : List ℕ) → (stimulus : Option (List ℕ)) → Plan TwoBlocks
 pair_plan source config second stimulus = record {
   comes_to = λ files. pair_at files source config second stimulus;
-  file_in = pair_files source config second stimulus;
+  slots = pair_slots source config second stimulus;
   reaches = λ files role. pair_reaches files source config second role;
 }

@@ -1,5 +1,6 @@
 //! A file of a command, fetched whole.
-ghost use Rattle.std.specs.Prelude.{◌≡◌, ◌≤◌, IfOk, vec_len};
+ghost use Rattle.std.specs.Prelude.{◌≡◌, ◌≤◌, IfOk, Some, vec_len};
+ghost use Rattle.stages.specs.Fetching.{Asks, one_slot};
 ghost use Rattle.stages.specs.Judged.{limit};
 ghost use Rattle.stages.specs.Stages.{Reads, file_plan, shelved};
 
@@ -19,6 +20,7 @@ pub fn fetch_file<F: Shelf>(
     ensures within { IfOk result (λ bytes. vec_len bytes ≤ limit role) }
     ensures stage { Reads (λ bytes. bytes.items) (shelved (F.holds shelf.old) (F.faults shelf.old) (F.faults shelf.new))
         (file_plan role name.now) result }
+    ensures asked { Asks (one_slot role (Some name.now)) (F.fetched shelf.old) (F.fetched shelf.new) result }
 {
     let most = limit_of(role);
     match shelf.fetch(alloc, name, most + 1) {

@@ -1,5 +1,6 @@
 //! What a run of two blocks reads before it asks spans: the setups of both, and the lines of a stimulus for each.
 ghost use Rattle.std.specs.Prelude.{◌≡◌, IfOk, option_map};
+ghost use Rattle.stages.specs.Fetching.{Asks, pair_slots};
 ghost use Rattle.stages.specs.Stages.{Reads, pair_plan, shelved};
 ghost use Rattle.stages.specs.Configured.{AreConfigured};
 
@@ -37,6 +38,10 @@ pub fn prepare_pair<F: Shelf>(
     ensures second { IfOk result (λ p. AreConfigured p.second) }
     ensures stage { Reads (λ p. p) (shelved (F.holds shelf.old) (F.faults shelf.old) (F.faults shelf.new))
         (pair_plan files.entry.source.now files.entry.config.now files.entry.second.now (option_map (λ t. t.now) files.entry.stimulus)) result }
+    ensures asked { Asks
+        (pair_slots files.entry.source.now files.entry.config.now files.entry.second.now
+        (option_map (λ t. t.now) files.entry.stimulus))
+        (F.fetched shelf.old) (F.fetched shelf.new) result }
 {
     let programs = read_source(alloc, shelf, files.source)?;
     let first = read_setup(alloc, shelf, Some(files.config), &programs)?;

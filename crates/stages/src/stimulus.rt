@@ -1,5 +1,6 @@
 //! From a stimulus's name to its lines.
 ghost use Rattle.std.specs.Prelude.{◌≡◌, Some, option_map};
+ghost use Rattle.stages.specs.Fetching.{Asks, one_slot};
 ghost use Rattle.stages.specs.Stages.{Reads, schedule_plan, schedules_plan, shelved};
 
 use crate::fetch::fetch_file;
@@ -17,6 +18,8 @@ pub fn read_schedule<F: Shelf>(
     ensures same { F.holds shelf.new ≡ F.holds shelf.old }
     ensures stage { Reads (λ schedule. schedule) (shelved (F.holds shelf.old) (F.faults shelf.old) (F.faults shelf.new))
         (schedule_plan (option_map (λ t. t.now) name.entry)) result }
+    ensures asked { Asks (one_slot File.Stimulus (option_map (λ t. t.now) name.entry))
+        (F.fetched shelf.old) (F.fetched shelf.new) result }
 {
     match name {
         Some(name) => read_named(alloc, shelf, name),
@@ -30,6 +33,8 @@ fn read_named<F: Shelf>(alloc: Global, shelf: &mut F, name: &str) -> Result<Sche
     ensures same { F.holds shelf.new ≡ F.holds shelf.old }
     ensures stage { Reads (λ schedule. schedule) (shelved (F.holds shelf.old) (F.faults shelf.old) (F.faults shelf.new))
         (schedule_plan (Some name.now)) result }
+    ensures asked { Asks (one_slot File.Stimulus (Some name.now))
+        (F.fetched shelf.old) (F.fetched shelf.new) result }
 {
     let bytes = fetch_file(alloc, shelf, File::Stimulus, name)?;
     match read_stimulus(alloc, &bytes) {
@@ -48,6 +53,8 @@ pub fn read_schedules<F: Shelf>(
     ensures same { F.holds shelf.new ≡ F.holds shelf.old }
     ensures stage { Reads (λ lines. (lines.0, lines.1)) (shelved (F.holds shelf.old) (F.faults shelf.old) (F.faults shelf.new))
         (schedules_plan (option_map (λ t. t.now) name.entry)) result }
+    ensures asked { Asks (one_slot File.Stimulus (option_map (λ t. t.now) name.entry))
+        (F.fetched shelf.old) (F.fetched shelf.new) result }
 {
     match name {
         Some(name) => read_named_pair(alloc, shelf, name),
@@ -65,6 +72,8 @@ fn read_named_pair<F: Shelf>(
     ensures same { F.holds shelf.new ≡ F.holds shelf.old }
     ensures stage { Reads (λ lines. (lines.0, lines.1)) (shelved (F.holds shelf.old) (F.faults shelf.old) (F.faults shelf.new))
         (schedules_plan (Some name.now)) result }
+    ensures asked { Asks (one_slot File.Stimulus (Some name.now))
+        (F.fetched shelf.old) (F.fetched shelf.new) result }
 {
     let bytes = fetch_file(alloc, shelf, File::Stimulus, name)?;
     match read_pair_stimulus(alloc, &bytes) {

@@ -1,5 +1,6 @@
 //! From the name of a table file to its table.
-ghost use Rattle.std.specs.Prelude.{◌≡◌};
+ghost use Rattle.std.specs.Prelude.{◌≡◌, Some};
+ghost use Rattle.stages.specs.Fetching.{Asks, one_slot};
 ghost use Rattle.stages.specs.Stages.{Reads, shelved, table_plan};
 
 use crate::fetch::fetch_file;
@@ -15,6 +16,7 @@ pub fn fetch_table<F: Shelf>(alloc: Global, shelf: &mut F, name: &str) -> Result
     ensures same { F.holds shelf.new ≡ F.holds shelf.old }
     ensures stage { Reads (λ table. table) (shelved (F.holds shelf.old) (F.faults shelf.old) (F.faults shelf.new))
         (table_plan name.now) result }
+    ensures asked { Asks (one_slot File.Table (Some name.now)) (F.fetched shelf.old) (F.fetched shelf.new) result }
 {
     let bytes = fetch_file(alloc, shelf, File::Table, name)?;
     match read_table(alloc, &bytes) {

@@ -1,5 +1,6 @@
 //! From the name of a file of words to its words.
-ghost use Rattle.std.specs.Prelude.{◌≡◌};
+ghost use Rattle.std.specs.Prelude.{◌≡◌, Some};
+ghost use Rattle.stages.specs.Fetching.{Asks, one_slot};
 ghost use Rattle.stages.specs.Stages.{Reads, shelved, words_plan};
 
 use crate::fetch::fetch_file;
@@ -19,6 +20,7 @@ pub fn fetch_words<F: Shelf>(
     ensures same { F.holds shelf.new ≡ F.holds shelf.old }
     ensures stage { Reads (λ words. words.items) (shelved (F.holds shelf.old) (F.faults shelf.old) (F.faults shelf.new))
         (words_plan name.now) result }
+    ensures asked { Asks (one_slot File.Words (Some name.now)) (F.fetched shelf.old) (F.fetched shelf.new) result }
 {
     let bytes = fetch_file(alloc, shelf, File::Words, name)?;
     match read_words(&bytes) {

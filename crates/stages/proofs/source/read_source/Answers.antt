@@ -1,0 +1,11 @@
+use Rattle.std.proofs.Common.{Some, []}
+use Rattle.fault_lines.specs.declared.fault.File.TheVariants.{Source}
+use Rattle.stages.specs.Fetching.{one_slot}
+use Rattle.stages.proofs.Asking.{part_all, stops_last}
+use Rattle.stages.proofs.source.read_source.Goals as goal
+
+pub returns-in-Err-Memory-clause-asked : goal.returns-in-Err-Memory-clause-asked
+returns-in-Err-Memory-clause-asked g c = part_all (one_slot Source (Some c.args.name.now)) _ _ c.in_ok-bytes.ensures.asked
+
+pub returns-clause-asked : goal.returns-clause-asked
+returns-clause-asked g c = stops_last [] Source (Some c.args.name.now) _ _ c.in_ok-bytes.ensures.asked
