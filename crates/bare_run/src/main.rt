@@ -91,7 +91,9 @@ fn schedule_at<R: Files + AllocGlobal>(rt: &R, path: Option<&String>) -> Option<
     let Some(path) = path else {
         return Some(Schedule::empty(rt.alloc()));
     };
-    let bytes = FileShelf::new(rt.alloc(), rt).fetch(rt.alloc(), path, 1_000_000).ok()?;
+    let bytes = FileShelf::new(rt.alloc(), rt)
+        .fetch(rt.alloc(), path, 1_000_000)
+        .ok()?;
     read_stimulus(rt.alloc(), &bytes).ok()
 }
 

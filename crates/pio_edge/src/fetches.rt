@@ -47,7 +47,11 @@ impl Fetches {
         ensures err { OnErr result (self.new ≡ self.old) }
     {
         let name = String::from_str(alloc, name)?;
-        self.kept.push(Kept { name, cap, came: true })?;
+        self.kept.push(Kept {
+            name,
+            cap,
+            came: true,
+        })?;
         Ok(())
     }
 
@@ -68,7 +72,10 @@ impl Fetches {
             → self.new ≡ with_fetch name cap false before }
     {
         if let Some(last) = self.kept.pop() {
-            self.kept.push_reserved(Kept { came: false, ..last });
+            self.kept.push_reserved(Kept {
+                came: false,
+                ..last
+            });
         }
     }
 
