@@ -19,12 +19,12 @@ use Rattle.command_line.specs.Laws.{number_of, asm_words, run_words, check_words
 -- ---- a number in range
 
 -- the number that is read, and its ends
-record Reads (low most : ℕ) (text : Text) : Type 0 where
-  same : number_in text ≡ number_of text
-  least : low ≤ number_of text
-  greatest : number_of text ≤ most
+pub record Reads (low most : ℕ) (text : Text) : Type 0 where
+  pub same : number_in text ≡ number_of text
+  pub least : low ≤ number_of text
+  pub greatest : number_of text ≤ most
 
-in_range : (low most : ℕ) (text : Text) → is_unsigned_in low most text ≡ true → Reads low most text
+pub in_range : (low most : ℕ) (text : Text) → is_unsigned_in low most text ≡ true → Reads low most text
 in_range low most text e =
     let digits = without_leading_plus text in
     let n = number_of text in

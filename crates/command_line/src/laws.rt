@@ -1,4 +1,6 @@
-//! Laws above clap's definition of a parse: what words as the usage has them ask for. The functions do nothing.
+//! Laws above clap's definition of a parse: what words as the usage has them ask for, and where what any words ask for stands among
+//! them. The functions do nothing.
+ghost use Rattle.command_line.specs.Given.{TakenWords};
 ghost use Rattle.command_line.specs.Laws.{AsmWords, CheckWords, DisWords, GenWords, MeasureWords, PairWords, ReceiveWords, RecheckWords, RunWords, SharesWords, TableWords, UartWords};
 
 /// `asm -- FILE` asks for the listing of FILE.
@@ -64,4 +66,10 @@ pub fn uart_words()
 /// range.
 pub fn pair_words()
     ensures { PairWords }
+{}
+
+/// Whatever words are taken, each text that they ask for is one that they give, as `--name=text`, as `--name` and the text, or as a
+/// file's word alone; and each number is that of such a text, a whole number in range.
+pub fn taken_words_give_all()
+    ensures { TakenWords }
 {}

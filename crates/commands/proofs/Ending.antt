@@ -1,12 +1,13 @@
 -- What was told of a span ends its command.
-use Rattle.std.proofs.Common.{◌≡◌, ◌∙◌, ℕ, Bool, true, Option, Some, None, IfSome, List, Result, Ok, Err, refl, sym, ap, subst}
+use Rattle.std.proofs.Common.{◌≡◌, ◌∙◌, ℕ, Bool, true, Option, Some, None, IfSome, List, Result, Ok, Err, option_map, refl, sym, ap, subst}
 use Rattle.pio_edge.specs.Count.{Faults, failed_at}
 use Rattle.pio_edge.specs.Edge.{Files}
 use Rattle.pin_matrix.specs.declared.setup.Setup.{Setup}
 use Rattle.pin_matrix.specs.declared.span.Span.{Span}
 use Rattle.span_bounds.specs.declared.row.Row.{Row}
 use Rattle.dreq_pacing.specs.declared.line.Line.{Line}
-use Rattle.stages.specs.Named.{span_named}
+use Rattle.stages.specs.Named.{named_from, span_named}
+use Rattle.stages.proofs.Naming.{found_named}
 use Rattle.fault_lines.specs.Output.{Output}
 use Rattle.fault_lines.specs.declared.fault.File.{File}
 use Rattle.fault_lines.specs.declared.fault.File.TheVariants as file
@@ -19,7 +20,8 @@ use Rattle.stages.specs.Stages.{HasSuch, Plan, ReadFails, shelved, run_plan, tab
 use Rattle.commands.specs.Outside.{call_of}
 use Rattle.commands.specs.Promise.{CommandEnds, ShelfFails}
 use Rattle.commands.specs.Tasks.{Task, tabled, rechecked, judge, file_in, reaches}
-use Rattle.commands.specs.Tables.{TellsTable, TellsRecheck}
+use Rattle.commands.specs.Needs.{IsNamedAt}
+use Rattle.commands.specs.Tables.{IsTold, TellsTable, TellsRecheck}
 
 -- what follows of told files from one fact, and from two
 told : (files : Option Files) (P R : Files → Type 0) → ((f : Files) → P f → R f) → IfSome files P → IfSome files R
@@ -65,6 +67,13 @@ recheck_wrong f source config name table_name e h =
 
 -- ---- the span of a name
 
+-- a span that was found is the one that is told
+told_at : (u : Setup) (at : ℕ) (sp : Span) (name : List ℕ) (place : ℕ) (n : List ℕ) → Some (at, sp) ≡ named_from 0 name u.spans → IsTold at sp place n → IsNamedAt u sp place n
+told_at u at sp name place n found told = record {
+  named = told.1;
+  first = ap (λ t. named_from 0 t u.spans) (sym told.1 ∙ found_named name u.spans 0 at sp found) ∙ sym found ∙ ap (λ k. Some (k, sp)) (sym told.0);
+}
+
 found_at : (f : Files) (source : List ℕ) (config : Option (List ℕ)) (name : List ℕ) (u : Setup) (lines : List Line) (sp : Span)
     → prepared_at f source config None ≡ right (u, lines) → Some sp ≡ span_named name u.spans → span_at f source config name ≡ right (u, sp)
 unfolding span_at
@@ -108,9 +117,9 @@ unfolding judge
 judged_tabled f source config name u sp e = ap (λ (j : Judged (Setup × Span)). and_then j (λ asked. right (tabled asked.0 asked.1))) e
 
 -- where the files come to this span, what was told of it ends the command `table`
-tabled_ends : (files : Option Files) (faults : Faults) (before after : Output) (source : List ℕ) (config : Option (List ℕ)) (name : List ℕ) (u : Setup) (sp : Span) (r : Result (Unit {0}) Fault)
-    → IfSome files (λ f. span_at f source config name ≡ right (u, sp)) → TellsTable u sp before after r → CommandEnds (table source config name) (call_of files faults faults before after) r
-tabled_ends files faults before after source config name u sp (Ok done) t h = record {
+tabled_ends : (files : Option Files) (faults : Faults) (before after : Output) (source : List ℕ) (config : Option (List ℕ)) (name : List ℕ) (u : Setup) (at : ℕ) (sp : Span) (r : Result (Unit {0}) Fault)
+    → Some (at, sp) ≡ named_from 0 name u.spans → IfSome files (λ f. span_at f source config name ≡ right (u, sp)) → TellsTable u at sp before after r → CommandEnds (table source config name) (call_of files faults faults before after) r
+tabled_ends files faults before after source config name u at sp (Ok done) found t h = record {
   writes = record {
     text = told files _ _ (λ f e. if_right _ _ _ (judged_tabled f source config name u sp e) (h.1.1.0, h.1.1.1, h.1.1.2.taken)) t;
     handed = h.1.1.2.handed;
@@ -120,30 +129,30 @@ tabled_ends files faults before after source config name u sp (Ok done) t h = re
   holds = told files _ _ (λ f e. if_right _ _ _ (judged_tabled f source config name u sp e) h.1.0) t;
   shelf = refl;
 }
-tabled_ends files faults before after source config name u sp (Err fault.Out) t h = record {
+tabled_ends files faults before after source config name u at sp (Err fault.Out) found t h = record {
   part = told files _ _ (λ f e. if_right _ _ _ (judged_tabled f source config name u sp e) (h.1.0, h.1.1, h.1.2.part)) t;
   spans = told files _ _ (λ f e. if_right _ _ _ (judged_tabled f source config name u sp e) h.0) t;
   rose = h.1.2.rose;
   shelf = refl;
 }
-tabled_ends files faults before after source config name u sp (Err fault.Memory) t h = record { shelf = refl; out = h }
-tabled_ends files faults before after source config name u sp (Err (fault.Unproved n refusal)) t h = record {
-  first = told files _ _ (λ f e. if_right _ _ _ (judged_tabled f source config name u sp e) h.0) t;
+tabled_ends files faults before after source config name u at sp (Err fault.Memory) found t h = record { shelf = refl; out = h }
+tabled_ends files faults before after source config name u at sp (Err (fault.Unproved place n refusal)) found t h = record {
+  first = told files _ _ (λ f e. if_right _ _ _ (judged_tabled f source config name u sp e) (told_at u at sp name place n found h.0.0, h.0.1)) t;
   out = h.1;
   shelf = refl;
 }
-tabled_ends files faults before after source config name u sp (Err fault.Usage) t h = absurd h
-tabled_ends files faults before after source config name u sp (Err (fault.SecondUnproved n refusal)) t h = absurd h
-tabled_ends files faults before after source config name u sp (Err fault.NoSpan) t h = absurd h
-tabled_ends files faults before after source config name u sp (Err (fault.Shelf role)) t h = absurd h
-tabled_ends files faults before after source config name u sp (Err (fault.TooLong role)) t h = absurd h
-tabled_ends files faults before after source config name u sp (Err (fault.Words line kind)) t h = absurd h
-tabled_ends files faults before after source config name u sp (Err (fault.Source line kind)) t h = absurd h
-tabled_ends files faults before after source config name u sp (Err (fault.Config key kind)) t h = absurd h
-tabled_ends files faults before after source config name u sp (Err (fault.Second key kind)) t h = absurd h
-tabled_ends files faults before after source config name u sp (Err (fault.Stim line kind)) t h = absurd h
-tabled_ends files faults before after source config name u sp (Err (fault.Table line kind)) t h = absurd h
-tabled_ends files faults before after source config name u sp (Err (fault.Flaw n flaw)) t h = absurd h
+tabled_ends files faults before after source config name u at sp (Err fault.Usage) found t h = absurd h
+tabled_ends files faults before after source config name u at sp (Err (fault.SecondUnproved place n refusal)) found t h = absurd h
+tabled_ends files faults before after source config name u at sp (Err fault.NoSpan) found t h = absurd h
+tabled_ends files faults before after source config name u at sp (Err (fault.Shelf role)) found t h = absurd h
+tabled_ends files faults before after source config name u at sp (Err (fault.TooLong role)) found t h = absurd h
+tabled_ends files faults before after source config name u at sp (Err (fault.Words line kind)) found t h = absurd h
+tabled_ends files faults before after source config name u at sp (Err (fault.Source line kind)) found t h = absurd h
+tabled_ends files faults before after source config name u at sp (Err (fault.Config key kind)) found t h = absurd h
+tabled_ends files faults before after source config name u at sp (Err (fault.Second key kind)) found t h = absurd h
+tabled_ends files faults before after source config name u at sp (Err (fault.Stim line kind)) found t h = absurd h
+tabled_ends files faults before after source config name u at sp (Err (fault.Table line kind)) found t h = absurd h
+tabled_ends files faults before after source config name u at sp (Err (fault.Flaw place n flaw)) found t h = absurd h
 
 -- ---- a table that is rechecked
 
@@ -162,9 +171,9 @@ judged_wrong f source config name file u sp e s g =
     ∙ ap (λ (j : Judged (List Row)). as_task (with_rows j (u, sp))) g
 
 -- where the files come to this span and this table, what was told of them ends the command `recheck`
-rechecked_ends : (files : Option Files) (faults : Faults) (before after : Output) (source : List ℕ) (config : Option (List ℕ)) (name file : List ℕ) (u : Setup) (sp : Span) (rows : List Row) (r : Result (Unit {0}) Fault)
-    → IfSome files (λ f. span_at f source config name ≡ right (u, sp)) → IfSome files (λ f. table_at f file ≡ right rows) → TellsRecheck u sp rows before after r → CommandEnds (recheck source config name file) (call_of files faults faults before after) r
-rechecked_ends files faults before after source config name file u sp rows (Ok done) s t h = record {
+rechecked_ends : (files : Option Files) (faults : Faults) (before after : Output) (source : List ℕ) (config : Option (List ℕ)) (name file : List ℕ) (u : Setup) (at : ℕ) (sp : Span) (rows : List Row) (r : Result (Unit {0}) Fault)
+    → Some (at, sp) ≡ named_from 0 name u.spans → IfSome files (λ f. span_at f source config name ≡ right (u, sp)) → IfSome files (λ f. table_at f file ≡ right rows) → TellsRecheck u at sp rows before after r → CommandEnds (recheck source config name file) (call_of files faults faults before after) r
+rechecked_ends files faults before after source config name file u at sp rows (Ok done) found s t h = record {
   writes = record {
     text = both_told files _ _ _ (λ f e g. if_right _ _ _ (judged_rechecked f source config name file u sp rows e g) h.1.1.taken) s t;
     handed = h.1.1.handed;
@@ -174,33 +183,33 @@ rechecked_ends files faults before after source config name file u sp rows (Ok d
   holds = both_told files _ _ _ (λ f e g. if_right _ _ _ (judged_rechecked f source config name file u sp rows e g) h.1.0) s t;
   shelf = refl;
 }
-rechecked_ends files faults before after source config name file u sp rows (Err fault.Out) s t h = record {
+rechecked_ends files faults before after source config name file u at sp rows (Err fault.Out) found s t h = record {
   part = both_told files _ _ _ (λ f e g. if_right _ _ _ (judged_rechecked f source config name file u sp rows e g) h.1.part) s t;
   spans = both_told files _ _ _ (λ f e g. if_right _ _ _ (judged_rechecked f source config name file u sp rows e g) h.0) s t;
   rose = h.1.rose;
   shelf = refl;
 }
-rechecked_ends files faults before after source config name file u sp rows (Err fault.Memory) s t h = record { shelf = refl; out = h }
-rechecked_ends files faults before after source config name file u sp rows (Err (fault.Unproved n refusal)) s t h = record {
-  first = both_told files _ _ _ (λ f e g. if_right _ _ _ (judged_rechecked f source config name file u sp rows e g) h.0) s t;
+rechecked_ends files faults before after source config name file u at sp rows (Err fault.Memory) found s t h = record { shelf = refl; out = h }
+rechecked_ends files faults before after source config name file u at sp rows (Err (fault.Unproved place n refusal)) found s t h = record {
+  first = both_told files _ _ _ (λ f e g. if_right _ _ _ (judged_rechecked f source config name file u sp rows e g) (told_at u at sp name place n found h.0.0, h.0.1)) s t;
   out = h.1;
   shelf = refl;
 }
-rechecked_ends files faults before after source config name file u sp rows (Err (fault.Flaw n flaw)) s t h = record {
-  first = both_told files _ _ _ (λ f e g. if_right _ _ _ (judged_rechecked f source config name file u sp rows e g) h.0) s t;
+rechecked_ends files faults before after source config name file u at sp rows (Err (fault.Flaw place n flaw)) found s t h = record {
+  first = both_told files _ _ _ (λ f e g. if_right _ _ _ (judged_rechecked f source config name file u sp rows e g) (told_at u at sp name place n found h.0.0, h.0.1)) s t;
   untouched = record { shelf = refl; out = h.1 };
 }
-rechecked_ends files faults before after source config name file u sp rows (Err fault.Usage) s t h = absurd h
-rechecked_ends files faults before after source config name file u sp rows (Err (fault.SecondUnproved n refusal)) s t h = absurd h
-rechecked_ends files faults before after source config name file u sp rows (Err fault.NoSpan) s t h = absurd h
-rechecked_ends files faults before after source config name file u sp rows (Err (fault.Shelf role)) s t h = absurd h
-rechecked_ends files faults before after source config name file u sp rows (Err (fault.TooLong role)) s t h = absurd h
-rechecked_ends files faults before after source config name file u sp rows (Err (fault.Words line kind)) s t h = absurd h
-rechecked_ends files faults before after source config name file u sp rows (Err (fault.Source line kind)) s t h = absurd h
-rechecked_ends files faults before after source config name file u sp rows (Err (fault.Config key kind)) s t h = absurd h
-rechecked_ends files faults before after source config name file u sp rows (Err (fault.Second key kind)) s t h = absurd h
-rechecked_ends files faults before after source config name file u sp rows (Err (fault.Stim line kind)) s t h = absurd h
-rechecked_ends files faults before after source config name file u sp rows (Err (fault.Table line kind)) s t h = absurd h
+rechecked_ends files faults before after source config name file u at sp rows (Err fault.Usage) found s t h = absurd h
+rechecked_ends files faults before after source config name file u at sp rows (Err (fault.SecondUnproved place n refusal)) found s t h = absurd h
+rechecked_ends files faults before after source config name file u at sp rows (Err fault.NoSpan) found s t h = absurd h
+rechecked_ends files faults before after source config name file u at sp rows (Err (fault.Shelf role)) found s t h = absurd h
+rechecked_ends files faults before after source config name file u at sp rows (Err (fault.TooLong role)) found s t h = absurd h
+rechecked_ends files faults before after source config name file u at sp rows (Err (fault.Words line kind)) found s t h = absurd h
+rechecked_ends files faults before after source config name file u at sp rows (Err (fault.Source line kind)) found s t h = absurd h
+rechecked_ends files faults before after source config name file u at sp rows (Err (fault.Config key kind)) found s t h = absurd h
+rechecked_ends files faults before after source config name file u at sp rows (Err (fault.Second key kind)) found s t h = absurd h
+rechecked_ends files faults before after source config name file u at sp rows (Err (fault.Stim line kind)) found s t h = absurd h
+rechecked_ends files faults before after source config name file u at sp rows (Err (fault.Table line kind)) found s t h = absurd h
 
 -- ---- what the stages that read fail with
 
@@ -227,10 +236,10 @@ read_fails a files before after out plan (fault.Shelf role) named reached wrongs
     shelf_fails a files before after out role (plan.file_in role) (λ f. plan.reaches f role ≡ true) (named role) (reached role) h.0 h.1
 read_fails a files before after out plan fault.Memory named reached wrongs h = record { shelf = h; out = refl }
 read_fails a files before after out plan fault.Usage named reached wrongs h = absurd h
-read_fails a files before after out plan (fault.SecondUnproved n refusal) named reached wrongs h = absurd h
+read_fails a files before after out plan (fault.SecondUnproved place n refusal) named reached wrongs h = absurd h
 read_fails a files before after out plan fault.Out named reached wrongs h = absurd h
-read_fails a files before after out plan (fault.Unproved n refusal) named reached wrongs h = absurd h
-read_fails a files before after out plan (fault.Flaw n flaw) named reached wrongs h = absurd h
+read_fails a files before after out plan (fault.Unproved place n refusal) named reached wrongs h = absurd h
+read_fails a files before after out plan (fault.Flaw place n flaw) named reached wrongs h = absurd h
 read_fails a files before after out plan (fault.TooLong role) named reached wrongs h = record { judged = wrongs h.1; untouched = record { shelf = h.0; out = refl } }
 read_fails a files before after out plan (fault.Words line kind) named reached wrongs h = record { judged = wrongs h.1; untouched = record { shelf = h.0; out = refl } }
 read_fails a files before after out plan (fault.Source line kind) named reached wrongs h = record { judged = wrongs h.1; untouched = record { shelf = h.0; out = refl } }
@@ -310,27 +319,28 @@ recheck_unread_table files before after out source config name table_name u sp e
 
 -- what was told of the span of a name ends `table`
 pub table_found_ends : (files : Option Files) (before after : Faults) (out_before out_after : Output) (source : List ℕ) (config : Option (List ℕ)) (name : List ℕ)
-    (u : Setup) (lines : List Line) (sp : Span) (r : Result (Unit {0}) Fault) → after ≡ before → IfSome files (λ f. prepared_at f source config None ≡ right (u, lines))
-    → Some sp ≡ span_named name u.spans → TellsTable u sp out_before out_after r → CommandEnds (table source config name) (call_of files before after out_before out_after) r
-table_found_ends files before after out_before out_after source config name u lines sp r same t found h =
+    (u : Setup) (lines : List Line) (at : ℕ) (sp : Span) (r : Result (Unit {0}) Fault) → after ≡ before → IfSome files (λ f. prepared_at f source config None ≡ right (u, lines))
+    → Some (at, sp) ≡ named_from 0 name u.spans → TellsTable u at sp out_before out_after r → CommandEnds (table source config name) (call_of files before after out_before out_after) r
+table_found_ends files before after out_before out_after source config name u lines at sp r same t found h =
     subst (λ (x : Faults). CommandEnds (table source config name) (call_of files before x out_before out_after) r) (sym same)
-    (tabled_ends files before out_before out_after source config name u sp r (span_told files source config name u lines sp t found) h)
+    (tabled_ends files before out_before out_after source config name u at sp r found (span_told files source config name u lines sp t (ap (option_map (λ p. p.1)) found)) h)
 
 -- what was told of it and of a table file ends `recheck`
 pub recheck_found_ends : (files mid_files : Option Files) (before mid after : Faults) (out_before out_after : Output) (source : List ℕ) (config : Option (List ℕ)) (name table_name : List ℕ)
-    (u : Setup) (lines : List Line) (sp : Span) (r : Result (Unit {0}) Fault) → mid_files ≡ files → mid ≡ before → IfSome files (λ f. prepared_at f source config None ≡ right (u, lines))
-    → Some sp ≡ span_named name u.spans
-    → (IfSome mid_files (λ f. span_at f source config name ≡ right (u, sp)) → CommandEnds (recheck source config name table_name) (call_of mid_files mid after out_before out_after) r)
+    (u : Setup) (lines : List Line) (at : ℕ) (sp : Span) (r : Result (Unit {0}) Fault) → mid_files ≡ files → mid ≡ before → IfSome files (λ f. prepared_at f source config None ≡ right (u, lines))
+    → Some (at, sp) ≡ named_from 0 name u.spans
+    → (IfSome mid_files (λ f. span_at f source config name ≡ right (u, sp)) → Some (at, sp) ≡ named_from 0 name u.spans → CommandEnds (recheck source config name table_name) (call_of mid_files mid after out_before out_after) r)
     → CommandEnds (recheck source config name table_name) (call_of files before after out_before out_after) r
-recheck_found_ends files mid_files before mid after out_before out_after source config name table_name u lines sp r same e t found h =
+recheck_found_ends files mid_files before mid after out_before out_after source config name table_name u lines at sp r same e t found h =
     ends_later (recheck source config name table_name) files mid_files before mid after out_before out_after r same e
-    (h (subst (λ (x : Option Files). IfSome x (λ f. span_at f source config name ≡ right (u, sp))) (sym same) (span_told files source config name u lines sp t found)))
+    (h (subst (λ (x : Option Files). IfSome x (λ f. span_at f source config name ≡ right (u, sp))) (sym same) (span_told files source config name u lines sp t (ap (option_map (λ p. p.1)) found))) found)
 
 -- what was told of a table ends `recheck`
 pub recheck_read_ends : (files : Option Files) (before after : Faults) (out_before out_after : Output) (source : List ℕ) (config : Option (List ℕ)) (name table_name : List ℕ)
-    (u : Setup) (sp : Span) (rows : List Row) (r : Result (Unit {0}) Fault) → after ≡ before → IfSome files (λ f. span_at f source config name ≡ right (u, sp))
-    → IfSome files (λ f. table_at f table_name ≡ right rows) → TellsRecheck u sp rows out_before out_after r
+    (u : Setup) (at : ℕ) (sp : Span) (rows : List Row) (r : Result (Unit {0}) Fault) → after ≡ before → IfSome files (λ f. span_at f source config name ≡ right (u, sp))
+    → Some (at, sp) ≡ named_from 0 name u.spans
+    → IfSome files (λ f. table_at f table_name ≡ right rows) → TellsRecheck u at sp rows out_before out_after r
     → CommandEnds (recheck source config name table_name) (call_of files before after out_before out_after) r
-recheck_read_ends files before after out_before out_after source config name table_name u sp rows r same s t h =
+recheck_read_ends files before after out_before out_after source config name table_name u at sp rows r same s found t h =
     subst (λ (x : Faults). CommandEnds (recheck source config name table_name) (call_of files before x out_before out_after) r) (sym same)
-    (rechecked_ends files before out_before out_after source config name table_name u sp rows r s t h)
+    (rechecked_ends files before out_before out_after source config name table_name u at sp rows r found s t h)

@@ -15,7 +15,7 @@ use Rattle.command_line.specs.Words.{Asked, WordsAreTaken}
 use Rattle.stages.specs.Judged.{Judged, right, wrong, IfRight}
 use Rattle.stages.specs.Stages.{HasSuch}
 use Rattle.commands.specs.Tasks.{Task, need_of, judge, file_in, HasText}
-use Rattle.commands.specs.Needs.{Need, nothing, all_spans, both_spans, one_span, by_table, IsMet, IsRefusedBy, IsSecondRefusedBy, IsFlawed}
+use Rattle.commands.specs.Needs.{Need, nothing, all_spans, both_spans, one_span, by_table, IsMet, IsNamedAt, IsRefusedBy, IsSecondRefusedBy, IsFlawed}
 use Rattle.commands.specs.Outside.{Call}
 use Rattle.commands.specs.Promise.{Ends}
 use Rattle.commands.specs.Ends.{EndsAs}
@@ -67,64 +67,79 @@ of_right : (c : Call) (j : Judged Task) → IfRight j (TookText c) → IfRight j
 of_right c (right task) h p = of_done c task (need_of task) h p
 of_right c (wrong e) h p = absurd h
 
+-- a span that is told is told by its own name
+own_name : (u : Setup) (sp : Span) (place : ℕ) (name : List ℕ) → IsNamedAt u sp place name → IsNamedAt u sp place sp.name
+own_name u sp place name h = subst (IsNamedAt u sp place) (sym h.named) h
+
 -- the first span that isn't provable
-of_first : (c : Call) (task : Task) (need : Need) (name : List ℕ) (r : Refusal) → IsRefusedBy need name r → EndsByTask c task (Some (fault.Unproved name r)) need
-of_first c task nothing name r h = absurd h
-of_first c task (all_spans u) name r h = record {
-  provable = λ all. absurd (never_both u u.spans name r all h);
-  unprovable = λ not. record { name = name; refusal = r; fault = refl; first = h };
+of_first : (c : Call) (task : Task) (need : Need) (place : ℕ) (name : List ℕ) (r : Refusal) → IsRefusedBy need place name r → EndsByTask c task (Some (fault.Unproved place name r)) need
+of_first c task nothing place name r h = absurd h
+of_first c task (all_spans u) place name r h = record {
+  provable = λ all. absurd (never_both u u.spans place name r all h);
+  unprovable = λ not. record { place = place; name = name; refusal = r; fault = refl; first = h };
 }
-of_first c task (both_spans s t) name r h = record {
-  provable = λ all too. absurd (never_both s s.spans name r all h);
-  first_unprovable = λ not. record { name = name; refusal = r; fault = refl; first = h };
-  second_unprovable = λ all not. absurd (never_both s s.spans name r all h);
+of_first c task (both_spans s t) place name r h = record {
+  provable = λ all too. absurd (never_both s s.spans place name r all h);
+  first_unprovable = λ not. record { place = place; name = name; refusal = r; fault = refl; first = h };
+  second_unprovable = λ all not. absurd (never_both s s.spans place name r all h);
 }
-of_first c task (one_span u sp) name r h = record {
+of_first c task (one_span u sp) place name r h = record {
   provable = λ here. absurd (not_both u sp r here h.1);
-  unprovable = λ not. (r, h.1, ap (λ (n : List ℕ). Some (fault.Unproved n r)) (sym h.0));
+  unprovable = λ not. record { place = place; named = own_name u sp place name h.0; refusal = r; why = h.1; fault = ap (λ (n : List ℕ). Some (fault.Unproved place n r)) (sym h.0.named) };
 }
-of_first c task (by_table u sp rows) name (Unproved k cause) h = absurd h.1
-of_first c task (by_table u sp rows) name (Shared m) h = record {
-  shared = λ n least. ap (λ (t : List ℕ). Some (fault.Unproved t (Shared m))) (sym h.0) ∙ ap (λ (k : ℕ). Some (fault.Unproved sp.name (Shared k))) (least_same u sp m n h.1 least);
+of_first c task (by_table u sp rows) place name (Unproved k cause) h = absurd h.1
+of_first c task (by_table u sp rows) place name (Shared m) h = record {
+  shared = λ n least. record {
+    place = place;
+    named = own_name u sp place name h.0;
+    fault = ap (λ (t : List ℕ). Some (fault.Unproved place t (Shared m))) (sym h.0.named)
+        ∙ ap (λ (k : ℕ). Some (fault.Unproved place sp.name (Shared k))) (least_same u sp m n h.1 least);
+  };
   proved = λ here. absurd (not_shared u sp m here.alone h.1);
   unproved = λ alone not. absurd (not_shared u sp m alone h.1);
 }
 
-of_refused : (c : Call) (j : Judged Task) (name : List ℕ) (r : Refusal) → IfRight j (λ task. IsRefusedBy (need_of task) name r) → EndsByFiles c j (Some (fault.Unproved name r))
-of_refused c (right task) name r h = of_first c task (need_of task) name r h
-of_refused c (wrong e) name r h = absurd h
+of_refused : (c : Call) (j : Judged Task) (place : ℕ) (name : List ℕ) (r : Refusal) → IfRight j (λ task. IsRefusedBy (need_of task) place name r) → EndsByFiles c j (Some (fault.Unproved place name r))
+of_refused c (right task) place name r h = of_first c task (need_of task) place name r h
+of_refused c (wrong e) place name r h = absurd h
 
 -- the first span of the second block that isn't provable
-of_second : (c : Call) (task : Task) (need : Need) (name : List ℕ) (r : Refusal) → IsSecondRefusedBy need name r → EndsByTask c task (Some (fault.SecondUnproved name r)) need
-of_second c task nothing name r h = absurd h
-of_second c task (all_spans u) name r h = absurd h
-of_second c task (both_spans s t) name r h = record {
-  provable = λ all too. absurd (never_both t t.spans name r too h.1);
+of_second : (c : Call) (task : Task) (need : Need) (place : ℕ) (name : List ℕ) (r : Refusal) → IsSecondRefusedBy need place name r → EndsByTask c task (Some (fault.SecondUnproved place name r)) need
+of_second c task nothing place name r h = absurd h
+of_second c task (all_spans u) place name r h = absurd h
+of_second c task (both_spans s t) place name r h = record {
+  provable = λ all too. absurd (never_both t t.spans place name r too h.1);
   first_unprovable = λ not. absurd (not h.0);
-  second_unprovable = λ all not. record { name = name; refusal = r; fault = refl; first = h.1 };
+  second_unprovable = λ all not. record { place = place; name = name; refusal = r; fault = refl; first = h.1 };
 }
-of_second c task (one_span u sp) name r h = absurd h
-of_second c task (by_table u sp rows) name r h = absurd h
+of_second c task (one_span u sp) place name r h = absurd h
+of_second c task (by_table u sp rows) place name r h = absurd h
 
-of_second_refused : (c : Call) (j : Judged Task) (name : List ℕ) (r : Refusal) → IfRight j (λ task. IsSecondRefusedBy (need_of task) name r) → EndsByFiles c j (Some (fault.SecondUnproved name r))
-of_second_refused c (right task) name r h = of_second c task (need_of task) name r h
-of_second_refused c (wrong e) name r h = absurd h
+of_second_refused : (c : Call) (j : Judged Task) (place : ℕ) (name : List ℕ) (r : Refusal) → IfRight j (λ task. IsSecondRefusedBy (need_of task) place name r) → EndsByFiles c j (Some (fault.SecondUnproved place name r))
+of_second_refused c (right task) place name r h = of_second c task (need_of task) place name r h
+of_second_refused c (wrong e) place name r h = absurd h
 
 -- the first flaw of a table
-of_flaw : (c : Call) (task : Task) (need : Need) (name : List ℕ) (flaw : Flaw) → IsFlawed need name flaw → EndsByTask c task (Some (fault.Flaw name flaw)) need
-of_flaw c task nothing name flaw h = absurd h
-of_flaw c task (all_spans u) name flaw h = absurd h
-of_flaw c task (both_spans s t) name flaw h = absurd h
-of_flaw c task (one_span u sp) name flaw h = absurd h
-of_flaw c task (by_table u sp rows) name flaw h = record {
+of_flaw : (c : Call) (task : Task) (need : Need) (place : ℕ) (name : List ℕ) (flaw : Flaw) → IsFlawed need place name flaw → EndsByTask c task (Some (fault.Flaw place name flaw)) need
+of_flaw c task nothing place name flaw h = absurd h
+of_flaw c task (all_spans u) place name flaw h = absurd h
+of_flaw c task (both_spans s t) place name flaw h = absurd h
+of_flaw c task (one_span u sp) place name flaw h = absurd h
+of_flaw c task (by_table u sp rows) place name flaw h = record {
   shared = λ m least. absurd (not_shared u sp m h.1.alone least);
   proved = λ here. absurd (h.1.unproved here.closed here.good);
-  unproved = λ alone not. record { flaw = flaw; first = h.1.first; fault = ap (λ (t : List ℕ). Some (fault.Flaw t flaw)) (sym h.0) };
+  unproved = λ alone not. record {
+    place = place;
+    named = own_name u sp place name h.0;
+    flaw = flaw;
+    first = h.1.first;
+    fault = ap (λ (t : List ℕ). Some (fault.Flaw place t flaw)) (sym h.0.named);
+  };
 }
 
-of_flawed : (c : Call) (j : Judged Task) (name : List ℕ) (flaw : Flaw) → IfRight j (λ task. IsFlawed (need_of task) name flaw) → EndsByFiles c j (Some (fault.Flaw name flaw))
-of_flawed c (right task) name flaw h = of_flaw c task (need_of task) name flaw h
-of_flawed c (wrong e) name flaw h = absurd h
+of_flawed : (c : Call) (j : Judged Task) (place : ℕ) (name : List ℕ) (flaw : Flaw) → IfRight j (λ task. IsFlawed (need_of task) place name flaw) → EndsByFiles c j (Some (fault.Flaw place name flaw))
+of_flawed c (right task) place name flaw h = of_flaw c task (need_of task) place name flaw h
+of_flawed c (wrong e) place name flaw h = absurd h
 
 -- a fault of the files
 of_wrong : (c : Call) (j : Judged Task) (e : Fault) → j ≡ wrong e → EndsByFiles c j (Some e)
@@ -149,12 +164,12 @@ ends_by_files asked c f (Some fault.Usage) h told usage memory shelf out = absur
 ends_by_files asked c f (Some fault.Memory) h told usage memory shelf out = absurd (memory refl)
 ends_by_files (Some a) c f (Some (fault.Shelf role)) h told usage memory shelf out =
     absurd (shelf (failed_rose (file_in a role) c.shelf_before c.shelf_after h.named))
-ends_by_files (Some a) c f (Some (fault.Unproved name r)) h told usage memory shelf out =
-    of_refused c (judge f a) name r (of_told (λ g. IfRight (judge g a) (λ task. IsRefusedBy (need_of task) name r)) c.files f told h.first)
-ends_by_files (Some a) c f (Some (fault.SecondUnproved name r)) h told usage memory shelf out =
-    of_second_refused c (judge f a) name r (of_told (λ g. IfRight (judge g a) (λ task. IsSecondRefusedBy (need_of task) name r)) c.files f told h.first)
-ends_by_files (Some a) c f (Some (fault.Flaw name flaw)) h told usage memory shelf out =
-    of_flawed c (judge f a) name flaw (of_told (λ g. IfRight (judge g a) (λ task. IsFlawed (need_of task) name flaw)) c.files f told h.first)
+ends_by_files (Some a) c f (Some (fault.Unproved place name r)) h told usage memory shelf out =
+    of_refused c (judge f a) place name r (of_told (λ g. IfRight (judge g a) (λ task. IsRefusedBy (need_of task) place name r)) c.files f told h.first)
+ends_by_files (Some a) c f (Some (fault.SecondUnproved place name r)) h told usage memory shelf out =
+    of_second_refused c (judge f a) place name r (of_told (λ g. IfRight (judge g a) (λ task. IsSecondRefusedBy (need_of task) place name r)) c.files f told h.first)
+ends_by_files (Some a) c f (Some (fault.Flaw place name flaw)) h told usage memory shelf out =
+    of_flawed c (judge f a) place name flaw (of_told (λ g. IfRight (judge g a) (λ task. IsFlawed (need_of task) place name flaw)) c.files f told h.first)
 ends_by_files (Some a) c f (Some fault.Out) h told usage memory shelf out = absurd (out h.rose)
 ends_by_files (Some a) c f (Some (fault.TooLong role)) h told usage memory shelf out = of_faulty c f a _ told h.judged
 ends_by_files (Some a) c f (Some (fault.Words line kind)) h told usage memory shelf out = of_faulty c f a _ told h.judged
@@ -165,9 +180,9 @@ ends_by_files (Some a) c f (Some (fault.Stim line kind)) h told usage memory she
 ends_by_files (Some a) c f (Some (fault.Table line kind)) h told usage memory shelf out = of_faulty c f a _ told h.judged
 ends_by_files (Some a) c f (Some fault.NoSpan) h told usage memory shelf out = of_faulty c f a _ told h.judged
 ends_by_files None c f (Some (fault.Shelf role)) h told usage memory shelf out = absurd h
-ends_by_files None c f (Some (fault.Unproved name r)) h told usage memory shelf out = absurd h
-ends_by_files None c f (Some (fault.SecondUnproved name r)) h told usage memory shelf out = absurd h
-ends_by_files None c f (Some (fault.Flaw name flaw)) h told usage memory shelf out = absurd h
+ends_by_files None c f (Some (fault.Unproved place name r)) h told usage memory shelf out = absurd h
+ends_by_files None c f (Some (fault.SecondUnproved place name r)) h told usage memory shelf out = absurd h
+ends_by_files None c f (Some (fault.Flaw place name flaw)) h told usage memory shelf out = absurd h
 ends_by_files None c f (Some fault.Out) h told usage memory shelf out = absurd h
 ends_by_files None c f (Some (fault.TooLong role)) h told usage memory shelf out = absurd h
 ends_by_files None c f (Some (fault.Words line kind)) h told usage memory shelf out = absurd h

@@ -1,5 +1,5 @@
 -- What is told of a span that isn't provable, of a table with a flaw, and of a text that was written.
-use Rattle.std.proofs.Common.{◌≡◌, List, Result, Ok, Err, inl, inr, refl, sym, subst}
+use Rattle.std.proofs.Common.{◌≡◌, ℕ, List, Result, Ok, Err, inl, inr, refl, sym, subst}
 use Rattle.pin_matrix.specs.declared.setup.Setup.{Setup}
 use Rattle.pin_matrix.specs.declared.span.Span.{Span}
 use Rattle.span_bounds.specs.declared.row.Row.{Row}
@@ -21,59 +21,59 @@ use Rattle.commands.specs.Written.{Writes}
 use Rattle.commands.specs.Tables.{IsTableVerdict, IsRefusalOf, IsFlawOf, TellsTable, TellsRecheck, table_or}
 
 -- a span that isn't provable is told, or memory ran out
-pub refused_tells : (u : Setup) (sp : Span) (out : Output) (refusal : Refusal) (e : Fault) → IsRefused u sp refusal → IsRefusalOf sp refusal e → TellsTable u sp out out (Err e)
-refused_tells u sp out refusal e h (inl is) = subst (λ (x : Fault). TellsTable u sp out out (Err x)) (sym is) ((refl, h), refl)
-refused_tells u sp out refusal e h (inr is) = subst (λ (x : Fault). TellsTable u sp out out (Err x)) (sym is) refl
+pub refused_tells : (u : Setup) (at : ℕ) (sp : Span) (out : Output) (refusal : Refusal) (e : Fault) → IsRefused u sp refusal → IsRefusalOf at sp refusal e → TellsTable u at sp out out (Err e)
+refused_tells u at sp out refusal e h (inl is) = subst (λ (x : Fault). TellsTable u at sp out out (Err x)) (sym is) (((refl, refl), h), refl)
+refused_tells u at sp out refusal e h (inr is) = subst (λ (x : Fault). TellsTable u at sp out out (Err x)) (sym is) refl
 
 -- another machine that may write a pin is told, or memory ran out
-pub shared_tells : (u : Setup) (sp : Span) (rows : List Row) (out : Output) (refusal : Refusal) (e : Fault) → IsSharedBy u sp refusal → IsRefusalOf sp refusal e → TellsRecheck u sp rows out out (Err e)
-shared_tells u sp rows out refusal e h (inl is) = subst (λ (x : Fault). TellsRecheck u sp rows out out (Err x)) (sym is) ((refl, h), refl)
-shared_tells u sp rows out refusal e h (inr is) = subst (λ (x : Fault). TellsRecheck u sp rows out out (Err x)) (sym is) refl
+pub shared_tells : (u : Setup) (at : ℕ) (sp : Span) (rows : List Row) (out : Output) (refusal : Refusal) (e : Fault) → IsSharedBy u sp refusal → IsRefusalOf at sp refusal e → TellsRecheck u at sp rows out out (Err e)
+shared_tells u at sp rows out refusal e h (inl is) = subst (λ (x : Fault). TellsRecheck u at sp rows out out (Err x)) (sym is) (((refl, refl), h), refl)
+shared_tells u at sp rows out refusal e h (inr is) = subst (λ (x : Fault). TellsRecheck u at sp rows out out (Err x)) (sym is) refl
 
 -- a flaw is told, or memory ran out
-pub flaw_tells : (u : Setup) (sp : Span) (rows : List Row) (out : Output) (flaw : Flaw) (e : Fault) → HasFlaw u sp rows flaw → IsFlawOf sp flaw e → TellsRecheck u sp rows out out (Err e)
-flaw_tells u sp rows out flaw e h (inl is) = subst (λ (x : Fault). TellsRecheck u sp rows out out (Err x)) (sym is) ((refl, h), refl)
-flaw_tells u sp rows out flaw e h (inr is) = subst (λ (x : Fault). TellsRecheck u sp rows out out (Err x)) (sym is) refl
+pub flaw_tells : (u : Setup) (at : ℕ) (sp : Span) (rows : List Row) (out : Output) (flaw : Flaw) (e : Fault) → HasFlaw u sp rows flaw → IsFlawOf at sp flaw e → TellsRecheck u at sp rows out out (Err e)
+flaw_tells u at sp rows out flaw e h (inl is) = subst (λ (x : Fault). TellsRecheck u at sp rows out out (Err x)) (sym is) (((refl, refl), h), refl)
+flaw_tells u at sp rows out flaw e h (inr is) = subst (λ (x : Fault). TellsRecheck u at sp rows out out (Err x)) (sym is) refl
 
 -- the text of the table of a provable span was written, or why not
-pub written_tells : (u : Setup) (sp : Span) (rows : List Row) (before after : Output) (r : Result (Unit {0}) Fault) → IsProvableAlone u sp → HoldsInEveryRun u sp → IsGoodLeast u sp rows
-    → Writes before after (table_text rows) r → TellsTable u sp before after r
-written_tells u sp rows before after (Ok done) p k g w = (p, (k, (rows, g, w)))
-written_tells u sp rows before after (Err fault.Out) p k g w = (p, (rows, g, w))
-written_tells u sp rows before after (Err fault.Memory) p k g w = w
-written_tells u sp rows before after (Err fault.Usage) p k g w = absurd w
-written_tells u sp rows before after (Err (fault.SecondUnproved n refusal)) p k g w = absurd w
-written_tells u sp rows before after (Err fault.NoSpan) p k g w = absurd w
-written_tells u sp rows before after (Err (fault.Shelf role)) p k g w = absurd w
-written_tells u sp rows before after (Err (fault.TooLong role)) p k g w = absurd w
-written_tells u sp rows before after (Err (fault.Words line kind)) p k g w = absurd w
-written_tells u sp rows before after (Err (fault.Source line kind)) p k g w = absurd w
-written_tells u sp rows before after (Err (fault.Config key kind)) p k g w = absurd w
-written_tells u sp rows before after (Err (fault.Second key kind)) p k g w = absurd w
-written_tells u sp rows before after (Err (fault.Stim line kind)) p k g w = absurd w
-written_tells u sp rows before after (Err (fault.Table line kind)) p k g w = absurd w
-written_tells u sp rows before after (Err (fault.Unproved n refusal)) p k g w = absurd w
-written_tells u sp rows before after (Err (fault.Flaw n flaw)) p k g w = absurd w
+pub written_tells : (u : Setup) (at : ℕ) (sp : Span) (rows : List Row) (before after : Output) (r : Result (Unit {0}) Fault) → IsProvableAlone u sp → HoldsInEveryRun u sp → IsGoodLeast u sp rows
+    → Writes before after (table_text rows) r → TellsTable u at sp before after r
+written_tells u at sp rows before after (Ok done) p k g w = (p, (k, (rows, g, w)))
+written_tells u at sp rows before after (Err fault.Out) p k g w = (p, (rows, g, w))
+written_tells u at sp rows before after (Err fault.Memory) p k g w = w
+written_tells u at sp rows before after (Err fault.Usage) p k g w = absurd w
+written_tells u at sp rows before after (Err (fault.SecondUnproved place n refusal)) p k g w = absurd w
+written_tells u at sp rows before after (Err fault.NoSpan) p k g w = absurd w
+written_tells u at sp rows before after (Err (fault.Shelf role)) p k g w = absurd w
+written_tells u at sp rows before after (Err (fault.TooLong role)) p k g w = absurd w
+written_tells u at sp rows before after (Err (fault.Words line kind)) p k g w = absurd w
+written_tells u at sp rows before after (Err (fault.Source line kind)) p k g w = absurd w
+written_tells u at sp rows before after (Err (fault.Config key kind)) p k g w = absurd w
+written_tells u at sp rows before after (Err (fault.Second key kind)) p k g w = absurd w
+written_tells u at sp rows before after (Err (fault.Stim line kind)) p k g w = absurd w
+written_tells u at sp rows before after (Err (fault.Table line kind)) p k g w = absurd w
+written_tells u at sp rows before after (Err (fault.Unproved place n refusal)) p k g w = absurd w
+written_tells u at sp rows before after (Err (fault.Flaw place n flaw)) p k g w = absurd w
 
 -- the line of a table that proves the span was written, or why not
-pub rechecked_tells : (u : Setup) (sp : Span) (rows : List Row) (before after : Output) (r : Result (Unit {0}) Fault) → IsProvedBy u sp rows → HoldsInEveryRun u sp
-    → Writes before after (rechecked_line sp.name) r → TellsRecheck u sp rows before after r
-rechecked_tells u sp rows before after (Ok done) p k w = (p, (k, w))
-rechecked_tells u sp rows before after (Err fault.Out) p k w = (p, w)
-rechecked_tells u sp rows before after (Err fault.Memory) p k w = w
-rechecked_tells u sp rows before after (Err fault.Usage) p k w = absurd w
-rechecked_tells u sp rows before after (Err (fault.SecondUnproved n refusal)) p k w = absurd w
-rechecked_tells u sp rows before after (Err fault.NoSpan) p k w = absurd w
-rechecked_tells u sp rows before after (Err (fault.Shelf role)) p k w = absurd w
-rechecked_tells u sp rows before after (Err (fault.TooLong role)) p k w = absurd w
-rechecked_tells u sp rows before after (Err (fault.Words line kind)) p k w = absurd w
-rechecked_tells u sp rows before after (Err (fault.Source line kind)) p k w = absurd w
-rechecked_tells u sp rows before after (Err (fault.Config key kind)) p k w = absurd w
-rechecked_tells u sp rows before after (Err (fault.Second key kind)) p k w = absurd w
-rechecked_tells u sp rows before after (Err (fault.Stim line kind)) p k w = absurd w
-rechecked_tells u sp rows before after (Err (fault.Table line kind)) p k w = absurd w
-rechecked_tells u sp rows before after (Err (fault.Unproved n refusal)) p k w = absurd w
-rechecked_tells u sp rows before after (Err (fault.Flaw n flaw)) p k w = absurd w
+pub rechecked_tells : (u : Setup) (at : ℕ) (sp : Span) (rows : List Row) (before after : Output) (r : Result (Unit {0}) Fault) → IsProvedBy u sp rows → HoldsInEveryRun u sp
+    → Writes before after (rechecked_line sp.name) r → TellsRecheck u at sp rows before after r
+rechecked_tells u at sp rows before after (Ok done) p k w = (p, (k, w))
+rechecked_tells u at sp rows before after (Err fault.Out) p k w = (p, w)
+rechecked_tells u at sp rows before after (Err fault.Memory) p k w = w
+rechecked_tells u at sp rows before after (Err fault.Usage) p k w = absurd w
+rechecked_tells u at sp rows before after (Err (fault.SecondUnproved place n refusal)) p k w = absurd w
+rechecked_tells u at sp rows before after (Err fault.NoSpan) p k w = absurd w
+rechecked_tells u at sp rows before after (Err (fault.Shelf role)) p k w = absurd w
+rechecked_tells u at sp rows before after (Err (fault.TooLong role)) p k w = absurd w
+rechecked_tells u at sp rows before after (Err (fault.Words line kind)) p k w = absurd w
+rechecked_tells u at sp rows before after (Err (fault.Source line kind)) p k w = absurd w
+rechecked_tells u at sp rows before after (Err (fault.Config key kind)) p k w = absurd w
+rechecked_tells u at sp rows before after (Err (fault.Second key kind)) p k w = absurd w
+rechecked_tells u at sp rows before after (Err (fault.Stim line kind)) p k w = absurd w
+rechecked_tells u at sp rows before after (Err (fault.Table line kind)) p k w = absurd w
+rechecked_tells u at sp rows before after (Err (fault.Unproved place n refusal)) p k w = absurd w
+rechecked_tells u at sp rows before after (Err (fault.Flaw place n flaw)) p k w = absurd w
 
 -- what a verdict finds
 pub finds : (u : Setup) (sp : Span) (found : Verdict) → IsVerdict u sp found → VerdictHolds u sp found → IsTableVerdict u sp (table_or found)
@@ -86,16 +86,16 @@ pub finds_by : (u : Setup) (sp : Span) (found : Verdict) (r : Result (List Row) 
 finds_by u sp found r is v k = subst (λ (x : Result (List Row) Refusal). IsTableVerdict u sp x) (sym is) (finds u sp found v k)
 
 -- the table that was found is told
-pub proved_tells : (u : Setup) (sp : Span) (rows : List Row) (before after : Output) (r : Result (Unit {0}) Fault) → IsTableVerdict u sp (Ok rows) → Writes before after (table_text rows) r
-    → TellsTable u sp before after r
-proved_tells u sp rows before after r h w = written_tells u sp rows before after r h.0 h.1.0 h.1.1 w
+pub proved_tells : (u : Setup) (at : ℕ) (sp : Span) (rows : List Row) (before after : Output) (r : Result (Unit {0}) Fault) → IsTableVerdict u sp (Ok rows) → Writes before after (table_text rows) r
+    → TellsTable u at sp before after r
+proved_tells u at sp rows before after r h w = written_tells u at sp rows before after r h.0 h.1.0 h.1.1 w
 
-pub proved_tells_at : (u : Setup) (sp : Span) (found : Result (List Row) Refusal) (rows : List Row) (before after : Output) (r : Result (Unit {0}) Fault) → found ≡ Ok rows → IsTableVerdict u sp found
-    → Writes before after (table_text rows) r → TellsTable u sp before after r
-proved_tells_at u sp found rows before after r is h w =
-    proved_tells u sp rows before after r (subst (λ (x : Result (List Row) Refusal). IsTableVerdict u sp x) is h) w
+pub proved_tells_at : (u : Setup) (at : ℕ) (sp : Span) (found : Result (List Row) Refusal) (rows : List Row) (before after : Output) (r : Result (Unit {0}) Fault) → found ≡ Ok rows → IsTableVerdict u sp found
+    → Writes before after (table_text rows) r → TellsTable u at sp before after r
+proved_tells_at u at sp found rows before after r is h w =
+    proved_tells u at sp rows before after r (subst (λ (x : Result (List Row) Refusal). IsTableVerdict u sp x) is h) w
 
-pub refused_tells_at : (u : Setup) (sp : Span) (found : Result (List Row) Refusal) (refusal : Refusal) (out : Output) (e : Fault) → found ≡ Err refusal → IsTableVerdict u sp found → IsRefusalOf sp refusal e
-    → TellsTable u sp out out (Err e)
-refused_tells_at u sp found refusal out e is h i =
-    refused_tells u sp out refusal e (subst (λ (x : Result (List Row) Refusal). IsTableVerdict u sp x) is h) i
+pub refused_tells_at : (u : Setup) (at : ℕ) (sp : Span) (found : Result (List Row) Refusal) (refusal : Refusal) (out : Output) (e : Fault) → found ≡ Err refusal → IsTableVerdict u sp found → IsRefusalOf at sp refusal e
+    → TellsTable u at sp out out (Err e)
+refused_tells_at u at sp found refusal out e is h i =
+    refused_tells u at sp out refusal e (subst (λ (x : Result (List Row) Refusal). IsTableVerdict u sp x) is h) i

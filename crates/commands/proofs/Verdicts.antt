@@ -14,7 +14,7 @@ pub tells_fails : (u : Setup) (found : List (Result Bool Refusal)) (before after
 tells_fails u found before after fault.Out v h = (found, v, h)
 tells_fails u found before after fault.Memory v h = h
 tells_fails u found before after fault.Usage v h = absurd h
-tells_fails u found before after (fault.SecondUnproved name refusal) v h = absurd h
+tells_fails u found before after (fault.SecondUnproved place name refusal) v h = absurd h
 tells_fails u found before after (fault.Shelf role) v h = absurd h
 tells_fails u found before after (fault.TooLong role) v h = absurd h
 tells_fails u found before after (fault.Words line kind) v h = absurd h
@@ -24,8 +24,8 @@ tells_fails u found before after (fault.Second key kind) v h = absurd h
 tells_fails u found before after (fault.Stim line kind) v h = absurd h
 tells_fails u found before after fault.NoSpan v h = absurd h
 tells_fails u found before after (fault.Table line kind) v h = absurd h
-tells_fails u found before after (fault.Unproved name refusal) v h = absurd h
-tells_fails u found before after (fault.Flaw name flaw) v h = absurd h
+tells_fails u found before after (fault.Unproved place name refusal) v h = absurd h
+tells_fails u found before after (fault.Flaw place name flaw) v h = absurd h
 
 -- the same where spans and verdicts are seen by equations
 pub tells_failing : (u : Setup) (spans : List Span) (seen found : List (Result Bool Refusal)) (before after : Output) (e : Fault) → spans ≡ u.spans → seen ≡ found → AreVerdicts u u.spans found → Writes before after (verdict_text spans seen) (Err e) → TellsVerdicts u before after (Err e)

@@ -17,7 +17,7 @@ use Rattle.span_verdict.specs.declared.table_flaw.Flaw.{Flaw}
 use Rattle.stages.specs.Judged.{Judged, right, wrong}
 use Rattle.stages.specs.Stages.{HasSuch}
 use Rattle.stages.specs.Spans.{IsProvableAlone, AreProvable, IsRefused, IsFirstRefused}
-use Rattle.commands.specs.Needs.{Need, IsProvedBy, nothing, all_spans, both_spans, one_span, by_table}
+use Rattle.commands.specs.Needs.{Need, IsNamedAt, IsProvedBy, nothing, all_spans, both_spans, one_span, by_table}
 use Rattle.commands.specs.Tasks.{Task, need_of, judge, HasText}
 use Rattle.commands.specs.Outside.{Call}
 use Rattle.commands.specs.Wanted.{wanted}
@@ -36,10 +36,11 @@ IsDone c task found = (found ≡ None) × HasText task (λ text. c.out_after.tak
 
 -- the fault of the first span that isn't provable
 pub record IsUndone (u : Setup) (found : Option Fault) : Type 0 where
+  pub place : ℕ
   pub name : List ℕ
   pub refusal : Refusal
-  pub fault : found ≡ Some (fault.Unproved name refusal)
-  pub first : IsFirstRefused u u.spans name refusal
+  pub fault : found ≡ Some (fault.Unproved place name refusal)
+  pub first : IsFirstRefused u u.spans place name refusal
 
 -- where each span of the setup is provable, all is done; where one isn't, the first such one is told
 pub record EndsBySpans (c : Call) (task : Task) (found : Option Fault) (u : Setup) : Type 0 where
@@ -48,10 +49,11 @@ pub record EndsBySpans (c : Call) (task : Task) (found : Option Fault) (u : Setu
 
 -- the fault of the first span of the second block that isn't provable
 pub record IsSecondUndone (t : Setup) (found : Option Fault) : Type 0 where
+  pub place : ℕ
   pub name : List ℕ
   pub refusal : Refusal
-  pub fault : found ≡ Some (fault.SecondUnproved name refusal)
-  pub first : IsFirstRefused t t.spans name refusal
+  pub fault : found ≡ Some (fault.SecondUnproved place name refusal)
+  pub first : IsFirstRefused t t.spans place name refusal
 
 -- where each span of both blocks is provable, all is done; where one isn't, the first such one is told, the first block's before the
 -- second's
@@ -60,21 +62,37 @@ pub record EndsByBoth (c : Call) (task : Task) (found : Option Fault) (s t : Set
   pub first_unprovable : (AreProvable s → ⊥) → IsUndone s found
   pub second_unprovable : AreProvable s → (AreProvable t → ⊥) → IsSecondUndone t found
 
+-- the span's place and name are told, and why it isn't provable
+pub record IsRefusalTold (found : Option Fault) (u : Setup) (sp : Span) : Type 0 where
+  pub place : ℕ
+  pub named : IsNamedAt u sp place sp.name
+  pub refusal : Refusal
+  pub why : IsRefused u sp refusal
+  pub fault : found ≡ Some (fault.Unproved place sp.name refusal)
+
 -- where the span is provable, all is done; where it isn't, the fault tells why
 pub record EndsBySpan (c : Call) (task : Task) (found : Option Fault) (u : Setup) (sp : Span) : Type 0 where
   pub provable : IsProvableAlone u sp → IsDone c task found
-  pub unprovable : (IsProvableAlone u sp → ⊥) → (refusal : Refusal) × IsRefused u sp refusal × (found ≡ Some (fault.Unproved sp.name refusal))
+  pub unprovable : (IsProvableAlone u sp → ⊥) → IsRefusalTold found u sp
 
--- the first flaw of a table is told
+-- the span's place and name are told, and the first flaw of a table
 pub record IsFlawTold (found : Option Fault) (u : Setup) (sp : Span) (rows : List Row) : Type 0 where
+  pub place : ℕ
+  pub named : IsNamedAt u sp place sp.name
   pub flaw : Flaw
   pub first : first_flaw u sp rows ≡ Some flaw
-  pub fault : found ≡ Some (fault.Flaw sp.name flaw)
+  pub fault : found ≡ Some (fault.Flaw place sp.name flaw)
+
+-- the span's place and name are told, and this machine, which may write a pin of it
+pub record IsSharerTold (found : Option Fault) (u : Setup) (sp : Span) (m : ℕ) : Type 0 where
+  pub place : ℕ
+  pub named : IsNamedAt u sp place sp.name
+  pub fault : found ≡ Some (fault.Unproved place sp.name (Shared m))
 
 -- Where another machine may write a pin of the span, the least one is told. Where none may, all is done if the table is closed and
 -- good, and else its first flaw is told.
 pub record EndsByTable (c : Call) (task : Task) (found : Option Fault) (u : Setup) (sp : Span) (rows : List Row) : Type 0 where
-  pub shared : (m : ℕ) → IsLeastSharer u sp m → found ≡ Some (fault.Unproved sp.name (Shared m))
+  pub shared : (m : ℕ) → IsLeastSharer u sp m → IsSharerTold found u sp m
   pub proved : IsProvedBy u sp rows → IsDone c task found
   pub unproved : IsUnshared u sp → (IsClosed u sp rows → IsGood u sp rows → ⊥) → IsFlawTold found u sp rows
 

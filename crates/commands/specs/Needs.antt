@@ -2,9 +2,9 @@
 --   Need        nothing; that each span is provable, of one setup or of two; that one span is; or that a table proves one
 --   IsMet       it is so
 --   AllRunsHold what it says of every run
---   IsRefusedBy the first span that isn't provable, and why
+--   IsRefusedBy the first span that isn't provable, by its place in the setup, and why
 --   IsSecondRefusedBy   the same of a second block
---   IsFlawed    what is wrong with the table first
+--   IsFlawed    what is wrong with the table of a span first
 use Rattle.std.specs.Prelude.{◌≡◌, ℕ, Some, List}
 use Rattle.pin_matrix.specs.declared.setup.Setup.{Setup}
 use Rattle.pin_matrix.specs.declared.span.Span.{Span}
@@ -16,6 +16,7 @@ use Rattle.span_verdict.specs.declared.table_flaw.Flaw.{Flaw}
 use Rattle.span_check.specs.Proved.{HoldsInEveryRun}
 use Rattle.verdict_lines.specs.declared.refusal.Refusal.{Refusal}
 use Rattle.verdict_lines.specs.declared.refusal.Refusal.TheVariants.{Unproved, Shared}
+use Rattle.stages.specs.Named.{named_from}
 use Rattle.stages.specs.Pairs.{AllHoldInPairs}
 use Rattle.stages.specs.Spans.{IsProvableAlone, AreProvable, AllHold, IsRefused, IsFirstRefused}
 
@@ -61,23 +62,29 @@ abbrev pub IsSharedBy : Setup → Span → Refusal → Type 0
 IsSharedBy u sp (Unproved k cause) = ⊥
 IsSharedBy u sp (Shared m) = IsLeastSharer u sp m
 
--- the first span that isn't provable has this name, and this is why; a table proves no span of which another machine may write a pin
-abbrev pub IsRefusedBy : Need → List ℕ → Refusal → Type 0
-IsRefusedBy nothing name refusal = ⊥
-IsRefusedBy (all_spans u) name refusal = IsFirstRefused u u.spans name refusal
-IsRefusedBy (both_spans s t) name refusal = IsFirstRefused s s.spans name refusal
-IsRefusedBy (one_span u sp) name refusal = (sp.name ≡ name) × IsRefused u sp refusal
-IsRefusedBy (by_table u sp rows) name refusal = (sp.name ≡ name) × IsSharedBy u sp refusal
+-- the span has this name, and is the first of the setup with it, at this place, from 0 on
+pub record IsNamedAt (u : Setup) (sp : Span) (place : ℕ) (name : List ℕ) : Type 0 where
+  pub named : sp.name ≡ name
+  pub first : named_from 0 name u.spans ≡ Some (place, sp)
 
--- the spans of the first block are provable, the first span of the second that isn't has this name, and this is why
-abbrev pub IsSecondRefusedBy : Need → List ℕ → Refusal → Type 0
-IsSecondRefusedBy (both_spans s t) name refusal = AreProvable s × IsFirstRefused t t.spans name refusal
-IsSecondRefusedBy need name refusal = ⊥
+-- the first span that isn't provable is at this place and has this name, and this is why; a table proves no span of which another machine
+-- may write a pin
+abbrev pub IsRefusedBy : Need → (place : ℕ) → (name : List ℕ) → Refusal → Type 0
+IsRefusedBy nothing place name refusal = ⊥
+IsRefusedBy (all_spans u) place name refusal = IsFirstRefused u u.spans place name refusal
+IsRefusedBy (both_spans s t) place name refusal = IsFirstRefused s s.spans place name refusal
+IsRefusedBy (one_span u sp) place name refusal = IsNamedAt u sp place name × IsRefused u sp refusal
+IsRefusedBy (by_table u sp rows) place name refusal = IsNamedAt u sp place name × IsSharedBy u sp refusal
 
--- this is wrong first with the table of the span with this name, of which no other machine may write a pin
-abbrev pub IsFlawed : Need → List ℕ → Flaw → Type 0
-IsFlawed nothing name flaw = ⊥
-IsFlawed (all_spans u) name flaw = ⊥
-IsFlawed (both_spans s t) name flaw = ⊥
-IsFlawed (one_span u sp) name flaw = ⊥
-IsFlawed (by_table u sp rows) name flaw = (sp.name ≡ name) × HasFlaw u sp rows flaw
+-- the spans of the first block are provable, the first span of the second that isn't is at this place and has this name, and this is why
+abbrev pub IsSecondRefusedBy : Need → (place : ℕ) → (name : List ℕ) → Refusal → Type 0
+IsSecondRefusedBy (both_spans s t) place name refusal = AreProvable s × IsFirstRefused t t.spans place name refusal
+IsSecondRefusedBy need place name refusal = ⊥
+
+-- this is wrong first with the table of the span at this place with this name, of which no other machine may write a pin
+abbrev pub IsFlawed : Need → (place : ℕ) → (name : List ℕ) → Flaw → Type 0
+IsFlawed nothing place name flaw = ⊥
+IsFlawed (all_spans u) place name flaw = ⊥
+IsFlawed (both_spans s t) place name flaw = ⊥
+IsFlawed (one_span u sp) place name flaw = ⊥
+IsFlawed (by_table u sp rows) place name flaw = IsNamedAt u sp place name × HasFlaw u sp rows flaw

@@ -38,20 +38,20 @@ WritesRefused (recheck source config name file) c = SameOut c
 WritesRefused (pair source config second stimulus clocks) c = SameOut c
 WritesRefused a c = ⊥
 
--- this is the first span that isn't provable, and why; nothing failed
-pub record RefusesSpan (c : Call) (a : Asked) (name : List ℕ) (refusal : Refusal) : Type 0 where
-  pub first : ComesTo c a (λ task. IsRefusedBy (need_of task) name refusal)
+-- this is the first span that isn't provable, by its place and name, and why; nothing failed
+pub record RefusesSpan (c : Call) (a : Asked) (place : ℕ) (name : List ℕ) (refusal : Refusal) : Type 0 where
+  pub first : ComesTo c a (λ task. IsRefusedBy (need_of task) place name refusal)
   pub out : WritesRefused a c
   pub shelf : SameShelf c
 
 -- this is the first span of the second block that isn't provable, and why; nothing was written, and nothing failed
-pub record RefusesSecond (c : Call) (a : Asked) (name : List ℕ) (refusal : Refusal) : Type 0 where
-  pub first : ComesTo c a (λ task. IsSecondRefusedBy (need_of task) name refusal)
+pub record RefusesSecond (c : Call) (a : Asked) (place : ℕ) (name : List ℕ) (refusal : Refusal) : Type 0 where
+  pub first : ComesTo c a (λ task. IsSecondRefusedBy (need_of task) place name refusal)
   pub untouched : Untouched c
 
 -- this is wrong first with the table, and nothing was written
-pub record Flawed (c : Call) (a : Asked) (name : List ℕ) (flaw : Flaw) : Type 0 where
-  pub first : ComesTo c a (λ task. IsFlawed (need_of task) name flaw)
+pub record Flawed (c : Call) (a : Asked) (place : ℕ) (name : List ℕ) (flaw : Flaw) : Type 0 where
+  pub first : ComesTo c a (λ task. IsFlawed (need_of task) place name flaw)
   pub untouched : Untouched c
 
 -- one fetch failed, and it was that of the command's file of this role, to which it comes
@@ -78,9 +78,9 @@ Ends (Some a) c None = Passes c a
 Ends None c (Some fault.Usage) = Untouched c
 Ends asked c (Some fault.Memory) = Untouched c
 Ends (Some a) c (Some (fault.Shelf role)) = ShelfFails c a role
-Ends (Some a) c (Some (fault.Unproved name refusal)) = RefusesSpan c a name refusal
-Ends (Some a) c (Some (fault.SecondUnproved name refusal)) = RefusesSecond c a name refusal
-Ends (Some a) c (Some (fault.Flaw name flaw)) = Flawed c a name flaw
+Ends (Some a) c (Some (fault.Unproved place name refusal)) = RefusesSpan c a place name refusal
+Ends (Some a) c (Some (fault.SecondUnproved place name refusal)) = RefusesSecond c a place name refusal
+Ends (Some a) c (Some (fault.Flaw place name flaw)) = Flawed c a place name flaw
 Ends (Some a) c (Some fault.Out) = OutFails c a
 Ends None c found = ⊥
 Ends (Some a) c (Some fault.Usage) = ⊥

@@ -1,7 +1,7 @@
 -- What it means that a table is told, and that a table was rechecked.
 --   TellsTable    the text of the least closed table was taken and handed on, or why not
 --   TellsRecheck  the line of a table that proves a span was taken and handed on, or why not
-use Rattle.std.specs.Prelude.{◌≡◌, ◌⊎◌, List, Result, Ok, Err}
+use Rattle.std.specs.Prelude.{◌≡◌, ◌⊎◌, ℕ, List, Result, Ok, Err}
 use Rattle.pin_matrix.specs.declared.setup.Setup.{Setup}
 use Rattle.pin_matrix.specs.declared.span.Span.{Span}
 use Rattle.span_bounds.specs.declared.row.Row.{Row}
@@ -32,31 +32,35 @@ abbrev pub IsTableVerdict : Setup → Span → Result (List Row) Refusal → Typ
 IsTableVerdict u sp (Ok rows) = IsProvableAlone u sp × (HoldsInEveryRun u sp × IsGoodLeast u sp rows)
 IsTableVerdict u sp (Err why) = IsRefused u sp why
 
--- the fault is that of a span that is refused, or want of memory
-abbrev pub IsRefusalOf : Span → Refusal → Fault → Type 0
-IsRefusalOf sp why e = (e ≡ fault.Unproved sp.name why) ⊎ (e ≡ fault.Memory)
+-- the fault is that of the span at this place, which is refused, or want of memory
+abbrev pub IsRefusalOf : (place : ℕ) → Span → Refusal → Fault → Type 0
+IsRefusalOf place sp why e = (e ≡ fault.Unproved place sp.name why) ⊎ (e ≡ fault.Memory)
 
--- the fault is that of a table that has this flaw, or want of memory
-abbrev pub IsFlawOf : Span → Flaw → Fault → Type 0
-IsFlawOf sp flaw e = (e ≡ fault.Flaw sp.name flaw) ⊎ (e ≡ fault.Memory)
+-- the fault is that of a table of the span at this place, which has this flaw, or want of memory
+abbrev pub IsFlawOf : (place : ℕ) → Span → Flaw → Fault → Type 0
+IsFlawOf place sp flaw e = (e ≡ fault.Flaw place sp.name flaw) ⊎ (e ≡ fault.Memory)
 
--- The span is provable and holds in every run, and the text of its least closed table was taken and handed on, or a first part of
+-- the place and the name that are told are the span's
+abbrev pub IsTold : (at : ℕ) → Span → (place : ℕ) → (name : List ℕ) → Type 0
+IsTold at sp place name = (place ≡ at) × (sp.name ≡ name)
+
+-- The span at this place is provable and holds in every run, and the text of its least closed table was taken and handed on, or a first part of
 -- it where the output failed; or the span isn't provable, and this is why; or memory ran out. Of the last two nothing is written.
-abbrev pub TellsTable : Setup → Span → Output → Output → Result (Unit {0}) Fault → Type 0
-TellsTable u sp before after (Ok _) = IsProvableAlone u sp × (HoldsInEveryRun u sp × HasTable u sp (λ text. HasTaken before text after))
-TellsTable u sp before after (Err fault.Out) = IsProvableAlone u sp × HasTable u sp (λ text. TakesPart before text after)
-TellsTable u sp before after (Err fault.Memory) = after ≡ before
-TellsTable u sp before after (Err (fault.Unproved name why)) = ((sp.name ≡ name) × IsRefused u sp why) × (after ≡ before)
-TellsTable u sp before after (Err e) = ⊥
+abbrev pub TellsTable : Setup → (at : ℕ) → Span → Output → Output → Result (Unit {0}) Fault → Type 0
+TellsTable u at sp before after (Ok _) = IsProvableAlone u sp × (HoldsInEveryRun u sp × HasTable u sp (λ text. HasTaken before text after))
+TellsTable u at sp before after (Err fault.Out) = IsProvableAlone u sp × HasTable u sp (λ text. TakesPart before text after)
+TellsTable u at sp before after (Err fault.Memory) = after ≡ before
+TellsTable u at sp before after (Err (fault.Unproved place name why)) = (IsTold at sp place name × IsRefused u sp why) × (after ≡ before)
+TellsTable u at sp before after (Err e) = ⊥
 
--- The table proves the span, which holds in every run, and its line was taken and handed on, or a first part of it where the output
+-- The table proves the span at this place, which holds in every run, and its line was taken and handed on, or a first part of it where the output
 -- failed; or another machine may write a pin of the span; or the table has a flaw first; or memory ran out. Of the last three
 -- nothing is written.
-abbrev pub TellsRecheck : Setup → Span → List Row → Output → Output → Result (Unit {0}) Fault → Type 0
-TellsRecheck u sp rows before after (Ok _) = IsProvedBy u sp rows × (HoldsInEveryRun u sp × HasTaken before (rechecked_line sp.name) after)
-TellsRecheck u sp rows before after (Err fault.Out) = IsProvedBy u sp rows × TakesPart before (rechecked_line sp.name) after
-TellsRecheck u sp rows before after (Err fault.Memory) = after ≡ before
-TellsRecheck u sp rows before after (Err (fault.Unproved name why)) = ((sp.name ≡ name) × IsSharedBy u sp why) × (after ≡ before)
-TellsRecheck u sp rows before after (Err (fault.Flaw name flaw)) =
-    ((sp.name ≡ name) × HasFlaw u sp rows flaw) × (after ≡ before)
-TellsRecheck u sp rows before after (Err e) = ⊥
+abbrev pub TellsRecheck : Setup → (at : ℕ) → Span → List Row → Output → Output → Result (Unit {0}) Fault → Type 0
+TellsRecheck u at sp rows before after (Ok _) = IsProvedBy u sp rows × (HoldsInEveryRun u sp × HasTaken before (rechecked_line sp.name) after)
+TellsRecheck u at sp rows before after (Err fault.Out) = IsProvedBy u sp rows × TakesPart before (rechecked_line sp.name) after
+TellsRecheck u at sp rows before after (Err fault.Memory) = after ≡ before
+TellsRecheck u at sp rows before after (Err (fault.Unproved place name why)) = (IsTold at sp place name × IsSharedBy u sp why) × (after ≡ before)
+TellsRecheck u at sp rows before after (Err (fault.Flaw place name flaw)) =
+    (IsTold at sp place name × HasFlaw u sp rows flaw) × (after ≡ before)
+TellsRecheck u at sp rows before after (Err e) = ⊥

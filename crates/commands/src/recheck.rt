@@ -1,10 +1,11 @@
 //! The command `recheck`: whether the table of a file proves a span, without deriving one.
-ghost use Rattle.std.specs.Prelude.{◌≡◌, ℕ, IfSome, IsSome, List, MatchOption, None, Option, option_map, slice_index_or};
+ghost use Rattle.std.specs.Prelude.{◌≡◌, ℕ, IfSome, IsSome, List, MatchOption, None, Option, Some, option_map, slice_index_or};
 ghost use Rattle.command_line.specs.Words.{recheck as recheck_asked};
 ghost use Rattle.table_files.specs.FlawLines.{rechecked_line};
 ghost use Rattle.span_check.specs.Proved.{HoldsInEveryRun};
 ghost use Rattle.span_verdict.specs.Sharing.{IsUnshared};
 ghost use Rattle.stages.specs.Judged.{right, span_at};
+ghost use Rattle.stages.specs.Named.{named_from};
 ghost use Rattle.commands.specs.Needs.{HasFlaw, IsProvedBy};
 ghost use Rattle.commands.specs.Outside.{call_by, output_by};
 ghost use Rattle.commands.specs.Promise.{CommandEnds};
@@ -42,15 +43,16 @@ pub fn recheck_file<F: Shelf, O: Sink>(
 {
     let setup = prepare_setup(alloc, shelf, source, config)?;
     match span_named(&setup, name) {
-        Some(span) => recheck_span(alloc, &setup, span, table, shelf, out),
+        Some((place, span)) => recheck_span(alloc, &setup, place, span, table, shelf, out),
         None => Err(Fault::NoSpan),
     }
 }
 
-/// Reads a table file, and writes that its table proves a span, whose machine is configured, where it does.
+/// Reads a table file, and writes that its table proves the span at this place, whose machine is configured, where it does.
 fn recheck_span<F: Shelf, O: Sink>(
     alloc: Global,
     setup: &Setup,
+    place: usize,
     span: &Span,
     table: &str,
     shelf: &mut F,
@@ -59,29 +61,31 @@ fn recheck_span<F: Shelf, O: Sink>(
     requires { IsSome (slice_index_or setup.now.machines span.now.machine None) }
     ensures ends { (source : List ℕ) (config : Option (List ℕ)) (name : List ℕ)
         → IfSome (F.holds shelf.old) (λ files. span_at files source config name ≡ right (setup.now, span.now))
+        → Some (place, span.now) ≡ named_from 0 name setup.now.spans
         → CommandEnds (recheck_asked source config name table.now)
         (call_by F.holds F.faults O.taken O.waiting O.faults shelf.old shelf.new out.old out.new) result }
     ensures same { F.holds shelf.new ≡ F.holds shelf.old }
 {
     let rows = fetch_table(alloc, shelf, table)?;
-    tell_recheck(alloc, setup, span, &rows, out)
+    tell_recheck(alloc, setup, place, span, &rows, out)
 }
 
-/// Writes that a table proves a span, whose machine is configured, where it does.
+/// Writes that a table proves the span at this place, whose machine is configured, where it does.
 fn tell_recheck<O: Sink>(
     alloc: Global,
     setup: &Setup,
+    place: usize,
     span: &Span,
     table: &Table,
     out: &mut O,
 ) -> Result<(), Fault>
     requires { IsSome (slice_index_or setup.now.machines span.now.machine None) }
-    ensures { TellsRecheck setup.now span.now table.now
+    ensures { TellsRecheck setup.now place span.now table.now
         (output_by O.taken O.waiting O.faults out.old) (output_by O.taken O.waiting O.faults out.new) result }
 {
     match shared_by(setup, span) {
-        Some(machine) => Err(unproved(alloc, span, Refusal::Shared(machine))),
-        None => tell_flaw(alloc, setup, span, table, out),
+        Some(machine) => Err(unproved(alloc, place, span, Refusal::Shared(machine))),
+        None => tell_flaw(alloc, setup, place, span, table, out),
     }
 }
 
@@ -89,17 +93,18 @@ fn tell_recheck<O: Sink>(
 fn tell_flaw<O: Sink>(
     alloc: Global,
     setup: &Setup,
+    place: usize,
     span: &Span,
     table: &Table,
     out: &mut O,
 ) -> Result<(), Fault>
     requires configured { IsSome (slice_index_or setup.now.machines span.now.machine None) }
     requires alone { IsUnshared setup.now span.now }
-    ensures { TellsRecheck setup.now span.now table.now
+    ensures { TellsRecheck setup.now place span.now table.now
         (output_by O.taken O.waiting O.faults out.old) (output_by O.taken O.waiting O.faults out.new) result }
 {
     match first_flaw(setup, span, table) {
-        Some(found) => Err(flawed(alloc, span, found)),
+        Some(found) => Err(flawed(alloc, place, span, found)),
         None => write_rechecked(out, &span.name),
     }
 }

@@ -9,22 +9,22 @@ use span_verdict::Flaw;
 use std::alloc::{AllocError, Global};
 use verdict_lines::Refusal;
 
-/// The fault of a span that isn't provable, or want of memory.
-pub fn unproved(alloc: Global, span: &Span, refusal: Refusal) -> Fault
-    ensures { IsRefusalOf span.now refusal result }
+/// The fault of the span at this place, which isn't provable, or want of memory.
+pub fn unproved(alloc: Global, place: usize, span: &Span, refusal: Refusal) -> Fault
+    ensures { IsRefusalOf place span.now refusal result }
 {
     match name_of(alloc, span) {
-        Ok(name) => Fault::Unproved(name, refusal),
+        Ok(name) => Fault::Unproved(place, name, refusal),
         Err(_) => Fault::Memory,
     }
 }
 
-/// The fault of a table that doesn't prove a span, or want of memory.
-pub fn flawed(alloc: Global, span: &Span, flaw: Flaw) -> Fault
-    ensures { IsFlawOf span.now flaw result }
+/// The fault of a table that doesn't prove the span at this place, or want of memory.
+pub fn flawed(alloc: Global, place: usize, span: &Span, flaw: Flaw) -> Fault
+    ensures { IsFlawOf place span.now flaw result }
 {
     match name_of(alloc, span) {
-        Ok(name) => Fault::Flaw(name, flaw),
+        Ok(name) => Fault::Flaw(place, name, flaw),
         Err(_) => Fault::Memory,
     }
 }

@@ -37,21 +37,27 @@ pub fn table<F: Shelf, O: Sink>(
 {
     let setup = prepare_setup(alloc, shelf, source, config)?;
     match span_named(&setup, name) {
-        Some(span) => tell_table(alloc, &setup, span, out),
+        Some((place, span)) => tell_table(alloc, &setup, place, span, out),
         None => Err(Fault::NoSpan),
     }
 }
 
-/// Writes the table of a span, whose machine is configured, where it is provable.
-fn tell_table<O: Sink>(alloc: Global, setup: &Setup, span: &Span, out: &mut O) -> Result<(), Fault>
+/// Writes the table of the span at this place, whose machine is configured, where it is provable.
+fn tell_table<O: Sink>(
+    alloc: Global,
+    setup: &Setup,
+    place: usize,
+    span: &Span,
+    out: &mut O,
+) -> Result<(), Fault>
     requires { IsSome (slice_index_or setup.now.machines span.now.machine None) }
-    ensures { TellsTable setup.now span.now
+    ensures { TellsTable setup.now place span.now
         (output_by O.taken O.waiting O.faults out.old) (output_by O.taken O.waiting O.faults out.new) result }
 {
     let found = found_table(alloc, setup, span)?;
     match found {
         Ok(table) => write_table(out, &table),
-        Err(refusal) => Err(unproved(alloc, span, refusal)),
+        Err(refusal) => Err(unproved(alloc, place, span, refusal)),
     }
 }
 

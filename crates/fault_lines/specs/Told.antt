@@ -32,9 +32,9 @@ status_of (Some (fault.Second key kind)) = 1
 status_of (Some (fault.Stim line kind)) = 1
 status_of (Some fault.NoSpan) = 1
 status_of (Some (fault.Table line kind)) = 1
-status_of (Some (fault.Unproved name refusal)) = 3
-status_of (Some (fault.SecondUnproved name refusal)) = 3
-status_of (Some (fault.Flaw name flaw)) = 3
+status_of (Some (fault.Unproved place name refusal)) = 3
+status_of (Some (fault.SecondUnproved place name refusal)) = 3
+status_of (Some (fault.Flaw place name flaw)) = 3
 status_of (Some fault.Out) = 5
 status_of (Some fault.Memory) = 6
 
@@ -100,9 +100,9 @@ fault_line (fault.Second key kind) = config_line (codes "piotool: second ") key 
 fault_line (fault.Stim line kind) = stimulus_line line kind
 fault_line fault.NoSpan = codes "piotool: nospan\n"
 fault_line (fault.Table line kind) = table_line line kind
-fault_line (fault.Unproved name refusal) = refusal_line (codes "piotool: ") name refusal
-fault_line (fault.SecondUnproved name refusal) = refusal_line (codes "piotool: second ") name refusal
-fault_line (fault.Flaw name flaw) = flaw_line (codes "piotool: ") name flaw
+fault_line (fault.Unproved place name refusal) = refusal_line (codes "piotool: ") name refusal
+fault_line (fault.SecondUnproved place name refusal) = refusal_line (codes "piotool: second ") name refusal
+fault_line (fault.Flaw place name flaw) = flaw_line (codes "piotool: ") name flaw
 fault_line fault.Out = codes "piotool: out\n"
 fault_line fault.Memory = codes "piotool: memory\n"
 

@@ -60,9 +60,11 @@ pub fn put_fault<E: Sink>(err: &mut E, fault: &Fault) -> Result<(), SinkFailed>
         Fault::Stim(line, kind) => put_stimulus_fault(err, *line, *kind),
         Fault::NoSpan => put_text(err, "piotool: nospan\n"),
         Fault::Table(line, kind) => put_table_fault(err, *line, *kind),
-        Fault::Unproved(name, refusal) => put_refusal(err, "piotool: ", name, refusal),
-        Fault::SecondUnproved(name, refusal) => put_refusal(err, "piotool: second ", name, refusal),
-        Fault::Flaw(name, flaw) => put_flaw(err, "piotool: ", name, flaw),
+        Fault::Unproved(_, name, refusal) => put_refusal(err, "piotool: ", name, refusal),
+        Fault::SecondUnproved(_, name, refusal) => {
+            put_refusal(err, "piotool: second ", name, refusal)
+        }
+        Fault::Flaw(_, name, flaw) => put_flaw(err, "piotool: ", name, flaw),
         Fault::Out => put_text(err, "piotool: out\n"),
         Fault::Memory => put_text(err, "piotool: memory\n"),
     }

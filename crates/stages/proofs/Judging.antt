@@ -1,5 +1,5 @@
 -- Spans that are judged one after the other.
-use Rattle.std.proofs.Common.{◌≡◌, ◌∙◌, ℕ, zero, suc, ◌+◌, ◌++◌, ◌<◌, ◌≤◌, arith, Bool, inl, inr, Option, Some, None, Result, Ok, Err, List, [], ◌∷◌, IsSome, length, take, get_or, slice_index_or, refl, sym, ap, subst}
+use Rattle.std.proofs.Common.{◌≡◌, ◌∙◌, ℕ, zero, suc, ◌+◌, ◌++◌, ◌<◌, ◌≤◌, arith, Bool, Option, Some, None, Result, Ok, Err, List, [], ◌∷◌, IsSome, length, take, get_or, slice_index_or, refl, sym, ap, subst, length-take-le}
 use Rattle.std.proofs.Math.Seq.{take-suc}
 use Rattle.std.specs.List.{AllByRecursion}
 use Rattle.pin_matrix.specs.declared.setup.Setup.{Setup}
@@ -38,46 +38,52 @@ provable_more u [] sp h here = (here, tt)
 provable_more u (s ∷ spans) sp h here = (h.0, provable_more u spans sp h.1 here)
 
 -- the first that isn't provable is the last one
-refused_last : (u : Setup) (spans : List Span) (sp : Span) (r : Refusal) → AllByRecursion (IsProvableAlone u) spans → IsRefused u sp r → IsFirstRefused u (spans ++ sp ∷ []) sp.name r
-refused_last u [] sp r h here = inl (refl, here)
-refused_last u (s ∷ spans) sp r h here = inr (h.0, refused_last u spans sp r h.1 here)
+refused_last : (u : Setup) (spans : List Span) (place : ℕ) (sp : Span) (r : Refusal) → length spans ≡ place → AllByRecursion (IsProvableAlone u) spans → IsRefused u sp r
+    → IsFirstRefused u (spans ++ sp ∷ []) place sp.name r
+refused_last u [] zero sp r at h here = (refl, here)
+refused_last u [] (suc place) sp r at h here = absurd (omega (arith, at))
+refused_last u (s ∷ spans) zero sp r at h here = absurd (omega (arith, at))
+refused_last u (s ∷ spans) (suc place) sp r at h here = (h.0, refused_last u spans place sp r (omega (arith, at)) h.1 here)
 
 -- or one before it
-refused_before : (u : Setup) (spans : List Span) (sp : Span) (name : List ℕ) (r : Refusal) → IsFirstRefused u spans name r → IsFirstRefused u (spans ++ sp ∷ []) name r
-refused_before u [] sp name r h = absurd h
-refused_before u (s ∷ spans) sp name r (inl h) = inl h
-refused_before u (s ∷ spans) sp name r (inr h) = inr (h.0, refused_before u spans sp name r h.1)
+refused_before : (u : Setup) (spans : List Span) (sp : Span) (place : ℕ) (name : List ℕ) (r : Refusal) → IsFirstRefused u spans place name r
+    → IsFirstRefused u (spans ++ sp ∷ []) place name r
+refused_before u [] sp place name r h = absurd h
+refused_before u (s ∷ spans) sp zero name r h = h
+refused_before u (s ∷ spans) sp (suc place) name r h = (h.0, refused_before u spans sp place name r h.1)
 
-first_more : (u : Setup) (spans : List Span) (refused : Option (List ℕ × Refusal)) (sp : Span) (f : Result Bool Refusal) → IsFirstOf u spans refused → IsVerdictOn u sp f → IsFirstOf u (spans ++ sp ∷ []) (first_refused refused sp.name f)
-first_more u spans None sp (Ok opens) h here = provable_more u spans sp h (record { provable = here.1.provable; alone = here.1.alone })
-first_more u spans None sp (Err r) h here = refused_last u spans sp r h here
-first_more u spans (Some earlier) sp f h here = refused_before u spans sp earlier.0 earlier.1 h
+first_more : (u : Setup) (spans : List Span) (refused : Option (ℕ × List ℕ × Refusal)) (place : ℕ) (sp : Span) (f : Result Bool Refusal) → length spans ≡ place → IsFirstOf u spans refused
+    → IsVerdictOn u sp f → IsFirstOf u (spans ++ sp ∷ []) (first_refused refused place sp.name f)
+first_more u spans None place sp (Ok opens) at h here = provable_more u spans sp h (record { provable = here.1.provable; alone = here.1.alone })
+first_more u spans None place sp (Err r) at h here = refused_last u spans place sp r at h here
+first_more u spans (Some earlier) place sp f at h here = refused_before u spans sp earlier.0 earlier.1 earlier.2 h
 
 plus_one : (n : ℕ) → n + 1 ≡ suc n
 plus_one n = omega arith
 
 -- one verdict more
-pub judged_more : (u : Setup) (spans : List Span) (place : ℕ) (found : List (Result Bool Refusal)) (refused : Option (List ℕ × Refusal)) (sp : Span) (f : Result Bool Refusal)
+pub judged_more : (u : Setup) (spans : List Span) (place : ℕ) (found : List (Result Bool Refusal)) (refused : Option (ℕ × List ℕ × Refusal)) (sp : Span) (f : Result Bool Refusal)
     → place < length spans → sp ≡ get_or spans place sp → AreJudged u (take place spans) found refused → IsVerdictOn u sp f
-    → AreJudged u (take (place + 1) spans) (found ++ f ∷ []) (first_refused refused sp.name f)
+    → AreJudged u (take (place + 1) spans) (found ++ f ∷ []) (first_refused refused place sp.name f)
 judged_more u spans place found refused sp f lt is h here =
     let e : take (place + 1) spans ≡ take place spans ++ sp ∷ [] = ap (λ n. take n spans) (plus_one place) ∙ take-suc spans place sp lt ∙ ap (λ x. take place spans ++ x ∷ []) (sym is) in
-    let whole : AreJudged u (take place spans ++ sp ∷ []) (found ++ f ∷ []) (first_refused refused sp.name f) = record {
+    let whole : AreJudged u (take place spans ++ sp ∷ []) (found ++ f ∷ []) (first_refused refused place sp.name f) = record {
       verdicts = verdicts_more u (take place spans) found sp f h.verdicts here;
-      first = first_more u (take place spans) refused sp f h.first here;
+      first = first_more u (take place spans) refused place sp f (length-take-le place spans (omega (arith, lt))) h.first here;
     } in
-    subst (λ (l : List Span). AreJudged u l (found ++ f ∷ []) (first_refused refused sp.name f)) (sym e) whole
+    subst (λ (l : List Span). AreJudged u l (found ++ f ∷ []) (first_refused refused place sp.name f)) (sym e) whole
 
 -- the same by what the next verdict gives
-pub judged_next : (u : Setup) (spans : List Span) (place : ℕ) (found after : List (Result Bool Refusal)) (earlier refused : Option (List ℕ × Refusal)) (sp : Span)
-    → place < length spans → sp ≡ get_or spans place sp → AreJudged u (take place spans) found earlier → IsNextVerdict u sp found after earlier refused → AreJudged u (take (place + 1) spans) after refused
+pub judged_next : (u : Setup) (spans : List Span) (place : ℕ) (found after : List (Result Bool Refusal)) (earlier refused : Option (ℕ × List ℕ × Refusal)) (sp : Span)
+    → place < length spans → sp ≡ get_or spans place sp → AreJudged u (take place spans) found earlier → IsNextVerdict u place sp found after earlier refused
+    → AreJudged u (take (place + 1) spans) after refused
 judged_next u spans place found after earlier refused sp lt is h next =
     let whole = judged_more u spans place found earlier sp next.found lt is h next.verdict in
     subst (λ (fs : List (Result Bool Refusal)). AreJudged u (take (place + 1) spans) fs refused) (sym next.more)
-    (subst (λ (r : Option (List ℕ × Refusal)). AreJudged u (take (place + 1) spans) (found ++ next.found ∷ []) r) (sym next.first) whole)
+    (subst (λ (r : Option (ℕ × List ℕ × Refusal)). AreJudged u (take (place + 1) spans) (found ++ next.found ∷ []) r) (sym next.first) whole)
 
 -- when all are judged
-pub judged_all : (u : Setup) (spans : List Span) (place : ℕ) (found : List (Result Bool Refusal)) (refused : Option (List ℕ × Refusal)) → length spans ≤ place → AreJudged u (take place spans) found refused → AreJudged u spans found refused
+pub judged_all : (u : Setup) (spans : List Span) (place : ℕ) (found : List (Result Bool Refusal)) (refused : Option (ℕ × List ℕ × Refusal)) → length spans ≤ place → AreJudged u (take place spans) found refused → AreJudged u spans found refused
 judged_all u spans place found refused le h = subst (λ (l : List Span). AreJudged u l found refused) (take_whole spans place le) h
   where
     take_whole : (l : List Span) (n : ℕ) → length l ≤ n → take n l ≡ l

@@ -41,9 +41,9 @@ both_hold first second s t c d p q = record {
 pub asked_both : FirstHold → SecondHold → (s t : Setup) (r : Result (Unit {0}) Fault) → AreConfigured s → AreConfigured t → AreProvable s
     → AreSecondAsked t r → AreBothAsked s t r
 asked_both first second s t (Ok done) c d p h = ((p, h), both_hold first second s t c d p h)
-asked_both first second s t (Err (fault.SecondUnproved name refusal)) c d p h = (p, h)
+asked_both first second s t (Err (fault.SecondUnproved place name refusal)) c d p h = (p, h)
 asked_both first second s t (Err fault.Memory) c d p h = tt
-asked_both first second s t (Err (fault.Unproved name refusal)) c d p h = absurd h
+asked_both first second s t (Err (fault.Unproved place name refusal)) c d p h = absurd h
 asked_both first second s t (Err fault.Usage) c d p h = absurd h
 asked_both first second s t (Err (fault.Shelf role)) c d p h = absurd h
 asked_both first second s t (Err (fault.TooLong role)) c d p h = absurd h
@@ -54,5 +54,5 @@ asked_both first second s t (Err (fault.Second key kind)) c d p h = absurd h
 asked_both first second s t (Err (fault.Stim line kind)) c d p h = absurd h
 asked_both first second s t (Err fault.NoSpan) c d p h = absurd h
 asked_both first second s t (Err (fault.Table line kind)) c d p h = absurd h
-asked_both first second s t (Err (fault.Flaw name flaw)) c d p h = absurd h
+asked_both first second s t (Err (fault.Flaw place name flaw)) c d p h = absurd h
 asked_both first second s t (Err fault.Out) c d p h = absurd h

@@ -18,7 +18,7 @@ pub record AllHoldInPairs (s t : Setup) : Type 0 where
 -- how a command ends that asks the spans of the second block: each is provable, or the first one that isn't is told
 abbrev pub AreSecondAsked : Setup → Result (Unit {0}) Fault → Type 0
 AreSecondAsked t (Ok done) = AreProvable t
-AreSecondAsked t (Err (fault.SecondUnproved name refusal)) = IsFirstRefused t t.spans name refusal
+AreSecondAsked t (Err (fault.SecondUnproved place name refusal)) = IsFirstRefused t t.spans place name refusal
 AreSecondAsked t (Err fault.Memory) = Unit {0}
 AreSecondAsked t (Err e) = ⊥
 
@@ -26,7 +26,7 @@ AreSecondAsked t (Err e) = ⊥
 -- told. Those of the first block come first.
 abbrev pub AreBothAsked : (s t : Setup) → Result (Unit {0}) Fault → Type 0
 AreBothAsked s t (Ok done) = (AreProvable s × AreProvable t) × AllHoldInPairs s t
-AreBothAsked s t (Err (fault.Unproved name refusal)) = IsFirstRefused s s.spans name refusal
-AreBothAsked s t (Err (fault.SecondUnproved name refusal)) = AreProvable s × IsFirstRefused t t.spans name refusal
+AreBothAsked s t (Err (fault.Unproved place name refusal)) = IsFirstRefused s s.spans place name refusal
+AreBothAsked s t (Err (fault.SecondUnproved place name refusal)) = AreProvable s × IsFirstRefused t t.spans place name refusal
 AreBothAsked s t (Err fault.Memory) = Unit {0}
 AreBothAsked s t (Err e) = ⊥

@@ -1,10 +1,10 @@
 -- What is said of the spans of a setup.
 --   IsProvableAlone  a span is provable, and no other machine may write a pin of it
 --   IsRefused        why a span isn't
---   IsFirstRefused   the first span that isn't, and why
+--   IsFirstRefused   the first span that isn't, its place and name, and why
 --   AreVerdicts      a verdict on each span, in order
 --   HasVerdicts      the lines of such verdicts
-use Rattle.std.specs.Prelude.{◌≡◌, ℕ, ◌⊎◌, ◌++◌, Bool, List, [], ◌∷◌, Option, Some, None, Result, Ok, Err}
+use Rattle.std.specs.Prelude.{◌≡◌, ℕ, zero, suc, ◌++◌, Bool, List, [], ◌∷◌, Option, Some, None, Result, Ok, Err}
 use Rattle.std.specs.List.{AllByRecursion}
 use Rattle.pin_matrix.specs.declared.setup.Setup.{Setup}
 use Rattle.pin_matrix.specs.declared.span.Span.{Span}
@@ -38,11 +38,11 @@ abbrev pub IsRefused : Setup → Span → Refusal → Type 0
 IsRefused u sp (Unproved k cause) = IsUnproved u sp k cause
 IsRefused u sp (Shared m) = IsLeastSharer u sp m
 
--- the spans before this one are provable, and this is the name of the one that isn't, and why
-abbrev pub IsFirstRefused : Setup → List Span → List ℕ → Refusal → Type 0
-IsFirstRefused u [] name refusal = ⊥
-IsFirstRefused u (sp ∷ spans) name refusal =
-    ((sp.name ≡ name) × IsRefused u sp refusal) ⊎ (IsProvableAlone u sp × IsFirstRefused u spans name refusal)
+-- the spans before this place, from 0 on, are provable, and the one at it isn't: this is its name, and why
+abbrev pub IsFirstRefused : Setup → List Span → (place : ℕ) → (name : List ℕ) → Refusal → Type 0
+IsFirstRefused u [] place name refusal = ⊥
+IsFirstRefused u (sp ∷ spans) zero name refusal = (sp.name ≡ name) × IsRefused u sp refusal
+IsFirstRefused u (sp ∷ spans) (suc place) name refusal = IsProvableAlone u sp × IsFirstRefused u spans place name refusal
 
 -- a span is proved, and opens or not; or this is why it isn't
 abbrev pub IsVerdictOn : Setup → Span → Result Bool Refusal → Type 0
@@ -68,32 +68,33 @@ HasVerdicts u P = (found : List (Result Bool Refusal)) × AreVerdicts u u.spans 
 
 -- ---- what the stages that ask spans give
 
--- the name of the first span that isn't provable, and why, once this verdict on a span of this name comes after those before it
-abbrev pub first_refused : Option (List ℕ × Refusal) → List ℕ → Result Bool Refusal → Option (List ℕ × Refusal)
-first_refused None name (Err refusal) = Some (name, refusal)
-first_refused None name (Ok opens) = None
-first_refused (Some earlier) name found = Some earlier
+-- the place of the first span that isn't provable, its name, and why, once this verdict on the span of this place and name comes after
+-- those before it
+abbrev pub first_refused : Option (ℕ × List ℕ × Refusal) → (place : ℕ) → (name : List ℕ) → Result Bool Refusal → Option (ℕ × List ℕ × Refusal)
+first_refused None place name (Err refusal) = Some (place, name, refusal)
+first_refused None place name (Ok opens) = None
+first_refused (Some earlier) place name found = Some earlier
 
 -- each of these spans is provable, or this is the first one that isn't, and why
-abbrev pub IsFirstOf : Setup → List Span → Option (List ℕ × Refusal) → Type 0
+abbrev pub IsFirstOf : Setup → List Span → Option (ℕ × List ℕ × Refusal) → Type 0
 IsFirstOf u spans None = AllByRecursion (IsProvableAlone u) spans
-IsFirstOf u spans (Some refused) = IsFirstRefused u spans refused.0 refused.1
+IsFirstOf u spans (Some refused) = IsFirstRefused u spans refused.0 refused.1 refused.2
 
 -- a verdict on each of these spans, and the first one that isn't provable
-pub record AreJudged (u : Setup) (spans : List Span) (found : List (Result Bool Refusal)) (refused : Option (List ℕ × Refusal)) : Type 0 where
+pub record AreJudged (u : Setup) (spans : List Span) (found : List (Result Bool Refusal)) (refused : Option (ℕ × List ℕ × Refusal)) : Type 0 where
   pub verdicts : AreVerdicts u spans found
   pub first : IsFirstOf u spans refused
 
--- a verdict on this span came after the others
-pub record IsNextVerdict (u : Setup) (sp : Span) (before after : List (Result Bool Refusal)) (earlier refused : Option (List ℕ × Refusal)) : Type 0 where
+-- a verdict on the span at this place came after the others
+pub record IsNextVerdict (u : Setup) (place : ℕ) (sp : Span) (before after : List (Result Bool Refusal)) (earlier refused : Option (ℕ × List ℕ × Refusal)) : Type 0 where
   pub found : Result Bool Refusal
   pub verdict : IsVerdictOn u sp found
   pub more : after ≡ before ++ found ∷ []
-  pub first : refused ≡ first_refused earlier sp.name found
+  pub first : refused ≡ first_refused earlier place sp.name found
 
 -- how a command ends that asks the spans: each is provable and holds in every run, or the first one that isn't is told
 abbrev pub AreAsked : Setup → Result (Unit {0}) Fault → Type 0
 AreAsked u (Ok done) = AreProvable u × AllHold u
-AreAsked u (Err (fault.Unproved name refusal)) = IsFirstRefused u u.spans name refusal
+AreAsked u (Err (fault.Unproved place name refusal)) = IsFirstRefused u u.spans place name refusal
 AreAsked u (Err fault.Memory) = Unit {0}
 AreAsked u (Err e) = ⊥

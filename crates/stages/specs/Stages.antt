@@ -49,9 +49,9 @@ ReadFails shelf plan (fault.Shelf role) =
 ReadFails shelf plan fault.Memory = shelf.after ≡ shelf.before
 ReadFails shelf plan fault.Usage = ⊥
 ReadFails shelf plan fault.Out = ⊥
-ReadFails shelf plan (fault.Unproved name refusal) = ⊥
-ReadFails shelf plan (fault.SecondUnproved name refusal) = ⊥
-ReadFails shelf plan (fault.Flaw name flaw) = ⊥
+ReadFails shelf plan (fault.Unproved place name refusal) = ⊥
+ReadFails shelf plan (fault.SecondUnproved place name refusal) = ⊥
+ReadFails shelf plan (fault.Flaw place name flaw) = ⊥
 ReadFails shelf plan e = (shelf.after ≡ shelf.before) × IfSome shelf.files (λ files. plan.comes_to files ≡ wrong e)
 
 -- a stage that reads gives what the files come to, seen by a view, without a fault of the shelf; else it ends with its cause

@@ -6,17 +6,17 @@ ghost use Rattle.stages.specs.Named as spec;
 
 use pin_matrix::{Setup, Span};
 
-/// The first span of this name of a setup, where there is one. The machines of the spans are configured.
-pub fn span_named<'a>(setup: &'a Setup, name: &str) -> Option<&'a Span>
+/// The first span of this name of a setup, where there is one, with its place, from 0 on. The machines of the spans are configured.
+pub fn span_named<'a>(setup: &'a Setup, name: &str) -> Option<(usize, &'a Span)>
     requires { AreConfigured setup.now }
-    ensures first { option_map (λ span. span.now) result ≡ spec.span_named name.now setup.now.spans }
-    ensures configured { IfSome result (λ span. IsSome (slice_index_or setup.now.machines span.now.machine None)) }
+    ensures first { option_map (λ found. (found.0, found.1.now)) result ≡ spec.named_from 0 name.now setup.now.spans }
+    ensures configured { IfSome result (λ found. IsSome (slice_index_or setup.now.machines found.1.now.machine None)) }
 {
     let spans = setup.spans.as_slice();
     for place in 0..spans.len() {
         let span = &spans[place];
         if has_name(span, name) {
-            return Some(span);
+            return Some((place, span));
         }
     }
     None

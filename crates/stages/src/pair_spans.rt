@@ -26,7 +26,9 @@ fn ask_second(alloc: Global, second: &Setup) -> Result<(), Fault>
     ensures { AreSecondAsked second.now result }
 {
     match ask_spans(alloc, second) {
-        Err(Fault::Unproved(name, refusal)) => Err(Fault::SecondUnproved(name, refusal)),
+        Err(Fault::Unproved(place, name, refusal)) => {
+            Err(Fault::SecondUnproved(place, name, refusal))
+        }
         other => other,
     }
 }

@@ -11,11 +11,11 @@ use span_check::{a_provable_span_holds_in_every_run, check};
 use std::alloc::{AllocError, Global};
 use verdict_lines::{Refusal, found_by};
 
-/// The verdicts on all spans of a setup, in order; and the name of the first one that isn't provable, and why.
+/// The verdicts on all spans of a setup, in order; and the place of the first one that isn't provable, from 0 on, its name, and why.
 #[derive(Drop)]
 pub struct Verdicts {
     pub found: Vec<Result<bool, Refusal>>,
-    pub refused: Option<(Name, Refusal)>,
+    pub refused: Option<(usize, Name, Refusal)>,
 }
 
 /// Asks that each span be provable; then each holds in every run. The machines of the spans are configured. The fault is that of
@@ -29,7 +29,7 @@ pub fn ask_spans(alloc: Global, setup: &Setup) -> Result<(), Fault>
 }
 
 /// Ends with the fault of the first span that isn't provable, where there is one. Else each holds in every run.
-pub fn refuse(setup: &Setup, refused: Option<(Name, Refusal)>) -> Result<(), Fault>
+pub fn refuse(setup: &Setup, refused: Option<(usize, Name, Refusal)>) -> Result<(), Fault>
     requires configured { AreConfigured setup.now }
     requires first { IsFirstOf setup.now setup.now.spans refused }
     ensures asked { AreAsked setup.now result }
@@ -37,7 +37,7 @@ pub fn refuse(setup: &Setup, refused: Option<(Name, Refusal)>) -> Result<(), Fau
 {
     a_provable_span_holds_in_every_run();
     match refused {
-        Some((name, refusal)) => Err(Fault::Unproved(name, refusal)),
+        Some((place, name, refusal)) => Err(Fault::Unproved(place, name, refusal)),
         None => Ok(()),
     }
 }
@@ -54,24 +54,25 @@ pub fn judge_spans(alloc: Global, setup: &Setup) -> Result<Verdicts, AllocError>
         refused: None,
     };
     for place in 0..spans.len() {
-        judge_next(alloc, setup, &spans[place], &mut verdicts)?;
+        judge_next(alloc, setup, place, &spans[place], &mut verdicts)?;
     }
     Ok(verdicts)
 }
 
-/// Adds the verdict on a span, whose machine is configured. The error is want of memory.
+/// Adds the verdict on the span at this place, whose machine is configured. The error is want of memory.
 fn judge_next(
     alloc: Global,
     setup: &Setup,
+    place: usize,
     span: &Span,
     verdicts: &mut Verdicts,
 ) -> Result<(), AllocError>
     requires { IsSome (slice_index_or setup.now.machines span.now.machine None) }
-    ensures { IfOk result (λ _. IsNextVerdict setup.now span.now verdicts.old.found.items verdicts.new.found.items
+    ensures { IfOk result (λ _. IsNextVerdict setup.now place span.now verdicts.old.found.items verdicts.new.found.items
         verdicts.old.refused verdicts.new.refused) }
 {
     let found = judge_span(alloc, setup, span)?;
-    note_refusal(alloc, span, &found, &mut verdicts.refused)?;
+    note_refusal(alloc, place, span, &found, &mut verdicts.refused)?;
     keep(&mut verdicts.found, found)
 }
 
@@ -99,14 +100,15 @@ fn judge_span(
     Ok(found_by(verdict))
 }
 
-/// Keeps the refusal that came before, else takes that of this span, if it isn't proved. The error is want of memory.
+/// Keeps the refusal that came before, else takes that of the span at this place, if it isn't proved. The error is want of memory.
 fn note_refusal(
     alloc: Global,
+    place: usize,
     span: &Span,
     found: &Result<bool, Refusal>,
-    refused: &mut Option<(Name, Refusal)>,
+    refused: &mut Option<(usize, Name, Refusal)>,
 ) -> Result<(), AllocError>
-    ensures { IfOk result (λ _. refused.new ≡ spec.first_refused refused.old span.now.name found.now) }
+    ensures { IfOk result (λ _. refused.new ≡ spec.first_refused refused.old place span.now.name found.now) }
 {
     if refused.is_some() {
         return Ok(());
@@ -115,7 +117,7 @@ fn note_refusal(
         Ok(_) => Ok(()),
         Err(refusal) => {
             let text = String::from_str(alloc, span.name.as_str())?;
-            *refused = Some((Name::new(text), *refusal));
+            *refused = Some((place, Name::new(text), *refusal));
             Ok(())
         }
     }

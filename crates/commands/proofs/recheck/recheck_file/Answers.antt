@@ -1,4 +1,4 @@
-use Rattle.std.proofs.Common.{option_map}
+use Rattle.std.proofs.Common.{ap, option_map}
 use Rattle.std.proofs.lemmas.Result.{err_from_is_err_and}
 use Rattle.commands.proofs.Ending.{recheck_unread, no_span_recheck_ends, recheck_found_ends}
 use Rattle.commands.proofs.recheck.recheck_file.Goals as goal
@@ -10,11 +10,11 @@ returns-in_err-setup-clause-ends g c =
 
 pub returns-in-Some-clause-ends : goal.returns-in-Some-clause-ends
 returns-in-Some-clause-ends g c =
-    recheck_found_ends _ _ _ _ _ _ _ c.args.source.now (option_map (λ t. t.now) c.args.config) c.args.name.now c.args.table.now _ _ _ _
+    recheck_found_ends _ _ _ _ _ _ _ c.args.source.now (option_map (λ t. t.now) c.args.config) c.args.name.now c.args.table.now _ _ _ _ _
     c.in_ok-setup.ensures.same c.in_ok-setup.ensures.stage.0 c.in_ok-setup.ensures.stage.1 c.in-Some.ensures.first
     (c.recheck_span.ensures.ends c.args.source.now (option_map (λ t. t.now) c.args.config) c.args.name.now)
 
 pub returns-clause-ends : goal.returns-clause-ends
 returns-clause-ends g c =
     no_span_recheck_ends _ _ _ _ c.args.source.now (option_map (λ t. t.now) c.args.config) c.args.name.now c.args.table.now _ _
-    c.in_ok-setup.ensures.stage.0 c.in_ok-setup.ensures.stage.1 c.in-None.ensures.first
+    c.in_ok-setup.ensures.stage.0 c.in_ok-setup.ensures.stage.1 (ap (option_map (λ p. p.1)) c.in-None.ensures.first)

@@ -1,4 +1,4 @@
-use Rattle.std.proofs.Common.{option_map}
+use Rattle.std.proofs.Common.{ap, option_map}
 use Rattle.std.proofs.lemmas.Result.{err_from_is_err_and}
 use Rattle.commands.proofs.Ending.{table_unread, no_span_ends, table_found_ends}
 use Rattle.commands.proofs.table.table.Goals as goal
@@ -10,10 +10,10 @@ returns-in_err-setup-clause-ends g c =
 
 pub returns-in-Some-clause-ends : goal.returns-in-Some-clause-ends
 returns-in-Some-clause-ends g c =
-    table_found_ends _ _ _ _ _ c.args.source.now (option_map (λ t. t.now) c.args.config) c.args.name.now _ _ _ _
+    table_found_ends _ _ _ _ _ c.args.source.now (option_map (λ t. t.now) c.args.config) c.args.name.now _ _ _ _ _
     c.in_ok-setup.ensures.stage.0 c.in_ok-setup.ensures.stage.1 c.in-Some.ensures.first c.tell_table.ensures
 
 pub returns-clause-ends : goal.returns-clause-ends
 returns-clause-ends g c =
     no_span_ends _ _ _ _ c.args.source.now (option_map (λ t. t.now) c.args.config) c.args.name.now _ _
-    c.in_ok-setup.ensures.stage.0 c.in_ok-setup.ensures.stage.1 c.in-None.ensures.first
+    c.in_ok-setup.ensures.stage.0 c.in_ok-setup.ensures.stage.1 (ap (option_map (λ p. p.1)) c.in-None.ensures.first)

@@ -12,3 +12,7 @@ returns-in-Out-clause-bytes g c = rw c.in-Out.is c.put_text-in-Out.ensures.bytes
 pub returns-in-Memory-clause-bytes : goal.returns-in-Memory-clause-bytes
 unfolding fault_line
 returns-in-Memory-clause-bytes g c = rw c.in-Memory.is c.put_text-in-Memory.ensures.bytes
+
+pub returns-in-SecondUnproved-clause-bytes : goal.returns-in-SecondUnproved-clause-bytes
+unfolding fault_line
+returns-in-SecondUnproved-clause-bytes g c = rw c.in-SecondUnproved.is c.put_refusal-in-SecondUnproved.ensures.bytes
