@@ -1,5 +1,5 @@
-//! Tables of rows: a text with a row a line, which is what is read, ` => ` and what is told of it. A line that begins with
-//! `###` is a note.
+//! Tables of rows: a text with a row a line, which is what is read, ` => ` and what is told of it. A line that begins
+//! with `###` is a note.
 use crate::telling::{Subject, tell};
 use std::alloc::{AllocError, Global};
 use std::test::Fail;
