@@ -2,6 +2,8 @@
 #![tactic(auto)]
 
 #[cfg(test)]
+mod line_tests;
+#[cfg(test)]
 mod load_tests;
 #[cfg(test)]
 mod port_tests;
@@ -9,5 +11,9 @@ mod port_tests;
 mod stimulus_tests;
 #[cfg(test)]
 mod summary_tests;
+#[cfg(test)]
+mod table;
+#[cfg(test)]
+mod telling;
 #[cfg(test)]
 mod word_tests;

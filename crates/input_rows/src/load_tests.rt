@@ -1,52 +1,52 @@
 //! Rows of drawn loads: what four seeds give, worked out apart from the code.
+//! `table.rt` tells the form of a row.
+use crate::table::rows_hold;
+use crate::telling::Subject;
 use drawn_load::{Load, draw_load};
 use dreq_pacing::{Line, LineAct};
 use pin_matrix::MachineSetup;
+use std::alloc::Global;
 use std::test::Fail;
 
-/// What a seed gives: the letters a, b, c, i, f, e, g; the first and the last word; the clocks of the first two edges and of
-/// the last one.
-#[derive(Clone, Copy, Debug, PartialEq, Eq)]
-struct Row {
-    letters: [u32; 7],
-    words: [u32; 2],
-    edges: [u64; 3],
+/// A seed, and what it gives: the letters a, b, c, i, f, e, g; the first and the last word; the clocks of the first two
+/// edges and of the last one.
+static LOADS: &str = r#"
+0 => 31 8 1 5 109 28 57 bbc72de0 666e81e5 162 572 1001302
+1 => 22 25 12 7 90 52 27 a8f62529 c81b28ba 634 1834 974860
+7 => 30 31 1 2 233 4 41 3814f0db 122911b4 413 1648 995202
+18446744073709551615 => 8 23 5 3 128 4 22 ce973698 04c1db11 41 1661 1022494
+"#;
+
+#[test]
+fn draws_loads(rt: HostRuntime) -> Result<(), Fail> {
+    rows_hold(rt.alloc(), Subject::Load, LOADS)
 }
 
-static ROWS: [(u64, Row); 4] = [
-    (
-        0,
-        Row {
-            letters: [31, 8, 1, 5, 109, 28, 57],
-            words: [0xbbc7_2de0, 0x666e_81e5],
-            edges: [162, 572, 1_001_302],
-        },
-    ),
-    (
-        1,
-        Row {
-            letters: [22, 25, 12, 7, 90, 52, 27],
-            words: [0xa8f6_2529, 0xc81b_28ba],
-            edges: [634, 1834, 974_860],
-        },
-    ),
-    (
-        7,
-        Row {
-            letters: [30, 31, 1, 2, 233, 4, 41],
-            words: [0x3814_f0db, 0x1229_11b4],
-            edges: [413, 1648, 995_202],
-        },
-    ),
-    (
-        u64::MAX,
-        Row {
-            letters: [8, 23, 5, 3, 128, 4, 22],
-            words: [0xce97_3698, 0x04c1_db11],
-            edges: [41, 1661, 1_022_494],
-        },
-    ),
-];
+/// Adds what the load of a seed shows.
+pub fn tell_load(alloc: Global, seed: &str, text: &mut String) -> Option<()> {
+    let load = draw_load(alloc, seed.parse().ok()?).ok()?;
+    tell_drawn(&load, text)
+}
+
+/// Adds what a load shows, where it is of the known form.
+fn tell_drawn(load: &Load, text: &mut String) -> Option<()> {
+    tell_letters(load, text)?;
+    let [feed, drain, edges @ ..] = load.schedule.lines() else {
+        return None;
+    };
+    tell_feed(feed, drain, text)?;
+    tell_edges(edges, text)
+}
+
+fn tell_letters(load: &Load, text: &mut String) -> Option<()> {
+    let memory = &load.setup.memory;
+    let machines = &load.setup.machines;
+    let a = delay_of(*memory.get(0)?);
+    let b = delay_of(*memory.get(2)?);
+    let c = delay_of(*memory.get(3)?);
+    let [i, f] = divider_of(*machines.get(1)?)?;
+    write!(text, "{a} {b} {c} {i} {f}").ok()
+}
 
 /// The delay of a word without side-set.
 fn delay_of(word: u16) -> u32 {
@@ -59,23 +59,8 @@ fn divider_of(machine: Option<MachineSetup>) -> Option<[u32; 2]> {
     Some([u32::from(machine.int), u32::from(machine.frac)])
 }
 
-/// The clock of an edge of pin 2, where the line is one to this level.
-fn edge_of(line: Option<&Line>, to: bool) -> Option<u64> {
-    let line = line?;
-    match line.act {
-        LineAct::Pin { pin: 2, level } if level == to => Some(line.clock),
-        _ => None,
-    }
-}
-
-/// What a load shows, where it is of the known form.
-fn row_of(load: &Load) -> Option<Row> {
-    let memory = &load.setup.memory;
-    let machines = &load.setup.machines;
-    let [i, f] = divider_of(*machines.get(1)?)?;
-    let [feed, drain, edges @ ..] = load.schedule.lines() else {
-        return None;
-    };
+/// Adds the periods of the feed of machine 1 and of the drain of machine 2, then the first and the last word.
+fn tell_feed(feed: &Line, drain: &Line, text: &mut String) -> Option<()> {
     let LineAct::Feed {
         machine: 1,
         every: e,
@@ -92,30 +77,23 @@ fn row_of(load: &Load) -> Option<Row> {
         return None;
     };
     let words = words.as_slice();
-    Some(Row {
-        letters: [
-            delay_of(*memory.get(0)?),
-            delay_of(*memory.get(2)?),
-            delay_of(*memory.get(3)?),
-            i,
-            f,
-            *e,
-            *g,
-        ],
-        words: [*words.first()?, *words.get(255)?],
-        edges: [
-            edge_of(edges.get(0), true)?,
-            edge_of(edges.get(1), false)?,
-            edge_of(edges.last(), false)?,
-        ],
-    })
+    let first = words.first()?;
+    let last = words.get(255)?;
+    write!(text, " {e} {g} {first:08x} {last:08x}").ok()
 }
 
-#[test]
-fn draws_loads(rt: HostRuntime) -> Result<(), Fail> {
-    for (seed, row) in &ROWS {
-        let load = draw_load(rt.alloc(), *seed)?;
-        assert_eq!(rt; row_of(&load), Some(*row), "{seed}");
+fn tell_edges(edges: &[Line], text: &mut String) -> Option<()> {
+    let rise = edge_of(edges.get(0), true)?;
+    let fall = edge_of(edges.get(1), false)?;
+    let last = edge_of(edges.last(), false)?;
+    write!(text, " {rise} {fall} {last}").ok()
+}
+
+/// The clock of an edge of pin 2, where the line is one to this level.
+fn edge_of(line: Option<&Line>, to: bool) -> Option<u64> {
+    let line = line?;
+    match line.act {
+        LineAct::Pin { pin: 2, level } if level == to => Some(line.clock),
+        _ => None,
     }
-    Ok(())
 }

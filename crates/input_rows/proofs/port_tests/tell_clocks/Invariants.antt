@@ -1,5 +1,5 @@
 use Rattle.std.proofs.Common.{◌≡◌}
-use Rattle.input_rows.proofs.port_tests.dues.Given as goal
+use Rattle.input_rows.proofs.port_tests.tell_clocks.Given as goal
 
 -- each clock is asked of
 abbrev pub invariant-loop-clock : goal.invariant-loop-clock
