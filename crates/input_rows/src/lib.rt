@@ -2,8 +2,6 @@
 #![tactic(auto)]
 
 #[cfg(test)]
-mod line_tests;
-#[cfg(test)]
 mod load_tests;
 #[cfg(test)]
 mod port_tests;
