@@ -15,7 +15,8 @@ use Rattle.fault_lines.specs.declared.fault.Fault.{Fault}
 use Rattle.fault_lines.specs.declared.fault.Fault.TheVariants as fault
 use Rattle.command_line.specs.Words.{Asked, table, recheck}
 use Rattle.stages.specs.Judged.{Judged, right, wrong, and_then, IfRight, is_right, prepared_at, judged_span, span_at, table_at, recheck_at}
-use Rattle.stages.specs.Roles.{run_files, run_reaches, table_alone}
+use Rattle.stages.specs.Roles.{run_reaches}
+use Rattle.stages.specs.Fetching.{name_in, one_slot, run_slots}
 use Rattle.stages.specs.Stages.{HasSuch, Plan, ReadFails, shelved, run_plan, table_plan}
 use Rattle.commands.specs.Outside.{call_of}
 use Rattle.commands.specs.Promise.{CommandEnds, ShelfFails}
@@ -228,12 +229,14 @@ shelf_fails a files before after out role (Some name) Reached named reached h r 
 -- A stage that reads files of a command, and comes to them only where the command does, ends it where it fails. What its files
 -- come to is what the command's do.
 read_fails : {X : Type 0} (a : Asked) (files : Option Files) (before after : Faults) (out : Output) (plan : Plan X) (e : Fault)
-    → ((role : File) (name : List ℕ) → plan.file_in role ≡ Some name → file_in a role ≡ Some name)
-    → ((role : File) (name : List ℕ) → plan.file_in role ≡ Some name → IfSome files (λ f. plan.reaches f role ≡ true) → IfSome files (λ f. reaches f a role ≡ true))
+    → ((role : File) (name : List ℕ) → name_in plan.slots role ≡ Some name → file_in a role ≡ Some name)
+    → ((role : File) (name : List ℕ) → name_in plan.slots role ≡ Some name → IfSome files (λ f. plan.reaches f role ≡ true)
+    → IfSome files (λ f. reaches f a role ≡ true))
     → (IfSome files (λ f. plan.comes_to f ≡ wrong e) → IfSome files (λ f. judge f a ≡ wrong e))
     → ReadFails (shelved files before after) plan e → CommandEnds a (call_of files before after out out) (Err e)
 read_fails a files before after out plan (fault.Shelf role) named reached wrongs h =
-    shelf_fails a files before after out role (plan.file_in role) (λ f. plan.reaches f role ≡ true) (named role) (reached role) h.0 h.1
+    shelf_fails a files before after out role (name_in plan.slots role) (λ f. plan.reaches f role ≡ true)
+    (named role) (reached role) h.0 h.1
 read_fails a files before after out plan fault.Memory named reached wrongs h = record { shelf = h; out = refl }
 read_fails a files before after out plan fault.Usage named reached wrongs h = absurd h
 read_fails a files before after out plan (fault.SecondUnproved place n refusal) named reached wrongs h = absurd h
@@ -269,7 +272,8 @@ recheck_unread files before after out source config name table_name e h =
     read_fails (recheck source config name table_name) files before after out (run_plan source config None) e
     named reached (λ w. told files _ _ (λ f g. recheck_wrong f source config name table_name e (span_wrong f source config name e g)) w) h
   where
-    named : (role : File) (n : List ℕ) → run_files source config None role ≡ Some n → file_in (recheck source config name table_name) role ≡ Some n
+    named : (role : File) (n : List ℕ) → name_in (run_slots source config None) role ≡ Some n
+        → file_in (recheck source config name table_name) role ≡ Some n
     named file.Source n at = at
     named file.Words n at = at
     named file.Second n at = at
@@ -278,7 +282,8 @@ recheck_unread files before after out source config name table_name e h =
     named file.Table n at = no_name n at
     named file.Send n at = at
 
-    reached : (role : File) (n : List ℕ) → run_files source config None role ≡ Some n → IfSome files (λ f. run_reaches f source config role ≡ true)
+    reached : (role : File) (n : List ℕ) → name_in (run_slots source config None) role ≡ Some n
+        → IfSome files (λ f. run_reaches f source config role ≡ true)
         → IfSome files (λ f. reaches f (recheck source config name table_name) role ≡ true)
     reached file.Source n at r = r
     reached file.Words n at r = r
@@ -296,7 +301,8 @@ recheck_unread_table files before after out source config name table_name u sp e
     read_fails (recheck source config name table_name) files before after out (table_plan table_name) e
     named reached (λ w. both_told files _ _ _ (λ f k g. judged_wrong f source config name table_name u sp e k g) s w) h
   where
-    named : (role : File) (n : List ℕ) → table_alone table_name role ≡ Some n → file_in (recheck source config name table_name) role ≡ Some n
+    named : (role : File) (n : List ℕ) → name_in (one_slot file.Table (Some table_name)) role ≡ Some n
+        → file_in (recheck source config name table_name) role ≡ Some n
     named file.Source n at = no_name n at
     named file.Words n at = no_name n at
     named file.Second n at = no_name n at
@@ -305,7 +311,8 @@ recheck_unread_table files before after out source config name table_name u sp e
     named file.Table n at = at
     named file.Send n at = no_name n at
 
-    reached : (role : File) (n : List ℕ) → table_alone table_name role ≡ Some n → IfSome files (λ f. ◌≡◌ {A = Bool} true true)
+    reached : (role : File) (n : List ℕ) → name_in (one_slot file.Table (Some table_name)) role ≡ Some n
+        → IfSome files (λ f. ◌≡◌ {A = Bool} true true)
         → IfSome files (λ f. reaches f (recheck source config name table_name) role ≡ true)
     reached file.Source n at r = no_name n at
     reached file.Words n at r = no_name n at

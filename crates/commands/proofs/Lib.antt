@@ -1,6 +1,7 @@
 pub mod NeverBoth
 pub mod Quiet
 pub mod Wanting
+pub mod Asking
 pub mod Passing
 pub mod Working
 pub mod VerdictText

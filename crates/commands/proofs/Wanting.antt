@@ -46,7 +46,7 @@ of_asked words a asks =
     of_no_fault (fault_of tool words) (asked_of words) asks.taken ∙ ap (λ asked. option_and_then with_room asked) asks.asked
 
 -- words that were read want what was read
-wanted_as_read : (words : List Text) (a : Asked) → Asks words a → IsWithinRange a → wanted words ≡ Some a
+pub wanted_as_read : (words : List Text) (a : Asked) → Asks words a → IsWithinRange a → wanted words ≡ Some a
 wanted_as_read words a asks range = of_asked words a asks ∙ with_room_by a false (room_within a range)
 
 -- where there are faults nothing is wanted
@@ -55,7 +55,7 @@ none_of_faulty [] asked h = absurd (h refl)
 none_of_faulty (fault ∷ faults) asked h = refl
 
 -- words that are refused want nothing
-refused_wants_nothing : (words : List Text) → WordsAreRefused words → wanted words ≡ None
+pub refused_wants_nothing : (words : List Text) → WordsAreRefused words → wanted words ≡ None
 unfolding wanted
 refused_wants_nothing words (inl faulty) = none_of_faulty (fault_of tool words) (asked_of words) faulty
 refused_wants_nothing words (inr full) = of_asked words full.0 full.1 ∙ with_room_by full.0 true full.2

@@ -1,7 +1,8 @@
--- The promise: which end a command has, what it wrote, and why.
-use Rattle.std.specs.Prelude.{◌≡◌, ℕ, true, Option, Some, None, IfSome, List, [], Result, Ok, Err}
+-- The promise: which end a command has, what it wrote, why, and which files it asked for.
+use Rattle.std.specs.Prelude.{◌≡◌, ℕ, true, Option, Some, None, IfSome, List, [], ◌++◌, Result, Ok, Err}
 use Rattle.pio_edge.specs.Count.{failed_at}
 use Rattle.pio_edge.specs.Edge.{Rose, with_bytes, TakesPrefix}
+use Rattle.pio_edge.specs.Fetched.{Fetched}
 use Rattle.fault_lines.specs.declared.fault.File.{File}
 use Rattle.fault_lines.specs.declared.fault.Fault.{Fault}
 use Rattle.fault_lines.specs.declared.fault.Fault.TheVariants as fault
@@ -10,9 +11,10 @@ use Rattle.verdict_lines.specs.declared.refusal.Refusal.{Refusal}
 use Rattle.command_line.specs.Words.{Asked, run, check, table, recheck, pair}
 use Rattle.stages.specs.Judged.{wrong}
 use Rattle.stages.specs.Stages.{HasSuch}
+use Rattle.stages.specs.Fetching.{Slot, fetches_of, AsksUntil}
 use Rattle.commands.specs.Outside.{Call, Untouched, SameShelf, SameOut}
 use Rattle.commands.specs.Needs.{IsMet, AllRunsHold, IsRefusedBy, IsSecondRefusedBy, IsFlawed}
-use Rattle.commands.specs.Tasks.{judge, ComesTo, HasText, need_of, AskedBefore, file_in, reaches}
+use Rattle.commands.specs.Tasks.{judge, ComesTo, HasText, need_of, AskedBefore, slots_of, file_in, reaches}
 
 -- the output took exactly the text, and handed all of it on
 pub record WritesText (c : Call) (a : Asked) : Type 0 where
@@ -90,3 +92,29 @@ Ends (Some a) c (Some e) = Faulty c a e
 abbrev pub CommandEnds : Asked → Call → Result (Unit {0}) Fault → Type 0
 CommandEnds a c (Ok _) = Ends (Some a) c None
 CommandEnds a c (Err e) = Ends (Some a) c (Some e)
+
+-- ---- what was asked of the shelf
+
+-- What was asked where a command with these files ends with this fault: all of them where it comes after the last file,
+-- as that of a span, a table or the output does, and else what the stage has asked that ends with it.
+abbrev pub AsksTo : List Slot → (before after : List Fetched) → Fault → Type 0
+AsksTo slots before after (fault.Unproved place name refusal) = after ≡ before ++ fetches_of slots
+AsksTo slots before after (fault.SecondUnproved place name refusal) = after ≡ before ++ fetches_of slots
+AsksTo slots before after (fault.Flaw place name flaw) = after ≡ before ++ fetches_of slots
+AsksTo slots before after fault.Out = after ≡ before ++ fetches_of slots
+AsksTo slots before after e = AsksUntil slots before after e
+
+-- what was asked of these files by a command that ends so
+abbrev pub AsksFiles : List Slot → (before after : List Fetched) → Result (Unit {0}) Fault → Type 0
+AsksFiles slots before after (Ok _) = after ≡ before ++ fetches_of slots
+AsksFiles slots before after (Err e) = AsksTo slots before after e
+
+-- a command that ends so has asked for its files in the order of reading: all, or those up to the one at fault
+abbrev pub CommandAsks : Asked → (before after : List Fetched) → Result (Unit {0}) Fault → Type 0
+CommandAsks a before after result = AsksFiles (slots_of a) before after result
+
+-- the same of a call whose words ask for this, or for nothing: then it asks for no file
+abbrev pub AsksFor : Option Asked → (before after : List Fetched) → Option Fault → Type 0
+AsksFor None before after found = after ≡ before
+AsksFor (Some a) before after None = after ≡ before ++ fetches_of (slots_of a)
+AsksFor (Some a) before after (Some e) = AsksTo (slots_of a) before after e

@@ -3,13 +3,13 @@
 --   judge       what a command comes to
 --   HasText     the text of a task is such; ComesTo: the told files come to a task that is such
 --   need_of     what a task needs of spans, beside its text
---   inputs_of   what a command reads: which file in a role, and when it comes to it
-use Rattle.std.specs.Prelude.{ℕ, Bool, true, Option, None, IfSome, List}
+--   inputs_of   what a command reads: its files in order, and when it comes to each; file_in: which one in a role
+use Rattle.std.specs.Prelude.{ℕ, Bool, true, Option, Some, None, IfSome, List, []}
 use Rattle.std.specs.FinMap.{get}
 use Rattle.std.specs.List.{flat_map}
 use Rattle.pio_edge.specs.Edge.{Files}
 use Rattle.fault_lines.specs.declared.fault.File.{File}
-use Rattle.fault_lines.specs.declared.fault.File.TheVariants.{Send}
+use Rattle.fault_lines.specs.declared.fault.File.TheVariants.{Source, Words, Send}
 use Rattle.vcd_trace.specs.TwinText.{twin_text}
 use Rattle.vcd_trace.specs.VcdText.{vcd_text}
 use Rattle.span_meter.specs.Measured.{ends_in, measured, seen_of}
@@ -37,7 +37,8 @@ use Rattle.block_shares.specs.Report.{shares_text}
 use Rattle.load_summary.specs.Summaries.{summary_of, summary_text}
 use Rattle.stages.specs.Spans.{HasVerdicts}
 use Rattle.stages.specs.Judged.{Judged, right, and_then, IfRight, source_at, words_at, prepared_at, span_at, recheck_at, read_at, pair_at}
-use Rattle.stages.specs.Roles.{source_alone, words_alone, send_alone, run_files, no_file, run_reaches, recheck_files, recheck_reaches, pair_files, pair_reaches}
+use Rattle.stages.specs.Roles.{run_reaches, recheck_reaches, pair_reaches}
+use Rattle.stages.specs.Fetching.{Slot, name_in, one_slot, run_slots, recheck_slots, pair_slots}
 use Rattle.commands.specs.Outside.{Call}
 use Rattle.stages.specs.declared.pair.TwoBlocks.{TwoBlocks}
 use Rattle.commands.specs.Needs.{Need, nothing, all_spans, both_spans, one_span, by_table, IsMet}
@@ -138,54 +139,63 @@ abbrev pub AskedBefore : Task → Type 0
 AskedBefore (verdicts u) = Unit {0}
 AskedBefore task = IsMet (need_of task)
 
--- What a command reads: the file of each role, where it reads one, and whether it comes to it, since what it reads before is right.
+-- What a command reads: its files in the order of reading, and whether it comes to that of a role, since what it reads
+-- before is right.
 pub record Inputs : Type 0 where
-  pub file_in : File → Option (List ℕ)
+  pub slots : List Slot
   pub reaches : Files → File → Bool
 
--- one file at most, which comes first
-abbrev pub one_input : (File → Option (List ℕ)) → Inputs
-one_input file = record { file_in = file; reaches = λ files role. true }
+-- no file
+abbrev pub no_input : Inputs
+no_input = record { slots = []; reaches = λ files role. true }
+
+-- one file, which comes first
+abbrev pub one_input : File → List ℕ → Inputs
+one_input role name = record { slots = one_slot role (Some name); reaches = λ files reached. true }
 
 -- a source, and a configuration and a stimulus where they are named
 abbrev pub run_inputs : List ℕ → (config stimulus : Option (List ℕ)) → Inputs
 run_inputs source config stimulus = record {
-  file_in = run_files source config stimulus;
+  slots = run_slots source config stimulus;
   reaches = λ files role. run_reaches files source config role;
 }
 
 -- a source, a configuration where it is named, and where a span has the name, its table
 abbrev pub recheck_inputs : List ℕ → Option (List ℕ) → (name table : List ℕ) → Inputs
 recheck_inputs source config name file = record {
-  file_in = recheck_files source config file;
+  slots = recheck_slots source config file;
   reaches = λ files role. recheck_reaches files source config name role;
 }
 
 -- a source, the configurations of two blocks, and a stimulus where it is named
 abbrev pub pair_inputs : (source config second : List ℕ) → Option (List ℕ) → Inputs
 pair_inputs source config second stimulus = record {
-  file_in = pair_files source config second stimulus;
+  slots = pair_slots source config second stimulus;
   reaches = λ files role. pair_reaches files source config second role;
 }
 
 -- what each command reads
 abbrev pub inputs_of : Asked → Inputs
-inputs_of (asm name) = one_input (source_alone name)
+inputs_of (asm name) = one_input Source name
 inputs_of (run source config stimulus clocks) = run_inputs source config stimulus
 inputs_of (check source config) = run_inputs source config None
 inputs_of (table source config name) = run_inputs source config None
 inputs_of (recheck source config name file) = recheck_inputs source config name file
 inputs_of (shares source config) = run_inputs source config None
-inputs_of (gen seed clocks) = one_input no_file
-inputs_of (dis name side opt) = one_input (words_alone name)
+inputs_of (gen seed clocks) = no_input
+inputs_of (dis name side opt) = one_input Words name
 inputs_of (measure source config stimulus clocks) = run_inputs source config stimulus
 inputs_of (receive source config stimulus clocks pin bit) = run_inputs source config stimulus
-inputs_of (uart send divider clocks) = one_input (send_alone send)
+inputs_of (uart send divider clocks) = one_input Send send
 inputs_of (pair source config second stimulus clocks) = pair_inputs source config second stimulus
+
+-- the files that a command reads, in the order of reading
+abbrev pub slots_of : Asked → List Slot
+slots_of a = (inputs_of a).slots
 
 -- the name of the file that a command reads in this role, where it reads one
 abbrev pub file_in : Asked → File → Option (List ℕ)
-file_in a role = (inputs_of a).file_in role
+file_in a role = name_in (slots_of a) role
 
 -- a command comes to the file of this role: what it reads before is right
 abbrev pub reaches : Files → Asked → File → Bool

@@ -4,7 +4,7 @@ ghost use Rattle.pio_assemble.specs.Program.{assembled_of};
 ghost use Rattle.program_listing.specs.Listing.{listing_text};
 ghost use Rattle.command_line.specs.Words.{asm as asm_asked};
 ghost use Rattle.commands.specs.Outside.{call_by};
-ghost use Rattle.commands.specs.Promise.{CommandEnds};
+ghost use Rattle.commands.specs.Promise.{CommandAsks, CommandEnds};
 ghost use Rattle.commands.specs.Written.{SinkWrites};
 
 use crate::handing::hand_on;
@@ -25,6 +25,7 @@ pub fn asm<F: Shelf, O: Sink>(
 ) -> Result<(), Fault>
     ensures ends { CommandEnds (asm_asked file.now)
         (call_by F.holds F.faults O.taken O.waiting O.faults shelf.old shelf.new out.old out.new) result }
+    ensures asked { CommandAsks (asm_asked file.now) (F.fetched shelf.old) (F.fetched shelf.new) result }
     ensures same { F.holds shelf.new ≡ F.holds shelf.old }
 {
     let programs = read_source(alloc, shelf, file)?;

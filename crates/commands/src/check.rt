@@ -6,7 +6,7 @@ ghost use Rattle.verdict_lines.specs.Lines.{verdict_line};
 ghost use Rattle.stages.specs.Configured.{AreConfigured};
 ghost use Rattle.stages.specs.Spans.{AreJudged, verdict_text};
 ghost use Rattle.commands.specs.Outside.{call_by, output_by};
-ghost use Rattle.commands.specs.Promise.{CommandEnds};
+ghost use Rattle.commands.specs.Promise.{CommandAsks, CommandEnds};
 ghost use Rattle.commands.specs.Written.{SinkWrites};
 ghost use Rattle.commands.specs.Verdicts.{TellsVerdicts};
 
@@ -30,6 +30,8 @@ pub fn check<F: Shelf, O: Sink>(
 ) -> Result<(), Fault>
     ensures ends { CommandEnds (check_asked source.now (option_map (λ t. t.now) config.entry))
         (call_by F.holds F.faults O.taken O.waiting O.faults shelf.old shelf.new out.old out.new) result }
+    ensures asked { CommandAsks (check_asked source.now (option_map (λ t. t.now) config.entry))
+        (F.fetched shelf.old) (F.fetched shelf.new) result }
     ensures same { F.holds shelf.new ≡ F.holds shelf.old }
 {
     let setup = prepare_setup(alloc, shelf, source, config)?;

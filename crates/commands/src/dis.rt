@@ -3,7 +3,7 @@ ghost use Rattle.std.specs.Prelude.{◌≡◌, ◌+◌, ◌≤◌, if◌then◌e
 ghost use Rattle.command_line.specs.Words.{dis as dis_asked};
 ghost use Rattle.word_file.specs.Listing.{word_lines};
 ghost use Rattle.commands.specs.Outside.{call_by};
-ghost use Rattle.commands.specs.Promise.{CommandEnds};
+ghost use Rattle.commands.specs.Promise.{CommandAsks, CommandEnds};
 ghost use Rattle.commands.specs.Written.{SinkWrites};
 
 use crate::handing::hand_on;
@@ -28,6 +28,7 @@ pub fn dis<F: Shelf, O: Sink>(
     requires { side + (if opt then 1 else 0) ≤ 5 }
     ensures ends { CommandEnds (dis_asked file.now side opt)
         (call_by F.holds F.faults O.taken O.waiting O.faults shelf.old shelf.new out.old out.new) result }
+    ensures asked { CommandAsks (dis_asked file.now side opt) (F.fetched shelf.old) (F.fetched shelf.new) result }
     ensures same { F.holds shelf.new ≡ F.holds shelf.old }
 {
     let words = fetch_words(alloc, shelf, file)?;

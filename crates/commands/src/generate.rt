@@ -2,7 +2,7 @@
 ghost use Rattle.std.specs.Prelude.{◌≡◌, ◌+◌, ◌≤◌, ◌^◌};
 ghost use Rattle.command_line.specs.Words.{gen as gen_asked};
 ghost use Rattle.commands.specs.Outside.{call_by};
-ghost use Rattle.commands.specs.Promise.{CommandEnds};
+ghost use Rattle.commands.specs.Promise.{CommandAsks, CommandEnds};
 ghost use Rattle.commands.specs.Worked.{most_worked};
 ghost use Rattle.commands.specs.Written.{SinkWrites};
 ghost use Rattle.load_summary.specs.Summaries.{summary_text};
@@ -29,6 +29,7 @@ pub fn generate<F: Shelf, O: Sink, L: Ledger>(
     requires { clocks ≤ 10 ^ 12 }
     ensures ends { CommandEnds (gen_asked seed clocks)
         (call_by F.holds F.faults O.taken O.waiting O.faults shelf.old shelf.new out.old out.new) result }
+    ensures asked { CommandAsks (gen_asked seed clocks) (F.fetched shelf.old) (F.fetched shelf.new) result }
     ensures same { shelf.new ≡ shelf.old }
     ensures steps { steps.new ≤ steps.old + clocks }
     ensures worked { steps.new ≤ steps.old + most_worked (F.holds shelf.old) (gen_asked seed clocks) }

@@ -6,7 +6,7 @@ ghost use Rattle.block_core.specs.Stirring.{stirring};
 ghost use Rattle.command_line.specs.Words.{measure as measure_asked};
 ghost use Rattle.commands.specs.Tasks.{measured_text, seen_in};
 ghost use Rattle.commands.specs.Outside.{call_by};
-ghost use Rattle.commands.specs.Promise.{CommandEnds};
+ghost use Rattle.commands.specs.Promise.{CommandAsks, CommandEnds};
 ghost use Rattle.commands.specs.Worked.{most_worked};
 ghost use Rattle.commands.specs.Written.{SinkWrites};
 ghost use Rattle.span_meter.specs.Measured.{SpanEdges};
@@ -44,6 +44,10 @@ pub fn measure<F: Shelf, O: Sink, L: Ledger>(
     ensures ends { CommandEnds
         (measure_asked files.entry.source.now (option_map (λ t. t.now) files.entry.config) (option_map (λ t. t.now) files.entry.stimulus) clocks)
         (call_by F.holds F.faults O.taken O.waiting O.faults shelf.old shelf.new out.old out.new) result }
+    ensures asked { CommandAsks
+        (measure_asked files.entry.source.now (option_map (λ t. t.now) files.entry.config)
+        (option_map (λ t. t.now) files.entry.stimulus) clocks)
+        (F.fetched shelf.old) (F.fetched shelf.new) result }
     ensures same { F.holds shelf.new ≡ F.holds shelf.old }
     ensures steps { steps.new ≤ steps.old + clocks }
     ensures worked { steps.new ≤ steps.old + most_worked (F.holds shelf.old)

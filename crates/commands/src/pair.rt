@@ -5,7 +5,7 @@ ghost use Rattle.command_line.specs.Words.{pair as pair_asked};
 ghost use Rattle.pio_edge.specs.Edge.{PutCounts, Takes};
 ghost use Rattle.commands.specs.Tasks.{twin_start, twin_trace_text};
 ghost use Rattle.commands.specs.Outside.{call_by};
-ghost use Rattle.commands.specs.Promise.{CommandEnds};
+ghost use Rattle.commands.specs.Promise.{CommandAsks, CommandEnds};
 ghost use Rattle.commands.specs.Worked.{most_worked};
 ghost use Rattle.commands.specs.Written.{SinkWrites};
 
@@ -39,6 +39,10 @@ pub fn pair<F: Shelf, O: Sink, L: Ledger>(
     ensures ends { CommandEnds
         (pair_asked files.entry.source.now files.entry.config.now files.entry.second.now (option_map (λ t. t.now) files.entry.stimulus) clocks)
         (call_by F.holds F.faults O.taken O.waiting O.faults shelf.old shelf.new out.old out.new) result }
+    ensures asked { CommandAsks
+        (pair_asked files.entry.source.now files.entry.config.now files.entry.second.now
+        (option_map (λ t. t.now) files.entry.stimulus) clocks)
+        (F.fetched shelf.old) (F.fetched shelf.new) result }
     ensures same { F.holds shelf.new ≡ F.holds shelf.old }
     ensures steps { steps.new ≤ steps.old + clocks }
     ensures worked { steps.new ≤ steps.old + most_worked (F.holds shelf.old)

@@ -7,7 +7,7 @@ ghost use Rattle.pin_matrix.specs.Pins.{is_high as is_high_in};
 ghost use Rattle.pio_edge.specs.Edge.{PutCounts, Takes};
 ghost use Rattle.commands.specs.Tasks.{received_text};
 ghost use Rattle.commands.specs.Outside.{call_by};
-ghost use Rattle.commands.specs.Promise.{CommandEnds};
+ghost use Rattle.commands.specs.Promise.{CommandAsks, CommandEnds};
 ghost use Rattle.commands.specs.Worked.{most_worked};
 ghost use Rattle.commands.specs.Written.{SinkWrites};
 
@@ -46,6 +46,10 @@ pub fn receive<F: Shelf, O: Sink, L: Ledger>(
         (receive_asked files.entry.source.now (option_map (λ t. t.now) files.entry.config)
         (option_map (λ t. t.now) files.entry.stimulus) clocks line.pin line.bit)
         (call_by F.holds F.faults O.taken O.waiting O.faults shelf.old shelf.new out.old out.new) result }
+    ensures asked { CommandAsks
+        (receive_asked files.entry.source.now (option_map (λ t. t.now) files.entry.config)
+        (option_map (λ t. t.now) files.entry.stimulus) clocks line.pin line.bit)
+        (F.fetched shelf.old) (F.fetched shelf.new) result }
     ensures same { F.holds shelf.new ≡ F.holds shelf.old }
     ensures steps { steps.new ≤ steps.old + clocks }
     ensures worked { steps.new ≤ steps.old + most_worked (F.holds shelf.old)

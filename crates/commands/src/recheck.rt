@@ -4,11 +4,13 @@ ghost use Rattle.command_line.specs.Words.{recheck as recheck_asked};
 ghost use Rattle.table_files.specs.FlawLines.{rechecked_line};
 ghost use Rattle.span_check.specs.Proved.{HoldsInEveryRun};
 ghost use Rattle.span_verdict.specs.Sharing.{IsUnshared};
+ghost use Rattle.fault_lines.specs.declared.fault.File.TheVariants as file;
+ghost use Rattle.stages.specs.Fetching.{one_slot};
 ghost use Rattle.stages.specs.Judged.{right, span_at};
 ghost use Rattle.stages.specs.Named.{named_from};
 ghost use Rattle.commands.specs.Needs.{HasFlaw, IsProvedBy};
 ghost use Rattle.commands.specs.Outside.{call_by, output_by};
-ghost use Rattle.commands.specs.Promise.{CommandEnds};
+ghost use Rattle.commands.specs.Promise.{AsksFiles, CommandAsks, CommandEnds};
 ghost use Rattle.commands.specs.Written.{SinkWrites};
 ghost use Rattle.commands.specs.Tables.{TellsRecheck};
 
@@ -39,6 +41,8 @@ pub fn recheck_file<F: Shelf, O: Sink>(
 ) -> Result<(), Fault>
     ensures ends { CommandEnds (recheck_asked source.now (option_map (λ t. t.now) config.entry) name.now table.now)
         (call_by F.holds F.faults O.taken O.waiting O.faults shelf.old shelf.new out.old out.new) result }
+    ensures asked { CommandAsks (recheck_asked source.now (option_map (λ t. t.now) config.entry) name.now table.now)
+        (F.fetched shelf.old) (F.fetched shelf.new) result }
     ensures same { F.holds shelf.new ≡ F.holds shelf.old }
 {
     let setup = prepare_setup(alloc, shelf, source, config)?;
@@ -64,6 +68,8 @@ fn recheck_span<F: Shelf, O: Sink>(
         → Some (place, span.now) ≡ named_from 0 name setup.now.spans
         → CommandEnds (recheck_asked source config name table.now)
         (call_by F.holds F.faults O.taken O.waiting O.faults shelf.old shelf.new out.old out.new) result }
+    ensures asked { AsksFiles (one_slot file.Table (Some table.now))
+        (F.fetched shelf.old) (F.fetched shelf.new) result }
     ensures same { F.holds shelf.new ≡ F.holds shelf.old }
 {
     let rows = fetch_table(alloc, shelf, table)?;

@@ -3,7 +3,7 @@ ghost use Rattle.std.specs.Prelude.{◌≡◌, option_map};
 ghost use Rattle.block_shares.specs.Report.{shares_text};
 ghost use Rattle.command_line.specs.Words.{shares as shares_asked};
 ghost use Rattle.commands.specs.Outside.{call_by};
-ghost use Rattle.commands.specs.Promise.{CommandEnds};
+ghost use Rattle.commands.specs.Promise.{CommandAsks, CommandEnds};
 ghost use Rattle.commands.specs.Written.{SinkWrites};
 
 use crate::handing::hand_on;
@@ -26,6 +26,8 @@ pub fn shares<F: Shelf, O: Sink>(
 ) -> Result<(), Fault>
     ensures ends { CommandEnds (shares_asked source.now (option_map (λ t. t.now) config.entry))
         (call_by F.holds F.faults O.taken O.waiting O.faults shelf.old shelf.new out.old out.new) result }
+    ensures asked { CommandAsks (shares_asked source.now (option_map (λ t. t.now) config.entry))
+        (F.fetched shelf.old) (F.fetched shelf.new) result }
     ensures same { F.holds shelf.new ≡ F.holds shelf.old }
 {
     let setup = prepare_setup(alloc, shelf, source, config)?;

@@ -3,7 +3,7 @@ ghost use Rattle.std.specs.Prelude.{◌≡◌, IfOk, IsSome, None, option_map, s
 ghost use Rattle.command_line.specs.Words.{table as table_asked};
 ghost use Rattle.table_files.specs.Rows.{table_text};
 ghost use Rattle.commands.specs.Outside.{call_by, output_by};
-ghost use Rattle.commands.specs.Promise.{CommandEnds};
+ghost use Rattle.commands.specs.Promise.{CommandAsks, CommandEnds};
 ghost use Rattle.commands.specs.Written.{SinkWrites};
 ghost use Rattle.commands.specs.Tables as spec;
 ghost use Rattle.commands.specs.Tables.{IsTableVerdict, TellsTable};
@@ -33,6 +33,8 @@ pub fn table<F: Shelf, O: Sink>(
 ) -> Result<(), Fault>
     ensures ends { CommandEnds (table_asked source.now (option_map (λ t. t.now) config.entry) name.now)
         (call_by F.holds F.faults O.taken O.waiting O.faults shelf.old shelf.new out.old out.new) result }
+    ensures asked { CommandAsks (table_asked source.now (option_map (λ t. t.now) config.entry) name.now)
+        (F.fetched shelf.old) (F.fetched shelf.new) result }
     ensures same { F.holds shelf.new ≡ F.holds shelf.old }
 {
     let setup = prepare_setup(alloc, shelf, source, config)?;

@@ -2,10 +2,10 @@
 ghost use Rattle.std.specs.Prelude.{◌≡◌, ◌≢◌, ◌+◌, ◌≤◌, map, Some, Err, string_bytes};
 ghost use Rattle.command_line.specs.Words.{WordsAreTaken, IsWithinRange, asked_by, clocks_asked, most_clocks};
 ghost use Rattle.commands.specs.Outside.{call_by, output_by};
-ghost use Rattle.commands.specs.Promise.{CommandEnds};
+ghost use Rattle.commands.specs.Promise.{CommandAsks, CommandEnds};
 ghost use Rattle.commands.specs.Worked.{most_worked};
 ghost use Rattle.commands.specs.Complete.{FilesDecide};
-ghost use Rattle.commands.specs.Ends.{EndsAs, WorkEnds};
+ghost use Rattle.commands.specs.Ends.{CallAsks, EndsAs, WorkAsks, WorkEnds};
 ghost use Rattle.commands.specs.Steps.{worked_for};
 ghost use Rattle.fault_lines.specs.Told as told_spec;
 ghost use Rattle.fault_lines.specs.Told.{TellsFault};
@@ -40,6 +40,7 @@ pub fn piotool<F: Shelf, O: Sink, E: Sink, L: Ledger>(
 ) -> Ended
     ensures ends { EndsAs (map string_bytes words.now)
         (call_by F.holds F.faults O.taken O.waiting O.faults shelf.old shelf.new out.old out.new) result.fault }
+    ensures asked { CallAsks (map string_bytes words.now) (F.fetched shelf.old) (F.fetched shelf.new) result.fault }
     ensures complete { FilesDecide (map string_bytes words.now)
         (call_by F.holds F.faults O.taken O.waiting O.faults shelf.old shelf.new out.old out.new) result.fault }
     ensures taken { WordsAreTaken (map string_bytes words.now) → result.fault ≢ Some Fault.Usage }
@@ -64,6 +65,7 @@ fn work<F: Shelf, O: Sink, L: Ledger>(
 ) -> Result<(), Fault>
     ensures ends { WorkEnds (map string_bytes words.now)
         (call_by F.holds F.faults O.taken O.waiting O.faults shelf.old shelf.new out.old out.new) result }
+    ensures asked { WorkAsks (map string_bytes words.now) (F.fetched shelf.old) (F.fetched shelf.new) result }
     ensures taken { WordsAreTaken (map string_bytes words.now) → result ≢ Err Fault.Usage }
     ensures same { F.holds shelf.new ≡ F.holds shelf.old }
     ensures steps { steps.new ≤ steps.old + most_clocks (map string_bytes words.now) }
@@ -87,7 +89,8 @@ fn obey<F: Shelf, O: Sink, L: Ledger>(
     requires { IsWithinRange (asked_by order) }
     ensures ends { CommandEnds (asked_by order.entry)
         (call_by F.holds F.faults O.taken O.waiting O.faults shelf.old shelf.new out.old out.new) result }
-    ensures asked { result ≢ Err Fault.Usage }
+    ensures asked { CommandAsks (asked_by order.entry) (F.fetched shelf.old) (F.fetched shelf.new) result }
+    ensures not_usage { result ≢ Err Fault.Usage }
     ensures same { F.holds shelf.new ≡ F.holds shelf.old }
     ensures steps { steps.new ≤ steps.old + clocks_asked (asked_by order.entry) }
     ensures worked { steps.new ≤ steps.old + most_worked (F.holds shelf.old) (asked_by order.entry) }

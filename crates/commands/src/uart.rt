@@ -3,7 +3,7 @@ ghost use Rattle.std.specs.Prelude.{◌≡◌, ◌+◌, ◌≤◌, ◌^◌, ℕ,
 ghost use Rattle.block_core.specs.Block.{first_run};
 ghost use Rattle.block_core.specs.Stirring.{stirring};
 ghost use Rattle.commands.specs.Outside.{call_by};
-ghost use Rattle.commands.specs.Promise.{CommandEnds};
+ghost use Rattle.commands.specs.Promise.{CommandAsks, CommandEnds};
 ghost use Rattle.commands.specs.Tasks.{sent_text};
 ghost use Rattle.commands.specs.Worked.{most_worked};
 ghost use Rattle.commands.specs.Written.{SinkWrites};
@@ -40,6 +40,8 @@ pub fn uart<F: Shelf, O: Sink, L: Ledger>(
     requires most { divider ≤ 8191 }
     ensures ends { CommandEnds (uart_asked send.now divider clocks)
         (call_by F.holds F.faults O.taken O.waiting O.faults shelf.old shelf.new out.old out.new) result }
+    ensures asked { CommandAsks (uart_asked send.now divider clocks)
+        (F.fetched shelf.old) (F.fetched shelf.new) result }
     ensures same { F.holds shelf.new ≡ F.holds shelf.old }
     ensures steps { steps.new ≤ steps.old + clocks }
     ensures worked { steps.new ≤ steps.old + most_worked (F.holds shelf.old) (uart_asked send.now divider clocks) }

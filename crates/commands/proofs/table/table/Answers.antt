@@ -1,6 +1,10 @@
-use Rattle.std.proofs.Common.{ap, option_map}
+use Rattle.std.proofs.Common.{ap, option_map, None, Some, [], ◌∷◌}
 use Rattle.std.proofs.lemmas.Result.{err_from_is_err_and}
 use Rattle.commands.proofs.Ending.{table_unread, no_span_ends, table_found_ends}
+use Rattle.fault_lines.specs.declared.fault.File.TheVariants.{Source, Config, Stimulus}
+use Rattle.stages.specs.Fetching.{slot, one_slot, run_slots}
+use Rattle.stages.proofs.Asking.{stops_last, stops_first}
+use Rattle.commands.proofs.Asking.{table_asks}
 use Rattle.commands.proofs.table.table.Goals as goal
 
 pub returns-in_err-setup-clause-ends : goal.returns-in_err-setup-clause-ends
@@ -17,3 +21,15 @@ pub returns-clause-ends : goal.returns-clause-ends
 returns-clause-ends g c =
     no_span_ends _ _ _ _ c.args.source.now (option_map (λ t. t.now) c.args.config) c.args.name.now _ _
     c.in_ok-setup.ensures.stage.0 c.in_ok-setup.ensures.stage.1 (ap (option_map (λ p. p.1)) c.in-None.ensures.first)
+
+pub returns-in-Some-clause-asked : goal.returns-in-Some-clause-asked
+returns-in-Some-clause-asked g c =
+    table_asks (run_slots c.args.source.now (option_map (λ t. t.now) c.args.config) None) _ _ _ _ _ _ _ _
+    c.in_ok-setup.ensures.asked c.tell_table.ensures
+
+pub returns-clause-asked : goal.returns-clause-asked
+returns-clause-asked g c =
+    stops_first (slot Source (Some c.args.source.now) ∷ slot Config (option_map (λ t. t.now) c.args.config) ∷ [])
+    (one_slot Stimulus None) _ _ _
+    (stops_last (one_slot Source (Some c.args.source.now)) Config (option_map (λ t. t.now) c.args.config) _ _
+    c.in_ok-setup.ensures.asked)

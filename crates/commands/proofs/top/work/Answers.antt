@@ -1,6 +1,7 @@
 use Rattle.std.proofs.Common.{map, string_bytes, refl, subst}
 use Rattle.command_line.specs.Words.{asked_by, IsFaultOfWords, WordsAreRefused}
 use Rattle.commands.proofs.Wanting.{work_ends, usage_ends}
+use Rattle.commands.proofs.Asking.{work_asks, usage_asks, memory_asks}
 use Rattle.commands.proofs.top.work.Goals as goal
 
 pub returns-in-Ok-clause-ends : goal.returns-in-Ok-clause-ends
@@ -11,3 +12,17 @@ returns-in-Err-Usage-clause-ends g c =
     let words = map string_bytes c.args.words.now in
     let refused : WordsAreRefused words = subst (IsFaultOfWords words) c.in-Err-Usage.field-0-is c.in-Err-Usage.ensures.cause in
     usage_ends words _ refused (record { shelf = refl; out = refl })
+
+pub returns-in-Ok-clause-asked : goal.returns-in-Ok-clause-asked
+returns-in-Ok-clause-asked g c =
+    work_asks _ (asked_by c.in-Ok.order) _ _ c.obey.result c.in-Ok.ensures.ok c.in-Ok.ensures.range c.obey.ensures.asked
+
+pub returns-in-Err-Usage-clause-asked : goal.returns-in-Err-Usage-clause-asked
+returns-in-Err-Usage-clause-asked g c =
+    let words = map string_bytes c.args.words.now in
+    let refused : WordsAreRefused words = subst (IsFaultOfWords words) c.in-Err-Usage.field-0-is c.in-Err-Usage.ensures.cause in
+    usage_asks words _ refused
+
+pub returns-clause-asked : goal.returns-clause-asked
+returns-clause-asked g c =
+    memory_asks (map string_bytes c.args.words.now) _
