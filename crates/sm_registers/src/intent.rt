@@ -9,7 +9,7 @@ use crate::end::End;
 use crate::plan::Side;
 
 /// Which tick of its instruction a tick is.
-#[derive(Clone, Copy, Debug, PartialEq, Eq)]
+#[derive(Clone, Copy)]
 pub enum Kind {
     /// None: the machine has no tick in the clock.
     Off,

@@ -1,7 +1,7 @@
 //! What can be seen of a machine from outside.
 
 /// The values that a trace shows of a machine, and the requests of its FIFOs.
-#[derive(Clone, Copy, Debug, PartialEq, Eq)]
+#[derive(Clone, Copy)]
 pub struct Shown {
     /// How many words are in TX: 0 to 8.
     pub tx: u8,

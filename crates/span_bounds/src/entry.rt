@@ -2,7 +2,7 @@
 use span_step::Ages;
 
 /// No row, or a row with its ages.
-#[derive(Clone, Copy, Debug, PartialEq, Eq)]
+#[derive(Clone, Copy)]
 pub(crate) enum Entry {
     Absent,
     Present(Ages),

@@ -4,7 +4,7 @@ ghost use Rattle.span_step.specs.Contexts as contexts;
 ghost use Rattle.span_step.specs.Courses as spec;
 
 /// How many ticks ago a from-edge may have been to which no to-edge came since.
-#[derive(Clone, Copy, Debug, Default, PartialEq, Eq)]
+#[derive(Clone, Copy, Default)]
 pub enum Ages {
     /// No from-edge is open.
     #[default]

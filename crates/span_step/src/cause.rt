@@ -17,7 +17,7 @@ pub enum Cause {
 }
 
 /// Which causes there are.
-#[derive(Clone, Copy, Debug, Default, PartialEq, Eq)]
+#[derive(Clone, Copy)]
 pub struct Causes {
     pub u1: bool,
     pub u2: bool,

@@ -2,7 +2,7 @@
 use std::marker::Model;
 
 /// What is known before an instruction. The type keeps the address, X and Y below 32.
-#[derive(Clone, Copy, Debug, Default, PartialEq, Eq)]
+#[derive(Clone, Copy, Default)]
 pub struct Context {
     /// Where the instruction lies.
     pub address: u8,

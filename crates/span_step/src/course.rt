@@ -10,7 +10,7 @@ use crate::outcome::ContextOutcome;
 use crate::rules::Rules;
 
 /// A tick of a course.
-#[derive(Clone, Copy, Debug)]
+#[derive(Clone, Copy)]
 pub(crate) struct Tick {
     /// It doesn't count: the machine waits, or ends a stall.
     pub(crate) late: bool,
@@ -21,7 +21,7 @@ pub(crate) struct Tick {
 }
 
 /// What is known in the middle of a course.
-#[derive(Clone, Copy, Debug)]
+#[derive(Clone, Copy)]
 pub(crate) struct Watch {
     /// The level of the from-pin.
     pub(crate) from: bool,

@@ -7,7 +7,7 @@ ghost use Rattle.span_step.specs.Steps as steps;
 use pin_matrix::{MachineSetup, Mapping, Span, writes_of};
 
 /// What is written to the from-pin and the to-pin: a level, or nothing.
-#[derive(Clone, Copy, Debug)]
+#[derive(Clone, Copy)]
 pub(crate) struct Write {
     pub(crate) from: Option<bool>,
     pub(crate) to: Option<bool>,

@@ -6,7 +6,7 @@ use crate::context::Context;
 use std::marker::Model;
 
 /// What an instruction does to a context, apart from side-set. The type keeps the address, X and Y below 32.
-#[derive(Clone, Copy, Debug, Default)]
+#[derive(Clone, Copy, Default)]
 pub(crate) struct ContextOutcome {
     /// The address that it goes to, if it isn't the next one.
     pub(crate) jump: Option<u8>,

@@ -6,7 +6,7 @@ use pin_matrix::{MachineSetup, Span, SpanUnit};
 use std::marker::Model;
 
 /// The edges, the bounds in ticks, and whether stalls at the row's address are left out. The type keeps `max` below 2^24.
-#[derive(Clone, Copy, Debug)]
+#[derive(Clone, Copy)]
 pub(crate) struct Rules {
     pub(crate) from_rise: bool,
     pub(crate) to_rise: bool,

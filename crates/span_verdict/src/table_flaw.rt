@@ -2,7 +2,7 @@
 use span_bounds::{Cause, Context};
 
 /// What is wrong with a table.
-#[derive(Clone, Copy, Debug, PartialEq, Eq)]
+#[derive(Clone, Copy)]
 pub enum Flaw {
     /// There is no row where tables start.
     Start,
