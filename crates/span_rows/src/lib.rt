@@ -2,6 +2,8 @@
 #![tactic(auto)]
 
 #[cfg(test)]
+mod setups;
+#[cfg(test)]
 mod step_rows;
 #[cfg(test)]
 mod step_tests;

@@ -6,11 +6,12 @@
 //! are words from address 0 on; X and Y at the start, of which 32 stands for any that isn't known; the span's bounds; and then the
 //! rows of the table, or `at` with the bad context and its cause. A line that begins with `#` is a note. The rows of `step_rows.rt`
 //! are under keys that a whole table shares.
-ghost use Rattle.std.specs.Prelude.{◌≡◌, ◌≤◌, true, IsSome, None, slice_index_or};
+ghost use Rattle.std.specs.Prelude.{◌≡◌, ◌≤◌};
 
+use crate::setups::{has_machine_0, mapping};
 use crate::step_rows as rows;
 use crate::step_rows::{Keys, Table};
-use pin_matrix::{MachineSetup, Mapping, Setup, Span, SpanUnit, Spans, Stalls};
+use pin_matrix::{MachineSetup, Setup, Span, SpanUnit, Spans, Stalls};
 use pio_edge::{MemSink, put_all};
 use pio_encode::{Name, SideRule};
 use span_check::check;
@@ -49,14 +50,6 @@ fn asked_of(row: &str) -> Option<Asked> {
         min,
         max,
     })
-}
-
-/// A mapping by base and count.
-fn mapping(pins: (u8, u8)) -> Mapping {
-    Mapping {
-        base: pins.0.min(31),
-        count: pins.1.min(32),
-    }
 }
 
 /// Machine 0.
@@ -98,13 +91,6 @@ fn span_of(alloc: Global, keys: &Keys, asked: &Asked) -> Option<Span> {
         max: asked.max,
         stalls: Stalls::new(stalls)?,
     })
-}
-
-/// Whether machine 0 is configured.
-fn has_machine_0(machines: &[Option<MachineSetup>; 4]) -> bool
-    ensures { result ≡ true → IsSome (slice_index_or machines.now 0 None) }
-{
-    machines[0].is_some()
 }
 
 /// Puts the table of the span, or the line of its refusal.
@@ -160,36 +146,20 @@ fn rows_hold(alloc: Global, tables: &[Table]) -> Result<(), Fail> {
 }
 
 #[test]
-fn knows_whether_a_jump_is_taken(rt: HostRuntime) -> Result<(), Fail> {
-    rows_hold(rt.alloc(), &rows::OF_JUMPS)
-}
-
-#[test]
-fn knows_what_is_moved(rt: HostRuntime) -> Result<(), Fail> {
-    rows_hold(rt.alloc(), &rows::OF_MOVES)
-}
-
-#[test]
-fn knows_what_stays(rt: HostRuntime) -> Result<(), Fail> {
+fn knows_what_instructions_do(rt: HostRuntime) -> Result<(), Fail> {
+    rows_hold(rt.alloc(), &rows::OF_JUMPS)?;
+    rows_hold(rt.alloc(), &rows::OF_MOVES)?;
     rows_hold(rt.alloc(), &rows::OF_OTHERS)
 }
 
 #[test]
 fn knows_what_may_stall(rt: HostRuntime) -> Result<(), Fail> {
-    rows_hold(rt.alloc(), &rows::OF_STALLS)
-}
-
-#[test]
-fn leaves_out_named_stalls(rt: HostRuntime) -> Result<(), Fail> {
+    rows_hold(rt.alloc(), &rows::OF_STALLS)?;
     rows_hold(rt.alloc(), &rows::OF_NAMED_STALLS)
 }
 
 #[test]
-fn tells_the_first_cause(rt: HostRuntime) -> Result<(), Fail> {
-    rows_hold(rt.alloc(), &rows::OF_CAUSES)
-}
-
-#[test]
-fn knows_the_levels(rt: HostRuntime) -> Result<(), Fail> {
+fn tells_causes_and_levels(rt: HostRuntime) -> Result<(), Fail> {
+    rows_hold(rt.alloc(), &rows::OF_CAUSES)?;
     rows_hold(rt.alloc(), &rows::OF_LEVELS)
 }

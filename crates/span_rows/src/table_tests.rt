@@ -1,6 +1,7 @@
 //! Files of tables, each with its first fault, and tables, each with its first flaw; worked by hand from the rules.
-ghost use Rattle.std.specs.Prelude.{◌≡◌, ◌<◌, true, IsSome, None, slice_index_or};
+ghost use Rattle.std.specs.Prelude.{◌≡◌, ◌<◌};
 
+use crate::setups::has_machine_0;
 use pin_matrix::{MachineSetup, Setup, Span, SpanUnit, Spans, Stalls};
 use pio_edge::MemSink;
 use pio_encode::{Name, SideRule};
@@ -85,12 +86,14 @@ fn long_number(alloc: Global) -> Option<Vec<u8>> {
     Some(bytes)
 }
 
+/// What is said of it.
+fn said_of_long_number(alloc: Global) -> Option<(usize, &'static str)> {
+    said_of(alloc, &long_number(alloc)?)
+}
+
 #[test]
 fn a_number_of_any_length_is_a_number(rt: HostRuntime) {
-    match long_number(rt.alloc()) {
-        None => assert!(rt; false),
-        Some(bytes) => assert!(rt; said_of(rt.alloc(), &bytes) == Some((2, "B2"))),
-    }
+    assert!(rt; said_of_long_number(rt.alloc()) == Some((2, "B2")));
 }
 
 /// A program on machine 0, wrapped after its last word; the bounds of a span from a rise of pin 0 to its fall, in ticks; whether
@@ -233,16 +236,9 @@ fn span_of(alloc: Global, case: &Case) -> Option<Span> {
     })
 }
 
-/// Whether machine 0 is configured.
-fn has_machine_0(machines: &[Option<MachineSetup>; 4]) -> bool
-    ensures { result ≡ true → IsSome (slice_index_or machines.now 0 None) }
-{
-    machines[0].is_some()
-}
-
-/// Puts the line of what is wrong with the table of a case, where there is memory; and whether the table passes when it is
-/// rechecked.
-fn told_of(alloc: Global, case: &Case) -> Option<(MemSink, bool)> {
+/// Whether a case is told by its line, and its table passes when it is rechecked exactly where that line says so; where there is
+/// memory.
+fn is_told(alloc: Global, case: &Case) -> Option<bool> {
     let mut span = span_of(alloc, case)?;
     span.machine = 0;
     let setup = setup_of(alloc, case);
@@ -255,28 +251,20 @@ fn told_of(alloc: Global, case: &Case) -> Option<(MemSink, bool)> {
         None => put_rechecked(&mut sink, &span.name).ok()?,
         Some(flaw) => put_flaw(&mut sink, "", &span.name, &flaw).ok()?,
     }
-    Some((sink, is_proof(&table, &setup, &span)))
+    let passes = is_proof(&table, &setup, &span);
+    Some(sink.bytes() == case.line.as_bytes() && passes == (case.line == "span h rechecked\n"))
 }
 
 #[test]
 fn tells_the_first_flaw(rt: HostRuntime) {
     for case in &CASES {
-        match told_of(rt.alloc(), case) {
-            None => assert!(rt; false, "{}", case.shows),
-            Some((sink, passes)) => {
-                assert!(rt; sink.bytes() == case.line.as_bytes(), "{}", case.shows);
-                assert!(rt;
-                    passes == (case.line == "span h rechecked\n"),
-                    "{}",
-                    case.shows
-                );
-            }
-        }
+        assert!(rt; is_told(rt.alloc(), case) == Some(true), "{}", case.shows);
     }
 }
 
-/// The text of the table that is derived of a case, where its span is proved.
-fn text_of(alloc: Global, case: &Case) -> Option<MemSink> {
+/// Whether the table that is derived of the square wave is written as its text says, where there is memory.
+fn is_written(alloc: Global) -> Option<bool> {
+    let case = &CASES[0];
     let mut span = span_of(alloc, case)?;
     span.machine = 0;
     let setup = setup_of(alloc, case);
@@ -288,13 +276,10 @@ fn text_of(alloc: Global, case: &Case) -> Option<MemSink> {
         Verdict::Proved { table, .. } => put_table(&mut sink, &table).ok()?,
         _ => return None,
     }
-    Some(sink)
+    Some(sink.bytes() == SQUARE_TABLE.as_bytes())
 }
 
 #[test]
 fn writes_the_least_closed_table(rt: HostRuntime) {
-    match text_of(rt.alloc(), &CASES[0]) {
-        None => assert!(rt; false),
-        Some(sink) => assert!(rt; sink.bytes() == SQUARE_TABLE.as_bytes()),
-    }
+    assert!(rt; is_written(rt.alloc()) == Some(true));
 }

@@ -1,6 +1,7 @@
 //! Programs on machine 0 with a span, each with the verdict that the checker's rules give.
-ghost use Rattle.std.specs.Prelude.{◌≡◌, ◌≤◌, true, IsSome, None, slice_index_or};
+ghost use Rattle.std.specs.Prelude.{◌≡◌, ◌≤◌};
 
+use crate::setups::{has_machine_0, mapping};
 use pin_matrix::{MachineSetup, Mapping, Setup, Span, SpanUnit, Spans, Stalls};
 use pio_encode::{Name, SideRule};
 use span_bounds::Cause;
@@ -420,14 +421,6 @@ static ROWS: [Row; 32] = [
     },
 ];
 
-/// A mapping by base and count.
-fn mapping(pins: (u8, u8)) -> Mapping {
-    Mapping {
-        base: pins.0.min(31),
-        count: pins.1.min(32),
-    }
-}
-
 /// SET's mapping by base and count.
 fn set_mapping(pins: (u8, u8)) -> Mapping
     ensures { result.count ≤ 5 }
@@ -499,13 +492,6 @@ fn setup_of(alloc: Global, row: &Row) -> Setup {
     }
     setup.place(machine_of(row));
     setup
-}
-
-/// Whether machine 0 is configured.
-fn has_machine_0(machines: &[Option<MachineSetup>; 4]) -> bool
-    ensures { result ≡ true → IsSome (slice_index_or machines.now 0 None) }
-{
-    machines[0].is_some()
 }
 
 /// What the checker says of a row, and whether the table of a proved one passes when it is looked through anew.
