@@ -1,7 +1,7 @@
 //! What was measured of a span.
 
 /// The pairs of a from-edge and the first to-edge after it, and the clocks between the two. All are 0 where there is no pair.
-#[derive(Clone, Copy, Debug, PartialEq, Eq)]
+#[derive(Clone, Copy)]
 pub struct SeenDistances {
     /// How many pairs there are.
     pub pairs: u64,
