@@ -3,7 +3,6 @@
 use crate::fifo_rows::{Join, RX_ROWS, RxRow, TX_ROWS, TxRow};
 use fifo_pair::{Fifo, Pair, PlainFifo, RingFifo, Settled};
 use std::alloc::{AllocError, Global};
-use std::process::Abort;
 use std::test::Fail;
 
 #[derive(Clone, Copy)]
@@ -108,63 +107,56 @@ fn words_of_rx<F: Fifo>(alloc: Global, mut pair: Pair<F>) -> Result<Vec<u32>, Al
     Ok(words)
 }
 
-fn tx_row<F: Fifo>(rt: &impl Abort, alloc: Global, row: &TxRow) -> Result<(), Fail> {
+// Whether a row of TX holds.
+fn tx_holds<F: Fifo>(alloc: Global, row: &TxRow) -> Result<bool, AllocError> {
     let mut pair = filled::<F>(alloc, row.join, row.before, &[])?;
-    assert_eq!(rt; pair.tx_level(), row.before.len(), "{}", row.shows);
+    let before = pair.tx_level();
     let events = ClockEvents {
         take: row.take,
         system_word: row.word,
         ..NOTHING
     };
-    let settled = Settled {
+    let wanted = Settled {
         got: None,
         over: row.over,
         under: false,
     };
-    assert_eq!(rt; clock(&mut pair, events), Some(settled), "{}", row.shows);
-    assert_eq!(rt; pair.tx_full(), row.full, "{}", row.shows);
-    assert_eq!(rt;
-        words_of_tx(alloc, pair)?.as_slice(),
-        row.after,
-        "{}",
-        row.shows
-    );
-    Ok(())
+    let settles = clock(&mut pair, events) == Some(wanted);
+    let full = pair.tx_full();
+    let after = words_of_tx(alloc, pair)?;
+    Ok(before == row.before.len() && settles && full == row.full && after.as_slice() == row.after)
 }
 
-fn rx_row<F: Fifo>(rt: &impl Abort, alloc: Global, row: &RxRow) -> Result<(), Fail> {
+// Whether a row of RX holds.
+fn rx_holds<F: Fifo>(alloc: Global, row: &RxRow) -> Result<bool, AllocError> {
     let mut pair = filled::<F>(alloc, row.join, &[], row.before)?;
-    assert_eq!(rt; pair.rx_level(), row.before.len(), "{}", row.shows);
+    let before = pair.rx_level();
     let events = ClockEvents {
         machine_word: row.word,
         system_read: row.read,
         ..NOTHING
     };
-    let settled = Settled {
+    let wanted = Settled {
         got: row.got,
         over: false,
         under: row.under,
     };
-    assert_eq!(rt; clock(&mut pair, events), Some(settled), "{}", row.shows);
-    assert_eq!(rt; pair.rx_full(), row.full, "{}", row.shows);
-    assert_eq!(rt;
-        words_of_rx(alloc, pair)?.as_slice(),
-        row.after,
-        "{}",
-        row.shows
-    );
-    Ok(())
+    let settles = clock(&mut pair, events) == Some(wanted);
+    let full = pair.rx_full();
+    let after = words_of_rx(alloc, pair)?;
+    Ok(before == row.before.len() && settles && full == row.full && after.as_slice() == row.after)
 }
 
 #[test]
 fn a_clock_settles_as_worked_by_hand(rt: HostRuntime) -> Result<(), Fail> {
+    let alloc = rt.alloc();
     for row in &TX_ROWS {
-        tx_row::<PlainFifo>(&rt, rt.alloc(), row)?;
-        tx_row::<RingFifo>(&rt, rt.alloc(), row)?;
+        let holds = tx_holds::<PlainFifo>(alloc, row)? && tx_holds::<RingFifo>(alloc, row)?;
+        assert!(rt; holds, "{}", row.shows);
     }
     for row in &RX_ROWS {
-        rx_row::<PlainFifo>(&rt, rt.alloc(), row)?;
-        rx_row::<RingFifo>(&rt, rt.alloc(), row)?;
+        let holds = rx_holds::<PlainFifo>(alloc, row)? && rx_holds::<RingFifo>(alloc, row)?;
+        assert!(rt; holds, "{}", row.shows);
     }
     Ok(())
 }
@@ -207,27 +199,29 @@ fn events_at(clock: u32, takes: bool, gives: bool) -> ClockEvents {
     }
 }
 
-fn run_beside_lists<F: Fifo>(rt: &impl Abort, alloc: Global) -> Result<(), Fail> {
+// Whether 60 clocks of a pair are those of plain lists.
+fn runs_as_lists<F: Fifo>(alloc: Global) -> Result<bool, AllocError> {
     let mut pair = joined::<F>(alloc, Join::Neither)?;
     let mut tx = Vec::new(alloc);
     let mut rx = Vec::new(alloc);
     for number in 0..60u32 {
         let events = events_at(number, !tx.is_empty(), rx.len() < 4);
         let wanted = settled_lists(&mut tx, &mut rx, 4, events)?;
-        assert_eq!(rt; clock(&mut pair, events), Some(wanted), "clock {number}");
-        assert_eq!(rt; pair.tx_front(), tx.first().copied(), "clock {number}");
-        assert_eq!(rt;
-            (pair.tx_level(), pair.rx_level()),
-            (tx.len(), rx.len()),
-            "clock {number}"
-        );
+        if clock(&mut pair, events) != Some(wanted)
+            || pair.tx_front() != tx.first().copied()
+            || pair.tx_level() != tx.len()
+            || pair.rx_level() != rx.len()
+        {
+            return Ok(false);
+        }
     }
-    assert_eq!(rt; words_of_tx(alloc, pair)?, tx);
-    Ok(())
+    Ok(words_of_tx(alloc, pair)? == tx)
 }
 
 #[test]
 fn a_run_of_clocks_is_that_of_plain_lists(rt: HostRuntime) -> Result<(), Fail> {
-    run_beside_lists::<PlainFifo>(&rt, rt.alloc())?;
-    run_beside_lists::<RingFifo>(&rt, rt.alloc())
+    let alloc = rt.alloc();
+    let holds = runs_as_lists::<PlainFifo>(alloc)? && runs_as_lists::<RingFifo>(alloc)?;
+    assert!(rt; holds);
+    Ok(())
 }

@@ -23,8 +23,10 @@ fn resolves(rt: HostRuntime) {
         (31, 3, 6),
     ];
     for &(index, machine, want) in &ROWS {
-        assert!(rt; index <= 31 && machine <= 3);
-        assert!(rt; resolve(index, machine) == want, "{index} on {machine}");
+        assert!(rt;
+            index <= 31 && machine <= 3 && resolve(index, machine) == want,
+            "{index} on {machine}"
+        );
     }
 }
 

@@ -58,14 +58,9 @@ fn stirs_next(rt: HostRuntime) -> Result<(), Fail> {
         (0x80a0, 3, Some(7), Idle::Ticks(0)),
     ];
     for &(word, ticks, tx, want) in &ROWS {
-        assert!(rt;
-            idle_after::<PlainFifo>(rt.alloc(), word, ticks, tx)? == want,
-            "{word:04x} after {ticks}"
-        );
-        assert!(rt;
-            idle_after::<RingFifo>(rt.alloc(), word, ticks, tx)? == want,
-            "{word:04x} after {ticks}"
-        );
+        let plain = idle_after::<PlainFifo>(rt.alloc(), word, ticks, tx)?;
+        let ring = idle_after::<RingFifo>(rt.alloc(), word, ticks, tx)?;
+        assert!(rt; plain == want && ring == want, "{word:04x} after {ticks}");
     }
     Ok(())
 }
@@ -78,22 +73,25 @@ fn leap_idle<F: Fifo>(machine: &mut Machine<F>, view: &View) {
     }
 }
 
+/// How long a machine over a word idles at first, and after the leap that follows its first tick.
+fn around_leap(alloc: Global, word: u16) -> Result<(Idle, Idle), AllocError> {
+    let shared = all_of(word);
+    let view = View::new(&shared, 0);
+    let mut machine = Machine::<RingFifo>::new(alloc, &setup_of(&PLAIN, 1))?;
+    let first = machine.idle_until(&view);
+    clock(&mut machine, &view);
+    leap_idle(&mut machine, &view);
+    Ok((first, machine.idle_until(&view)))
+}
+
 #[test]
 fn leaps_at_once(rt: HostRuntime) -> Result<(), Fail> {
-    for word in [0xff3f, 0x2080] {
-        let shared = all_of(word);
-        let view = View::new(&shared, 0);
-        let mut machine = Machine::<RingFifo>::new(rt.alloc(), &setup_of(&PLAIN, 1))?;
-        let before = machine.idle_until(&view);
-        assert!(rt; before == Idle::Ticks(0), "{word:04x}");
-        clock(&mut machine, &view);
-        leap_idle(&mut machine, &view);
-        let want = if word == 0xff3f {
-            Idle::Ticks(0)
-        } else {
-            Idle::Never
-        };
-        assert!(rt; machine.idle_until(&view) == want, "{word:04x}");
+    static ROWS: [(u16, Idle); 2] = [(0xff3f, Idle::Ticks(0)), (0x2080, Idle::Never)];
+    for &(word, want) in &ROWS {
+        assert!(rt;
+            around_leap(rt.alloc(), word)? == (Idle::Ticks(0), want),
+            "{word:04x}"
+        );
     }
     Ok(())
 }

@@ -54,13 +54,14 @@ fn stirs<F: Fifo>(alloc: Global, row: &Row) -> Result<(Option<u64>, Option<u64>)
     Ok((first, block.next_stir()))
 }
 
+/// Whether both kinds of FIFO stir when this says.
+fn stir_at(alloc: Global, row: &Row, want: (Option<u64>, Option<u64>)) -> Result<bool, AllocError> {
+    Ok(stirs::<PlainFifo>(alloc, row)? == want && stirs::<RingFifo>(alloc, row)? == want)
+}
+
 #[test]
 fn leaps_at_once(rt: HostRuntime) -> Result<(), Fail> {
-    let after_delay = (Some(31), Some(0));
-    assert!(rt; stirs::<PlainFifo>(rt.alloc(), &DELAY)? == after_delay);
-    assert!(rt; stirs::<RingFifo>(rt.alloc(), &DELAY)? == after_delay);
-    let never = (None, None);
-    assert!(rt; stirs::<PlainFifo>(rt.alloc(), &WAIT)? == never);
-    assert!(rt; stirs::<RingFifo>(rt.alloc(), &WAIT)? == never);
+    assert!(rt; stir_at(rt.alloc(), &DELAY, (Some(31), Some(0)))?);
+    assert!(rt; stir_at(rt.alloc(), &WAIT, (None, None))?);
     Ok(())
 }

@@ -1,5 +1,5 @@
 //! Rows of pins, worked by hand from the datasheet's rules, and setups as their readers build them.
-ghost use Rattle.std.specs.Prelude.{◌≡◌, ◌<◌, IsTrue};
+ghost use Rattle.std.specs.Prelude.{◌≡◌, ◌<◌, IsTrue, IfSome};
 ghost use Rattle.pin_matrix.specs.Spans as spec;
 
 use pin_matrix::{
@@ -8,7 +8,6 @@ use pin_matrix::{
 };
 use pio_encode::{Name, SideRule};
 use std::alloc::Global;
-use std::process::Abort;
 
 const NONE: (u32, u32) = (0, 0);
 
@@ -28,10 +27,8 @@ fn writes_a_mapping(rt: HostRuntime) {
         (0, 4, 1, 0b1111, 0b0001),
     ];
     for &(base, count, value, pins, bits) in &ROWS {
-        assert!(rt; base < 32 && count <= 32);
-        let mapping = Mapping { base, count };
         assert!(rt;
-            writes_of(&mapping, value) == (pins, bits),
+            base < 32 && count <= 32 && writes_of(&Mapping { base, count }, value) == (pins, bits),
             "{base}:{count} {value:#x}"
         );
     }
@@ -126,15 +123,13 @@ fn sees_two_clocks_late(rt: HostRuntime) {
     ];
     for &(before, bypass, pads, seen, settled) in &ROWS {
         let mut sync = Sync::new(before, bypass);
+        let mut holds = true;
         for clock in 0..5 {
             let pad = pads[clock];
-            assert!(rt; sync.seen(pad) == seen[clock], "{bypass:#x} at {clock}");
-            assert!(rt;
-                sync.settled(pad) == settled[clock],
-                "{bypass:#x} at {clock}"
-            );
+            holds = holds && sync.seen(pad) == seen[clock] && sync.settled(pad) == settled[clock];
             sync.step(pad);
         }
+        assert!(rt; holds, "{bypass:#x}");
     }
 }
 
@@ -178,24 +173,23 @@ fn clocks(alloc: Global, name: Name) -> Span
     }
 }
 
-// The name of this text.
-fn named(rt: &impl Abort, alloc: Global, text: &str) -> Name
-    ensures { IsTrue (spec.is_span_name result) }
+// The name of this text, where there is memory and the text is one.
+fn named(alloc: Global, text: &str) -> Option<Name>
+    ensures { IfSome result (λ name. IsTrue (spec.is_span_name name)) }
 {
-    let name = Name::new(String::from_str(alloc, text).expect(rt, "memory"));
-    assert!(rt; is_span_name(name.as_bytes()), "{text}");
-    name
+    let name = Name::new(String::from_str(alloc, text).ok()?);
+    if is_span_name(name.as_bytes()) {
+        Some(name)
+    } else {
+        None
+    }
 }
 
-#[test]
-fn takes_a_setup(rt: HostRuntime) {
-    let stalls = Stalls::new(vec![in rt.alloc(); 0, 31].expect(&rt, "memory")).expect(
-        &rt,
-        "addresses",
-    );
-    assert_eq!(rt; stalls.as_slice(), [0, 31].as_slice());
+// Whether a setup has what it was made of, where there is memory.
+fn has_its_parts(alloc: Global) -> Option<bool> {
+    let stalls = Stalls::new(vec![in alloc; 0, 31].ok()?)?;
     let span = Span {
-        name: named(&rt, rt.alloc(), "high"),
+        name: named(alloc, "high")?,
         machine: 3,
         from_pin: 31,
         from_rise: true,
@@ -206,7 +200,7 @@ fn takes_a_setup(rt: HostRuntime) {
         max: 16_777_215,
         stalls,
     };
-    let spans = Spans::new(vec![in rt.alloc(); span].expect(&rt, "memory")).expect(&rt, "spans");
+    let spans = Spans::new(vec![in alloc; span].ok()?)?;
     let mut setup = Setup {
         memory: [0; 32],
         machines: [None, None, None, Some(machine(3))],
@@ -217,46 +211,81 @@ fn takes_a_setup(rt: HostRuntime) {
         spans,
     };
     setup.place(machine(0));
-    assert!(rt; setup.machines[0].is_some() && setup.machines[1].is_none());
-    assert_eq!(rt; setup.spans.as_slice().len(), 1);
+    let mut holds = setup.machines[0].is_some()
+        && setup.machines[1].is_none()
+        && setup.spans.as_slice().len() == 1;
     for span in setup.spans.into_vec() {
-        assert_eq!(rt; span.stalls.into_vec().as_slice(), [0, 31].as_slice());
+        if span.stalls.into_vec().as_slice() != [0, 31].as_slice() {
+            holds = false;
+        }
     }
+    Some(holds)
+}
+
+#[test]
+fn takes_a_setup(rt: HostRuntime) {
+    assert!(rt; has_its_parts(rt.alloc()) == Some(true));
 }
 
 #[test]
 fn starts_with_no_machine(rt: HostRuntime) {
     let setup = Setup::of([0; 32], Spans::empty(rt.alloc()));
-    assert!(rt; setup.machines.iter().all(|machine| machine.is_none()));
-    assert!(rt; setup.spans.as_slice().is_empty());
+    let [first, second, third, fourth] = &setup.machines;
+    assert!(rt;
+        first.is_none()
+            && second.is_none()
+            && third.is_none()
+            && fourth.is_none()
+            && setup.spans.as_slice().is_empty()
+    );
+}
+
+// Whether stalls are taken at 0 and this address, where there is memory.
+fn takes_address(alloc: Global, address: u8) -> Option<bool> {
+    Some(Stalls::new(vec![in alloc; 0, address].ok()?).is_some())
 }
 
 #[test]
 fn refuses_an_address_above_31(rt: HostRuntime) {
     for address in [31, 32, 255] {
-        let stalls = Stalls::new(vec![in rt.alloc(); 0, address].expect(&rt, "memory"));
-        assert_eq!(rt; stalls.is_some(), address < 32, "{address}");
+        assert!(rt;
+            takes_address(rt.alloc(), address) == Some(address < 32),
+            "{address}"
+        );
     }
+}
+
+// Whether so many stalls are taken, where there is memory.
+fn takes_stalls(alloc: Global, count: usize) -> Option<bool> {
+    Some(Stalls::new(vec![in alloc; 7; count].ok()?).is_some())
 }
 
 #[test]
 fn keeps_at_most_16_stalls(rt: HostRuntime) {
     for count in [16, 17] {
-        let stalls = Stalls::new(vec![in rt.alloc(); 7; count].expect(&rt, "memory"));
-        assert_eq!(rt; stalls.is_some(), count == 16, "{count}");
+        assert!(rt;
+            takes_stalls(rt.alloc(), count) == Some(count == 16),
+            "{count}"
+        );
     }
+}
+
+// Whether so many spans are taken, where there is memory.
+fn takes_spans(alloc: Global, count: usize) -> Option<bool> {
+    let mut spans = Vec::new(alloc);
+    for _ in 0..count {
+        spans.push(clocks(alloc, named(alloc, "at-once_1")?)).ok()?;
+    }
+    Some(Spans::new(spans).is_some())
 }
 
 #[test]
 fn keeps_at_most_64_spans(rt: HostRuntime) {
     for count in [64, 65] {
-        let mut spans = Vec::new(rt.alloc());
-        for _ in 0..count {
-            spans
-                .push(clocks(rt.alloc(), named(&rt, rt.alloc(), "at-once_1")))
-                .expect(&rt, "memory");
-        }
-        assert_eq!(rt; Spans::new(spans).is_some(), count == 64, "{count}");
+        assert!(rt;
+            takes_spans(rt.alloc(), count) == Some(count == 64),
+            "{count}"
+        );
     }
 }
 
@@ -272,6 +301,6 @@ fn knows_names_of_spans(rt: HostRuntime) {
         ("a.b", false),
     ];
     for &(name, wanted) in &ROWS {
-        assert_eq!(rt; is_span_name(name.as_bytes()), wanted, "{name}");
+        assert!(rt; is_span_name(name.as_bytes()) == wanted, "{name}");
     }
 }

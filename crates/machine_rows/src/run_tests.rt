@@ -36,15 +36,18 @@ static RUNS: [(u8, usize, bool, usize); 5] = [
 #[test]
 fn a_square_wave(rt: HostRuntime) -> Result<(), Fail> {
     let alloc = rt.alloc();
-    for (clocks, room, ends, kept) in &RUNS {
-        let row = format!(in alloc; "{clocks} clocks in {room}")?;
-        let (ended, trace) = run_of::<RingFifo, Brand>(alloc, *clocks, *room, Blank::new(1))?;
-        let (_, plain) = run_of::<PlainFifo, Brand>(alloc, *clocks, *room, Blank::new(1))?;
-        assert_eq!(rt; ended, *ends, "{row}");
-        assert_eq!(rt; trace.failed(), !*ends, "{row}");
-        assert_eq!(rt; trace.samples().len(), *kept, "{row}");
-        assert!(rt; is_wave(trace.samples()), "{row}");
-        assert!(rt; trace.samples() == plain.samples(), "{row}");
+    for &(clocks, room, ends, kept) in &RUNS {
+        let (ended, trace) = run_of::<RingFifo, Brand>(alloc, clocks, room, Blank::new(1))?;
+        let (_, plain) = run_of::<PlainFifo, Brand>(alloc, clocks, room, Blank::new(1))?;
+        let samples = trace.samples();
+        assert!(rt;
+            ended == ends
+                && trace.failed() != ends
+                && samples.len() == kept
+                && is_wave(samples)
+                && samples == plain.samples(),
+            "{clocks} clocks in {room}"
+        );
     }
     Ok(())
 }

@@ -10,7 +10,6 @@ use dreq_pacing::{HostPorts, Schedule, read_stimulus};
 use fifo_pair::{Fifo, PlainFifo, RingFifo};
 use pin_matrix::Spans;
 use std::alloc::{AllocError, Global};
-use std::process::Abort;
 use std::test::Fail;
 
 /// A row of each block, the pins that the second owns, and how long they run.
@@ -254,21 +253,23 @@ fn first_unseen<F: Fifo>(
     None
 }
 
-/// A row runs with both kinds of FIFO.
-fn run(rt: &impl Abort, alloc: Global, row: &TwinRow) -> Result<(), Fail> {
-    let first = read_stimulus(alloc, row.first.stimulus.as_bytes()).expect(rt, row.first.shows);
-    let second = read_stimulus(alloc, row.second.stimulus.as_bytes()).expect(rt, row.first.shows);
+/// Whether both kinds of FIFO show what a row says.
+fn holds(alloc: Global, row: &TwinRow) -> Result<bool, AllocError> {
+    let Ok(first) = read_stimulus(alloc, row.first.stimulus.as_bytes()) else {
+        return Ok(false);
+    };
+    let Ok(second) = read_stimulus(alloc, row.second.stimulus.as_bytes()) else {
+        return Ok(false);
+    };
     let plain = unseen::<PlainFifo>(alloc, row, &first, &second)?;
     let ring = unseen::<RingFifo>(alloc, row, &first, &second)?;
-    assert_eq!(rt; plain, None, "{}", row.first.shows);
-    assert_eq!(rt; ring, None, "{}", row.first.shows);
-    Ok(())
+    Ok(plain.is_none() && ring.is_none())
 }
 
 #[test]
 fn rows(rt: HostRuntime) -> Result<(), Fail> {
     for row in &ROWS {
-        run(&rt, rt.alloc(), row)?;
+        assert!(rt; holds(rt.alloc(), row)?, "{}", row.first.shows);
     }
     Ok(())
 }

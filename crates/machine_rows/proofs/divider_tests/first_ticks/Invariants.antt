@@ -3,4 +3,4 @@ use Rattle.std.proofs.Common.{◌≡◌}
 use Rattle.machine_rows.proofs.divider_tests.first_ticks.Given as goal
 
 abbrev pub invariant-loop-clock : goal.invariant-loop-clock
-invariant-loop-clock g l = l.divider.clock ≡ l.clock
+invariant-loop-clock l = l.divider.clock ≡ l.clock
