@@ -4,12 +4,12 @@
 --   HasText     the text of a task is such; ComesTo: the told files come to a task that is such
 --   need_of     what a task needs of spans, beside its text
 --   inputs_of   what a command reads: its files in order, and when it comes to each; file_in: which one in a role
-use Rattle.std.specs.Prelude.{ℕ, Bool, true, Option, Some, None, IfSome, List, []}
+use Rattle.std.specs.Prelude.{ℕ, Bool, true, Option, Some, None, IfSome, List, [], ◌++◌}
 use Rattle.std.specs.FinMap.{get}
 use Rattle.std.specs.List.{flat_map}
 use Rattle.pio_edge.specs.Edge.{Files}
 use Rattle.fault_lines.specs.declared.fault.File.{File}
-use Rattle.fault_lines.specs.declared.fault.File.TheVariants.{Source, Words, Send}
+use Rattle.fault_lines.specs.declared.fault.File.TheVariants.{Source, Words, Table, Send}
 use Rattle.vcd_trace.specs.TwinText.{twin_text}
 use Rattle.vcd_trace.specs.VcdText.{vcd_text}
 use Rattle.span_meter.specs.Measured.{ends_in, measured, seen_of}
@@ -38,7 +38,7 @@ use Rattle.load_summary.specs.Summaries.{summary_of, summary_text}
 use Rattle.stages.specs.Spans.{HasVerdicts}
 use Rattle.stages.specs.Judged.{Judged, right, and_then, IfRight, source_at, words_at, prepared_at, span_at, recheck_at, read_at, pair_at}
 use Rattle.stages.specs.Roles.{run_reaches, recheck_reaches, pair_reaches}
-use Rattle.stages.specs.Fetching.{Slot, name_in, one_slot, run_slots, recheck_slots, pair_slots}
+use Rattle.stages.specs.Fetching.{Slot, name_in, one_slot, run_slots, pair_slots}
 use Rattle.commands.specs.Outside.{Call}
 use Rattle.stages.specs.declared.pair.TwoBlocks.{TwoBlocks}
 use Rattle.commands.specs.Needs.{Need, nothing, all_spans, both_spans, one_span, by_table, IsMet}
@@ -163,7 +163,7 @@ run_inputs source config stimulus = record {
 -- a source, a configuration where it is named, and where a span has the name, its table
 abbrev pub recheck_inputs : List ℕ → Option (List ℕ) → (name table : List ℕ) → Inputs
 recheck_inputs source config name file = record {
-  slots = recheck_slots source config file;
+  slots = run_slots source config None ++ one_slot Table (Some file);
   reaches = λ files role. recheck_reaches files source config name role;
 }
 

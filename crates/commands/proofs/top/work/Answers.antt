@@ -23,6 +23,6 @@ returns-in-Err-Usage-clause-asked g c =
     let refused : WordsAreRefused words = subst (IsFaultOfWords words) c.in-Err-Usage.field-0-is c.in-Err-Usage.ensures.cause in
     usage_asks words _ refused
 
-pub returns-clause-asked : goal.returns-clause-asked
-returns-clause-asked g c =
+pub returns-in-Err-Memory-clause-asked : goal.returns-in-Err-Memory-clause-asked
+returns-in-Err-Memory-clause-asked g c =
     memory_asks (map string_bytes c.args.words.now) _
