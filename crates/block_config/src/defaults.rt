@@ -30,7 +30,6 @@ pub fn default_setup(alloc: Global, programs: &[Program]) -> Result<Setup, Confi
 }
 
 /// The setup with a program on machine 0.
-#[tactic(auto, using(crate::proofs::Says::says))]
 fn setup_of(alloc: Global, program: &Program) -> Result<Setup, ConfigFault>
     ensures value { Answers told result
         (made spec.setup_of (default.block_of (assembled_of program.now))) }

@@ -53,7 +53,8 @@ pub record GivesFiles (words : List Text) (source : Text) (config stimulus : Opt
 abbrev pub GivesClocks : List Text → ℕ → Type 0
 GivesClocks words clocks = GivesNumber words (codes "clocks") 0 clock_limit clocks
 
--- each text is one that the words give, and each number that of such a text, in range; the side-set bits are 0 where none are given
+-- each text is one that the words give, and each number that of such a text, in range; the side-set bits are 0 where
+-- none are given
 abbrev pub IsGiven : List Text → Asked → Type 0
 IsGiven words (asm file) = GivesWord words file
 IsGiven words (run source config stimulus clocks) = GivesFiles words source config stimulus × GivesClocks words clocks

@@ -68,8 +68,8 @@ pub fn pair_words()
     ensures { PairWords }
 {}
 
-/// Whatever words are taken, each text that they ask for is one that they give, as `--name=text`, as `--name` and the text, or as a
-/// file's word alone; and each number is that of such a text, a whole number in range.
+/// Whatever words are taken, each text that they ask for is one that they give, as `--name=text`, as `--name` and the
+/// text, or as a file's word alone; and each number is that of such a text, a whole number in range.
 pub fn taken_words_give_all()
     ensures { TakenWords }
 {}

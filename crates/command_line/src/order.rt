@@ -49,7 +49,7 @@ pub struct SerialLine {
 }
 
 /// What the words of a call ask for.
-#[derive(Clone, Copy, PartialEq)]
+#[derive(Clone, Copy)]
 pub enum Order<'a> {
     /// The listing of the programs in a source.
     Asm {

@@ -67,8 +67,8 @@ pub record IsNamedAt (u : Setup) (sp : Span) (place : ℕ) (name : List ℕ) : T
   pub named : sp.name ≡ name
   pub first : named_from 0 name u.spans ≡ Some (place, sp)
 
--- the first span that isn't provable is at this place and has this name, and this is why; a table proves no span of which another machine
--- may write a pin
+-- the first span that isn't provable is at this place and has this name, and this is why; a table proves no span of
+-- which another machine may write a pin
 abbrev pub IsRefusedBy : Need → (place : ℕ) → (name : List ℕ) → Refusal → Type 0
 IsRefusedBy nothing place name refusal = ⊥
 IsRefusedBy (all_spans u) place name refusal = IsFirstRefused u u.spans place name refusal
@@ -76,12 +76,14 @@ IsRefusedBy (both_spans s t) place name refusal = IsFirstRefused s s.spans place
 IsRefusedBy (one_span u sp) place name refusal = IsNamedAt u sp place name × IsRefused u sp refusal
 IsRefusedBy (by_table u sp rows) place name refusal = IsNamedAt u sp place name × IsSharedBy u sp refusal
 
--- the spans of the first block are provable, the first span of the second that isn't is at this place and has this name, and this is why
+-- the spans of the first block are provable, the first span of the second that isn't is at this place and has this
+-- name, and this is why
 abbrev pub IsSecondRefusedBy : Need → (place : ℕ) → (name : List ℕ) → Refusal → Type 0
 IsSecondRefusedBy (both_spans s t) place name refusal = AreProvable s × IsFirstRefused t t.spans place name refusal
 IsSecondRefusedBy need place name refusal = ⊥
 
--- this is wrong first with the table of the span at this place with this name, of which no other machine may write a pin
+-- this is wrong first with the table of the span at this place with this name, of which no other machine may write a
+-- pin
 abbrev pub IsFlawed : Need → (place : ℕ) → (name : List ℕ) → Flaw → Type 0
 IsFlawed nothing place name flaw = ⊥
 IsFlawed (all_spans u) place name flaw = ⊥

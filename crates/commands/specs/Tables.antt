@@ -44,8 +44,9 @@ IsFlawOf place sp flaw e = (e ≡ fault.Flaw place sp.name flaw) ⊎ (e ≡ faul
 abbrev pub IsTold : (at : ℕ) → Span → (place : ℕ) → (name : List ℕ) → Type 0
 IsTold at sp place name = (place ≡ at) × (sp.name ≡ name)
 
--- The span at this place is provable and holds in every run, and the text of its least closed table was taken and handed on, or a first part of
--- it where the output failed; or the span isn't provable, and this is why; or memory ran out. Of the last two nothing is written.
+-- The span at this place is provable and holds in every run, and the text of its least closed table was taken and
+-- handed on, or a first part of it where the output failed; or the span isn't provable, and this is why; or memory ran
+-- out. Of the last two nothing is written.
 abbrev pub TellsTable : Setup → (at : ℕ) → Span → Output → Output → Result (Unit {0}) Fault → Type 0
 TellsTable u at sp before after (Ok _) = IsProvableAlone u sp × (HoldsInEveryRun u sp × HasTable u sp (λ text. HasTaken before text after))
 TellsTable u at sp before after (Err fault.Out) = IsProvableAlone u sp × HasTable u sp (λ text. TakesPart before text after)
@@ -53,9 +54,9 @@ TellsTable u at sp before after (Err fault.Memory) = after ≡ before
 TellsTable u at sp before after (Err (fault.Unproved place name why)) = (IsTold at sp place name × IsRefused u sp why) × (after ≡ before)
 TellsTable u at sp before after (Err e) = ⊥
 
--- The table proves the span at this place, which holds in every run, and its line was taken and handed on, or a first part of it where the output
--- failed; or another machine may write a pin of the span; or the table has a flaw first; or memory ran out. Of the last three
--- nothing is written.
+-- The table proves the span at this place, which holds in every run, and its line was taken and handed on, or a first
+-- part of it where the output failed; or another machine may write a pin of the span; or the table has a flaw first; or
+-- memory ran out. Of the last three nothing is written.
 abbrev pub TellsRecheck : Setup → (at : ℕ) → Span → List Row → Output → Output → Result (Unit {0}) Fault → Type 0
 TellsRecheck u at sp rows before after (Ok _) = IsProvedBy u sp rows × (HoldsInEveryRun u sp × HasTaken before (rechecked_line sp.name) after)
 TellsRecheck u at sp rows before after (Err fault.Out) = IsProvedBy u sp rows × TakesPart before (rechecked_line sp.name) after

@@ -52,7 +52,8 @@ pub fn recheck_file<F: Shelf, O: Sink>(
     }
 }
 
-/// Reads a table file, and writes that its table proves the span at this place, whose machine is configured, where it does.
+/// Reads a table file, and writes that its table proves the span at this place, whose machine is configured, where it
+/// does.
 fn recheck_span<F: Shelf, O: Sink>(
     alloc: Global,
     setup: &Setup,

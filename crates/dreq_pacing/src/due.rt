@@ -15,7 +15,7 @@ pub struct Requests {
 }
 
 /// What the system does in a clock. In `pins` and `values` bit p is for pin p.
-#[derive(Clone, Copy, PartialEq, Eq)]
+#[derive(Clone, Copy)]
 pub struct Due {
     /// The pins that lines set from the outside.
     pub pins: u32,

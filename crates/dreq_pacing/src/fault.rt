@@ -7,7 +7,7 @@ use std::alloc::{AllocError, AllocFailed};
 use std::fmt;
 
 /// What is wrong with a line of a stimulus.
-#[derive(Clone, Copy, Debug, PartialEq, Eq)]
+#[derive(Clone, Copy, Debug)]
 pub enum StimKind {
     /// `T1`: no such form in the file's version: an unknown word, a wrong number of fields, or a field that is no
     /// number.
@@ -46,7 +46,7 @@ impl fmt::Display for StimKind {
 }
 
 /// Why `read_stimulus` gave no schedule.
-#[derive(Debug, PartialEq, Eq, Drop)]
+#[derive(Debug, Drop)]
 pub enum StimFault {
     /// Memory ran out.
     Memory,

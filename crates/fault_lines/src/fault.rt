@@ -56,13 +56,14 @@ pub enum Fault {
     NoSpan,
     /// The first fault of a table file: its line, from 1 on, and its kind.
     Table(usize, TableKind),
-    /// The first span that isn't provable: its place in the setup, from 0 on, its name, and why (choice of this profile).
+    /// The first span that isn't provable: its place in the setup, from 0 on, its name, and why (choice of this
+    /// profile).
     Unproved(usize, Name, Refusal),
-    /// The first span of the second block that isn't provable: its place in that block's setup, from 0 on, its name, and why (choice
-    /// of this profile).
+    /// The first span of the second block that isn't provable: its place in that block's setup, from 0 on, its name,
+    /// and why (choice of this profile).
     SecondUnproved(usize, Name, Refusal),
-    /// A table doesn't prove the span at this place in the setup, from 0 on, with this name: what is wrong with it first (choice of
-    /// this profile).
+    /// A table doesn't prove the span at this place in the setup, from 0 on, with this name: what is wrong with it
+    /// first (choice of this profile).
     Flaw(usize, Name, Flaw),
     /// The output failed.
     Out,

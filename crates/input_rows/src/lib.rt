@@ -2,6 +2,8 @@
 #![tactic(auto)]
 
 #[cfg(test)]
+mod line_tests;
+#[cfg(test)]
 mod load_tests;
 #[cfg(test)]
 mod port_tests;

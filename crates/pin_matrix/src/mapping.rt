@@ -2,7 +2,7 @@
 ghost use Rattle.std.specs.Prelude.{◌<◌, ◌≤◌};
 
 /// Pins in a row; pin 0 follows on pin 31 (RP2040 Datasheet, section 3.5.6).
-#[derive(Clone, Copy, Debug, PartialEq, Eq)]
+#[derive(Clone, Copy)]
 pub struct Mapping {
     /// The first pin: 0 to 31.
     pub base: u8,

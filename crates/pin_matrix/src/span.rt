@@ -14,7 +14,7 @@ const MOST_STALLS: usize = 16;
 const MOST_SPANS: usize = 64;
 
 /// What a span's bounds count.
-#[derive(Clone, Copy, Debug, PartialEq, Eq)]
+#[derive(Clone, Copy, PartialEq)]
 pub enum SpanUnit {
     /// Ticks of the machine, less those stalled at the addresses that the span names.
     Ticks,
@@ -23,7 +23,7 @@ pub enum SpanUnit {
 }
 
 /// The addresses, each 0 to 31 and at most 16, at which stalls don't count.
-#[derive(Debug, Drop)]
+#[derive(Drop)]
 pub struct Stalls {
     addresses: Vec<u8>,
 }
@@ -93,7 +93,7 @@ fn are_addresses(bytes: &[u8]) -> bool
 }
 
 /// From each from-edge to the first to-edge after it, so much time is asked.
-#[derive(Debug, Drop)]
+#[derive(Drop)]
 pub struct Span {
     /// 1 to 32 letters, digits, `_` or `-`.
     pub name: Name,
@@ -124,7 +124,7 @@ pub struct Span {
 }
 
 /// At most 64 spans in the order of their configuration, seen as their list.
-#[derive(Debug, Drop)]
+#[derive(Drop)]
 pub struct Spans {
     spans: Vec<Span>,
 }

@@ -3,7 +3,7 @@ ghost use Rattle.std.specs.Prelude.{◌≡◌, ◌<◌};
 ghost use Rattle.pio_encode.specs.Word as spec;
 
 /// When a JMP is taken.
-#[derive(Clone, Copy, Debug, PartialEq, Eq)]
+#[derive(Clone, Copy, Debug)]
 pub enum Condition {
     /// No text: always.
     Always,
@@ -34,7 +34,7 @@ impl Condition {
 }
 
 /// What a WAIT looks at.
-#[derive(Clone, Copy, Debug, PartialEq, Eq)]
+#[derive(Clone, Copy, Debug)]
 pub enum WaitSource {
     /// A pin by its own number.
     Gpio,
@@ -55,7 +55,7 @@ impl WaitSource {
 }
 
 /// Where an IN takes its bits from.
-#[derive(Clone, Copy, Debug, PartialEq, Eq)]
+#[derive(Clone, Copy, Debug)]
 pub enum InSource {
     Pins,
     X,
@@ -76,7 +76,7 @@ impl InSource {
 }
 
 /// Where an OUT puts its bits.
-#[derive(Clone, Copy, Debug, PartialEq, Eq)]
+#[derive(Clone, Copy, Debug)]
 pub enum OutDestination {
     Pins,
     X,
@@ -99,7 +99,7 @@ impl OutDestination {
 }
 
 /// Where a MOV puts its word.
-#[derive(Clone, Copy, Debug, PartialEq, Eq)]
+#[derive(Clone, Copy, Debug)]
 pub enum MovDestination {
     Pins,
     X,
@@ -121,7 +121,7 @@ impl MovDestination {
 }
 
 /// What a MOV does to the word on its way.
-#[derive(Clone, Copy, Debug, PartialEq, Eq)]
+#[derive(Clone, Copy, Debug)]
 pub enum MovOperation {
     /// Nothing.
     Plain,
@@ -142,7 +142,7 @@ impl MovOperation {
 }
 
 /// Where a MOV takes its word from.
-#[derive(Clone, Copy, Debug, PartialEq, Eq)]
+#[derive(Clone, Copy, Debug)]
 pub enum MovSource {
     Pins,
     X,
@@ -164,7 +164,7 @@ impl MovSource {
 }
 
 /// What a SET sets.
-#[derive(Clone, Copy, Debug, PartialEq, Eq)]
+#[derive(Clone, Copy, Debug)]
 pub enum SetDestination {
     Pins,
     X,
@@ -183,7 +183,7 @@ impl SetDestination {
 }
 
 /// What an instruction does, apart from its side-set and its delay.
-#[derive(Clone, Copy, PartialEq, Eq)]
+#[derive(Clone, Copy)]
 pub enum Act {
     /// Goes to an address (0 to 31) where the condition holds.
     Jmp {

@@ -8,7 +8,7 @@ use std::fmt;
 use std::marker::Model;
 
 /// A name, seen as its bytes.
-#[derive(Debug, Drop)]
+#[derive(Drop)]
 pub struct Name {
     text: String,
 }

@@ -2,7 +2,7 @@
 ghost use Rattle.std.specs.Prelude.{◌+◌, ◌≤◌, if◌then◌else◌};
 
 /// A program's side-set rule (RP2040 Datasheet, section 3.5.1; `.side_set` of pioasm).
-#[derive(Clone, Copy, Debug)]
+#[derive(Clone, Copy)]
 pub struct SideRule {
     /// How many bits carry the side-set value: 0 to 5, and 0 to 4 under `opt`.
     pub bits: u8,

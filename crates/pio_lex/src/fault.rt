@@ -7,7 +7,7 @@ use std::alloc::{AllocError, AllocFailed};
 use std::fmt;
 
 /// What is wrong at a place of a source.
-#[derive(Clone, Copy, Debug, PartialEq)]
+#[derive(Clone, Copy)]
 pub enum LexKind {
     /// A byte begins no token.
     BadByte,
@@ -42,7 +42,7 @@ impl fmt::Display for LexKind {
 }
 
 /// Why `tokens` gave none.
-#[derive(Debug, PartialEq, Drop)]
+#[derive(Drop)]
 pub enum LexFault {
     /// Memory ran out.
     Memory,

@@ -12,13 +12,8 @@ fn sources_have_the_tokens_worked_by_hand(rt: HostRuntime) -> Result<(), Fail> {
 }
 
 #[test]
-fn tokens_have_their_kinds_and_places(rt: HostRuntime) -> Result<(), Fail> {
-    let mut text = String::new(rt.alloc());
-    for token in &tokens(rt.alloc(), PLACED)? {
-        tell_place(token, &mut text)?;
-    }
-    assert!(rt; text.as_str() == PLACES);
-    Ok(())
+fn tokens_have_their_kinds_and_places(rt: HostRuntime) {
+    assert!(rt; are_placed(rt.alloc()) == Some(true));
 }
 
 #[test]
@@ -60,6 +55,15 @@ fn tell_texts(alloc: Global, source: &[u8], tokens: &[Token], text: &mut String)
         text.push_str(shown.as_str()).ok()?;
     }
     Some(())
+}
+
+/// Whether the tokens have the kinds and places that are worked out; none where memory runs out.
+fn are_placed(alloc: Global) -> Option<bool> {
+    let mut text = String::new(alloc);
+    for token in &tokens(alloc, PLACED).ok()? {
+        tell_place(token, &mut text).ok()?;
+    }
+    Some(text.as_str() == PLACES)
 }
 
 fn tell_place(token: &Token, text: &mut String) -> Result<(), AllocError> {

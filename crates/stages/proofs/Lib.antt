@@ -2,7 +2,6 @@ pub mod Judging
 pub mod Naming
 pub mod Paired
 pub mod Configured
-pub mod Pairing
 pub mod Parts
 pub mod Preparing
 pub mod Asking

@@ -117,8 +117,3 @@ abbrev pub pair_slots : (source config second : List ℕ) → (stimulus : Option
 pair_slots source config second stimulus =
     slot file.Source (Some source) ∷ slot file.Config (Some config) ∷ slot file.Second (Some second)
     ∷ slot file.Stimulus stimulus ∷ []
-
--- a source, a configuration where it is named, and a table
-abbrev pub recheck_slots : (source : List ℕ) → (config : Option (List ℕ)) → (table : List ℕ) → List Slot
-recheck_slots source config table =
-    slot file.Source (Some source) ∷ slot file.Config config ∷ slot file.Table (Some table) ∷ []

@@ -68,8 +68,8 @@ HasVerdicts u P = (found : List (Result Bool Refusal)) × AreVerdicts u u.spans 
 
 -- ---- what the stages that ask spans give
 
--- the place of the first span that isn't provable, its name, and why, once this verdict on the span of this place and name comes after
--- those before it
+-- the place of the first span that isn't provable, its name, and why, once this verdict on the span of this place and
+-- name comes after those before it
 abbrev pub first_refused : Option (ℕ × List ℕ × Refusal) → (place : ℕ) → (name : List ℕ) → Result Bool Refusal → Option (ℕ × List ℕ × Refusal)
 first_refused None place name (Err refusal) = Some (place, name, refusal)
 first_refused None place name (Ok opens) = None

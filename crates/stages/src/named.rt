@@ -6,7 +6,8 @@ ghost use Rattle.stages.specs.Named as spec;
 
 use pin_matrix::{Setup, Span};
 
-/// The first span of this name of a setup, where there is one, with its place, from 0 on. The machines of the spans are configured.
+/// The first span of this name of a setup, where there is one, with its place, from 0 on. The machines of the spans are
+/// configured.
 pub fn span_named<'a>(setup: &'a Setup, name: &str) -> Option<(usize, &'a Span)>
     requires { AreConfigured setup.now }
     ensures first { option_map (λ found. (found.0, found.1.now)) result ≡ spec.named_from 0 name.now setup.now.spans }

@@ -11,7 +11,8 @@ use span_check::{a_provable_span_holds_in_every_run, check};
 use std::alloc::{AllocError, Global};
 use verdict_lines::{Refusal, found_by};
 
-/// The verdicts on all spans of a setup, in order; and the place of the first one that isn't provable, from 0 on, its name, and why.
+/// The verdicts on all spans of a setup, in order; and the place of the first one that isn't provable, from 0 on, its
+/// name, and why.
 #[derive(Drop)]
 pub struct Verdicts {
     pub found: Vec<Result<bool, Refusal>>,
@@ -100,7 +101,8 @@ fn judge_span(
     Ok(found_by(verdict))
 }
 
-/// Keeps the refusal that came before, else takes that of the span at this place, if it isn't proved. The error is want of memory.
+/// Keeps the refusal that came before, else takes that of the span at this place, if it isn't proved. The error is want
+/// of memory.
 fn note_refusal(
     alloc: Global,
     place: usize,

@@ -7,7 +7,7 @@ use std::alloc::AllocError;
 use std::fmt;
 
 /// What is wrong with a line of a table file.
-#[derive(Clone, Copy, Debug, PartialEq, Eq)]
+#[derive(Clone, Copy)]
 pub enum TableKind {
     /// `B1`: it isn't what may be there, or it comes after `end`, or it has no newline.
     BadLine,
@@ -42,7 +42,7 @@ impl fmt::Display for TableKind {
 }
 
 /// Why `read_table` gave no table.
-#[derive(Debug, PartialEq, Eq, Drop)]
+#[derive(Drop)]
 pub enum TableFault {
     /// Memory ran out.
     Memory,
