@@ -237,31 +237,37 @@ fn unknown_pins(machine: &MachineSetup, span: &Span, context: &Context) -> Outco
 {
     let from_held = holds(&machine.out, span.from_pin);
     let to_held = holds(&machine.out, span.to_pin);
-    let writes = |from: Option<bool>, to: Option<bool>| ContextOutcome {
-        from,
-        to,
-        ..ContextOutcome::nothing_done(context)
-    };
     let low = Some(false);
     let high = Some(true);
     if span.from_pin == span.to_pin {
         if from_held {
-            two(writes(low, low), writes(high, high))
+            two(writing(context, low, low), writing(context, high, high))
         } else {
-            one(writes(None, None))
+            one(writing(context, None, None))
         }
     } else {
         match (from_held, to_held) {
-            (false, false) => one(writes(None, None)),
-            (false, true) => two(writes(None, low), writes(None, high)),
-            (true, false) => two(writes(low, None), writes(high, None)),
+            (false, false) => one(writing(context, None, None)),
+            (false, true) => two(writing(context, None, low), writing(context, None, high)),
+            (true, false) => two(writing(context, low, None), writing(context, high, None)),
             (true, true) => {
-                let mut outcomes = two(writes(low, low), writes(low, high));
-                outcomes.push(writes(high, low));
-                outcomes.push(writes(high, high));
+                let mut outcomes = two(writing(context, low, low), writing(context, low, high));
+                outcomes.push(writing(context, high, low));
+                outcomes.push(writing(context, high, high));
                 outcomes
             }
         }
+    }
+}
+
+/// It goes on, and writes these levels to the span's pins.
+fn writing(context: &Context, from: Option<bool>, to: Option<bool>) -> ContextOutcome
+    ensures { result ≡ record (spec.nothing_done context.now) { from = from; to = to } }
+{
+    ContextOutcome {
+        from,
+        to,
+        ..ContextOutcome::nothing_done(context)
     }
 }
 
