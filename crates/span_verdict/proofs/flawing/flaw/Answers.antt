@@ -1,8 +1,8 @@
-use Rattle.std.proofs.Common.{◌≡◌, true, false, Some, None, List, sym, ap, ◌∙◌}
+use Rattle.std.proofs.Common.{rules, ◌≡◌, true, false, Some, None, List, sym, ap, ◌∙◌}
 use Rattle.span_step.specs.declared.ages.Ages.TheVariants.{Empty}
 use Rattle.span_bounds.specs.declared.row.Row.{Row}
 use Rattle.span_bounds.specs.Tables.{start_context}
-use Rattle.span_verdict.specs.Flaws.{rows_flaw}
+use Rattle.span_verdict.specs.Flaws.{first_flaw, rows_flaw}
 use Rattle.span_verdict.specs.Tables.{lies_in}
 use Rattle.span_verdict.proofs.Flawless.{flawless, no_flaw, unstarted}
 use Rattle.span_verdict.proofs.flawing.flaw.Goals as goal
@@ -26,3 +26,8 @@ returns-else-has_start-clause-none c =
     (λ h. absurd (none h), λ h. absurd (unstarted u sp t start h)) where
       none : {A : Type 0} {x : A} → Some x ≡ None → ⊥
       none e = cc
+
+-- as the search finds it: a refused body is told at once
+pub returns-then-has_start-clause-first : goal.returns-then-has_start-clause-first
+unfolding first_flaw
+returns-then-has_start-clause-first c = search rules
