@@ -1,7 +1,9 @@
 //! The least closed table of a span.
-ghost use Rattle.std.specs.Prelude.{◌≡◌, ◌+◌, ◌*◌, ◌<◌, ◌≤◌, IfOk, IsSome, MatchOption, OnErr, None, slice_index_or};
+ghost use Rattle.std.specs.Prelude.{◌≡◌, ◌+◌, ◌*◌, ◌<◌, ◌≤◌, [], IfOk, IsSome, MatchOption, OnErr, None, replicate, slice_index_or};
 ghost use Rattle.span_bounds.specs.Answers as spec;
 ghost use Rattle.span_bounds.specs.Answers.{IsAnswer, IsBadAt, AreGoodBelow, cause_at};
+ghost use Rattle.span_bounds.specs.Take.{IsTaken};
+ghost use Rattle.span_bounds.specs.declared.entry.Entry.TheVariants.{Absent};
 
 use crate::count::count;
 use crate::derived::Derived;
@@ -64,9 +66,7 @@ fn derive_counted<L: Ledger>(
     let mut left = Marks::new(alloc)?;
     let mut missing = vec![in alloc; 0; CONTEXTS]?;
     let mut stack = Stack::new(alloc)?;
-    reach(setup, span, &mut left, &mut stack, steps);
-    count(setup, span, &left, &mut table, &mut missing, steps);
-    take(
+    match swept(
         setup,
         span,
         &mut left,
@@ -74,14 +74,39 @@ fn derive_counted<L: Ledger>(
         &mut missing,
         &mut stack,
         steps,
-    );
-    match first_bad(setup, span, &left, &table, steps) {
+    ) {
         Some((number, cause)) => Ok(Derived::Bad {
             context: context_at(number),
             cause,
         }),
         None => Ok(Derived::Closed(Table::of(table))),
     }
+}
+
+/// The three sweeps, over grids that say nothing yet, and then the first bad row.
+fn swept<L: Ledger>(
+    setup: &Setup,
+    span: &Span,
+    left: &mut Marks,
+    table: &mut Grid,
+    missing: &mut Vec<u32>,
+    stack: &mut Stack,
+    steps: &mut Steps<L>,
+) -> Option<(usize, Cause)>
+    requires configured { IsSome (slice_index_or setup.now.machines span.now.machine None) }
+    requires left { left.old ≡ replicate 139392 Absent }
+    requires table { table.old ≡ replicate 139392 Absent }
+    requires missing { missing.old.items ≡ replicate 139392 0 }
+    requires stack { stack.old ≡ [] }
+    ensures taken { IsTaken setup.now span.now left.new table.new }
+    ensures value { MatchOption result (AreGoodBelow setup.now span.now left.new table.new 139392)
+        (λ found. IsBadAt setup.now span.now left.new table.new found) }
+    ensures steps { steps.new ≤ steps.old + 5 * 139392 }
+{
+    reach(setup, span, left, stack, steps);
+    count(setup, span, left, table, missing, steps);
+    take(setup, span, left, table, missing, stack, steps);
+    first_bad(setup, span, left, table, steps)
 }
 
 /// The first number whose row is bad, and its first cause.

@@ -1,15 +1,13 @@
-use Rattle.span_bounds.proofs.Counts.{Count-starts, IsUnder-starts}
 use Rattle.span_bounds.proofs.Ends.{IsGoodLeast-ends}
 use Rattle.span_bounds.proofs.Firsts.{IsFirstBad-ends}
 use Rattle.span_bounds.proofs.answer.derive_counted.Goals as goal
 
-pub count-requires-clause-first : goal.count-requires-clause-first
-count-requires-clause-first g c =
-    Count-starts _ _ _ _ _ (IsUnder-starts _ _ _ _ c.in_ok-table.ensures) (c.in_ok-missing.ensures.items_if_clones_equal (λ y h. h))
+pub swept-requires-clause-missing : goal.swept-requires-clause-missing
+swept-requires-clause-missing g c = c.in_ok-missing.ensures.items_if_clones_equal (λ y h. h)
 
 pub returns-in-Some-clause-answer : goal.returns-in-Some-clause-answer
 returns-in-Some-clause-answer g c =
-    rw c.context_at.ensures (IsFirstBad-ends _ _ _ _ _ c.take.ensures.taken c.requires c.in-Some.ensures.value)
+    rw c.context_at.ensures (IsFirstBad-ends _ _ _ _ _ c.swept.ensures.taken c.requires c.in-Some.ensures.value)
 
 pub returns-in-None-clause-answer : goal.returns-in-None-clause-answer
-returns-in-None-clause-answer g c = rw c.of.ensures (IsGoodLeast-ends _ _ _ _ c.take.ensures.taken c.requires c.in-None.ensures.value)
+returns-in-None-clause-answer g c = rw c.of.ensures (IsGoodLeast-ends _ _ _ _ c.swept.ensures.taken c.requires c.in-None.ensures.value)
