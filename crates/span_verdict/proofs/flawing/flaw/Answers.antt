@@ -28,6 +28,6 @@ returns-else-has_start-clause-none c =
       none e = cc
 
 -- as the search finds it: a refused body is told at once
-pub returns-then-has_start-clause-first : goal.returns-then-has_start-clause-first
+pub returns-else-has_start-clause-first : goal.returns-else-has_start-clause-first
 unfolding first_flaw
-returns-then-has_start-clause-first c = search rules
+returns-else-has_start-clause-first c = search rules
