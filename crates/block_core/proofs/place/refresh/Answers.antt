@@ -1,6 +1,0 @@
-use Rattle.std.proofs.Common.{rules}
-use Rattle.block_core.proofs.place.refresh.Goals as goal
-
--- as the search finds it: a refused body is told at once
-pub returns : goal.returns
-returns g c = search rules steps 300000
