@@ -1,4 +1,4 @@
-use Rattle.std.proofs.Common.{ap, subst, sym, ◌∙◌}
+use Rattle.std.proofs.Common.{ap, subst, sym, ◌∙◌, rules}
 use Rattle.sm_registers.specs.Intents.{Wants}
 use Rattle.dreq_pacing.specs.Due.{quiet}
 use Rattle.block_core.specs.Shown.{Shows}
@@ -28,3 +28,7 @@ returns-in-None-clause-sample g c =
     still_shows c.a_quiet_clock_changes_nothing.ensures c.args.place v quiet c.in-Some.slot c.simple_clock.new.self c.args.sample.now
     (c.simple_clock.ensures.after done) (sym (uses_none v c.in-Some.slot wants)) (ap (λ (w : Wants). w.sticky) wants)
     (subst (λ s. Shows c.args.place s c.args.sample.now) c.in-Some.is c.requires.shows)
+
+-- as the search finds it: a refused body is told at once
+pub returns-in-None-2-clause-used : goal.returns-in-None-2-clause-used
+returns-in-None-2-clause-used g c = search rules steps 300000

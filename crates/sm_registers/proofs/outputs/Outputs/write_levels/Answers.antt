@@ -1,0 +1,7 @@
+use Rattle.std.proofs.Common.{rules}
+use Rattle.sm_registers.proofs.Written.{masked}
+use Rattle.sm_registers.proofs.outputs.Outputs.write_levels.Goals as goal
+
+-- as the search finds it: a refused body is told at once
+pub returns : goal.returns
+returns c = search (rules, masked) steps 300000
