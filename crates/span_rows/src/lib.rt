@@ -2,6 +2,8 @@
 #![tactic(auto)]
 
 #[cfg(test)]
+mod line_tests;
+#[cfg(test)]
 mod setups;
 #[cfg(test)]
 mod step_rows;

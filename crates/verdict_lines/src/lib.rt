@@ -6,6 +6,3 @@ mod refusal;
 
 pub use line::{put_refusal, put_verdict};
 pub use refusal::{Refusal, found_by};
-
-#[cfg(test)]
-mod tests;

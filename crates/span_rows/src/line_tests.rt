@@ -2,11 +2,11 @@
 ghost use Rattle.std.specs.Prelude.{IsTrue};
 ghost use Rattle.span_step.specs.Contexts.{is_small};
 
-use crate::{Refusal, put_refusal, put_verdict};
-use pio_edge::{MemSink, Sink};
+use pio_edge::MemSink;
 use pio_encode::Name;
 use span_bounds::{Cause, Context};
-use std::test::Fail;
+use std::alloc::Global;
+use verdict_lines::{Refusal, put_refusal, put_verdict};
 
 /// Address, X and Y, 32 where they may be anything, the levels, the cause, and the line of a span `bit`.
 static UNPROVED: [(u8, u8, u8, bool, bool, Cause, &str); 5] = [
@@ -64,9 +64,16 @@ fn known(number: u8) -> Option<u8>
     if number < 32 { Some(number) } else { None }
 }
 
+/// Whether the line of a verdict on a span of this name is this one; none where there is no memory.
+fn is_line(alloc: Global, name: &str, found: &Result<bool, Refusal>, line: &str) -> Option<bool> {
+    let name = Name::new(String::from_str(alloc, name).ok()?);
+    let mut sink = MemSink::with_room(alloc, 99, &[]).ok()?;
+    put_verdict(&mut sink, &name, found).ok()?;
+    Some(sink.bytes() == line.as_bytes())
+}
+
 #[test]
-fn a_bad_context_is_told(rt: HostRuntime) -> Result<(), Fail> {
-    let name = Name::new("bit".to_string(rt.alloc())?);
+fn a_bad_context_is_told(rt: HostRuntime) {
     for &(address, x, y, from, to, cause, line) in &UNPROVED {
         let context = Context {
             address: address % 32,
@@ -75,12 +82,12 @@ fn a_bad_context_is_told(rt: HostRuntime) -> Result<(), Fail> {
             from,
             to,
         };
-        let mut sink = MemSink::with_room(rt.alloc(), 99, &[])?;
         let found = Err(Refusal::Unproved(context, cause));
-        assert!(rt; put_verdict(&mut sink, &name, &found).is_ok(), "{line}");
-        assert!(rt; sink.bytes() == line.as_bytes(), "{line}");
+        assert!(rt;
+            is_line(rt.alloc(), "bit", &found, line) == Some(true),
+            "{line}"
+        );
     }
-    Ok(())
 }
 
 /// Whether the span opens, and its line.
@@ -90,31 +97,37 @@ static PROVED: [(bool, &str); 2] = [
 ];
 
 #[test]
-fn a_proof_is_told(rt: HostRuntime) -> Result<(), Fail> {
-    let name = Name::new("_-9".to_string(rt.alloc())?);
+fn a_proof_is_told(rt: HostRuntime) {
     for &(opens, line) in &PROVED {
-        let mut sink = MemSink::with_room(rt.alloc(), 99, &[])?;
-        assert!(rt; put_verdict(&mut sink, &name, &Ok(opens)).is_ok(), "{line}");
-        assert!(rt; sink.bytes() == line.as_bytes(), "{line}");
+        assert!(rt;
+            is_line(rt.alloc(), "_-9", &Ok(opens), line) == Some(true),
+            "{line}"
+        );
     }
-    Ok(())
+}
+
+/// Whether the line of a shared pin comes after a text; none where there is no memory.
+fn is_shared_line(alloc: Global) -> Option<bool> {
+    let name = Name::new(String::from_str(alloc, "a").ok()?);
+    let mut sink = MemSink::with_room(alloc, 99, &[]).ok()?;
+    put_refusal(&mut sink, "piotool: ", &name, &Refusal::Shared(3)).ok()?;
+    Some(sink.bytes() == b"piotool: span a unproved by machine 3: U5\n".as_slice())
+}
+
+/// Whether a put that fails inside the line leaves a first part of it; none where there is no memory.
+fn is_first_part(alloc: Global) -> Option<bool> {
+    let name = Name::new(String::from_str(alloc, "a").ok()?);
+    let mut sink = MemSink::with_room(alloc, 99, &[(3, 4)]).ok()?;
+    let failed = put_verdict(&mut sink, &name, &Ok(true)).is_err();
+    Some(failed && sink.bytes() == b"span a pro".as_slice())
 }
 
 #[test]
-fn a_shared_pin_is_told_after_a_text(rt: HostRuntime) -> Result<(), Fail> {
-    let name = Name::new("a".to_string(rt.alloc())?);
-    let mut sink = MemSink::with_room(rt.alloc(), 99, &[])?;
-    let refusal = Refusal::Shared(3);
-    assert!(rt; put_refusal(&mut sink, "piotool: ", &name, &refusal).is_ok());
-    assert!(rt; sink.bytes() == b"piotool: span a unproved by machine 3: U5\n".as_slice());
-    Ok(())
+fn a_shared_pin_is_told_after_a_text(rt: HostRuntime) {
+    assert!(rt; is_shared_line(rt.alloc()) == Some(true));
 }
 
 #[test]
-fn a_failing_put_leaves_a_first_part(rt: HostRuntime) -> Result<(), Fail> {
-    let name = Name::new("a".to_string(rt.alloc())?);
-    let mut sink = MemSink::with_room(rt.alloc(), 99, &[(3, 4)])?;
-    assert!(rt; put_verdict(&mut sink, &name, &Ok(true)).is_err());
-    assert!(rt; sink.bytes() == b"span a pro".as_slice());
-    Ok(())
+fn a_failing_put_leaves_a_first_part(rt: HostRuntime) {
+    assert!(rt; is_first_part(rt.alloc()) == Some(true));
 }
