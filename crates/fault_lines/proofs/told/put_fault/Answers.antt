@@ -1,3 +1,4 @@
+use Rattle.std.proofs.Common.{rules}
 use Rattle.fault_lines.specs.Told.{fault_line}
 use Rattle.fault_lines.proofs.told.put_fault.Goals as goal
 
@@ -16,3 +17,8 @@ returns-in-Memory-clause-bytes g c = rw c.in-Memory.is c.put_text-in-Memory.ensu
 pub returns-in-SecondUnproved-clause-bytes : goal.returns-in-SecondUnproved-clause-bytes
 unfolding fault_line
 returns-in-SecondUnproved-clause-bytes g c = rw c.in-SecondUnproved.is c.put_refusal-in-SecondUnproved.ensures.bytes
+
+-- as the search finds it: a refused body is told at once
+pub returns-in-Unproved-clause-bytes : goal.returns-in-Unproved-clause-bytes
+unfolding fault_line
+returns-in-Unproved-clause-bytes g c = search rules

@@ -1,5 +1,6 @@
-use Rattle.std.proofs.Common.{Some, []}
+use Rattle.std.proofs.Common.{rules, Some, []}
 use Rattle.fault_lines.specs.declared.fault.File.TheVariants.{Config}
+use Rattle.stages.specs.Judged.{config_at}
 use Rattle.stages.specs.Fetching.{one_slot}
 use Rattle.stages.proofs.Asking.{part_all, stops_last}
 use Rattle.stages.proofs.Configured.{config_configured}
@@ -14,3 +15,12 @@ returns-in-Err-Memory-clause-asked g c = part_all (one_slot Config (Some c.args.
 
 pub returns-clause-asked : goal.returns-clause-asked
 returns-clause-asked g c = stops_last [] Config (Some c.args.name.now) _ _ c.in_ok-bytes.ensures.asked
+
+-- as the search finds it: a refused body is told at once
+pub returns-in-Ok-clause-stage : goal.returns-in-Ok-clause-stage
+unfolding config_at
+returns-in-Ok-clause-stage g c = search rules
+
+pub returns-clause-stage : goal.returns-clause-stage
+unfolding config_at
+returns-clause-stage g c = search rules

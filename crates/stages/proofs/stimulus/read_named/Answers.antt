@@ -1,5 +1,6 @@
-use Rattle.std.proofs.Common.{Some, []}
+use Rattle.std.proofs.Common.{rules, Some, []}
 use Rattle.fault_lines.specs.declared.fault.File.TheVariants.{Stimulus}
+use Rattle.stages.specs.Judged.{stimulus_at}
 use Rattle.stages.specs.Fetching.{one_slot}
 use Rattle.stages.proofs.Asking.{part_all, stops_last}
 use Rattle.stages.proofs.stimulus.read_named.Goals as goal
@@ -9,3 +10,11 @@ returns-in-Err-Memory-clause-asked g c = part_all (one_slot Stimulus (Some c.arg
 
 pub returns-clause-asked : goal.returns-clause-asked
 returns-clause-asked g c = stops_last [] Stimulus (Some c.args.name.now) _ _ c.in_ok-bytes.ensures.asked
+
+-- as the search finds it: a refused body is told at once
+pub returns-in-Ok-clause-stage : goal.returns-in-Ok-clause-stage
+unfolding stimulus_at
+returns-in-Ok-clause-stage g c = search rules
+
+pub returns-in-Ok-clause-asked : goal.returns-in-Ok-clause-asked
+returns-in-Ok-clause-asked g c = search rules
