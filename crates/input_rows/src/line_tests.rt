@@ -11,7 +11,7 @@ static FIRST_LINES: &str = "
 ab => 2
 a| => 1, 0
 |a => 0, 1
-a||b => 1, 2
+\r||b => 1, 2
 ";
 
 #[test]
