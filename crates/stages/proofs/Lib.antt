@@ -4,4 +4,5 @@ pub mod Paired
 pub mod Configured
 pub mod Parts
 pub mod Preparing
+mod PreparingPair
 pub mod Asking

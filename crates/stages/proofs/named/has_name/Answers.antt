@@ -3,4 +3,4 @@ use Rattle.stages.proofs.named.has_name.Goals as goal
 
 -- as the search finds it: a refused body is told at once
 pub returns : goal.returns
-returns c = search rules
+returns c = search rules steps 300000

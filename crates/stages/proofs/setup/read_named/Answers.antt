@@ -19,8 +19,8 @@ returns-clause-asked g c = stops_last [] Config (Some c.args.name.now) _ _ c.in_
 -- as the search finds it: a refused body is told at once
 pub returns-in-Ok-clause-stage : goal.returns-in-Ok-clause-stage
 unfolding config_at
-returns-in-Ok-clause-stage g c = search rules
+returns-in-Ok-clause-stage g c = search rules steps 1000000
 
 pub returns-clause-stage : goal.returns-clause-stage
 unfolding config_at
-returns-clause-stage g c = search rules
+returns-clause-stage g c = search rules steps 1000000

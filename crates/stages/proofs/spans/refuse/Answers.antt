@@ -3,4 +3,4 @@ use Rattle.stages.proofs.spans.refuse.Goals as goal
 
 -- as the search finds it: a refused body is told at once
 pub returns-in-Some-clause-asked : goal.returns-in-Some-clause-asked
-returns-in-Some-clause-asked c = search rules
+returns-in-Some-clause-asked c = search rules steps 300000

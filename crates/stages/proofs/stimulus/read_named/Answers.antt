@@ -14,7 +14,7 @@ returns-clause-asked g c = stops_last [] Stimulus (Some c.args.name.now) _ _ c.i
 -- as the search finds it: a refused body is told at once
 pub returns-in-Ok-clause-stage : goal.returns-in-Ok-clause-stage
 unfolding stimulus_at
-returns-in-Ok-clause-stage g c = search rules
+returns-in-Ok-clause-stage g c = search rules steps 1000000
 
 pub returns-in-Ok-clause-asked : goal.returns-in-Ok-clause-asked
-returns-in-Ok-clause-asked g c = search rules
+returns-in-Ok-clause-asked g c = search rules steps 300000
