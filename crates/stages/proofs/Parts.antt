@@ -1,13 +1,14 @@
 -- A stage that reads a part of what another one reads: what it fails with, the whole fails with.
-use Rattle.std.proofs.Common.{◌≡◌, ℕ, true, Option, Some, None, IfSome, subst}
+use Rattle.std.proofs.Common.{◌≡◌, ℕ, true, Option, Some, None, IfSome, List, subst}
 use Rattle.pio_edge.specs.Count.{Faults, failed_at}
 use Rattle.pio_edge.specs.Edge.{Files}
 use Rattle.fault_lines.specs.declared.fault.File.{File}
+use Rattle.fault_lines.specs.declared.fault.File.TheVariants as file
 use Rattle.fault_lines.specs.declared.fault.Fault.{Fault}
 use Rattle.fault_lines.specs.declared.fault.Fault.TheVariants as fault
-use Rattle.stages.specs.Judged.{wrong}
-use Rattle.stages.specs.Fetching.{name_in}
-use Rattle.stages.specs.Stages.{HasSuch, Plan, ReadFails, shelved}
+use Rattle.stages.specs.Judged.{Judged, wrong}
+use Rattle.stages.specs.Fetching.{name_in, one_slot}
+use Rattle.stages.specs.Stages.{HasSuch, Plan, ReadFails, plan_of, shelved}
 
 -- of told files, what follows from one thing
 pub told : (files : Option Files) (P R : Files → Type 0) → ((f : Files) → P f → R f) → IfSome files P → IfSome files R
@@ -18,6 +19,18 @@ told (Some f) P R so p = so f p
 pub both_told : (files : Option Files) (P Q R : Files → Type 0) → ((f : Files) → P f → Q f → R f) → IfSome files P → IfSome files Q → IfSome files R
 both_told None P Q R so p q = tt
 both_told (Some f) P Q R so p q = so f p q
+
+-- and from three
+pub three_told : (files : Option Files) (P Q S R : Files → Type 0) → ((f : Files) → P f → Q f → S f → R f)
+    → IfSome files P → IfSome files Q → IfSome files S → IfSome files R
+three_told None P Q S R so p q s = tt
+three_told (Some f) P Q S R so p q s = so f p q s
+
+-- and from four
+pub four_told : (files : Option Files) (P Q S T R : Files → Type 0) → ((f : Files) → P f → Q f → S f → T f → R f)
+    → IfSome files P → IfSome files Q → IfSome files S → IfSome files T → IfSome files R
+four_told None P Q S T R so p q s t = tt
+four_told (Some f) P Q S T R so p q s t = so f p q s t
 
 -- what is so of all files is so of the told ones
 pub of_all : (files : Option Files) (R : Files → Type 0) → ((f : Files) → R f) → IfSome files R
@@ -58,3 +71,60 @@ fails files mid_files before mid after part whole e same quiet is h =
     let there = subst (λ (fs : Option Files). ReadFails (shelved fs mid after) part e) same h in
     let here = subst (λ (m : Faults). ReadFails (shelved files m after) part e) quiet there in
     part_fails files before after part whole e is here
+
+-- ---- a plan of one file
+
+-- What is so of this file's role is so of each role in which the plan has a name.
+pub only_source : (name : Option (List ℕ)) (P : List ℕ → Type 0) (R : File → Type 0) (role : File) → (HasSuch name P → R file.Source)
+    → HasSuch (name_in (one_slot file.Source name) role) P → R role
+only_source name P R file.Source so h = so h
+only_source name P R file.Words so h = absurd h
+only_source name P R file.Config so h = absurd h
+only_source name P R file.Second so h = absurd h
+only_source name P R file.Stimulus so h = absurd h
+only_source name P R file.Table so h = absurd h
+only_source name P R file.Send so h = absurd h
+
+pub only_config : (name : Option (List ℕ)) (P : List ℕ → Type 0) (R : File → Type 0) (role : File) → (HasSuch name P → R file.Config)
+    → HasSuch (name_in (one_slot file.Config name) role) P → R role
+only_config name P R file.Source so h = absurd h
+only_config name P R file.Words so h = absurd h
+only_config name P R file.Config so h = so h
+only_config name P R file.Second so h = absurd h
+only_config name P R file.Stimulus so h = absurd h
+only_config name P R file.Table so h = absurd h
+only_config name P R file.Send so h = absurd h
+
+pub only_second : (name : Option (List ℕ)) (P : List ℕ → Type 0) (R : File → Type 0) (role : File) → (HasSuch name P → R file.Second)
+    → HasSuch (name_in (one_slot file.Second name) role) P → R role
+only_second name P R file.Source so h = absurd h
+only_second name P R file.Words so h = absurd h
+only_second name P R file.Config so h = absurd h
+only_second name P R file.Second so h = so h
+only_second name P R file.Stimulus so h = absurd h
+only_second name P R file.Table so h = absurd h
+only_second name P R file.Send so h = absurd h
+
+pub only_stimulus : (name : Option (List ℕ)) (P : List ℕ → Type 0) (R : File → Type 0) (role : File) → (HasSuch name P → R file.Stimulus)
+    → HasSuch (name_in (one_slot file.Stimulus name) role) P → R role
+only_stimulus name P R file.Source so h = absurd h
+only_stimulus name P R file.Words so h = absurd h
+only_stimulus name P R file.Config so h = absurd h
+only_stimulus name P R file.Second so h = absurd h
+only_stimulus name P R file.Stimulus so h = so h
+only_stimulus name P R file.Table so h = absurd h
+only_stimulus name P R file.Send so h = absurd h
+
+-- a plan of one file is a part of each plan that has this file in this role, comes to it, and ends with its faults
+pub one_part : {X Y : Type 0} (files : Option Files) (own : File) (name : Option (List ℕ)) (comes_to : Files → Judged X) (whole : Plan Y)
+    → ((P : List ℕ → Type 0) (R : File → Type 0) (role : File) → (HasSuch name P → R own) → HasSuch (name_in (one_slot own name) role) P → R role)
+    → ((P : List ℕ → Type 0) → HasSuch name P → HasSuch (name_in whole.slots own) P)
+    → IfSome files (λ f. whole.reaches f own ≡ true)
+    → ((e : Fault) → IfSome files (λ f. comes_to f ≡ wrong e) → IfSome files (λ f. whole.comes_to f ≡ wrong e))
+    → IsPart files (plan_of comes_to (one_slot own name)) whole
+one_part files own name comes_to whole only named reached faults = record {
+  named = λ role before after. only (λ n. after ≡ failed_at n before) (λ r. HasSuch (name_in whole.slots r) (λ n. after ≡ failed_at n before)) role
+      (named (λ n. after ≡ failed_at n before));
+  reached = λ role before after. only (λ n. after ≡ failed_at n before) (λ r. IfSome files (λ f. whole.reaches f r ≡ true)) role (λ h. reached);
+  faults = faults;
+}
