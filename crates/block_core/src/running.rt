@@ -27,7 +27,6 @@ use std::alloc::{AllocError, Global};
 use std::marker::Model;
 
 /// Four machines that share instruction memory, pins and IRQ flags, in some clock of a run.
-#[derive(Drop)]
 pub(crate) struct Running<F: Fifo> {
     first: Option<Slot<F>>,
     second: Option<Slot<F>>,
@@ -44,6 +43,25 @@ pub(crate) struct Running<F: Fifo> {
     ready: bool,
     // What `view` tells, brought up to date by each clock, since a trace asks after each and little of it changes.
     sample: Sample,
+}
+
+/// One call wherever a block is dropped, in place of the drops of all that is in it.
+impl<F: Fifo> Drop for Running<F> {
+    fn drop(self) {
+        let Running {
+            first: _,
+            second: _,
+            third: _,
+            fourth: _,
+            shared: _,
+            wanted: _,
+            outside: _,
+            clock: _,
+            alone: _,
+            ready: _,
+            sample: _,
+        } = self;
+    }
 }
 
 impl<F: Fifo> Model for Running<F> {
