@@ -1,6 +1,6 @@
 """Random blocks with spans, as an author of firmware may write them: pulses, delays, counted loops, and some waits."""
 
-import span_model
+from piotool import span_model
 from cases import Run, as_tables
 from config_model import MACHINE_KEYS
 

@@ -5,7 +5,7 @@ A row's steps are the courses of span_model.py; each row is looked at once, with
 
 import re
 
-import span_model
+from piotool import span_model
 
 ROW = re.compile(r"(\d+) (\d+|any) (\d+|any) (\d+) (\d+) (?:-|(\d+) (\d+))")
 LEADING_ZERO = re.compile(r"(?<!\d)0\d")

@@ -1,6 +1,6 @@
 //! Rows of the checker's steps, each worked by hand from the rules. `step_tests.rt` tells the form of a row. A row's program mostly
 //! begins with the instruction that it shows, and ends in jumps to themselves, so that the table has what comes after it.
-//! `tools/span_model.py`, which was written from the rules alone, gives the same of each row (`crosscheck/steps`).
+//! `tools/piotool/span_model.py`, which was written from the rules alone, gives the same of each row (`crosscheck/steps`).
 
 use pin_matrix::SpanUnit;
 

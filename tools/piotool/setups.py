@@ -3,7 +3,7 @@
 import tomllib
 from dataclasses import dataclass
 
-from calls import Fault, read_text
+from piotool.calls import Fault, read_text
 
 MOST = 2**24 - 1  # the greatest bound
 NUMBERS = {"machine": 3, "from_pin": 31, "to_pin": 31, "min": MOST, "max": MOST}

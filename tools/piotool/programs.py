@@ -5,7 +5,7 @@ import tempfile
 from dataclasses import dataclass, field
 from pathlib import Path
 
-from calls import Fault, piotool
+from piotool.calls import Fault, piotool
 
 LABEL = re.compile(rb"^((?:.*\*/)?[ \t\r]*)(public[ \t\r]+)?([A-Za-z_]\w*)(?=[ \t\r]*:(?!:))", re.M | re.I)
 HEAD = re.compile(r"program (\S+) origin (\S+) side (\d+)( opt)?( pindirs)? wrap (\d+) (\d+)")

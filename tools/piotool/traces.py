@@ -4,7 +4,7 @@ import re
 from bisect import bisect_right
 from dataclasses import dataclass, field
 
-from calls import Fault, read_text
+from piotool.calls import Fault, read_text
 
 VAR = re.compile(r"\$var wire ([0-9]+) (\S+) ([pdftrws])([0-9]+) \$end")
 BIT = re.compile(r"([01])(\S+)")
