@@ -1,0 +1,87 @@
+//! Setups as short texts.
+use block_config::OwningSetup;
+use pin_matrix::{MachineSetup, Setup, Span, SpanUnit};
+use std::alloc::AllocError;
+
+/// Adds what a setup says, in one line: the memory's words that aren't 0 by their address, the machines, the pins and the
+/// spans.
+pub fn tell_setup_text(setup: &Setup, text: &mut String) -> Result<(), AllocError> {
+    tell_memory(&setup.memory, text)?;
+    for machine in &setup.machines {
+        if let Some(machine) = machine {
+            tell_machine(machine, text)?;
+        }
+    }
+    write!(
+        text,
+        "pins {:x} {:x} {:x} {:x}",
+        setup.high, setup.level, setup.out, setup.bypass
+    )?;
+    for span in setup.spans.as_slice() {
+        tell_span(span, text)?;
+    }
+    Ok(())
+}
+
+/// Adds what the setup of a second block says, and the pins that it owns.
+pub fn tell_second_text(second: &OwningSetup, text: &mut String) -> Result<(), AllocError> {
+    tell_setup_text(&second.setup, text)?;
+    write!(text, " own {:x}", second.own)
+}
+
+fn tell_memory(memory: &[u16], text: &mut String) -> Result<(), AllocError> {
+    for (address, word) in memory.iter().enumerate() {
+        if *word != 0 {
+            write!(text, "{address}:{word:04x} ")?;
+        }
+    }
+    Ok(())
+}
+
+fn tell_machine(m: &MachineSetup, text: &mut String) -> Result<(), AllocError> {
+    write!(
+        text,
+        "m{} {} {}-{} {}+{}",
+        m.id, m.start, m.wrap_bottom, m.wrap_top, m.int, m.frac
+    )?;
+    write!(
+        text,
+        " in {} jmp {} out {}x{} set {}x{} side {}x{}",
+        m.in_base,
+        m.jmp_pin,
+        m.out.base,
+        m.out.count,
+        m.set.base,
+        m.set.count,
+        m.side.base,
+        m.side.count
+    )?;
+    write!(
+        text,
+        " shift {} {} {} {} {} {}",
+        m.in_right, m.out_right, m.autopush, m.autopull, m.push_threshold, m.pull_threshold
+    )?;
+    write!(
+        text,
+        " join {} {} status {} {} x {} y {} ",
+        m.join_tx, m.join_rx, m.status_rx, m.status_n, m.x, m.y
+    )
+}
+
+fn tell_span(span: &Span, text: &mut String) -> Result<(), AllocError> {
+    let unit = match span.unit {
+        SpanUnit::Ticks => "ticks",
+        SpanUnit::Clocks => "clocks",
+    };
+    write!(
+        text,
+        " {} m{} {} {} {} {}",
+        span.name, span.machine, span.from_pin, span.from_rise, span.to_pin, span.to_rise
+    )?;
+    write!(text, " {unit} {}-{} [", span.min, span.max)?;
+    for (place, address) in span.stalls.as_slice().iter().enumerate() {
+        let gap = if place == 0 { "" } else { " " };
+        write!(text, "{gap}{address}")?;
+    }
+    text.push_str("]")
+}
