@@ -77,7 +77,7 @@ fn tell_far(divider: Divider, text: &mut String) -> Result<(), AllocError>
     divider.restart();
     write!(
         text,
-        "tick 2^40 in {to_tick}, {within} in 2^40, {}, restarted {}",
+        "far tick in {to_tick}, {within} ticks, {}, restarted {}",
         tick_text(now),
         tick_text(divider.ticks_now())
     )

@@ -150,12 +150,15 @@ fn machine(id: u8) -> MachineSetup
 
 fn tell_parts(setup: &Setup, text: &mut String) -> Result<(), AllocError> {
     text.push_str("machines")?;
+    let mut is_empty = true;
     for (place, machine) in setup.machines.iter().enumerate() {
         if machine.is_some() {
             write!(text, " {place}")?;
+            is_empty = false;
         }
     }
-    write!(text, ", {} spans", setup.spans.as_slice().len())?;
+    text.push_str(if is_empty { " none" } else { "" })?;
+    write!(text, ", spans {}", setup.spans.as_slice().len())?;
     for span in setup.spans.as_slice() {
         text.push_str(", stalls ")?;
         tell_addresses(span.stalls.as_slice(), text)?;
