@@ -2,6 +2,7 @@
 use crate::calls::{CALL_KINDS, CallKind, tell_call};
 use crate::inputs::{INPUT_KINDS, InputKind, tell_input};
 use crate::language::{LANGUAGE_KINDS, LanguageKind, tell_language};
+use crate::machine::{MACHINE_KINDS, MachineKind, PART_KINDS, PartKind, tell_machine, tell_part};
 use std::alloc::Global;
 
 /// What a table's rows are of.
@@ -17,11 +18,13 @@ pub enum Kind {
 pub enum LineKind {
     Language(LanguageKind),
     Input(InputKind),
+    Part(PartKind),
 }
 
 #[derive(Clone, Copy)]
 pub enum BlockKind {
     Call(CallKind),
+    Machine(MachineKind),
 }
 
 /// The kind of this name.
@@ -31,6 +34,12 @@ pub fn kind_named(name: &str) -> Option<Kind> {
     }
     if let Some(kind) = found(&INPUT_KINDS, name) {
         return Some(Kind::Line(LineKind::Input(kind)));
+    }
+    if let Some(kind) = found(&PART_KINDS, name) {
+        return Some(Kind::Line(LineKind::Part(kind)));
+    }
+    if let Some(kind) = found(&MACHINE_KINDS, name) {
+        return Some(Kind::Block(BlockKind::Machine(kind)));
     }
     let kind = found(&CALL_KINDS, name)?;
     Some(Kind::Block(BlockKind::Call(kind)))
@@ -51,6 +60,7 @@ pub fn tell_line(alloc: Global, kind: LineKind, asked: &[u8], seen: &mut String)
     match kind {
         LineKind::Language(kind) => tell_language(alloc, kind, asked, seen),
         LineKind::Input(kind) => tell_input(alloc, kind, str::from_utf8(asked).ok()?, seen),
+        LineKind::Part(kind) => tell_part(alloc, kind, str::from_utf8(asked).ok()?, seen),
     }
 }
 
@@ -64,5 +74,6 @@ pub fn tell_block(
 ) -> Option<()> {
     match kind {
         BlockKind::Call(kind) => tell_call(alloc, kind, lines, expected, seen),
+        BlockKind::Machine(kind) => tell_machine(alloc, kind, lines, expected, seen),
     }
 }

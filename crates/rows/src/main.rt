@@ -6,6 +6,7 @@ mod calls;
 mod inputs;
 mod kind;
 mod language;
+mod machine;
 mod spelling;
 mod table;
 
