@@ -4,45 +4,50 @@ ghost use Rattle.pio_edge.specs.Edge.{with_bytes};
 ghost use Rattle.vcd_trace.specs.TwinText.{twin_text};
 ghost use Rattle.vcd_trace.specs.VcdText.{vcd_text};
 
-use super::samples::{add_taken, add_text, sample_of, told_at};
+use super::samples::add_taken;
 use block_core::Sample;
 use pio_edge::{MemSink, Sink};
 use std::alloc::Global;
 use vcd_trace::{Trace, TraceFailed, TwinTrace, TwinVcd, VcdTrace};
 
-/// Adds the text that a row says, and what a lent sink takes of its samples, those of the clocks from 0 on.
+/// Adds what a lent sink takes of the samples of the clocks from 0 on; none where others are told.
 pub fn tell_lent(
     alloc: Global,
-    lines: &str,
-    expected: &mut String,
+    told: &[(u64, Sample)],
+    end: u64,
     seen: &mut String,
 ) -> Option<()> {
-    add_text(alloc, lines, expected)?;
     let mut samples = Vec::new(alloc);
-    for line in lines.lines() {
-        if let Some((_, list)) = told_at(line) {
-            samples.push(sample_of(list)?).ok()?;
+    for (place, (clock, sample)) in told.iter().enumerate() {
+        if *clock != place as u64 {
+            return None;
         }
+        samples.push(*sample).ok()?;
+    }
+    if samples.len() as u64 != end {
+        return None;
     }
     let mut sink = MemSink::with_room(alloc, 8192, &[]).ok()?;
     let passes = put_text(&mut sink, &samples).is_ok();
     add_taken(sink.bytes(), passes, !passes, sink.faults(), seen)
 }
 
-/// The same of pairs of samples.
+/// The same of two blocks.
 pub fn tell_lent_to_pairs(
     alloc: Global,
-    lines: &str,
-    expected: &mut String,
+    told: &[(u64, Sample, Sample)],
+    end: u64,
     seen: &mut String,
 ) -> Option<()> {
-    add_text(alloc, lines, expected)?;
     let mut pairs = Vec::new(alloc);
-    for line in lines.lines() {
-        if let Some((_, lists)) = told_at(line) {
-            let (first, second) = lists.split_once(" / ")?;
-            pairs.push((sample_of(first)?, sample_of(second)?)).ok()?;
+    for (place, (clock, first, second)) in told.iter().enumerate() {
+        if *clock != place as u64 {
+            return None;
         }
+        pairs.push((*first, *second)).ok()?;
+    }
+    if pairs.len() as u64 != end {
+        return None;
     }
     let mut sink = MemSink::with_room(alloc, 8192, &[]).ok()?;
     let passes = put_pairs(&mut sink, &pairs).is_ok();

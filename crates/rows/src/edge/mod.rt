@@ -8,7 +8,6 @@ mod traces;
 mod words;
 mod writers;
 
-use lent::{tell_lent, tell_lent_to_pairs};
 use pairs::tell_pairs;
 use shelves::{tell_file, tell_shelf, tell_unread};
 use sinks::{tell_memory_sink, tell_sure_sink};
@@ -83,20 +82,14 @@ pub enum EdgeBlockKind {
     Pairs,
     /// A list of samples.
     List,
-    /// What a caller's own sink takes of a trace.
-    Lent,
-    /// The same of two blocks.
-    LentToPairs,
 }
 
 /// The kinds of blocks with their names.
-pub static EDGE_BLOCK_KINDS: [(&str, EdgeBlockKind); 6] = [
+pub static EDGE_BLOCK_KINDS: [(&str, EdgeBlockKind); 4] = [
     ("shelves in memory", EdgeBlockKind::Shelf),
     ("traces", EdgeBlockKind::Trace),
     ("traces of pairs", EdgeBlockKind::Pairs),
     ("lists of samples", EdgeBlockKind::List),
-    ("lent sinks", EdgeBlockKind::Lent),
-    ("sinks lent to pairs", EdgeBlockKind::LentToPairs),
 ];
 
 /// Adds what is told of a line; none where memory runs out, or the line is none of its table's kind.
@@ -147,7 +140,5 @@ pub fn tell_edge_block(
         EdgeBlockKind::Trace => tell_trace(alloc, lines, expected, seen),
         EdgeBlockKind::Pairs => tell_pairs(alloc, lines, expected, seen),
         EdgeBlockKind::List => tell_list(alloc, lines, expected, seen),
-        EdgeBlockKind::Lent => tell_lent(alloc, lines, expected, seen),
-        EdgeBlockKind::LentToPairs => tell_lent_to_pairs(alloc, lines, expected, seen),
     }
 }

@@ -1,7 +1,8 @@
 //! The trace of two blocks over a sink in memory.
 ghost use Rattle.std.specs.Prelude.{◌≡◌, false};
 
-use super::samples::{add_taken, add_text, failure_in, number_of, sample_of, told_at};
+use super::lent::tell_lent_to_pairs;
+use super::samples::{add_taken, add_text, failure_in, is_lent, number_of, sample_of, told_at};
 use block_core::Sample;
 use pio_edge::{MemSink, Sink};
 use std::alloc::Global;
@@ -16,9 +17,13 @@ pub fn tell_pairs(
 ) -> Option<()> {
     add_text(alloc, lines, expected)?;
     let told = told_of(alloc, lines)?;
+    let end = number_of(lines, "end")?;
+    if is_lent(lines) {
+        return tell_lent_to_pairs(alloc, &told, end, seen);
+    }
     let fails = failure_in(alloc, lines)?;
     let mut sink = MemSink::with_room(alloc, 8192, &fails).ok()?;
-    let (passes, has_failed) = told_to(&mut sink, &told, number_of(lines, "end")?);
+    let (passes, has_failed) = told_to(&mut sink, &told, end);
     add_taken(sink.bytes(), passes, has_failed, sink.faults(), seen)
 }
 

@@ -10,6 +10,7 @@
 //! | `lines 183` | how many lines the text has |
 //! | `fails 3 4` | the third call of the sink fails, and takes four bytes |
 //! | `bytes 48` | just the first bytes of the text are there |
+//! | `lent` | the sink is the caller's own, which is lent and comes back |
 //! | `room 7` | how many samples a list has room for |
 //! | `kept 6` | how many samples a list has |
 //! | `s level 1` | a sample of the list |
@@ -117,9 +118,15 @@ pub fn are_known(lines: &str) -> bool {
 fn is_known(line: &str) -> bool {
     let (head, _) = line.split_once(' ').unwrap_or((line, ""));
     match head {
-        "end" | ">" | "v" | "dump" | "lines" | "fails" | "bytes" | "room" | "kept" | "s" => true,
+        ">" | "v" | "dump" | "end" | "lines" | "fails" | "bytes" | "lent" => true,
+        "room" | "kept" | "s" => true,
         _ => told_at(line).is_some(),
     }
+}
+
+/// Whether the sink is the caller's own.
+pub fn is_lent(lines: &str) -> bool {
+    lines.lines().any(|line| line == "lent")
 }
 
 /// The text of a row's lines; none where a line isn't known, or it has another number of lines than the row says.
@@ -173,10 +180,10 @@ pub fn failure_in(alloc: Global, lines: &str) -> Option<Vec<(u64, usize)>> {
 pub fn add_text(alloc: Global, lines: &str, expected: &mut String) -> Option<()> {
     let text = text_of(alloc, lines)?;
     match number_of(lines, "bytes") {
-        None => write!(expected, "{}whole, 0 faults", text.as_str()).ok(),
+        None => write!(expected, "{}whole, faults 0", text.as_str()).ok(),
         Some(count) => {
             let first = text.as_str().get(..usize::try_from(count).ok()?)?;
-            write!(expected, "{first}broken, 1 faults").ok()
+            write!(expected, "{first}broken, faults 1").ok()
         }
     }
 }
@@ -190,7 +197,7 @@ pub fn add_taken(
     seen: &mut String,
 ) -> Option<()> {
     seen.push_str(str::from_utf8(bytes).ok()?).ok()?;
-    write!(seen, "{}, {faults} faults", state(passes, has_failed)).ok()
+    write!(seen, "{}, faults {faults}", state(passes, has_failed)).ok()
 }
 
 /// Whether a trace is whole or broken.

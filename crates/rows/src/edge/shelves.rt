@@ -29,8 +29,8 @@ pub fn tell_shelf(
             tell_fetch(alloc, &mut shelf, name, cap.parse().ok()?, seen)?;
             seen.push('\n').ok()?;
         } else if let Some(count) = line.strip_prefix("faults ") {
-            write!(expected, "{count} faults\n").ok()?;
-            write!(seen, "{} faults\n", shelf.faults()).ok()?;
+            write!(expected, "faults {count}\n").ok()?;
+            write!(seen, "faults {}\n", shelf.faults()).ok()?;
         }
     }
     Some(())
@@ -82,7 +82,7 @@ pub fn tell_file<R: Files>(rt: &R, alloc: Global, asked: &str, text: &mut String
     let mut shelf = FileShelf::new(alloc, rt);
     tell_fetch(alloc, &mut shelf, FILE, cap, text)?;
     fs::remove_file(rt, FILE).ok()?;
-    write!(text, ", {} faults", shelf.faults()).ok()
+    write!(text, ", faults {}", shelf.faults()).ok()
 }
 
 /// Adds for each file what a fetch of up to four bytes gives, and how many faults there were by then. A row asks for a name

@@ -15,7 +15,7 @@ pub fn tell_memory_sink(alloc: Global, asked: &str, text: &mut String) -> Option
     let mut sink = MemSink::with_room(alloc, room, &fails).ok()?;
     tell_calls(alloc, &mut sink, calls, text)?;
     let taken = str::from_utf8(sink.bytes()).ok()?;
-    write!(text, ": \"{taken}\", {} faults", sink.faults()).ok()
+    write!(text, ": \"{taken}\", faults {}", sink.faults()).ok()
 }
 
 /// A call that fails, and the bytes that it takes: `2 1`.

@@ -1,8 +1,9 @@
 //! The trace of a block over a sink in memory, and a list of samples.
 ghost use Rattle.std.specs.Prelude.{◌≡◌, false};
 
+use super::lent::tell_lent;
 use super::samples::{
-    add_taken, add_text, are_known, failure_in, number_of, sample_of, state, told_at,
+    add_taken, add_text, are_known, failure_in, is_lent, number_of, sample_of, state, told_at,
 };
 use block_core::Sample;
 use pio_edge::{MemSink, Sink};
@@ -18,9 +19,13 @@ pub fn tell_trace(
 ) -> Option<()> {
     add_text(alloc, lines, expected)?;
     let told = told_of(alloc, lines)?;
+    let end = number_of(lines, "end")?;
+    if is_lent(lines) {
+        return tell_lent(alloc, &told, end, seen);
+    }
     let fails = failure_in(alloc, lines)?;
     let mut sink = MemSink::with_room(alloc, 8192, &fails).ok()?;
-    let (passes, has_failed) = told_to(&mut sink, &told, number_of(lines, "end")?);
+    let (passes, has_failed) = told_to(&mut sink, &told, end);
     add_taken(sink.bytes(), passes, has_failed, sink.faults(), seen)
 }
 
@@ -67,9 +72,9 @@ pub fn tell_list(
     let told = told_of(alloc, lines)?;
     let end = number_of(lines, "end")?;
     let how = if kept < end {
-        "broken, 1 faults"
+        "broken, faults 1"
     } else {
-        "whole, 0 faults"
+        "whole, faults 0"
     };
     write!(expected, "{kept} samples, {how}\n").ok()?;
     let are_said = add_samples(lines, expected)?;
@@ -77,7 +82,7 @@ pub fn tell_list(
     let passes = tell(&mut trace, &told, end).is_ok();
     let how = state(passes, trace.failed());
     let count = trace.samples().len();
-    write!(seen, "{count} samples, {how}, {} faults\n", trace.faults()).ok()?;
+    write!(seen, "{count} samples, {how}, faults {}\n", trace.faults()).ok()?;
     if are_said {
         tell_samples(trace.samples(), seen).ok()?;
     }

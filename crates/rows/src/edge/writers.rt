@@ -90,7 +90,7 @@ fn out_told(alloc: Global, turn: Turn, piece: &str) -> Option<String> {
     let mut text = String::new(alloc);
     let mut out = OutSink::new(alloc, Noted::new(alloc, turn)).ok()?;
     tell_puts(&mut out, piece, &mut text)?;
-    write!(text, "{} faults", out.faults()).ok()?;
+    write!(text, "faults {}", out.faults()).ok()?;
     Some(text)
 }
 
@@ -98,7 +98,7 @@ fn err_told(alloc: Global, turn: Turn, piece: &str) -> Option<String> {
     let mut text = String::new(alloc);
     let mut err = ErrSink::new(Noted::new(alloc, turn));
     tell_puts(&mut err, piece, &mut text)?;
-    write!(text, "{} faults", err.faults()).ok()?;
+    write!(text, "faults {}", err.faults()).ok()?;
     Some(text)
 }
 
@@ -139,7 +139,7 @@ fn puts_many<S: Sink>(sink: &mut S, times: u32, piece: &str) -> bool {
 fn tell_sizes(passes: bool, sizes: &[usize], text: &mut String) -> Option<()> {
     let (_, full) = sizes.split_last()?;
     let are_large = full.iter().all(|size| *size >= 65_536);
-    let large = if are_large { "" } else { ", not each" };
+    let large = if are_large { "" } else { ", too short" };
     let mut sum = 0_usize;
     for size in sizes {
         sum = sum.saturating_add(*size);

@@ -7,6 +7,7 @@ use pio_encode::SideRule;
 pub struct Keys<'a> {
     pub side_rule: SideRule,
     pub start: u8,
+    pub wrap_top: u8,
     pub x: u32,
     pub y: u32,
     pub divider: u16,
@@ -41,6 +42,7 @@ impl<'a> Keys<'a> {
         Keys {
             side_rule: NO_SIDE_SET,
             start: 0,
+            wrap_top: 31,
             x: 0,
             y: 0,
             divider: 1,
@@ -80,6 +82,7 @@ impl<'a> Keys<'a> {
         match key {
             "side_set" => self.take_side_set(value)?,
             "start" => self.start = value.parse().ok()?,
+            "wrap_top" => self.wrap_top = value.parse().ok()?,
             "divider" => self.divider = value.parse().ok()?,
             "fraction" => self.fraction = value.parse().ok()?,
             "autopush" => self.autopush = truth(value)?,

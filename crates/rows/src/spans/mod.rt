@@ -9,8 +9,8 @@
 //! | `= proved, opens` | what is told |
 //!
 //! The keys have the names that a configuration has for them. A machine's side-set has as many pins as its rule has bits,
-//! unless `side_count` says another number after it. The span is from an edge of pin 0, and the program wraps after its
-//! last word.
+//! unless `side_count` says another number after it. Machine 0 wraps after the program's last word, and another machine
+//! after address 31, unless `wrap_top` says another. The span is from an edge of pin 0.
 mod keys;
 mod lines;
 mod programs;

@@ -97,7 +97,7 @@ fn program_of(lines: &str, rule: &SideRule) -> Option<Program> {
     Some(program)
 }
 
-/// The setup of a row's lines: machine 0, wrapped after its last word, and the others, each wrapped as it is.
+/// The setup of a row's lines: machine 0, wrapped after the program's last word, and the others.
 pub fn setup_of(alloc: Global, lines: &str, keys: &Keys) -> Option<Setup> {
     let program = program_of(lines, &keys.side_rule)?;
     let mut setup = Setup::of(program.memory(), Spans::empty(alloc));
@@ -105,10 +105,12 @@ pub fn setup_of(alloc: Global, lines: &str, keys: &Keys) -> Option<Setup> {
         if let Part::Machine { id, keys } = part_of(line)? {
             let mut others = Keys::new();
             others.take(keys)?;
-            setup.place(machine_of(id, &others, program.last())?);
+            setup.place(machine_of(id, &others)?);
         }
     }
-    setup.place(machine_of(0, keys, program.last())?);
+    let mut own = *keys;
+    own.wrap_top = program.last();
+    setup.place(machine_of(0, &own)?);
     Some(setup)
 }
 

@@ -10,14 +10,14 @@ use std::alloc::Global;
 /// The most clocks or ticks of a bound.
 const MOST: u32 = 16_777_215;
 
-/// A machine, wrapped after this address; none where a key is out of its range.
-pub fn machine_of(id: u8, keys: &Keys, wrap_top: u8) -> Option<MachineSetup> {
-    if id > 3 || wrap_top > 31 || keys.start > 31 || keys.divider == 0 {
+/// A machine; none where a key is out of its range.
+pub fn machine_of(id: u8, keys: &Keys) -> Option<MachineSetup> {
+    if id > 3 || keys.start > 31 || keys.wrap_top > 31 || keys.divider == 0 {
         return None;
     }
     let mut machine = MachineSetup::of(id, keys.side_rule);
     machine.start = keys.start;
-    machine.wrap_top = wrap_top;
+    machine.wrap_top = keys.wrap_top;
     machine.x = keys.x;
     machine.y = keys.y;
     machine.int = keys.divider;

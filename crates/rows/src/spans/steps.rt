@@ -24,7 +24,7 @@ pub fn tell_step(alloc: Global, asked: &str, text: &mut String) -> Option<()> {
     }
     let span = span_of(alloc, &keys, "a")?;
     let mut setup = Setup::of(program.memory(), Spans::empty(alloc));
-    setup.place(machine_of(0, &keys, 31)?);
+    setup.place(machine_of(0, &keys)?);
     tell_checked(alloc, &setup, &span, text)
 }
 
