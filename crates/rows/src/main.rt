@@ -3,10 +3,12 @@
 #![tactic(auto)]
 
 mod calls;
+mod edge;
 mod inputs;
 mod kind;
 mod language;
 mod machine;
+mod spans;
 mod spelling;
 mod table;
 
@@ -41,7 +43,7 @@ fn run_all<R: Env + Files + Print + Eprint + AllocGlobal>(rt: &R) -> Option<()> 
 /// Runs the table in a file: how many rows it has.
 fn run_file<R: Files + AllocGlobal>(rt: &R, name: &str) -> Result<u32, Fault> {
     let text = fs::read_to_string(rt, name).map_err(|_| Fault::NotRead)?;
-    run_table(rt.alloc(), &text, wanted_of(name))
+    run_table(rt, rt.alloc(), &text, wanted_of(name))
 }
 
 /// What a file's rows have to do.

@@ -13,6 +13,7 @@ use crate::kind::{BlockKind, Kind, LineKind, kind_named, tell_block, tell_line};
 use crate::spelling::spell;
 use std::alloc::{AllocError, Global};
 use std::fmt;
+use std::rt::Files;
 
 /// What is wrong with a table.
 #[derive(Drop)]
@@ -83,11 +84,16 @@ pub enum Wanted {
 }
 
 /// Runs the rows of a table, up to the first one that doesn't do what is wanted: how many there are.
-pub fn run_table(alloc: Global, text: &str, wanted: Wanted) -> Result<u32, Fault> {
+pub fn run_table<R: Files>(
+    rt: &R,
+    alloc: Global,
+    text: &str,
+    wanted: Wanted,
+) -> Result<u32, Fault> {
     let (head, rows) = text.split_once('\n').ok_or(Fault::NoKind)?;
     let name = head.strip_prefix("rows of ").ok_or(Fault::NoKind)?;
     let count = match kind_named(name).ok_or(Fault::NoKind)? {
-        Kind::Line(kind) => run_lines(alloc, kind, rows, wanted)?,
+        Kind::Line(kind) => run_lines(rt, alloc, kind, rows, wanted)?,
         Kind::Block(kind) => run_blocks(alloc, kind, rows, wanted)?,
     };
     if count == 0 {
@@ -97,7 +103,13 @@ pub fn run_table(alloc: Global, text: &str, wanted: Wanted) -> Result<u32, Fault
 }
 
 /// Runs rows of a line each. The first one of the text is the second line of its file.
-fn run_lines(alloc: Global, kind: LineKind, text: &str, wanted: Wanted) -> Result<u32, Fault> {
+fn run_lines<R: Files>(
+    rt: &R,
+    alloc: Global,
+    kind: LineKind,
+    text: &str,
+    wanted: Wanted,
+) -> Result<u32, Fault> {
     let mut count = 0_u32;
     let mut before = "";
     let mut row = String::new(alloc);
@@ -117,7 +129,7 @@ fn run_lines(alloc: Global, kind: LineKind, text: &str, wanted: Wanted) -> Resul
         }
         row.push_str(part)?;
         if is_row(&row) {
-            let told = line_told(alloc, kind, before, &row);
+            let told = line_told(rt, alloc, kind, before, &row);
             judge(alloc, number.saturating_add(2), &row, told, wanted)?;
             count = count.saturating_add(1);
         }
@@ -132,7 +144,13 @@ fn is_row(line: &str) -> bool {
 }
 
 /// What a line says, and what is seen; none where memory runs out, or the row isn't well written.
-fn line_told(alloc: Global, kind: LineKind, before: &str, row: &str) -> Option<Telling> {
+fn line_told<R: Files>(
+    rt: &R,
+    alloc: Global,
+    kind: LineKind,
+    before: &str,
+    row: &str,
+) -> Option<Telling> {
     let (asked, expected) = row.split_once(" => ")?;
     let mut bytes = Vec::new(alloc);
     spell(before, &mut bytes)?;
@@ -140,7 +158,7 @@ fn line_told(alloc: Global, kind: LineKind, before: &str, row: &str) -> Option<T
     let mut wanted = Vec::new(alloc);
     spell(expected, &mut wanted)?;
     let mut seen = String::new(alloc);
-    tell_line(alloc, kind, &bytes, &mut seen)?;
+    tell_line(rt, alloc, kind, &bytes, &mut seen)?;
     let expected = String::from_utf8(wanted).ok()?;
     Some(Telling { expected, seen })
 }

@@ -1,0 +1,94 @@
+//! Lines of verdicts and of refusals.
+ghost use Rattle.std.specs.Prelude.{IsTrue};
+ghost use Rattle.span_step.specs.Contexts.{is_small};
+
+use pio_edge::MemSink;
+use pio_encode::Name;
+use span_bounds::{Cause, Context};
+use std::alloc::Global;
+use verdict_lines::{Refusal, put_refusal, put_verdict};
+
+/// Adds the line of a verdict. A row asks for the span's name and the verdict; on a line of its own, for the put that fails
+/// and the bytes that it takes.
+pub fn tell_verdict_line(alloc: Global, asked: &str, text: &mut String) -> Option<()> {
+    let (asked, fails) = asked.split_once('\n').unwrap_or((asked, ""));
+    let (name, verdict) = asked.split_once(' ')?;
+    let name = Name::new(String::from_str(alloc, name).ok()?);
+    let mut sink = sink_of(alloc, fails)?;
+    let passes = put_verdict(&mut sink, &name, &verdict_of(verdict)?).is_ok();
+    tell_taken(&sink, passes, text)
+}
+
+/// Adds the line of a refusal. A row asks for the text before it on a line, the span's name and the refusal.
+pub fn tell_refusal_line(alloc: Global, asked: &str, text: &mut String) -> Option<()> {
+    let (front, asked) = asked.split_once('\n')?;
+    let (name, refusal) = asked.split_once(' ')?;
+    let name = Name::new(String::from_str(alloc, name).ok()?);
+    let mut sink = sink_of(alloc, "")?;
+    let passes = put_refusal(&mut sink, front, &name, &refusal_of(refusal)?).is_ok();
+    tell_taken(&sink, passes, text)
+}
+
+/// A sink of which one put fails, or none.
+fn sink_of(alloc: Global, fails: &str) -> Option<MemSink> {
+    match fails.split_once(' ') {
+        None => MemSink::with_room(alloc, 99, &[]).ok(),
+        Some((call, taken)) => {
+            let failure = (call.parse().ok()?, taken.parse().ok()?);
+            MemSink::with_room(alloc, 99, &[failure]).ok()
+        }
+    }
+}
+
+fn tell_taken(sink: &MemSink, passes: bool, text: &mut String) -> Option<()> {
+    text.push_str(str::from_utf8(sink.bytes()).ok()?).ok()?;
+    text.push_str(if passes { "" } else { ", and fails" }).ok()
+}
+
+/// `opens`, `never opens`, or a refusal.
+fn verdict_of(verdict: &str) -> Option<Result<bool, Refusal>> {
+    match verdict {
+        "opens" => Some(Ok(true)),
+        "never opens" => Some(Ok(false)),
+        _ => Some(Err(refusal_of(verdict)?)),
+    }
+}
+
+/// `shared 3`, or a context with its cause: the address, X and Y (32 where they may be anything), both levels, and `U1`.
+fn refusal_of(refusal: &str) -> Option<Refusal> {
+    if let Some(machine) = refusal.strip_prefix("shared ") {
+        return Some(Refusal::Shared(machine.parse().ok()?));
+    }
+    let mut words = refusal.split(' ');
+    let address: u8 = words.next()?.parse().ok()?;
+    let x = known(words.next()?.parse().ok()?);
+    let y = known(words.next()?.parse().ok()?);
+    let from = words.next()? == "1";
+    let to = words.next()? == "1";
+    let cause = cause_of(words.next()?)?;
+    let context = Context {
+        address: address % 32,
+        x,
+        y,
+        from,
+        to,
+    };
+    Some(Refusal::Unproved(context, cause))
+}
+
+/// A number below 32, or anything.
+fn known(number: u8) -> Option<u8>
+    ensures { IsTrue (is_small result) }
+{
+    if number < 32 { Some(number) } else { None }
+}
+
+fn cause_of(word: &str) -> Option<Cause> {
+    match word {
+        "U1" => Some(Cause::U1),
+        "U2" => Some(Cause::U2),
+        "U3" => Some(Cause::U3),
+        "U4" => Some(Cause::U4),
+        _ => None,
+    }
+}

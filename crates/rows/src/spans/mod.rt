@@ -1,0 +1,96 @@
+//! Rows of the timing checker. Most are programs on machine 0 with a span of it. The lines of a row that is a block:
+//!
+//! | A line | says |
+//! |---|---|
+//! | `e101  set pins, 1 [1]` | a word of the program from address 0 on, and its text under the row's side-set |
+//! | `side_set 1 opt, stalls 0` | keys of machine 0 and of the span, with a comma and a blank between |
+//! | `machine 2: side_set 1, set_count 0` | another machine, and its keys |
+//! | `t 0 0 0 0 0 -` | a line of a table |
+//! | `= proved, opens` | what is told |
+//!
+//! The keys have the names that a configuration has for them. A machine's side-set has as many pins as its rule has bits,
+//! unless `side_count` says another number after it. Machine 0 wraps after the program's last word, and another machine
+//! after address 31, unless `wrap_top` says another. The span is from an edge of pin 0.
+mod keys;
+mod lines;
+mod programs;
+mod setups;
+mod steps;
+mod tables;
+mod verdicts;
+
+pub use keys::side_rule_of;
+use lines::{tell_refusal_line, tell_verdict_line};
+use std::alloc::Global;
+use steps::tell_step;
+use tables::{tell_derived, tell_file, tell_flaw};
+use verdicts::tell_verdict;
+
+/// What is asked of a line.
+#[derive(Clone, Copy)]
+pub enum SpanLineKind {
+    /// The least closed table of a program on the whole memory, or the bad context.
+    Step,
+    /// The first fault of a file of a table.
+    TableFile,
+    /// The line of a verdict.
+    VerdictLine,
+    /// The line of a refusal, after a text.
+    RefusalLine,
+}
+
+/// The kinds of lines with their names.
+pub static SPAN_LINE_KINDS: [(&str, SpanLineKind); 4] = [
+    ("steps", SpanLineKind::Step),
+    ("files of tables", SpanLineKind::TableFile),
+    ("lines of verdicts", SpanLineKind::VerdictLine),
+    ("lines of refusals", SpanLineKind::RefusalLine),
+];
+
+/// What is asked of a program with a span.
+#[derive(Clone, Copy)]
+pub enum SpanBlockKind {
+    /// The verdict; a table that proves it has to pass when it is looked through anew.
+    Verdict,
+    /// The first flaw of a table.
+    Flaw,
+    /// The table that is derived.
+    Derived,
+}
+
+/// The kinds of blocks with their names.
+pub static SPAN_BLOCK_KINDS: [(&str, SpanBlockKind); 3] = [
+    ("verdicts", SpanBlockKind::Verdict),
+    ("flaws of tables", SpanBlockKind::Flaw),
+    ("derived tables", SpanBlockKind::Derived),
+];
+
+/// Adds what is told of a line; none where memory runs out, or the line is none of its table's kind.
+pub fn tell_span_line(
+    alloc: Global,
+    kind: SpanLineKind,
+    asked: &str,
+    text: &mut String,
+) -> Option<()> {
+    match kind {
+        SpanLineKind::Step => tell_step(alloc, asked, text),
+        SpanLineKind::TableFile => tell_file(alloc, asked.as_bytes(), text),
+        SpanLineKind::VerdictLine => tell_verdict_line(alloc, asked, text),
+        SpanLineKind::RefusalLine => tell_refusal_line(alloc, asked, text),
+    }
+}
+
+/// Adds what a block says and what is seen; none where memory runs out, or the block is none of its table's kind.
+pub fn tell_span_block(
+    alloc: Global,
+    kind: SpanBlockKind,
+    lines: &str,
+    expected: &mut String,
+    seen: &mut String,
+) -> Option<()> {
+    match kind {
+        SpanBlockKind::Verdict => tell_verdict(alloc, lines, expected, seen),
+        SpanBlockKind::Flaw => tell_flaw(alloc, lines, expected, seen),
+        SpanBlockKind::Derived => tell_derived(alloc, lines, expected, seen),
+    }
+}
