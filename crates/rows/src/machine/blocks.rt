@@ -41,9 +41,10 @@ fn run<F: Fifo>(
     for clock in 0..clocks_of(afters) {
         let due = ports.at(clock, &block.requests());
         block.clock(&due);
+        let sample = *block.view();
         let shown = Shown {
             clock,
-            sample: block.view(),
+            sample: &sample,
             second: None,
             stir: Some(block.next_stir()),
         };
