@@ -11,12 +11,7 @@ use std::alloc::Global;
 use vcd_trace::{Trace, TraceFailed, TwinTrace, TwinVcd, VcdTrace};
 
 /// Adds what a lent sink takes of the samples of the clocks from 0 on; none where others are told.
-pub fn tell_lent(
-    alloc: Global,
-    told: &[(u64, Sample)],
-    end: u64,
-    seen: &mut String,
-) -> Option<()> {
+pub fn tell_lent(alloc: Global, told: &[(u64, Sample)], end: u64, seen: &mut String) -> Option<()> {
     let mut samples = Vec::new(alloc);
     for (place, (clock, sample)) in told.iter().enumerate() {
         if *clock != place as u64 {

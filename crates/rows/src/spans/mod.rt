@@ -20,7 +20,6 @@ mod tables;
 mod verdicts;
 
 pub use keys::side_rule_of;
-
 use lines::{tell_refusal_line, tell_verdict_line};
 use std::alloc::Global;
 use steps::tell_step;

@@ -63,7 +63,9 @@ fn tell_checked(alloc: Global, setup: &Setup, span: &Span, text: &mut String) ->
 /// Adds the rows of a table's text, with a comma and a blank between.
 fn tell_rows(sink: &MemSink, text: &mut String) -> Option<()> {
     let table = str::from_utf8(sink.bytes()).ok()?;
-    let rows = table.strip_prefix("pio table 1\n")?.strip_suffix("\nend\n")?;
+    let rows = table
+        .strip_prefix("pio table 1\n")?
+        .strip_suffix("\nend\n")?;
     for (place, row) in rows.split('\n').enumerate() {
         let gap = if place == 0 { "" } else { ", " };
         write!(text, "{gap}{row}").ok()?;

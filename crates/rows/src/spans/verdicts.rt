@@ -38,7 +38,11 @@ fn tell_checked(alloc: Global, setup: &Setup, span: &Span, text: &mut String) ->
 /// Adds whether the span opens, and whether the table passes when it is looked through anew.
 fn tell_proved(opens: bool, is_right: bool, text: &mut String) -> Result<(), AllocError> {
     let how = if opens { "opens" } else { "never opens" };
-    let passes = if is_right { "" } else { ", but its table doesn't pass" };
+    let passes = if is_right {
+        ""
+    } else {
+        ", but its table doesn't pass"
+    };
     write!(text, "proved, {how}{passes}")
 }
 
