@@ -94,5 +94,14 @@ pub fn is_configured(setup: &Setup, span: &Span) -> bool
     ensures { result ≡ true
         → IsSome (slice_index_or setup.now.machines span.now.machine None) }
 {
-    span.machine == 0 && setup.machines[0].is_some()
+    if span.machine != 0 {
+        return false;
+    }
+    has_machine_0(&setup.machines)
+}
+
+fn has_machine_0(machines: &[Option<MachineSetup>; 4]) -> bool
+    ensures { result ≡ true → IsSome (slice_index_or machines.now 0 None) }
+{
+    machines[0].is_some()
 }
