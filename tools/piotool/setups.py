@@ -29,6 +29,11 @@ class Span:
         """The declared bounds as a text, as `2..7 ticks`."""
         return f"{self.min} {self.unit}" if self.min == self.max else f"{self.min}..{self.max} {self.unit}"
 
+    @property
+    def table(self):
+        """Its table in a configuration."""
+        return vars(self)
+
 
 def tables_of(path, text):
     """The tables of a configuration's text, as Python's own reader of TOML gives them. A byte order mark is no part of it."""

@@ -14,6 +14,8 @@ import heapq
 from collections import Counter
 from dataclasses import dataclass, field
 
+from piotool.machine_model import period_of
+
 JMP, WAIT, IN, OUT, PUSH_PULL, MOV, IRQ, SET = range(8)
 TO_PINS, TO_X, TO_Y, TO_PC = 0, 1, 2, 5
 OUT_EXEC, MOV_EXEC = 7, 4
@@ -103,11 +105,6 @@ def bounds_of(span, setup):
         return Bounds(span["min"], span["max"])
     period = period_of(setup)
     return Bounds(-(-256 * span["min"] // period), 256 * span["max"] // period)
-
-
-def period_of(setup):
-    """The period of a machine's ticks, in 256ths of a clock."""
-    return 256 * (setup["divider"] or 65536) + setup["fraction"]
 
 
 def mapping(base, count):

@@ -1,0 +1,46 @@
+"""The value-change text of samples, from the written rules (docs/SPECIFICATION.md, "Samples and the trace")."""
+
+from typing import Iterable
+
+NAMES = [f"{letter}{n}" for letter, count in (("p", 32), ("d", 32), ("f", 8)) for n in range(count)]
+NAMES += [f"{letter}{n}" for letter in "trws" for n in range(4)]
+WIDTHS = [1] * 72 + [4] * 8 + [32] * 4 + [4] * 4
+
+
+def trace(all_samples: Iterable[list[int]], clocks: int) -> str:
+    """The value-change text of samples."""
+    return text_of(([now] for now in all_samples), clocks, [("pio", "")])
+
+
+def pair_trace(all_samples: Iterable[list[list[int]]], clocks: int) -> str:
+    """The value-change text of the samples of two blocks."""
+    return text_of(all_samples, clocks, [("pio0", ""), ("pio1", "~")])
+
+
+def text_of(all_samples: Iterable[list[list[int]]], clocks: int, scopes: list[tuple[str, str]]) -> str:
+    """The text of samples of one block or two, each with the name of its scope and what is before its identifiers."""
+
+    def line(front: str, place: int, value: int) -> str:
+        identifier = front + chr(33 + place)
+        return f"{value}{identifier}" if WIDTHS[place] == 1 else f"b{value:b} {identifier}"
+
+    text = ["$timescale 1 ns $end"]
+    for scope, front in scopes:
+        text.append(f"$scope module {scope} $end")
+        text += [f"$var wire {WIDTHS[i]} {front}{chr(33 + i)} {name} $end" for i, name in enumerate(NAMES)]
+        text.append("$upscope $end")
+    text += ["$enddefinitions $end", "#0"]
+    before = None
+    for clock, now in enumerate(all_samples):
+        changed = [
+            line(front, place, value)
+            for block, (_, front) in enumerate(scopes)
+            for place, value in enumerate(now[block])
+            if before is None or value != before[block][place]
+        ]
+        if clock == 0:
+            text += ["$dumpvars"] + changed + ["$end"]
+        elif changed:
+            text += [f"#{clock}"] + changed
+        before = now
+    return "\n".join(text + ([f"#{clocks}"] if clocks else [])) + "\n"
