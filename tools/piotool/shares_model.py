@@ -24,6 +24,7 @@ class Touched:
             if address not in reach:
                 reach.add(address)
                 ahead += self.feel(address, memory[address])
+        self.reach = set(range(32)) if self.is_wild else reach
         if self.is_wild:
             self.reads, self.sees, self.changes = set(range(32)), set(range(8)), set(range(8))
 

@@ -1,0 +1,145 @@
+"""Searches for a run that breaks a span: best first, by the guide's distance and the number of steps."""
+
+import heapq
+import time
+from dataclasses import dataclass
+from math import inf
+from typing import Any, Iterator, Optional
+
+from piotool.asked import Asked
+from piotool.guide import guide_of
+from piotool.lazy_block import Dead, Stretch
+from piotool.lazy_state import Keys, State
+
+# The weights of a step, each with its part of the time.
+WEIGHTS = ((0.2, 0.15), (0.02, 0.25), (1.0, 0.5), (0.1, 1.0))
+MOST_WAYS_ON = 96
+MOST_STATES = 400_000
+MOST_REPEATED = 150_000  # stretches of a loop without end
+
+
+@dataclass
+class Node:
+    """A state of the search, with the tape that led to it, and a state before it with which it is compared for a loop."""
+
+    state: State
+    before: Optional["Node"]
+    tape: list[int]
+    steps: int
+    mark: Optional["Node"] = None
+    mark_key: Any = None
+    until: int = 0
+
+    def tapes(self, since: Optional["Node"] = None) -> list[list[int]]:
+        """The tapes from a node, or from the start, to this one."""
+        found: list[list[int]] = []
+        node: Optional[Node] = self
+        while node is not None and node is not since and node.before is not None:
+            found.append(node.tape)
+            node = node.before
+        return found[::-1]
+
+
+@dataclass
+class Outcome:
+    """What a search came to: the tapes of a run that breaks the span, or a loop, or neither."""
+
+    tapes: Optional[list[list[int]]] = None
+    loop: Optional[list[list[int]]] = None
+    clocks: int = 0
+    is_complete: bool = False
+    states: int = 0
+    last: int = 0
+
+
+class Search:
+    """A search for one span."""
+
+    def __init__(self, asked: Asked, is_guided: bool = True) -> None:
+        self.asked, self.guide, self.keys = asked, guide_of(asked, is_guided), Keys(asked)
+        self.states = self.last = 0
+
+    def find(self, seconds: float) -> Outcome:
+        """Searches for so many seconds."""
+        first, begin = State(self.asked, self.guide.start()), time.monotonic()
+        for weight, part in WEIGHTS:
+            end = begin + seconds * part
+            outcome = self.try_weight(Node(first, None, [], 0), weight, end)
+            self.states = max(self.states, outcome.states)
+            outcome.states, outcome.last = self.states, self.last
+            if outcome.tapes is not None or outcome.loop is not None or outcome.is_complete:
+                return outcome
+            if time.monotonic() > begin + seconds or outcome.clocks == -1:
+                break
+        return Outcome(states=self.states, last=self.last)
+
+    def try_weight(self, first: Node, weight: float, end: float) -> Outcome:
+        """Searches with one weight of a step, up to a time."""
+        ahead: list[tuple[float, int, Node]] = [(0.0, 0, first)]
+        seen, number, is_complete = {self.keys.of(first.state)}, 0, True
+        while ahead:
+            if time.monotonic() > end or len(seen) > MOST_STATES:
+                return Outcome(states=len(seen))
+            node = heapq.heappop(ahead)[2]
+            for stretch in self.ways_on(node):
+                is_complete = is_complete and stretch is not None and stretch.is_complete
+                if stretch is None:
+                    continue
+                if stretch.found is not None:
+                    return Outcome([*node.tapes(), [it for it, _ in stretch.used]], None, stretch.found, states=len(seen))
+                state = stretch.state
+                self.last = max(self.last, state.clock)
+                distance = self.guide.distance(state)
+                if distance == inf:
+                    continue
+                key = self.keys.of(state)
+                if key in seen:
+                    continue
+                seen.add(key)
+                child = Node(state, node, [it for it, _ in stretch.used], node.steps + 1)
+                if loop := self.endless(node, child):
+                    return Outcome(loop=loop, tapes=child.tapes(), states=len(seen))
+                number += 1
+                heapq.heappush(ahead, (distance + weight * child.steps, number, child))
+        # Nothing is left: -1 says that another weight finds no more.
+        return Outcome(is_complete=is_complete, states=len(seen), clocks=-1)
+
+    def ways_on(self, node: Node) -> Iterator[Optional[Stretch]]:
+        """The stretches from a state, one for each tape; none where there are too many."""
+        tape: Optional[list[int]] = []
+        for _ in range(MOST_WAYS_ON):
+            stretch = Stretch(self.asked, self.guide, node.state, tape or [])
+            try:
+                yield stretch.run()
+            except Dead:
+                pass
+            tape = stretch.next_tape()
+            if tape is None:
+                return
+        yield None
+
+    def endless(self, node: Node, child: Node) -> Optional[list[list[int]]]:
+        """The loop that a state ends on which the span stays open, where its count grows in it; by Brent's way of marking."""
+        oldest = child.state.oldest
+        if oldest is None or child.state.ages()[1] * 2 > self.asked.span["max"] and not self.asked.in_clocks:
+            return None
+        if node.mark is None or node.mark.state.oldest != oldest or child.steps >= node.until:
+            child.mark, child.mark_key = child, self.keys.of(child.state, False)
+            child.until = child.steps + max(4, 2 * (child.steps - (node.mark.steps if node.mark else child.steps)))
+            return None
+        child.mark, child.mark_key, child.until = node.mark, node.mark_key, node.until
+        if child.mark_key != self.keys.of(child.state, False):
+            return None
+        grows = child.state.clock > child.mark.state.clock and (self.asked.in_clocks or child.state.counted > child.mark.state.counted)
+        return child.tapes(child.mark) if grows else None
+
+
+def replayed(asked: Asked, guide: Any, tapes: list[list[int]], log: Optional[list[tuple]] = None) -> Stretch:
+    """The last stretch of these tapes."""
+    state, stretch = State(asked, guide.start()), None
+    for tape in tapes:
+        stretch = Stretch(asked, guide, state, tape, log).run()
+        state = stretch.state
+        if stretch.found is not None:
+            break
+    return stretch
