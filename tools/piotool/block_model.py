@@ -4,12 +4,58 @@ It shares no code and no form with the crates: pads are looked up in their whole
 looked up by their clock.
 """
 
+from bisect import bisect_right
+from dataclasses import dataclass
 from typing import Any, Iterator, Optional
 
-from piotool.machine_model import RX_UNDER, TX_OVER, Intent, Machine, Setup, with_pins
+from piotool.machine_model import RX_UNDER, TX_OVER, Intent, Machine, Setup, period_of, with_pins
 
 # A line of a stimulus: its clock, its word, its numbers.
 Line = tuple[int, str, list[int]]
+
+@dataclass(frozen=True)
+class Ticks:
+    """Ticks of a machine in a row of clocks: how many, the address where they are late, and the clock from which ticks are counted."""
+
+    first: int
+    last: int
+    count: int
+    address: Optional[int]
+    restarted: int
+
+
+class TickLog:
+    """The ticks of a machine so far, in order."""
+
+    def __init__(self, setup: Setup) -> None:
+        self.period = period_of(setup)
+        self.rows: list[Ticks] = []
+        self.lasts: list[int] = []
+
+    def add(self, first: int, last: int, count: int, address: Optional[int], restarted: int) -> None:
+        """Adds ticks after those that are known."""
+        if count:
+            self.rows.append(Ticks(first, last, count, address, restarted))
+            self.lasts.append(last)
+
+    def ticks_before(self, clock: int, restarted: int) -> int:
+        """How many ticks come before a clock, since a restart."""
+        return max(0, -(-256 * (clock - restarted) // self.period))
+
+    def within(self, begin: int, last: int) -> Iterator[Ticks]:
+        """The ticks after a clock and up to another one."""
+        place = bisect_right(self.lasts, begin)
+        while place < len(self.rows) and self.rows[place].first <= last:
+            row = self.rows[place]
+            place += 1
+            if row.first > begin and row.last <= last:
+                yield row
+                continue
+            first, end = max(row.first, begin + 1), min(row.last, last)
+            count = self.ticks_before(end + 1, row.restarted) - self.ticks_before(first, row.restarted)
+            if count:
+                yield Ticks(first, end, count, row.address, row.restarted)
+
 
 class System:
     """The lines of a stimulus and its transfers. A line is its clock, its word and its numbers."""
@@ -50,18 +96,20 @@ class System:
 class Block:
     """A block that is stepped from given pads. Setups are by machine number; pins has high, level, out and bypass as words.
 
-    `ticks` has each machine's ticks so far: the clock, and the address where the tick is late.
+    `ticks` has each machine's ticks so far. `moved` is the last clock in which more happened than delay and late ticks that wait on.
     """
 
     def __init__(self, memory: list[int], setups: dict[int, Setup], pins: dict[str, int], system: System) -> None:
         self.memory, self.system, self.bypass = memory, system, pins["bypass"]
         self.machines = {number: Machine(setup) for number, setup in sorted(setups.items())}
         self.levels, self.directions, self.outside, self.flags = pins["level"], pins["out"], pins["high"], 0
-        self.ticks: dict[int, list[tuple[int, Optional[int]]]] = {number: [] for number in self.machines}
+        self.ticks = {number: TickLog(machine.setup) for number, machine in self.machines.items()}
+        self.moved = 0
 
     def begin(self, clock: int) -> None:
         """What the clock's lines do before the machines act."""
         for word, numbers in self.system.lines.get(clock, []):
+            self.moved = clock
             machine = self.machines.get(numbers[0])
             if word == "pin":
                 self.outside = with_pins(self.outside, {numbers[0]: numbers[1]})
@@ -74,12 +122,16 @@ class Block:
         """The clock's machines, by its pads and those of two clocks before; the values after it."""
         seen = before & ~self.bypass | now & self.bypass
         writes, reads = self.system.accesses(clock, self.machines)
+        self.moved = clock if writes or reads else self.moved
         intents = {}
         for number, machine in self.machines.items():
             intents[number] = Intent()
             if machine.has_tick(clock):
-                self.ticks[number].append((clock, machine.pc if machine.begun else None))
+                is_late, has_delay = machine.begun, machine.delay > 0
+                self.ticks[number].add(clock, clock, 1, machine.pc if is_late else None, machine.restarted)
                 intents[number] = machine.tick(number, seen, self.flags, self.memory)
+                rests = has_delay or is_late and machine.begun
+                self.moved = clock if intents[number].takes or not rests else self.moved
         for intent in intents.values():
             for write in intent.levels:
                 self.levels = with_pins(self.levels, write)

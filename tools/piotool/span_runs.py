@@ -1,13 +1,40 @@
-"""Whether a span holds in a run, from the written rules (docs/SPECIFICATION.md, "When a span holds")."""
+"""Runs of a block, also long ones, and whether a span holds in them, from the written rules (docs/SPECIFICATION.md, "When a span holds").
+
+A run is the samples that differ from the ones before, by their clocks. Clocks in which only delays and waits go on are leapt over.
+"""
 
 from bisect import bisect_right
 from dataclasses import dataclass
-from typing import Any, Iterable, Optional
+from math import inf
+from typing import Any, Iterator, Optional
 
-from piotool.block_model import Block, Line, System, together
+from piotool import trace_text
+from piotool.block_model import Block, Line, System, TickLog
+from piotool.machine_model import Machine
 from piotool.set_up import SetUp
 
-Ticks = dict[int, list[tuple[int, Optional[int]]]]
+
+@dataclass
+class Run:
+    """A run: its number of clocks, the samples of clocks in which something may have changed, and the ticks of its machines."""
+
+    clocks: int
+    samples: list[tuple[int, list[int]]]
+    ticks: dict[int, TickLog]
+    is_whole: bool = True
+
+    def trace(self) -> str:
+        """The value-change text."""
+        return trace_text.sparse_trace(self.samples, self.clocks)
+
+    def edges(self, level: int, pin: int, edge: str) -> list[int]:
+        """The clocks of a pin's edges; the level before clock 0 is that of the setup."""
+        found, before, wanted = [], level >> pin & 1, int(edge == "rise")
+        for clock, values in self.samples:
+            if values[pin] != before:
+                before = values[pin]
+                found += [clock] if before == wanted else []
+        return found
 
 
 @dataclass(frozen=True)
@@ -25,34 +52,88 @@ class Broken:
         return f"{what} from clock {self.begin} to {self.last}"
 
 
-def run_of(block: SetUp, lines: list[Line], clocks: int) -> tuple[list[list[int]], Ticks]:
-    """The samples of a run, and the ticks of its machines."""
+def run_of(block: SetUp, lines: list[Line], clocks: int, most_steps: float = inf) -> Run:
+    """A run. Where it takes more clocks to be worked out singly than the most, it isn't whole."""
     stepped = Block(block.memory, block.setups, block.pins, System(lines))
-    return [values[0] for values in together([stepped], 0, clocks)], stepped.ticks
+    own = sorted({line[0] for line in lines})
+    samples: list[tuple[int, list[int]]] = []
+    pads = [pads_of(stepped)] * 2
+    clock = steps = 0
+    while clock < clocks:
+        if steps >= most_steps:
+            return Run(clocks, samples, stepped.ticks, False)
+        steps += 1
+        stepped.begin(clock)
+        pads.append(pads_of(stepped))
+        samples.append((clock, stepped.step(clock, pads.pop(0), pads[-1])))
+        after = clock + 1 if clock <= stepped.moved + 3 else min(clocks, next_clock(stepped, own, clock))
+        for number, machine in stepped.machines.items() if after > clock + 1 else ():
+            rest(machine, stepped.ticks[number], clock + 1, after)
+        clock = after
+    return Run(clocks, samples, stepped.ticks)
 
 
-def edges_of(shown: Iterable[list[int]], level: int, pin: int, edge: str) -> list[int]:
-    """The clocks of a pin's edges."""
-    levels = [level >> pin & 1] + [values[pin] for values in shown]
-    wanted = (0, 1) if edge == "rise" else (1, 0)
-    return [clock for clock, pair in enumerate(zip(levels, levels[1:])) if pair == wanted]
+def pads_of(block: Block) -> int:
+    """The pads of a block."""
+    return block.levels & block.directions | block.outside & ~block.directions
 
 
-def broken_at(block: SetUp, span: dict[str, Any], shown: list[list[int]], ticks: Ticks, lines: list[Line]) -> Optional[Broken]:
+def next_clock(block: Block, lines: list[int], clock: int) -> float:
+    """The next clock in which more may happen than delays and waits, where nothing more did for three clocks."""
+    place = bisect_right(lines, clock)
+    found = lines[place] if place < len(lines) else inf
+    for number, machine in block.machines.items():
+        feed, drain = block.system.feeds.get(number), block.system.drains.get(number)
+        if feed and feed["words"] and len(machine.tx) < machine.tx_room:
+            found = min(found, max(feed["due"], clock + 1))
+        if drain and machine.rx:
+            found = min(found, max(drain["due"], clock + 1))
+        if machine.enabled:
+            found = min(found, next_move(machine, block.ticks[number], clock, block.moved))
+    return found
+
+
+def next_move(machine: Machine, log: TickLog, clock: int, moved: int) -> float:
+    """The clock of a machine's next tick that is neither delay nor a wait that goes on, as one does that was late since the last move."""
+    if machine.begun and log.rows[-1].address is not None and log.lasts[-1] > moved + 2:
+        return inf
+    tick = log.ticks_before(clock + 1, machine.restarted)
+    refills = machine.setup["autopull"] and machine.out_count >= machine.setup["pull_threshold"] and machine.tx
+    if not refills:
+        tick += machine.delay
+    return machine.restarted + (tick * log.period >> 8)
+
+
+def rest(machine: Machine, log: TickLog, first: int, after: int) -> None:
+    """The ticks of a machine in clocks that are leapt over."""
+    if machine.enabled:
+        count = log.ticks_before(after, machine.restarted) - log.ticks_before(first, machine.restarted)
+        log.add(first, after - 1, count, None if machine.delay else machine.pc, machine.restarted)
+        machine.delay = max(0, machine.delay - count)
+
+
+def broken_at(block: SetUp, span: dict[str, Any], run: Run, lines: list[Line]) -> Optional[Broken]:
     """How a run breaks a span first, or none. Lines that disable or restart the machine excuse a span in clocks."""
-    begins, ends = (edges_of(shown, block.pins["level"], span[f"{it}_pin"], span[f"{it}_edge"]) for it in ("from", "to"))
+    begins, ends = (run.edges(block.pins["level"], span[f"{it}_pin"], span[f"{it}_edge"]) for it in ("from", "to"))
     disturbed = [clock for clock, word, numbers in lines if word in ("disable", "restart") and numbers[0] == span["machine"]]
-    of_machine = ticks[span["machine"]]
-    clocks = [clock for clock, _ in of_machine]
     for begin in begins:
         place = bisect_right(ends, begin)
         end = ends[place] if place < len(ends) else None
-        last = len(shown) - 1 if end is None else end
+        last = run.clocks - 1 if end is None else end
         if span["unit"] == "clocks" and any(begin < clock <= last for clock in disturbed):
             continue
-        within = of_machine[bisect_right(clocks, begin) : bisect_right(clocks, last)]
-        count = last - begin if span["unit"] == "clocks" else sum(it is None or it not in span["stalls"] for _, it in within)
-        wait = next((it for it in within if it[1] is not None and it[1] not in span["stalls"]), None)
+        count, wait = counted(span, run.ticks[span["machine"]].within(begin, last))
+        count = last - begin if span["unit"] == "clocks" else count
         if wait or count > span["max"] or end is not None and count < span["min"]:
             return Broken(begin, end, last, count, wait)
     return None
+
+
+def counted(span: dict[str, Any], rows: Iterator[Any]) -> tuple[int, Optional[tuple[int, int]]]:
+    """How many of these ticks count, and the first late one at an address that isn't named."""
+    count, wait = 0, None
+    for row in rows:
+        if row.address is None or row.address not in span["stalls"]:
+            count += row.count
+            wait = wait or (row.address is not None and (row.first, row.address)) or None
+    return count, wait

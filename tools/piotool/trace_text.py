@@ -9,15 +9,20 @@ WIDTHS = [1] * 72 + [4] * 8 + [32] * 4 + [4] * 4
 
 def trace(all_samples: Iterable[list[int]], clocks: int) -> str:
     """The value-change text of samples."""
-    return text_of(([now] for now in all_samples), clocks, [("pio", "")])
+    return text_of(enumerate([now] for now in all_samples), clocks, [("pio", "")])
+
+
+def sparse_trace(samples: Iterable[tuple[int, list[int]]], clocks: int) -> str:
+    """The same of the samples of some clocks; in the others nothing changes."""
+    return text_of(((clock, [now]) for clock, now in samples), clocks, [("pio", "")])
 
 
 def pair_trace(all_samples: Iterable[list[list[int]]], clocks: int) -> str:
     """The value-change text of the samples of two blocks."""
-    return text_of(all_samples, clocks, [("pio0", ""), ("pio1", "~")])
+    return text_of(enumerate(all_samples), clocks, [("pio0", ""), ("pio1", "~")])
 
 
-def text_of(all_samples: Iterable[list[list[int]]], clocks: int, scopes: list[tuple[str, str]]) -> str:
+def text_of(samples: Iterable[tuple[int, list[list[int]]]], clocks: int, scopes: list[tuple[str, str]]) -> str:
     """The text of samples of one block or two, each with the name of its scope and what is before its identifiers."""
 
     def line(front: str, place: int, value: int) -> str:
@@ -31,7 +36,7 @@ def text_of(all_samples: Iterable[list[list[int]]], clocks: int, scopes: list[tu
         text.append("$upscope $end")
     text += ["$enddefinitions $end", "#0"]
     before = None
-    for clock, now in enumerate(all_samples):
+    for clock, now in samples:
         changed = [
             line(front, place, value)
             for block, (_, front) in enumerate(scopes)
