@@ -15,7 +15,6 @@ from piotool.lazy_state import Keys, State
 WEIGHTS = ((0.2, 0.15), (0.02, 0.25), (1.0, 0.5), (0.1, 1.0))
 MOST_WAYS_ON = 96
 MOST_STATES = 400_000
-MOST_REPEATED = 150_000  # stretches of a loop without end
 
 
 @dataclass
@@ -41,68 +40,60 @@ class Node:
 
 
 @dataclass
-class Outcome:
-    """What a search came to: the tapes of a run that breaks the span, or a loop, or neither."""
+class Found:
+    """What may break the span: the tapes of a run, and those of a loop that follows them without end, where there is one."""
 
-    tapes: Optional[list[list[int]]] = None
+    tapes: list[list[int]]
     loop: Optional[list[list[int]]] = None
-    clocks: int = 0
-    is_complete: bool = False
-    states: int = 0
-    last: int = 0
 
 
 class Search:
-    """A search for one span."""
+    """A search for one span. `is_done` says that every state was visited, `has_more` that another weight may find more."""
 
     def __init__(self, asked: Asked, is_guided: bool = True) -> None:
         self.asked, self.guide, self.keys = asked, guide_of(asked, is_guided), Keys(asked)
         self.states = self.last = 0
+        self.is_done, self.has_more = False, True
 
-    def find(self, seconds: float) -> Outcome:
-        """Searches for so many seconds."""
+    def found(self, seconds: float) -> Iterator[Found]:
+        """What may break the span, for so many seconds."""
         first, begin = State(self.asked, self.guide.start()), time.monotonic()
         for weight, part in WEIGHTS:
-            end = begin + seconds * part
-            outcome = self.try_weight(Node(first, None, [], 0), weight, end)
-            self.states = max(self.states, outcome.states)
-            outcome.states, outcome.last = self.states, self.last
-            if outcome.tapes is not None or outcome.loop is not None or outcome.is_complete:
-                return outcome
-            if time.monotonic() > begin + seconds or outcome.clocks == -1:
+            yield from self.found_by(Node(first, None, [], 0), weight, begin + seconds * part)
+            if not self.has_more or time.monotonic() > begin + seconds:
                 break
-        return Outcome(states=self.states, last=self.last)
 
-    def try_weight(self, first: Node, weight: float, end: float) -> Outcome:
-        """Searches with one weight of a step, up to a time."""
+    def found_by(self, first: Node, weight: float, end: float) -> Iterator[Found]:
+        """The same with one weight of a step, up to a time."""
         ahead: list[tuple[float, int, Node]] = [(0.0, 0, first)]
         seen, number, is_complete = {self.keys.of(first.state)}, 0, True
         while ahead:
+            self.states = max(self.states, len(seen))
             if time.monotonic() > end or len(seen) > MOST_STATES:
-                return Outcome(states=len(seen))
+                return
             node = heapq.heappop(ahead)[2]
             for stretch in self.ways_on(node):
                 is_complete = is_complete and stretch is not None and stretch.is_complete
                 if stretch is None:
                     continue
                 if stretch.found is not None:
-                    return Outcome([*node.tapes(), [it for it, _ in stretch.used]], None, stretch.found, states=len(seen))
+                    yield Found([*node.tapes(), [it for it, _ in stretch.used]])
+                    is_complete = False
+                    continue
                 state = stretch.state
                 self.last = max(self.last, state.clock)
-                distance = self.guide.distance(state)
-                if distance == inf:
-                    continue
-                key = self.keys.of(state)
-                if key in seen:
+                distance, key = self.guide.distance(state), self.keys.of(state)
+                if distance == inf or key in seen:
                     continue
                 seen.add(key)
                 child = Node(state, node, [it for it, _ in stretch.used], node.steps + 1)
                 if loop := self.endless(node, child):
-                    return Outcome(loop=loop, tapes=child.tapes(), states=len(seen))
+                    yield Found(child.tapes(), loop)
+                    is_complete = False
+                    continue
                 number += 1
                 heapq.heappush(ahead, (distance + weight * child.steps, number, child))
-        # Nothing is left: -1 says that another weight finds no more.
-        return Outcome(is_complete=is_complete, states=len(seen), clocks=-1)
+        self.has_more, self.is_done = False, is_complete
 
     def ways_on(self, node: Node) -> Iterator[Optional[Stretch]]:
         """The stretches from a state, one for each tape; none where there are too many."""

@@ -1,5 +1,6 @@
 """Reads configurations: the spans that they declare, and the periods of their machines."""
 
+import json
 import tomllib
 from dataclasses import dataclass
 
@@ -92,3 +93,17 @@ def period_of(path, tables, machine):
                 raise Fault(f"{path}: the divider of machine {machine} is no number")
             return 256 * (whole or 65536) + fraction
     raise Fault(f"{path}: machine {machine} isn't configured")
+
+
+def toml_of(tables):
+    """Tables as the text of a configuration."""
+    lines = ["[pins]", *assignments(tables["pins"])]
+    for key in ("load", "machine", "span"):
+        for table in tables[key]:
+            lines += [f"[[{key}]]", *assignments(table)]
+    return "\n".join(lines) + "\n"
+
+
+def assignments(table):
+    """The lines of a table: its values are numbers, texts, truths, and lists of these."""
+    return [f"{key} = {json.dumps(value)}" for key, value in table.items()]

@@ -1,0 +1,174 @@
+"""From what a search finds to a run that is shown: its stimulus, made small, and confirmed by piotool's own trace."""
+
+import tempfile
+import time
+from dataclasses import dataclass
+from pathlib import Path
+from typing import Any, Optional
+
+from piotool.asked import Asked
+from piotool.block_model import Line
+from piotool.calls import piotool
+from piotool.search import Found, Search, replayed
+from piotool.set_up import SetUp
+from piotool.setups import toml_of
+from piotool.span_runs import Broken, Run, broken_at, run_of
+from piotool.stimulus_lines import lines_of, text_of
+
+MOST_STEPS = 40_000  # clocks that a run of the model works out singly
+MOST_LOOPED = 20_000  # stretches of a loop that are gone round
+SMALLER_SECONDS = 2.0
+LAST_CLOCK = 10**12
+
+
+@dataclass
+class Shown:
+    """A run that breaks a span: its lines, its number of clocks, and how; without end where the count is never ended."""
+
+    lines: list[Line]
+    clocks: int
+    broken: Broken
+    loop: Optional[tuple[int, ...]] = None
+
+
+@dataclass
+class Answer:
+    """What is told of a span: a run that breaks it, or how far the search came."""
+
+    shown: Optional[Shown]
+    states: int
+    last: int
+    is_done: bool
+    unmoved: Optional[int]
+
+
+class Runs:
+    """The runs of one span's set-up by the model, and by piotool."""
+
+    def __init__(self, source: str | Path, block: SetUp, span: dict[str, Any]) -> None:
+        self.source, self.block, self.span = source, block, span
+        self.bare = toml_of(block.tables | {"span": []})
+
+    def broken(self, lines: list[Line], clocks: int) -> Optional[Shown]:
+        """Whether the span is broken beside these lines, in as few clocks as show it."""
+        run = run_of(self.block, lines, clocks, MOST_STEPS)
+        if not run.is_whole or (broken := broken_at(self.block, self.span, run, lines)) is None:
+            return None
+        if broken.end is not None or broken.wait:
+            clocks = broken.last + 1
+            if broken.wait:
+                clocks = broken.wait[0] + 1
+                broken = broken_at(self.block, self.span, cut(run, clocks), lines) or broken
+            return Shown(lines, clocks, broken)
+        low, high = broken.begin + 1, clocks
+        while low < high:
+            middle = (low + high) // 2
+            if broken_at(self.block, self.span, cut(run, middle), lines):
+                high = middle
+            else:
+                low = middle + 1
+        return Shown(lines, high, broken_at(self.block, self.span, cut(run, high), lines) or broken)
+
+    def is_confirmed(self, shown: Shown) -> bool:
+        """Whether piotool's own trace of the run is the model's, and the span is broken in it."""
+        run = run_of(self.block, shown.lines, shown.clocks, 4 * MOST_STEPS)
+        if not run.is_whole or broken_at(self.block, self.span, run, shown.lines) is None:
+            return False
+        with tempfile.TemporaryDirectory() as folder:
+            config, stimulus = Path(folder) / "bare.toml", Path(folder) / "shown.stim"
+            config.write_text(self.bare)
+            stimulus.write_text(text_of(shown.lines))
+            words = ["--source", self.source, "--config", config, "--stimulus", stimulus, "--clocks", shown.clocks]
+            status, text, _ = piotool("run", *words)
+        return status == 0 and text == run.trace()
+
+
+def cut(run: Run, clocks: int) -> Run:
+    """The first clocks of a run."""
+    return Run(clocks, [it for it in run.samples if it[0] < clocks], run.ticks)
+
+
+def answer_of(source: str | Path, block: SetUp, span: dict[str, Any], seconds: float, is_guided: bool = True) -> Answer:
+    """What is told of a span, after so many seconds at most."""
+    asked, end = Asked(block, span), time.monotonic() + seconds
+    search, runs = Search(asked, is_guided), Runs(source, block, span)
+    for found in search.found(seconds):
+        shown = shown_by(search, runs, found)
+        if shown and runs.is_confirmed(shown):
+            small = smaller(runs, shown, min(SMALLER_SECONDS, max(0.2, end - time.monotonic())))
+            if runs.is_confirmed(small):
+                shown = small
+            return Answer(shown, search.states, search.last, False, None)
+    return Answer(None, search.states, search.last, search.is_done, asked.unmoved())
+
+
+def shown_by(search: Search, runs: Runs, found: Found) -> Optional[Shown]:
+    """The run that was found, where the model breaks the span in it."""
+    asked, log = search.asked, []
+    tapes = found.tapes
+    if found.loop:
+        tapes = tapes + found.loop * max(1, MOST_LOOPED // len(found.loop))
+    stretch = replayed(asked, search.guide, tapes, log)
+    if stretch is None or stretch.found is None or stretch.found > LAST_CLOCK:
+        return None
+    lines = lines_of(log, asked.pins["high"])
+    return None if lines is None else runs.broken(lines, stretch.found)
+
+
+def smaller(runs: Runs, shown: Shown, seconds: float) -> Shown:
+    """A run with fewer lines and smaller words that breaks the span too."""
+    end = time.monotonic() + seconds
+
+    def tried(lines: list[Line]) -> bool:
+        nonlocal shown
+        if time.monotonic() > end:
+            return False
+        found = runs.broken(lines, shown.clocks)
+        if found is not None:
+            shown = found
+        return found is not None
+
+    if not shown.lines or tried([]):
+        return shown
+    for number in range(4):
+        for kind in ("tx", "rx"):
+            tried(joined(shown.lines, kind, number))
+    part = len(shown.lines)
+    while part:
+        place = len(shown.lines)
+        while place > 0:
+            place = min(place, len(shown.lines)) - part
+            tried(shown.lines[: max(place, 0)] + shown.lines[max(place, 0) + part :])
+        part //= 2
+    for place in range(len(shown.lines)):
+        for lines in with_smaller_words(shown.lines, place):
+            tried(lines)
+    place = len(shown.lines) - 1
+    while place >= 0:
+        tried(shown.lines[:place] + shown.lines[place + 1 :])
+        place = min(place, len(shown.lines)) - 1
+    return shown
+
+
+def joined(lines: list[Line], kind: str, number: int) -> list[Line]:
+    """The lines with one transfer in the place of a machine's single words."""
+    own = [it for it in lines if it[1] == kind and it[2][0] == number]
+    if len(own) < 2:
+        return lines
+    rest = [it for it in lines if not (it[1] == kind and it[2][0] == number)]
+    words = [it[2][1] for it in own] if kind == "tx" else []
+    return [(0, "feed" if kind == "tx" else "drain", [number, 1, *words]), *rest]
+
+
+def with_smaller_words(lines: list[Line], place: int) -> list[list[Line]]:
+    """The lines with smaller words in one of them."""
+    clock, word, numbers = lines[place]
+    first = {"tx": 1, "feed": 2}.get(word)
+    if first is None:
+        return []
+    found = []
+    if word == "feed":
+        found += [numbers[:count] for count in (first + 1, first + 2, (first + len(numbers) + 1) // 2, len(numbers) - 1) if count > first]
+    for at in range(first, min(len(numbers), first + 8)):
+        found += [[*numbers[:at], smaller, *numbers[at + 1 :]] for smaller in (0, 1, numbers[at] & 0xFF) if smaller < numbers[at]]
+    return [[*lines[:place], (clock, word, it), *lines[place + 1 :]] for it in found]
