@@ -157,6 +157,6 @@ class Asked:
                 return found
             found |= more
 
-    def unmoved(self) -> Optional[int]:
-        """A pin of the span that no instruction in reach writes, or none."""
-        return next((pin for pin in self.ends if pin not in self.written_levels), None)
+    def unmoved_from(self) -> bool:
+        """Whether no instruction in reach writes the from-pin, so that no from-edge can come."""
+        return self.ends[0] not in self.written_levels

@@ -96,7 +96,8 @@ class System:
 class Block:
     """A block that is stepped from given pads. Setups are by machine number; pins has high, level, out and bypass as words.
 
-    `ticks` has each machine's ticks so far. `moved` is the last clock in which more happened than delay and late ticks that wait on.
+    `ticks` has each machine's ticks so far. `moved` is the last clock in which more happened than delay,
+    waits that go on, and turns of a counted loop of one instruction.
     """
 
     def __init__(self, memory: list[int], setups: dict[int, Setup], pins: dict[str, int], system: System) -> None:
@@ -130,13 +131,15 @@ class Block:
                 is_late, has_delay = machine.begun, machine.delay > 0
                 self.ticks[number].add(clock, clock, 1, machine.pc if is_late else None, machine.restarted)
                 intents[number] = machine.tick(number, seen, self.flags, self.memory)
-                rests = has_delay or is_late and machine.begun
+                rests = has_delay or is_late and machine.begun or machine.has_turned
                 self.moved = clock if intents[number].takes or not rests else self.moved
+        before = self.levels, self.directions
         for intent in intents.values():
             for write in intent.levels:
                 self.levels = with_pins(self.levels, write)
             for write in intent.directions:
                 self.directions = with_pins(self.directions, write)
+        self.moved = clock if before != (self.levels, self.directions) else self.moved
         for intent in intents.values():
             self.flags &= ~intent.lowers
         for intent in intents.values():

@@ -91,6 +91,8 @@ def cut(run: Run, clocks: int) -> Run:
 def answer_of(source: str | Path, block: SetUp, span: dict[str, Any], seconds: float, is_guided: bool = True) -> Answer:
     """What is told of a span, after so many seconds at most."""
     asked, end = Asked(block, span), time.monotonic() + seconds
+    if asked.unmoved_from():
+        return Answer(None, 0, 0, True, span["from_pin"])
     search, runs = Search(asked, is_guided), Runs(source, block, span)
     for found in search.found(seconds):
         shown = shown_by(search, runs, found)
@@ -99,7 +101,7 @@ def answer_of(source: str | Path, block: SetUp, span: dict[str, Any], seconds: f
             if runs.is_confirmed(small):
                 shown = small
             return Answer(shown, search.states, search.last, False, None)
-    return Answer(None, search.states, search.last, search.is_done, asked.unmoved())
+    return Answer(None, search.states, search.last, search.is_done, None)
 
 
 def shown_by(search: Search, runs: Runs, found: Found) -> Optional[Shown]:

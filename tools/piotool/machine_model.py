@@ -70,6 +70,7 @@ class Machine:
         self.out_count = 32
         self.pending: Optional[int] = None
         self.begun, self.enabled = False, True
+        self.has_turned = False  # whether the last instruction was a turn of a counted loop of one instruction
         self.tx: list[int] = []
         self.rx: list[int] = []
         self.tx_room, self.rx_room = rooms_of(setup)
@@ -91,6 +92,7 @@ class Machine:
         if self.delay > 0:
             self.delay -= 1
         else:
+            self.has_turned = False
             Instruction(self, number, seen, flags, memory).run(intent)
         self.refill(intent)
         return intent
@@ -155,6 +157,7 @@ class Instruction:
         if stalls:
             return
         if self.jump is not None:
+            machine.has_turned = self.word >> 13 == 0 and self.high in (2, 4) and self.jump == machine.pc and not self.is_pending
             machine.pc = self.jump
         elif not self.is_pending:
             machine.pc = setup["wrap_bottom"] if machine.pc == setup["wrap_top"] else (machine.pc + 1) % 32

@@ -68,7 +68,7 @@ def run_of(block: SetUp, lines: list[Line], clocks: int, most_steps: float = inf
         samples.append((clock, stepped.step(clock, pads.pop(0), pads[-1])))
         after = clock + 1 if clock <= stepped.moved + 3 else min(clocks, next_clock(stepped, own, clock))
         for number, machine in stepped.machines.items() if after > clock + 1 else ():
-            rest(machine, stepped.ticks[number], clock + 1, after)
+            rest(stepped, machine, stepped.ticks[number], clock + 1, after)
         clock = after
     return Run(clocks, samples, stepped.ticks)
 
@@ -89,27 +89,48 @@ def next_clock(block: Block, lines: list[int], clock: int) -> float:
         if drain and machine.rx:
             found = min(found, max(drain["due"], clock + 1))
         if machine.enabled:
-            found = min(found, next_move(machine, block.ticks[number], clock, block.moved))
+            found = min(found, next_move(block, machine, block.ticks[number], clock))
     return found
 
 
-def next_move(machine: Machine, log: TickLog, clock: int, moved: int) -> float:
-    """The clock of a machine's next tick that is neither delay nor a wait that goes on, as one does that was late since the last move."""
-    if machine.begun and log.rows[-1].address is not None and log.lasts[-1] > moved + 2:
+def next_move(block: Block, machine: Machine, log: TickLog, clock: int) -> float:
+    """The clock of a machine's next tick that is neither delay, a wait that goes on, as one does that was late since the last move, nor
+    a turn of a counted loop of one instruction."""
+    if machine.begun and log.rows[-1].address is not None and log.lasts[-1] > block.moved + 2:
         return inf
     tick = log.ticks_before(clock + 1, machine.restarted)
     refills = machine.setup["autopull"] and machine.out_count >= machine.setup["pull_threshold"] and machine.tx
     if not refills:
-        tick += machine.delay
+        turns, length = turns_of(block, machine)
+        tick += machine.delay + turns * length
     return machine.restarted + (tick * log.period >> 8)
 
 
-def rest(machine: Machine, log: TickLog, first: int, after: int) -> None:
+def turns_of(block: Block, machine: Machine) -> tuple[int, int]:
+    """How many turns of a counted loop of one instruction a machine has before it, where it is in one, and the ticks of each."""
+    if not machine.has_turned or machine.begun:
+        return 0, 1
+    word = block.memory[machine.pc]
+    if word >> 13 or word >> 5 & 7 not in (2, 4) or word & 31 != machine.pc:
+        return 0, 1
+    bits, has_enable = machine.setup["side_bits"], int(machine.setup["side_opt"])
+    return machine.x if word >> 5 & 7 == 2 else machine.y, 1 + (word >> 8 & (1 << 5 - bits - has_enable) - 1)
+
+
+def rest(block: Block, machine: Machine, log: TickLog, first: int, after: int) -> None:
     """The ticks of a machine in clocks that are leapt over."""
-    if machine.enabled:
-        count = log.ticks_before(after, machine.restarted) - log.ticks_before(first, machine.restarted)
-        log.add(first, after - 1, count, None if machine.delay else machine.pc, machine.restarted)
-        machine.delay = max(0, machine.delay - count)
+    if not machine.enabled:
+        return
+    count = log.ticks_before(after, machine.restarted) - log.ticks_before(first, machine.restarted)
+    waits = machine.begun and not machine.delay
+    log.add(first, after - 1, count, machine.pc if waits else None, machine.restarted)
+    turns, length = turns_of(block, machine)
+    count, machine.delay = max(0, count - machine.delay), max(0, machine.delay - count)
+    if count and turns and not waits:
+        done, left = divmod(count, length)
+        name = "x" if block.memory[machine.pc] >> 5 & 7 == 2 else "y"
+        setattr(machine, name, turns - done - (left > 0))
+        machine.delay = length - left if left else 0
 
 
 def broken_at(block: SetUp, span: dict[str, Any], run: Run, lines: list[Line]) -> Optional[Broken]:
