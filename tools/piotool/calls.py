@@ -27,23 +27,34 @@ def write_text(path, text):
         raise Fault(f"{path}: {fault.strerror}") from None
 
 
-def piotool(*words):
-    """A call of the piotool on the path: its status, its output, and its line on standard error."""
+def piotool(*words, name="piotool"):
+    """A call of the piotool on the path, or of a script beside it: its status, its output, and its line on standard error."""
     try:
-        ended = subprocess.run(["piotool", *map(str, words)], stdin=subprocess.DEVNULL, capture_output=True)
+        ended = subprocess.run([name, *map(str, words)], stdin=subprocess.DEVNULL, capture_output=True)
     except OSError as fault:
-        raise Fault(f"piotool: {fault.strerror}; it has to be on the path") from None
+        raise Fault(f"{name}: {fault.strerror}; it has to be on the path") from None
     told = ended.stderr.decode("utf-8", "replace").partition("\n")[0]
     return ended.returncode, ended.stdout.decode("utf-8", "replace"), told
 
 
+def told_verdicts(source, config):
+    """The lines of `piotool check`."""
+    status, text, told = piotool("check", "--source", source, "--config", config)
+    if status not in (0, 3):
+        raise Fault(told)
+    return text.splitlines()
+
+
 def run_script(name, work):
     """Ends the script with the status that its work gives; a fault is one line and status 1."""
+    sys.stdout.reconfigure(errors="backslashreplace")
     try:
         status = work()
         sys.stdout.flush()
     except Fault as fault:
         print(f"{name}: {fault}", file=sys.stderr)
+        status = 1
+    except KeyboardInterrupt:
         status = 1
     except BrokenPipeError:
         sys.stderr.close()

@@ -40,8 +40,10 @@ def tables_of(path, text):
     """The tables of a configuration's text, as Python's own reader of TOML gives them. A byte order mark is no part of it."""
     try:
         return {"load": [], "machine": [], "span": [], "pins": {}} | tomllib.loads(text.removeprefix("\ufeff"))
-    except tomllib.TOMLDecodeError as fault:
+    except ValueError as fault:
         raise Fault(f"{path}: {fault}") from None
+    except RecursionError:
+        raise Fault(f"{path}: too many brackets inside each other") from None
 
 
 def read_tables(path):

@@ -4,12 +4,14 @@ A word is written as late as it can be: in the clock before the one that wants i
 read as late as they can be, too. So a bound from above, as an empty TX, is kept wherever it can be.
 """
 
+from random import Random
 from typing import Any, Optional
 
 from piotool.block_model import Line
 from piotool.lazy_values import Clause
 
 Log = list[tuple[Any, ...]]
+MOST_TURNS = 1000  # of free bits, to keep what a choice left out
 
 
 class Bits:
@@ -39,15 +41,15 @@ class Bits:
         return self.value(reference)
 
     def keep_clauses(self) -> None:
-        """Turns free bits round until no clause has 1 everywhere."""
-        for _ in range(20):
-            wrong = [it for it in self.clauses if all(self.value(bit) for bit in it)]
-            for clause in wrong:
-                reference = next((root for it in sorted(clause) if (root := self.root(it)) > 1), None)
-                if reference is not None:
-                    self.free[reference >> 1] = self.free.get(reference >> 1, 0) ^ 1
-            if not wrong:
+        """Turns free bits round, any of a clause that isn't kept, until no clause has 1 everywhere."""
+        chance = Random(0)
+        for _ in range(MOST_TURNS):
+            wrong = next((it for it in self.clauses if all(self.value(bit) for bit in it)), None)
+            roots = [root for it in sorted(wrong or ()) if (root := self.root(it)) > 1]
+            if not roots:
                 return
+            bit = chance.choice(roots) >> 1
+            self.free[bit] = self.free.get(bit, 0) ^ 1
 
 
 def times_of(wants: list[tuple[int, int]]) -> Optional[list[int]]:
