@@ -9,10 +9,11 @@ from typing import Any, Optional
 from piotool.asked import Asked
 from piotool.block_model import Line
 from piotool.calls import piotool
+from piotool.endless import addresses_round
 from piotool.search import Found, Search, replayed
 from piotool.set_up import SetUp
 from piotool.setups import toml_of
-from piotool.span_runs import Broken, Run, broken_at, run_of
+from piotool.span_runs import Broken, Run, broken_at, open_at, run_of
 from piotool.stimulus_lines import lines_of, text_of
 
 MOST_STEPS = 40_000  # clocks that a run of the model works out singly
@@ -28,7 +29,8 @@ class Shown:
     lines: list[Line]
     clocks: int
     broken: Broken
-    loop: Optional[tuple[int, ...]] = None
+    loop: Optional[tuple[int, ...]] = None  # the addresses of a loop without end
+    turn: int = 0  # the clock from which the loop is gone round once more
 
 
 @dataclass
@@ -69,10 +71,21 @@ class Runs:
                 low = middle + 1
         return Shown(lines, high, broken_at(self.block, self.span, cut(run, high), lines) or broken)
 
+    def endless(self, lines: list[Line], first: int, second: int) -> Optional[Shown]:
+        """Whether the span stays open for ever beside these lines, its count growing, since the second clock is as the first one was."""
+        addresses = addresses_round(self.block, lines, self.span["machine"], first, second)
+        if addresses is None:
+            return None
+        run = run_of(self.block, lines, second, MOST_STEPS)
+        one, other = (open_at(self.block, self.span, cut(run, clocks)) for clocks in (first, second))
+        if one is None or other is None or one.begin != other.begin or one.count >= other.count:
+            return None
+        return Shown(lines, second, other, addresses, first)
+
     def is_confirmed(self, shown: Shown) -> bool:
-        """Whether piotool's own trace of the run is the model's, and the span is broken in it."""
+        """Whether piotool's own trace of the run is the model's, and the span is broken in it, or would be in the end."""
         run = run_of(self.block, shown.lines, shown.clocks, 4 * MOST_STEPS)
-        if not run.is_whole or broken_at(self.block, self.span, run, shown.lines) is None:
+        if not run.is_whole or not shown.loop and broken_at(self.block, self.span, run, shown.lines) is None:
             return False
         with tempfile.TemporaryDirectory() as folder:
             config, stimulus = Path(folder) / "bare.toml", Path(folder) / "shown.stim"
@@ -98,7 +111,7 @@ def answer_of(source: str | Path, block: SetUp, span: dict[str, Any], seconds: f
         shown = shown_by(search, runs, found)
         if shown and runs.is_confirmed(shown):
             small = smaller(runs, shown, min(SMALLER_SECONDS, max(0.2, end - time.monotonic())))
-            if runs.is_confirmed(small):
+            if small is not shown and runs.is_confirmed(small):
                 shown = small
             return Answer(shown, search.states, search.last, False, None)
     return Answer(None, search.states, search.last, search.is_done, None)
@@ -107,14 +120,29 @@ def answer_of(source: str | Path, block: SetUp, span: dict[str, Any], seconds: f
 def shown_by(search: Search, runs: Runs, found: Found) -> Optional[Shown]:
     """The run that was found, where the model breaks the span in it."""
     asked, log = search.asked, []
-    tapes = found.tapes
-    if found.loop:
-        tapes = tapes + found.loop * max(1, MOST_LOOPED // len(found.loop))
-    stretch = replayed(asked, search.guide, tapes, log)
+    if found.loop and (shown := endless(search, runs, found)):
+        return shown
+    stretch = replayed(asked, search.guide, found.tapes + (found.loop or []) * (MOST_LOOPED // len(found.loop or [0])), log)
     if stretch is None or stretch.found is None or stretch.found > LAST_CLOCK:
         return None
     lines = lines_of(log, asked.pins["high"])
     return None if lines is None else runs.broken(lines, stretch.found)
+
+
+def endless(search: Search, runs: Runs, found: Found) -> Optional[Shown]:
+    """The run of a loop that is never left, in which the count grows and the to-edge never comes."""
+    asked, log, clocks = search.asked, [], []
+    stretch = None
+    for turns in (1, 2, 3):
+        log = []
+        stretch = replayed(asked, search.guide, found.tapes + (found.loop or []) * turns, log)
+        if stretch is None or stretch.found is not None:
+            return None
+        clocks.append(stretch.state.clock)
+    lines = lines_of(log, asked.pins["high"])
+    if lines is None or stretch is None:
+        return None
+    return runs.endless(lines, clocks[1], clocks[2])
 
 
 def smaller(runs: Runs, shown: Shown, seconds: float) -> Shown:
@@ -123,9 +151,9 @@ def smaller(runs: Runs, shown: Shown, seconds: float) -> Shown:
 
     def tried(lines: list[Line]) -> bool:
         nonlocal shown
-        if time.monotonic() > end:
+        if time.monotonic() > end or lines == shown.lines:
             return False
-        found = runs.broken(lines, shown.clocks)
+        found = still(runs, shown, lines)
         if found is not None:
             shown = found
         return found is not None
@@ -150,6 +178,13 @@ def smaller(runs: Runs, shown: Shown, seconds: float) -> Shown:
         tried(shown.lines[:place] + shown.lines[place + 1 :])
         place = min(place, len(shown.lines)) - 1
     return shown
+
+
+def still(runs: Runs, shown: Shown, lines: list[Line]) -> Optional[Shown]:
+    """The run beside other lines, where it breaks the span too; of an endless loop in the same clocks."""
+    if shown.loop:
+        return runs.endless(lines, shown.turn, shown.clocks)
+    return runs.broken(lines, shown.clocks)
 
 
 def joined(lines: list[Line], kind: str, number: int) -> list[Line]:

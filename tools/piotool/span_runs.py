@@ -150,6 +150,16 @@ def broken_at(block: SetUp, span: dict[str, Any], run: Run, lines: list[Line]) -
     return None
 
 
+def open_at(block: SetUp, span: dict[str, Any], run: Run) -> Optional[Broken]:
+    """The oldest from-edge that no to-edge has ended at the end of a run, with its count, or none."""
+    begins, ends = (run.edges(block.pins["level"], span[f"{it}_pin"], span[f"{it}_edge"]) for it in ("from", "to"))
+    begin = next((it for it in begins if not ends or it >= ends[-1]), None)
+    if begin is None:
+        return None
+    count, wait = counted(span, run.ticks[span["machine"]].within(begin, run.clocks - 1))
+    return Broken(begin, None, run.clocks - 1, run.clocks - 1 - begin if span["unit"] == "clocks" else count, wait)
+
+
 def counted(span: dict[str, Any], rows: Iterator[Any]) -> tuple[int, Optional[tuple[int, int]]]:
     """How many of these ticks count, and the first late one at an address that isn't named."""
     count, wait = 0, None

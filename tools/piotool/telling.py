@@ -1,7 +1,6 @@
 """What is told of a span that was searched: its line, and the calls that show its run."""
 
 import os
-import shlex
 from pathlib import Path
 from typing import Any, Optional
 
@@ -57,15 +56,12 @@ def place_of(block: SetUp, machine: int, addresses: tuple[int, ...]) -> str:
     return f'"{label}"' if label else f"address {addresses[0]}"
 
 
-def calls_of(source: str, config: str, span: dict[str, Any], stem: str, folder: Path, shown: Shown) -> list[list[str]]:
-    """The calls that write the trace and the picture of a run."""
+def calls_of(source: str, config: str, span: dict[str, Any], stem: str, folder: Path, shown: Shown) -> list[tuple[list[str], str]]:
+    """The calls that write the trace and the picture of a run, each with the file that its output is."""
     files = {ending: os.path.normpath(folder / f"{stem}.{ending}") for ending in ("bare.toml", "stim", "vcd", "svg")}
     run = ["piotool", "run", "--source", source, "--config", files["bare.toml"]]
     run += ["--stimulus", files["stim"]] if shown.lines else []
     first, last = max(0, shown.broken.begin - ROOM), min(shown.clocks, shown.broken.last + 1 + ROOM)
     part = [] if first == 0 else ["--from", str(first)]
     draw = ["piotool-draw", files["vcd"], *part, "--to", str(last), "--span", f"{config}:{span['name']}"]
-    return [
-        [*map(shlex.quote, run), "--clocks", str(shown.clocks), ">", shlex.quote(files["vcd"])],
-        [*map(shlex.quote, draw), ">", shlex.quote(files["svg"])],
-    ]
+    return [([*run, "--clocks", str(shown.clocks)], files["vcd"]), (draw, files["svg"])]
