@@ -3,6 +3,7 @@
 import tempfile
 import time
 from dataclasses import dataclass
+from math import inf
 from pathlib import Path
 from typing import Any, Optional
 
@@ -16,9 +17,10 @@ from piotool.setups import toml_of
 from piotool.span_runs import Broken, Run, broken_at, open_at, run_of
 from piotool.stimulus_lines import lines_of, text_of
 
-MOST_STEPS = 40_000  # clocks that a run of the model works out singly
+MOST_STEPS = 150_000  # clocks that a run of the model works out singly
 MOST_LOOPED = 20_000  # stretches of a loop that are gone round
 SMALLER_SECONDS = 2.0
+MORE_SECONDS = 1.0  # what the last run that was found may take beyond the time
 LAST_CLOCK = 10**12
 
 
@@ -47,13 +49,13 @@ class Answer:
 class Runs:
     """The runs of one span's set-up by the model, and by piotool."""
 
-    def __init__(self, source: str | Path, block: SetUp, span: dict[str, Any]) -> None:
-        self.source, self.block, self.span = source, block, span
+    def __init__(self, source: str | Path, block: SetUp, span: dict[str, Any], until: float = inf) -> None:
+        self.source, self.block, self.span, self.until = source, block, span, until
         self.bare = toml_of(block.tables | {"span": []})
 
     def broken(self, lines: list[Line], clocks: int) -> Optional[Shown]:
         """Whether the span is broken beside these lines, in as few clocks as show it."""
-        run = run_of(self.block, lines, clocks, MOST_STEPS)
+        run = run_of(self.block, lines, clocks, MOST_STEPS, self.until)
         if not run.is_whole or (broken := broken_at(self.block, self.span, run, lines)) is None:
             return None
         if broken.end is not None or broken.wait:
@@ -76,7 +78,7 @@ class Runs:
         addresses = addresses_round(self.block, lines, self.span["machine"], first, second)
         if addresses is None:
             return None
-        run = run_of(self.block, lines, second, MOST_STEPS)
+        run = run_of(self.block, lines, second, MOST_STEPS, self.until)
         one, other = (open_at(self.block, self.span, cut(run, clocks)) for clocks in (first, second))
         if one is None or other is None or one.begin != other.begin or one.count >= other.count:
             return None
@@ -84,7 +86,7 @@ class Runs:
 
     def is_confirmed(self, shown: Shown) -> bool:
         """Whether piotool's own trace of the run is the model's, and the span is broken in it, or would be in the end."""
-        run = run_of(self.block, shown.lines, shown.clocks, 4 * MOST_STEPS)
+        run = run_of(self.block, shown.lines, shown.clocks, 2 * MOST_STEPS, self.until)
         if not run.is_whole or not shown.loop and broken_at(self.block, self.span, run, shown.lines) is None:
             return False
         with tempfile.TemporaryDirectory() as folder:
@@ -106,7 +108,7 @@ def answer_of(source: str | Path, block: SetUp, span: dict[str, Any], seconds: f
     asked, end = Asked(block, span), time.monotonic() + seconds
     if asked.unmoved_from():
         return Answer(None, 0, 0, True, span["from_pin"])
-    search, runs = Search(asked, is_guided), Runs(source, block, span)
+    search, runs = Search(asked, is_guided), Runs(source, block, span, end + MORE_SECONDS)
     for found in search.found(seconds):
         shown = shown_by(search, runs, found)
         if shown and runs.is_confirmed(shown):
@@ -122,7 +124,7 @@ def shown_by(search: Search, runs: Runs, found: Found) -> Optional[Shown]:
     asked, log = search.asked, []
     if found.loop and (shown := endless(search, runs, found)):
         return shown
-    stretch = replayed(asked, search.guide, found.tapes + (found.loop or []) * (MOST_LOOPED // len(found.loop or [0])), log)
+    stretch = replayed(asked, search.guide, found.tapes + (found.loop or []) * (MOST_LOOPED // len(found.loop or [0])), log, runs.until)
     if stretch is None or stretch.found is None or stretch.found > LAST_CLOCK:
         return None
     lines = lines_of(log, asked.pins["high"])

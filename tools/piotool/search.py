@@ -125,12 +125,12 @@ class Search:
         return child.tapes(child.mark) if grows else None
 
 
-def replayed(asked: Asked, guide: Any, tapes: list[list[int]], log: Optional[list[tuple]] = None) -> Stretch:
-    """The last stretch of these tapes."""
+def replayed(asked: Asked, guide: Any, tapes: list[list[int]], log: Optional[list[tuple]] = None, until: float = inf) -> Optional[Stretch]:
+    """The last stretch of these tapes, up to a time."""
     state, stretch = State(asked, guide.start()), None
-    for tape in tapes:
+    for number, tape in enumerate(tapes):
         stretch = Stretch(asked, guide, state, tape, log).run()
         state = stretch.state
-        if stretch.found is not None:
+        if stretch.found is not None or number % 256 == 255 and time.monotonic() > until:
             break
     return stretch

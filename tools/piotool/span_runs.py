@@ -6,6 +6,7 @@ A run is the samples that differ from the ones before, by their clocks. Clocks i
 from bisect import bisect_right
 from dataclasses import dataclass
 from math import inf
+from time import monotonic
 from typing import Any, Iterator, Optional
 
 from piotool import trace_text
@@ -52,23 +53,26 @@ class Broken:
         return f"{what} from clock {self.begin} to {self.last}"
 
 
-def run_of(block: SetUp, lines: list[Line], clocks: int, most_steps: float = inf) -> Run:
-    """A run. Where it takes more clocks to be worked out singly than the most, it isn't whole."""
+def run_of(block: SetUp, lines: list[Line], clocks: int, most_steps: float = inf, until: float = inf) -> Run:
+    """A run. Where it takes more clocks to be worked out singly than the most, or lasts past a time, it isn't whole."""
     stepped = Block(block.memory, block.setups, block.pins, System(lines))
     own = sorted({line[0] for line in lines})
     samples: list[tuple[int, list[int]]] = []
-    pads = [pads_of(stepped)] * 2
+    before = last = pads_of(stepped)  # the pads of two clocks ago, and of the one before
     clock = steps = 0
     while clock < clocks:
-        if steps >= most_steps:
+        if steps >= most_steps or steps % 256 == 0 and monotonic() > until:
             return Run(clocks, samples, stepped.ticks, False)
         steps += 1
         stepped.begin(clock)
-        pads.append(pads_of(stepped))
-        samples.append((clock, stepped.step(clock, pads.pop(0), pads[-1])))
-        after = clock + 1 if clock <= stepped.moved + 3 else min(clocks, next_clock(stepped, own, clock))
+        now = pads_of(stepped)
+        samples.append((clock, stepped.step(clock, before, now)))
+        after = int(min(clocks, next_clock(stepped, own, clock)))
         for number, machine in stepped.machines.items() if after > clock + 1 else ():
             rest(stepped, machine, stepped.ticks[number], clock + 1, after)
+        settled = pads_of(stepped)
+        before = last if after == clock + 1 else now if after == clock + 2 else settled
+        last = now if after == clock + 1 else settled
         clock = after
     return Run(clocks, samples, stepped.ticks)
 
@@ -79,7 +83,7 @@ def pads_of(block: Block) -> int:
 
 
 def next_clock(block: Block, lines: list[int], clock: int) -> float:
-    """The next clock in which more may happen than delays and waits, where nothing more did for three clocks."""
+    """The next clock in which more may happen than delays, waits that go on, and turns of a counted loop."""
     place = bisect_right(lines, clock)
     found = lines[place] if place < len(lines) else inf
     for number, machine in block.machines.items():
