@@ -1,5 +1,6 @@
 """What a search for a run that breaks a span looks at: the machines that matter, their words as they are read, their pins."""
 
+from copy import copy
 from dataclasses import dataclass
 from functools import lru_cache
 from typing import Any, Optional
@@ -126,6 +127,7 @@ class Asked:
         machines = {number: AskedMachine(number, setup, block.memory) for number, setup in sorted(block.setups.items())}
         self.ends = span["from_pin"], span["to_pin"]
         self.machines = [machines[number] for number in sorted(self.chosen(machines))]
+        self.others = [it for it in machines.values() if it not in self.machines]
         self.numbers = [it.number for it in self.machines]
         self.own = self.numbers.index(span["machine"])
         reads: set[int] = set().union(*(it.touched.reads for it in self.machines))
@@ -160,3 +162,17 @@ class Asked:
     def unmoved_from(self) -> bool:
         """Whether no instruction in reach writes the from-pin, so that no from-edge can come."""
         return self.ends[0] not in self.written_levels
+
+    def alone(self) -> SetUp:
+        """The set-up without the machines that don't matter."""
+        block = copy(self.block)
+        block.setups = {number: setup for number, setup in self.block.setups.items() if number in self.numbers}
+        return block
+
+    def of_others(self) -> set[str]:
+        """The names of the values in a trace that the other machines may write."""
+        found = {f"{letter}{it.number}" for it in self.others for letter in "trws"}
+        for it in self.others:
+            levels, directions = it.written()
+            found |= {f"p{pin}" for pin in levels} | {f"d{pin}" for pin in directions} | {f"f{flag}" for flag in it.touched.changes}
+        return found

@@ -16,6 +16,7 @@ from piotool.set_up import SetUp
 from piotool.setups import toml_of
 from piotool.span_runs import Broken, Run, broken_at, open_at, run_of
 from piotool.stimulus_lines import lines_of, text_of
+from piotool.trace_text import without
 
 MOST_STEPS = 150_000  # clocks that a run of the model works out singly
 MOST_LOOPED = 20_000  # stretches of a loop that are gone round
@@ -47,11 +48,12 @@ class Answer:
 
 
 class Runs:
-    """The runs of one span's set-up by the model, and by piotool."""
+    """The runs of one span's set-up: by the model, of the machines that matter to it, and by piotool, of all."""
 
-    def __init__(self, source: str | Path, block: SetUp, span: dict[str, Any], until: float = inf) -> None:
-        self.source, self.block, self.span, self.until = source, block, span, until
-        self.bare = toml_of(block.tables | {"span": []})
+    def __init__(self, source: str | Path, asked: Asked, until: float = inf) -> None:
+        self.source, self.block, self.span, self.until = source, asked.alone(), asked.span, until
+        self.bare = toml_of(asked.block.tables | {"span": []})
+        self.of_others = asked.of_others()
 
     def broken(self, lines: list[Line], clocks: int) -> Optional[Shown]:
         """Whether the span is broken beside these lines, in as few clocks as show it."""
@@ -85,7 +87,8 @@ class Runs:
         return Shown(lines, second, other, addresses, first)
 
     def is_confirmed(self, shown: Shown) -> bool:
-        """Whether piotool's own trace of the run is the model's, and the span is broken in it, or would be in the end."""
+        """Whether piotool's own trace of the run is the model's, but for what machines write that don't matter, and the span is broken in
+        it, or would be in the end."""
         run = run_of(self.block, shown.lines, shown.clocks, 2 * MOST_STEPS, self.until)
         if not run.is_whole or not shown.loop and broken_at(self.block, self.span, run, shown.lines) is None:
             return False
@@ -95,7 +98,8 @@ class Runs:
             stimulus.write_text(text_of(shown.lines))
             words = ["--source", self.source, "--config", config, "--stimulus", stimulus, "--clocks", shown.clocks]
             status, text, _ = piotool("run", *words)
-        return status == 0 and text == run.trace()
+        wanted = run.trace()
+        return status == 0 and (text == wanted or without(text, self.of_others) == without(wanted, self.of_others))
 
 
 def cut(run: Run, clocks: int) -> Run:
@@ -108,7 +112,7 @@ def answer_of(source: str | Path, block: SetUp, span: dict[str, Any], seconds: f
     asked, end = Asked(block, span), time.monotonic() + seconds
     if asked.unmoved_from():
         return Answer(None, 0, 0, True, span["from_pin"])
-    search, runs = Search(asked, is_guided), Runs(source, block, span, end + MORE_SECONDS)
+    search, runs = Search(asked, is_guided), Runs(source, asked, end + MORE_SECONDS)
     for found in search.found(seconds):
         shown = shown_by(search, runs, found)
         if shown and runs.is_confirmed(shown):

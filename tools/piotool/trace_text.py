@@ -49,3 +49,16 @@ def text_of(samples: Iterable[tuple[int, list[list[int]]]], clocks: int, scopes:
             text += [f"#{clock}"] + changed
         before = now
     return "\n".join(text + ([f"#{clocks}"] if clocks else [])) + "\n"
+
+
+def without(text: str, names: set[str]) -> str:
+    """The text of one block's samples without the changes of the values of these names, and without the clocks that then have none."""
+    dropped = {chr(33 + place) for place, name in enumerate(NAMES) if name in names}
+    lines: list[str] = []
+    for line in text.splitlines():
+        if line[:1] in ("0", "1") and line[1:] in dropped or line[:1] == "b" and line[-1:] in dropped:
+            continue
+        if line[:1] == "#" and lines and lines[-1][:1] == "#":
+            lines.pop()
+        lines.append(line)
+    return "\n".join(lines) + "\n"
