@@ -77,7 +77,7 @@ class Runs:
 
     def endless(self, lines: list[Line], first: int, second: int) -> Optional[Shown]:
         """Whether the span stays open for ever beside these lines, its count growing, since the second clock is as the first one was."""
-        addresses = addresses_round(self.block, lines, self.span["machine"], first, second)
+        addresses = addresses_round(self.block, lines, self.span["machine"], first, second, MOST_STEPS, self.until)
         if addresses is None:
             return None
         run = run_of(self.block, lines, second, MOST_STEPS, self.until)

@@ -4,15 +4,23 @@ A run is the samples that differ from the ones before, by their clocks. Clocks i
 """
 
 from bisect import bisect_right
-from dataclasses import dataclass
+from dataclasses import dataclass, field
 from math import inf
 from time import monotonic
 from typing import Any, Iterator, Optional
 
 from piotool import trace_text
 from piotool.block_model import Block, Line, System, TickLog
-from piotool.machine_model import Machine
+from piotool.machine_model import Machine, period_of
 from piotool.set_up import SetUp
+
+
+@dataclass(frozen=True)
+class Mark:
+    """All that the clocks from one on hang on, beside lines and transfers."""
+
+    clock: int
+    state: tuple[Any, ...]
 
 
 @dataclass
@@ -23,6 +31,8 @@ class Run:
     samples: list[tuple[int, list[int]]]
     ticks: dict[int, TickLog]
     is_whole: bool = True
+    marks: list["Mark"] = field(default_factory=list)
+    places: list[tuple[int, dict[int, int]]] = field(default_factory=list)  # the address of each machine, where marks are asked
 
     def trace(self) -> str:
         """The value-change text."""
@@ -53,17 +63,23 @@ class Broken:
         return f"{what} from clock {self.begin} to {self.last}"
 
 
-def run_of(block: SetUp, lines: list[Line], clocks: int, most_steps: float = inf, until: float = inf) -> Run:
-    """A run. Where it takes more clocks to be worked out singly than the most, or lasts past a time, it isn't whole."""
+def run_of(block: SetUp, lines: list[Line], clocks: int, most_steps: float = inf, until: float = inf, marks: tuple[int, ...] = ()) -> Run:
+    """A run, with the states at the start of the clocks that are marked. Where it takes more clocks to be worked out singly than the most, or lasts past a time, it isn't whole."""
     stepped = Block(block.memory, block.setups, block.pins, System(lines))
-    own = sorted({line[0] for line in lines})
+    own = sorted({line[0] for line in lines} | set(marks))
     samples: list[tuple[int, list[int]]] = []
+    found = Run(clocks, samples, stepped.ticks)
     before = last = pads_of(stepped)  # the pads of two clocks ago, and of the one before
     clock = steps = 0
     while clock < clocks:
         if steps >= most_steps or steps % 256 == 0 and monotonic() > until:
-            return Run(clocks, samples, stepped.ticks, False)
+            found.is_whole = False
+            break
         steps += 1
+        if clock in marks:
+            found.marks.append(Mark(clock, (state_of(stepped, clock), before, last)))
+        if marks:
+            found.places.append((clock, {number: machine.pc for number, machine in stepped.machines.items()}))
         stepped.begin(clock)
         now = pads_of(stepped)
         samples.append((clock, stepped.step(clock, before, now)))
@@ -74,7 +90,19 @@ def run_of(block: SetUp, lines: list[Line], clocks: int, most_steps: float = inf
         before = last if after == clock + 1 else now if after == clock + 2 else settled
         last = now if after == clock + 1 else settled
         clock = after
-    return Run(clocks, samples, stepped.ticks)
+    return found
+
+
+def state_of(block: Block, clock: int) -> tuple[Any, ...]:
+    """The state of a block at the start of a clock, before its lines act."""
+    machines = tuple(
+        (
+            it.pc, it.x, it.y, it.isr, it.osr, it.in_count, it.out_count, it.delay, it.pending, it.begun, it.enabled,
+            tuple(it.tx), tuple(it.rx), (clock - it.restarted) * 256 % period_of(it.setup),
+        )
+        for it in block.machines.values()
+    )  # fmt: skip
+    return machines, block.levels, block.directions, block.outside, block.flags
 
 
 def pads_of(block: Block) -> int:
