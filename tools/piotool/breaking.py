@@ -20,8 +20,8 @@ from piotool.trace_text import without
 
 MOST_STEPS = 150_000  # clocks that a run of the model works out singly
 MOST_LOOPED = 20_000  # stretches of a loop that are gone round
-SMALLER_SECONDS = 2.0
-MORE_SECONDS = 1.0  # what the last run that was found may take beyond the time
+SMALLER_STEPS = 400_000  # of all runs that are tried to make one small
+MORE_SECONDS = 5.0  # what the last run that was found may take beyond the time
 LAST_CLOCK = 10**12
 
 
@@ -54,10 +54,12 @@ class Runs:
         self.source, self.block, self.span, self.until = source, asked.alone(), asked.span, until
         self.bare = toml_of(asked.block.tables | {"span": []})
         self.of_others = asked.of_others()
+        self.steps = 0  # the clocks that were worked out singly
 
     def broken(self, lines: list[Line], clocks: int) -> Optional[Shown]:
         """Whether the span is broken beside these lines, in as few clocks as show it."""
         run = run_of(self.block, lines, clocks, MOST_STEPS, self.until)
+        self.steps += len(run.samples)
         if not run.is_whole or (broken := broken_at(self.block, self.span, run, lines)) is None:
             return None
         if broken.end is not None or broken.wait:
@@ -116,7 +118,7 @@ def answer_of(source: str | Path, block: SetUp, span: dict[str, Any], seconds: f
     for found in search.found(seconds):
         shown = shown_by(search, runs, found)
         if shown and runs.is_confirmed(shown):
-            small = smaller(runs, shown, min(SMALLER_SECONDS, max(0.2, end - time.monotonic())))
+            small = smaller(runs, shown)
             if small is not shown and runs.is_confirmed(small):
                 shown = small
             return Answer(shown, search.states, search.last, False, None)
@@ -151,13 +153,13 @@ def endless(search: Search, runs: Runs, found: Found) -> Optional[Shown]:
     return runs.endless(lines, clocks[1], clocks[2])
 
 
-def smaller(runs: Runs, shown: Shown, seconds: float) -> Shown:
+def smaller(runs: Runs, shown: Shown) -> Shown:
     """A run with fewer lines and smaller words that breaks the span too."""
-    end = time.monotonic() + seconds
+    most = runs.steps + SMALLER_STEPS
 
     def tried(lines: list[Line]) -> bool:
         nonlocal shown
-        if time.monotonic() > end or lines == shown.lines:
+        if runs.steps > most or lines == shown.lines:
             return False
         found = still(runs, shown, lines)
         if found is not None:

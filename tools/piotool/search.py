@@ -8,7 +8,8 @@ from typing import Any, Iterator, Optional
 
 from piotool.asked import Asked
 from piotool.guide import guide_of
-from piotool.lazy_block import Dead, Stretch
+from piotool.lazy_block import Stretch
+from piotool.lazy_choices import Dead
 from piotool.lazy_state import Keys, State
 
 # The weights of a step, each with its part of the time.
