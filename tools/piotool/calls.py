@@ -1,5 +1,6 @@
 """What the scripts share: one-line faults, files that are read, and calls of piotool."""
 
+import argparse
 import subprocess
 import sys
 from pathlib import Path
@@ -43,6 +44,17 @@ def told_verdicts(source, config):
     if status not in (0, 3):
         raise Fault(told)
     return text.splitlines()
+
+
+def seconds(text):
+    """A time above 0."""
+    try:
+        number = float(text)
+    except ValueError:
+        number = 0
+    if not 0 < number <= 86_400:
+        raise argparse.ArgumentTypeError("a time is a number of seconds above 0, up to 86400")
+    return number
 
 
 def run_script(name, work):
