@@ -119,10 +119,12 @@ class AskedMachine:
 
 
 class Asked:
-    """A span of a set-up, with all that matters to it."""
+    """A span of a set-up, with all that matters to it. Where it is held, the machines are enabled and restarted after so many clocks:
+    clocks are counted from there, TX may be full and pins may be anything then.
+    """
 
-    def __init__(self, block: SetUp, span: dict[str, Any]) -> None:
-        self.block, self.span = block, span
+    def __init__(self, block: SetUp, span: dict[str, Any], held: int = 0) -> None:
+        self.block, self.span, self.held = block, span, held
         self.pins = block.pins
         machines = {number: AskedMachine(number, setup, block.memory) for number, setup in sorted(block.setups.items())}
         self.ends = span["from_pin"], span["to_pin"]

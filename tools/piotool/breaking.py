@@ -23,6 +23,7 @@ MOST_LOOPED = 20_000  # stretches of a loop that are gone round
 SMALLER_STEPS = 400_000  # of all runs that are tried to make one small
 MORE_SECONDS = 5.0  # what the last run that was found may take beyond the time
 LAST_CLOCK = 10**12
+HELD = 16  # clocks until machines are enabled that begin late
 
 
 @dataclass
@@ -110,12 +111,24 @@ def cut(run: Run, clocks: int) -> Run:
 
 
 def answer_of(source: str | Path, block: SetUp, span: dict[str, Any], seconds: float, is_guided: bool = True) -> Answer:
-    """What is told of a span, after so many seconds at most."""
+    """What is told of a span, after so many seconds at most.
+
+    Where every state was visited, runs are searched in which the machines are enabled late.
+    """
     asked, end = Asked(block, span), time.monotonic() + seconds
     if asked.unmoved_from():
         return Answer(None, 0, 0, True, span["from_pin"])
+    answer = searched(source, asked, end, is_guided)
+    if answer.is_done and time.monotonic() < end:
+        late = searched(source, Asked(block, span, HELD), end, is_guided)
+        answer = late if late.shown else answer
+    return answer
+
+
+def searched(source: str | Path, asked: Asked, end: float, is_guided: bool) -> Answer:
+    """What one search comes to, up to a time."""
     search, runs = Search(asked, is_guided), Runs(source, asked, end + MORE_SECONDS)
-    for found in search.found(seconds):
+    for found in search.found(end - time.monotonic()):
         shown = shown_by(search, runs, found)
         if shown and runs.is_confirmed(shown):
             small = smaller(runs, shown)
@@ -133,8 +146,8 @@ def shown_by(search: Search, runs: Runs, found: Found) -> Optional[Shown]:
     stretch = replayed(asked, search.guide, found.tapes + (found.loop or []) * (MOST_LOOPED // len(found.loop or [0])), log, runs.until)
     if stretch is None or stretch.found is None or stretch.found > LAST_CLOCK:
         return None
-    lines = lines_of(log, asked.pins["high"])
-    return None if lines is None else runs.broken(lines, stretch.found)
+    lines = lines_of(log, asked.pins["high"], asked.held, asked.numbers)
+    return None if lines is None else runs.broken(lines, stretch.found + asked.held)
 
 
 def endless(search: Search, runs: Runs, found: Found) -> Optional[Shown]:
@@ -147,10 +160,10 @@ def endless(search: Search, runs: Runs, found: Found) -> Optional[Shown]:
         if stretch is None or stretch.found is not None:
             return None
         clocks.append(stretch.state.clock)
-    lines = lines_of(log, asked.pins["high"])
+    lines = lines_of(log, asked.pins["high"], asked.held, asked.numbers)
     if lines is None or stretch is None:
         return None
-    return runs.endless(lines, clocks[1], clocks[2])
+    return runs.endless(lines, clocks[1] + asked.held, clocks[2] + asked.held)
 
 
 def smaller(runs: Runs, shown: Shown) -> Shown:

@@ -53,7 +53,7 @@ class Stretch(Choices):
         elif asked.pins["out"] >> pin & 1:
             return asked.pins["level"] >> pin & 1
         clock = state.clock if bypasses else state.clock - 2
-        if clock < 0:
+        if clock + asked.held < 0:
             return asked.pins["high"] >> pin & 1
         bit = self.new_bit(1)
         self.tell("pin", pin, clock, bit)

@@ -49,6 +49,8 @@ class State:
         directions = tuple(pins["out"] >> pin & 1 for pin in asked.kept)
         self.clock, self.flags, self.counted, self.free = 0, 0, 0, 1
         self.machines = [MachineState(it) for it in asked.machines]
+        for it, machine in zip(asked.machines, self.machines):
+            machine.tx_high = it.tx_room if asked.held else 0
         # Levels and directions at the start of this clock, of the one before, and of the one before that.
         self.now = self.before = self.earlier = (levels, directions)
         self.clauses: tuple[Clause, ...] = ()

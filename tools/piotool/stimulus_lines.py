@@ -5,7 +5,7 @@ read as late as they can be, too. So a bound from above, as an empty TX, is kept
 """
 
 from random import Random
-from typing import Any, Optional
+from typing import Any, Optional, Sequence
 
 from piotool.block_model import Line
 from piotool.lazy_values import Clause
@@ -75,8 +75,8 @@ def latest_of(wants: list[tuple[int, int]], number: int) -> list[int]:
     return latest
 
 
-def lines_of(log: Log, high: int) -> Optional[list[Line]]:
-    """The lines that a log asks for, or none where they can't all be in time."""
+def lines_of(log: Log, high: int, held: int = 0, numbers: Sequence[int] = ()) -> Optional[list[Line]]:
+    """The lines that a log asks for, or none where they can't all be in time. Machines that are held begin after so many clocks."""
     bits, lines = Bits(log), []
     outside = {pin: high >> pin & 1 for pin in range(32)}
     pins = sorted({(clock, pin, bit) for kind, pin, clock, bit in (it for it in log if it[0] == "pin")})
@@ -87,17 +87,19 @@ def lines_of(log: Log, high: int) -> Optional[list[Line]]:
     for clock, pin, bit in pins:
         if bits.value(2 * bit) != outside[pin]:
             outside[pin] ^= 1
-            lines.append((clock, "pin", [pin, outside[pin]]))
+            lines.append((clock + held, "pin", [pin, outside[pin]]))
     words = {(number, place): first for _, number, place, first in (it for it in log if it[0] == "word")}
     for number in range(4):
         for kind in ("tx", "rx"):
-            times = times_of([(it[2], it[3]) for it in log if it[0] == f"{kind} least" and it[1] == number])
+            times = times_of([(it[2] + held, it[3]) for it in log if it[0] == f"{kind} least" and it[1] == number])
             if times is None:
                 return None
             for place, clock in enumerate(times):
                 first = words.get((number, place))
                 word = 0 if first is None else sum(bits.value(2 * (first + bit)) << bit for bit in range(32))
                 lines.append((clock, kind, [number, word] if kind == "tx" else [number]))
+    for number in numbers if held else ():
+        lines += [(0, "disable", [number]), (held, "enable", [number]), (held, "restart", [number])]
     return sorted(lines, key=lambda line: line[0])
 
 

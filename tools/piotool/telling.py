@@ -59,6 +59,7 @@ def place_of(block: SetUp, machine: int, addresses: tuple[int, ...]) -> str:
 def calls_of(source: str, config: str, span: dict[str, Any], stem: str, folder: Path, shown: Shown) -> list[tuple[list[str], str]]:
     """The calls that write the trace and the picture of a run, each with the file that its output is."""
     files = {ending: os.path.normpath(folder / f"{stem}.{ending}") for ending in ("bare.toml", "stim", "vcd", "svg")}
+    files = {ending: f"./{path}" if path.startswith("-") else path for ending, path in files.items()}
     run = ["piotool", "run", "--source", source, "--config", files["bare.toml"]]
     run += ["--stimulus", files["stim"]] if shown.lines else []
     first, last = max(0, shown.broken.begin - ROOM), min(shown.clocks, shown.broken.last + 1 + ROOM)
