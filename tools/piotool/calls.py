@@ -4,13 +4,14 @@ import argparse
 import subprocess
 import sys
 from pathlib import Path
+from typing import Any, Callable, NoReturn
 
 
 class Fault(Exception):
     """A mistake in a file or a call, as its one line tells it."""
 
 
-def read_text(path):
+def read_text(path: str | Path) -> str:
     """The text of a file."""
     try:
         return Path(path).read_bytes().decode("utf-8")
@@ -20,7 +21,7 @@ def read_text(path):
         raise Fault(f"{path}: not UTF-8") from None
 
 
-def write_text(path, text):
+def write_text(path: str | Path, text: str) -> None:
     """Writes a file."""
     try:
         Path(path).write_bytes(text.encode("utf-8"))
@@ -28,7 +29,7 @@ def write_text(path, text):
         raise Fault(f"{path}: {fault.strerror}") from None
 
 
-def piotool(*words, name="piotool"):
+def piotool(*words: Any, name: str = "piotool") -> tuple[int, str, str]:
     """A call of the piotool on the path, or of a script beside it: its status, its output, and its line on standard error."""
     try:
         ended = subprocess.run([name, *map(str, words)], stdin=subprocess.DEVNULL, capture_output=True)
@@ -38,7 +39,7 @@ def piotool(*words, name="piotool"):
     return ended.returncode, ended.stdout.decode("utf-8", "replace"), told
 
 
-def told_verdicts(source, config):
+def told_verdicts(source: str, config: str) -> list[str]:
     """The lines of `piotool check`."""
     status, text, told = piotool("check", "--source", source, "--config", config)
     if status not in (0, 3):
@@ -46,18 +47,18 @@ def told_verdicts(source, config):
     return text.splitlines()
 
 
-def seconds(text):
+def seconds(text: str) -> float:
     """A time above 0."""
     try:
         number = float(text)
     except ValueError:
-        number = 0
+        number = 0.0
     if not 0 < number <= 86_400:
         raise argparse.ArgumentTypeError("a time is a number of seconds above 0, up to 86400")
     return number
 
 
-def run_script(name, work):
+def run_script(name: str, work: Callable[[], int]) -> NoReturn:
     """Ends the script with the status that its work gives; a fault is one line and status 1."""
     sys.stdout.reconfigure(errors="backslashreplace")
     try:
