@@ -109,7 +109,8 @@ class AskedMachine:
                 (directions if self.setup["side_pindirs"] else levels).update(pin for pin, _ in word.side)
             if word.kind == SET and word.high in (PINS, PINDIRS):
                 (levels if word.high == PINS else directions).update(self.set_pins)
-            if word.kind == OUT and word.high in (PINS, PINDIRS) or word.kind == MOV and word.high == PINS and not word.is_nothing:
+            is_move = word.kind == MOV and word.high == PINS and not word.is_nothing
+            if is_move or word.kind == OUT and word.high in (PINS, PINDIRS):
                 (levels if word.high == PINS else directions).update(self.out_pins)
         if self.runs_data:
             side = set(mapped_pins(self.setup["side_base"], self.setup["side_bits"]))
@@ -119,8 +120,10 @@ class AskedMachine:
 
 
 class Asked:
-    """A span of a set-up, with all that matters to it. Where it is held, the machines are enabled and restarted after so many clocks:
-    clocks are counted from there, TX may be full and pins may be anything then.
+    """A span of a set-up, with all that matters to it.
+
+    Where it is held, the machines are enabled and restarted after so many clocks: clocks are counted from there, TX may be full and pins
+    may be anything then.
     """
 
     def __init__(self, block: SetUp, span: dict[str, Any], held: int = 0) -> None:
@@ -151,12 +154,12 @@ class Asked:
         while True:
             sees = set().union(*(machines[it].touched.sees for it in found))
             reads = set().union(*(machines[it].touched.reads for it in found))
-            more = {
-                number
-                for number, it in machines.items()
-                if number not in found
-                and (it.touched.changes & sees or (written[number][0] | written[number][1]) & reads or written[number][0] & set(self.ends))
-            }
+            more = set()
+            for number, it in machines.items():
+                levels, directions = written[number]
+                if it.touched.changes & sees or (levels | directions) & reads or levels & set(self.ends):
+                    more.add(number)
+            more -= found
             if not more:
                 return found
             found |= more
@@ -176,5 +179,6 @@ class Asked:
         found = {f"{letter}{it.number}" for it in self.others for letter in "trws"}
         for it in self.others:
             levels, directions = it.written()
-            found |= {f"p{pin}" for pin in levels} | {f"d{pin}" for pin in directions} | {f"f{flag}" for flag in it.touched.changes}
+            found |= {f"p{pin}" for pin in levels} | {f"d{pin}" for pin in directions}
+            found |= {f"f{flag}" for flag in it.touched.changes}
         return found

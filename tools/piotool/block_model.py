@@ -15,7 +15,7 @@ Line = tuple[int, str, list[int]]
 
 @dataclass(frozen=True)
 class Ticks:
-    """Ticks of a machine in a row of clocks: how many, the address where they are late, and the clock from which ticks are counted."""
+    """Ticks of a machine in a row of clocks: how many, the address where they are late, and the clock of the restart before."""
 
     first: int
     last: int
@@ -150,7 +150,12 @@ class Block:
 
 
 def samples(
-    memory: list[int], setups: dict[int, Setup], pins: dict[str, int], lines: list[Line], clocks: int, system: Optional[System] = None
+    memory: list[int],
+    setups: dict[int, Setup],
+    pins: dict[str, int],
+    lines: list[Line],
+    clocks: int,
+    system: Optional[System] = None,
 ) -> Iterator[list[int]]:
     """The 88 values after each clock."""
     block = Block(memory, setups, pins, system or System(lines))

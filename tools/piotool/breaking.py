@@ -79,7 +79,7 @@ class Runs:
         return Shown(lines, high, broken_at(self.block, self.span, cut(run, high), lines) or broken)
 
     def endless(self, lines: list[Line], first: int, second: int) -> Optional[Shown]:
-        """Whether the span stays open for ever beside these lines, its count growing, since the second clock is as the first one was."""
+        """The run where the span stays open for ever beside these lines, since the second clock is as the first one was."""
         addresses = addresses_round(self.block, lines, self.span["machine"], first, second, MOST_STEPS, self.until)
         if addresses is None:
             return None
@@ -90,8 +90,10 @@ class Runs:
         return Shown(lines, second, other, addresses, first)
 
     def is_confirmed(self, shown: Shown) -> bool:
-        """Whether piotool's own trace of the run is the model's, but for what machines write that don't matter, and the span is broken in
-        it, or would be in the end."""
+        """Whether piotool's own trace of the run is the model's, and the span is broken in it, or would be in the end.
+
+        What is written by machines that don't matter isn't compared.
+        """
         run = run_of(self.block, shown.lines, shown.clocks, 2 * MOST_STEPS, self.until)
         if not run.is_whole or not shown.loop and broken_at(self.block, self.span, run, shown.lines) is None:
             return False
@@ -143,7 +145,8 @@ def shown_by(search: Search, runs: Runs, found: Found) -> Optional[Shown]:
     asked, log = search.asked, []
     if found.loop and (shown := endless(search, runs, found)):
         return shown
-    stretch = replayed(asked, search.guide, found.tapes + (found.loop or []) * (MOST_LOOPED // len(found.loop or [0])), log, runs.until)
+    turns = (found.loop or []) * (MOST_LOOPED // len(found.loop or [0]))
+    stretch = replayed(asked, search.guide, found.tapes + turns, log, runs.until)
     if stretch is None or stretch.found is None or stretch.found > LAST_CLOCK:
         return None
     lines = lines_of(log, asked.pins["high"], asked.held, asked.numbers)
@@ -226,7 +229,8 @@ def with_smaller_words(lines: list[Line], place: int) -> list[list[Line]]:
         return []
     found = []
     if word == "feed":
-        found += [numbers[:count] for count in (first + 1, first + 2, (first + len(numbers) + 1) // 2, len(numbers) - 1) if count > first]
+        counts = first + 1, first + 2, (first + len(numbers) + 1) // 2, len(numbers) - 1
+        found += [numbers[:count] for count in counts if count > first]
     for at in range(first, min(len(numbers), first + 8)):
         found += [[*numbers[:at], smaller, *numbers[at + 1 :]] for smaller in (0, 1, numbers[at] & 0xFF) if smaller < numbers[at]]
     return [[*lines[:place], (clock, word, it), *lines[place + 1 :]] for it in found]

@@ -10,7 +10,7 @@ from piotool.span_runs import run_of
 def addresses_round(
     block: SetUp, lines: list[Line], number: int, first: int, second: int, most_steps: float, until: float
 ) -> Optional[tuple[int, ...]]:
-    """The addresses that a machine comes through from one clock to another, where the block then is in the state that it was in."""
+    """The addresses that a machine comes through from one clock to another, where the block is then as it was."""
     if any(clock >= first or word in ("feed", "drain") for clock, word, _ in lines):
         return None
     run = run_of(block, lines, second + 1, most_steps, until, (first, second))

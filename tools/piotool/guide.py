@@ -1,7 +1,7 @@
 """How far a state is from a run that breaks the span, at least as the graph of the checker's contexts says it.
 
-The graph has more ways than runs have, so where it has no way to a violation, no run has one. It is sharper than the checker's where
-that is cheap: the zeros above the bits of an OUT, MOV PINS of NULL, and the addresses after OUT PC and MOV PC.
+The graph has more ways than runs have, so where it has no way to a violation, no run has one. It is sharper than the checker's
+where that is cheap: the zeros above the bits of an OUT, MOV PINS of NULL, and the addresses after OUT PC and MOV PC.
 """
 
 import heapq
@@ -87,7 +87,8 @@ class Guide:
         """The least ticks from each context to a to-edge."""
         ahead = []
         for context, courses in self.rows.items():
-            ahead += [(course.counted(0, ended(course) + 1), context.order(), context) for course in courses if course.carried() is None]
+            ends = (course for course in courses if course.carried() is None)
+            ahead += [(course.counted(0, ended(course) + 1), context.order(), context) for course in ends]
         heapq.heapify(ahead)
         found: dict[Context, float] = {}
         while ahead:
@@ -169,7 +170,9 @@ class Guide:
         """The first context."""
         return self.first
 
-    def after(self, context: Optional[Context], address: int, machine: MachineState, from_level: int, to_level: int) -> Optional[Context]:
+    def after(
+        self, context: Optional[Context], address: int, machine: MachineState, from_level: int, to_level: int
+    ) -> Optional[Context]:
         """The context after an instruction; none where it isn't known."""
         if machine.pending is not None:
             return None

@@ -1,7 +1,7 @@
-"""Clocks of a block whose inputs aren't chosen yet: where a machine looks at something free, a tape of choices says what it finds.
+"""Clocks of a block whose inputs aren't chosen yet: where a machine looks at something free, a tape of choices says what it is.
 
-The rules are those of docs/SPECIFICATION.md. A *stretch* runs a state up to the first clock in which something was chosen, or so many
-clocks, and leaps over delays. It tells a log, where one is given, what the system has to do for that.
+The rules are those of docs/SPECIFICATION.md. A *stretch* runs a state up to the first clock in which something was chosen, or so
+many clocks, and leaps over delays. It tells a log, where one is given, what the system has to do for that.
 """
 
 from typing import Any, Optional
@@ -143,7 +143,8 @@ class Stretch(Choices):
         if self.found is not None:
             return
         if own is not None and own.finishes:
-            state.context = self.guide.after(state.context, own.address, state.machines[asked.own], *(levels[0][asked.place[pin]] for pin in asked.ends))
+            ends = (levels[0][asked.place[pin]] for pin in asked.ends)
+            state.context = self.guide.after(state.context, own.address, state.machines[asked.own], *ends)
         state.clock += 1
         if asked.is_alone:
             self.look_for_turn(own, old == levels[0])
@@ -238,7 +239,8 @@ class Stretch(Choices):
             return
         if own.word.kind != JMP or machine.pc > own.address:
             return
-        shape = state.context, state.now, state.flags, machine.delay, machine.isr, machine.osr, machine.in_count, machine.out_count
+        shape = state.context, state.now, state.flags, machine.delay, machine.isr, machine.osr
+        shape += machine.in_count, machine.out_count
         before = self.turns.get(machine.pc)
         self.turns[machine.pc] = shape, machine.x, machine.y, machine.tick
         if before and before[0] == shape and isinstance(machine.x, int) and isinstance(machine.y, int):

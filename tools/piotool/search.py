@@ -15,7 +15,7 @@ from piotool.lazy_state import Keys, State
 # The weights of a step, each with its part of the time.
 WEIGHTS = ((0.2, 0.15), (0.02, 0.25), (1.0, 0.5), (0.1, 1.0))
 MOST_WAYS_ON = 96
-MOST_STATES = 400_000
+MOST_STATES = 150_000
 
 
 @dataclass
@@ -122,11 +122,14 @@ class Search:
         child.mark, child.mark_key, child.until = node.mark, node.mark_key, node.until
         if child.mark_key != self.keys.of(child.state, False):
             return None
-        grows = child.state.clock > child.mark.state.clock and (self.asked.in_clocks or child.state.counted > child.mark.state.counted)
+        mark = child.mark.state
+        grows = child.state.clock > mark.clock and (self.asked.in_clocks or child.state.counted > mark.counted)
         return child.tapes(child.mark) if grows else None
 
 
-def replayed(asked: Asked, guide: Any, tapes: list[list[int]], log: Optional[list[tuple]] = None, until: float = inf) -> Optional[Stretch]:
+def replayed(
+    asked: Asked, guide: Any, tapes: list[list[int]], log: Optional[list[tuple]] = None, until: float = inf
+) -> Optional[Stretch]:
     """The last stretch of these tapes, up to a time."""
     state, stretch = State(asked, guide.start()), None
     for number, tape in enumerate(tapes):

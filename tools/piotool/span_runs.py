@@ -1,6 +1,7 @@
-"""Runs of a block, also long ones, and whether a span holds in them, from the written rules (docs/SPECIFICATION.md, "When a span holds").
+"""Runs of a block, also long ones, and whether a span holds in them, from the written rules (docs/SPECIFICATION.md).
 
-A run is the samples that differ from the ones before, by their clocks. Clocks in which only delays and waits go on are leapt over.
+A run is the samples of clocks in which something may have changed. Clocks in which only delays, waits and turns of a counted loop go
+on are leapt over.
 """
 
 from bisect import bisect_right
@@ -50,7 +51,7 @@ class Run:
 
 @dataclass(frozen=True)
 class Broken:
-    """How a run breaks a span: the from-edge, the to-edge or none, the last clock that is counted, the count, and the bad wait."""
+    """How a run breaks a span: the from-edge, the to-edge or none, the last clock that counts, the count, and the bad wait."""
 
     begin: int
     end: Optional[int]
@@ -63,8 +64,13 @@ class Broken:
         return f"{what} from clock {self.begin} to {self.last}"
 
 
-def run_of(block: SetUp, lines: list[Line], clocks: int, most_steps: float = inf, until: float = inf, marks: tuple[int, ...] = ()) -> Run:
-    """A run, with the states at the start of the clocks that are marked. Where it takes more clocks to be worked out singly than the most, or lasts past a time, it isn't whole."""
+def run_of(
+    block: SetUp, lines: list[Line], clocks: int, most_steps: float = inf, until: float = inf, marks: tuple[int, ...] = ()
+) -> Run:
+    """A run, with the states at the start of the clocks that are marked.
+
+    Where more clocks than the most have to be worked out singly, or a time is over, it isn't whole.
+    """
     stepped = Block(block.memory, block.setups, block.pins, System(lines))
     own = sorted({line[0] for line in lines} | set(marks))
     samples: list[tuple[int, list[int]]] = []
@@ -126,8 +132,10 @@ def next_clock(block: Block, lines: list[int], clock: int) -> float:
 
 
 def next_move(block: Block, machine: Machine, log: TickLog, clock: int) -> float:
-    """The clock of a machine's next tick that is neither delay, a wait that goes on, as one does that was late since the last move, nor
-    a turn of a counted loop of one instruction."""
+    """The clock of a machine's next tick that is neither delay, nor a wait that goes on, nor a turn of a counted loop.
+
+    A wait goes on where a tick was late since something moved, and what moved was seen.
+    """
     if machine.begun and log.rows[-1].address is not None and log.lasts[-1] > block.moved + 2:
         return inf
     tick = log.ticks_before(clock + 1, machine.restarted)

@@ -1,7 +1,7 @@
 """The lines of a stimulus that a search asks for, by its log; and the text of lines.
 
-A word is written as late as it can be: in the clock before the one that wants it, or earlier where that clock has another one. Words are
-read as late as they can be, too. So a bound from above, as an empty TX, is kept wherever it can be.
+A word is written as late as it can be: in the clock before the one that wants it, or earlier where that clock has another one. Words
+are read as late as they can be, too. So a bound from above, as an empty TX, is kept wherever it can be.
 """
 
 from random import Random
@@ -55,14 +55,14 @@ class Bits:
 def times_of(wants: list[tuple[int, int]]) -> Optional[list[int]]:
     """The clocks of words, by what is wanted: before this clock so many. None where there are too few clocks."""
     number = max((count for _, count in wants), default=0)
-    latest = [min(clock for clock, count in wants if count > place) - 1 for place in range(number)] if number < 500 else latest_of(wants, number)
+    latest = latest_of(wants, number)
     for place in reversed(range(number - 1)):
         latest[place] = min(latest[place], latest[place + 1] - 1)
     return None if number and latest[0] < 0 else latest
 
 
 def latest_of(wants: list[tuple[int, int]], number: int) -> list[int]:
-    """The clocks before which each word is wanted, of many words."""
+    """The last clock in which each word can come."""
     latest = [0] * number
     least = None
     by_count: dict[int, int] = {}

@@ -56,7 +56,9 @@ def place_of(block: SetUp, machine: int, addresses: tuple[int, ...]) -> str:
     return f'"{label}"' if label else f"address {addresses[0]}"
 
 
-def calls_of(source: str, config: str, span: dict[str, Any], stem: str, folder: Path, shown: Shown) -> list[tuple[list[str], str]]:
+def calls_of(
+    source: str, config: str, span: dict[str, Any], stem: str, folder: Path, shown: Shown
+) -> list[tuple[list[str], str]]:
     """The calls that write the trace and the picture of a run, each with the file that its output is."""
     files = {ending: os.path.normpath(folder / f"{stem}.{ending}") for ending in ("bare.toml", "stim", "vcd", "svg")}
     files = {ending: f"./{path}" if path.startswith("-") else path for ending, path in files.items()}

@@ -52,7 +52,7 @@ def text_of(samples: Iterable[tuple[int, list[list[int]]]], clocks: int, scopes:
 
 
 def without(text: str, names: set[str]) -> str:
-    """The text of one block's samples without the changes of the values of these names, and without the clocks that then have none."""
+    """The text of one block's samples without the values of these names, and without the clocks that then have no change."""
     dropped = {chr(33 + place) for place, name in enumerate(NAMES) if name in names}
     lines: list[str] = []
     for line in text.splitlines():
