@@ -76,12 +76,12 @@ right:
 
 
 def deep_fifo(random):
-    """A pulse is longer where TX has some words: a run with so many written before."""
+    """A pulse is longer where TX has some words: a run with so many written before. (Right after a take it can't have four.)"""
     level = random.randrange(1, 5)
     source = f"""
 .program q
 .wrap_target
-    pull [{random.randrange(8)}]
+    pull [{random.randrange(1, 8)}]
     mov x, status
     set pins, 1 [2]
     jmp !x many

@@ -21,8 +21,9 @@ from piotool.trace_text import without
 MOST_STEPS = 150_000  # clocks that a run of the model works out singly
 MOST_LOOPED = 20_000  # stretches of a loop that are gone round
 SMALLER_STEPS = 400_000  # of all runs that are tried to make one small
-MORE_SECONDS = 5.0  # what the last run that was found may take beyond the time
+MORE_SECONDS = 3.0  # what the last run that was found may take beyond the time
 LAST_CLOCK = 10**12
+LONG = 200_000  # clocks of a run in which machines that don't matter may write too much
 HELD = 16  # clocks until machines are enabled that begin late
 
 
@@ -53,7 +54,9 @@ class Runs:
 
     def __init__(self, source: str | Path, asked: Asked, until: float = inf) -> None:
         self.source, self.block, self.span, self.until = source, asked.alone(), asked.span, until
-        self.bare = toml_of(asked.block.tables | {"span": []})
+        tables = asked.block.tables | {"span": []}
+        self.bare = toml_of(tables)
+        self.few = toml_of(tables | {"machine": [it for it in tables["machine"] if it["id"] in asked.numbers]})
         self.of_others = asked.of_others()
         self.steps = 0  # the clocks that were worked out singly
 
@@ -92,14 +95,14 @@ class Runs:
     def is_confirmed(self, shown: Shown) -> bool:
         """Whether piotool's own trace of the run is the model's, and the span is broken in it, or would be in the end.
 
-        What is written by machines that don't matter isn't compared.
+        What is written by machines that don't matter isn't compared, and in long runs these are left out.
         """
         run = run_of(self.block, shown.lines, shown.clocks, 2 * MOST_STEPS, self.until)
         if not run.is_whole or not shown.loop and broken_at(self.block, self.span, run, shown.lines) is None:
             return False
         with tempfile.TemporaryDirectory() as folder:
             config, stimulus = Path(folder) / "bare.toml", Path(folder) / "shown.stim"
-            config.write_text(self.bare)
+            config.write_text(self.bare if shown.clocks <= LONG else self.few)
             stimulus.write_text(text_of(shown.lines))
             words = ["--source", self.source, "--config", config, "--stimulus", stimulus, "--clocks", shown.clocks]
             status, text, _ = piotool("run", *words)
@@ -145,8 +148,10 @@ def shown_by(search: Search, runs: Runs, found: Found) -> Optional[Shown]:
     asked, log = search.asked, []
     if found.loop and (shown := endless(search, runs, found)):
         return shown
-    turns = (found.loop or []) * (MOST_LOOPED // len(found.loop or [0]))
-    stretch = replayed(asked, search.guide, found.tapes + turns, log, runs.until)
+    loop = found.loop or []
+    if found.turns * len(loop) > MOST_LOOPED:
+        return None
+    stretch = replayed(asked, search.guide, found.tapes + loop * found.turns, log, runs.until)
     if stretch is None or stretch.found is None or stretch.found > LAST_CLOCK:
         return None
     lines = lines_of(log, asked.pins["high"], asked.held, asked.numbers)

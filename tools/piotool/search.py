@@ -42,10 +42,11 @@ class Node:
 
 @dataclass
 class Found:
-    """What may break the span: the tapes of a run, and those of a loop that follows them without end, where there is one."""
+    """What may break the span: the tapes of a run, and those of a loop that follows them, with the turns after which `max` is passed."""
 
     tapes: list[list[int]]
     loop: Optional[list[list[int]]] = None
+    turns: int = 0
 
 
 class Search:
@@ -89,7 +90,7 @@ class Search:
                 seen.add(key)
                 child = Node(state, node, [it for it, _ in stretch.used], node.steps + 1)
                 if loop := self.endless(node, child):
-                    yield Found(child.tapes(), loop)
+                    yield loop
                     is_complete = False
                     continue
                 number += 1
@@ -110,7 +111,7 @@ class Search:
                 return
         yield None
 
-    def endless(self, node: Node, child: Node) -> Optional[list[list[int]]]:
+    def endless(self, node: Node, child: Node) -> Optional[Found]:
         """The loop that a state ends on which the span stays open, where its count grows in it; by Brent's way of marking."""
         oldest = child.state.oldest
         if oldest is None or child.state.ages()[1] * 2 > self.asked.span["max"] and not self.asked.in_clocks:
@@ -122,9 +123,12 @@ class Search:
         child.mark, child.mark_key, child.until = node.mark, node.mark_key, node.until
         if child.mark_key != self.keys.of(child.state, False):
             return None
-        mark = child.mark.state
-        grows = child.state.clock > mark.clock and (self.asked.in_clocks or child.state.counted > mark.counted)
-        return child.tapes(child.mark) if grows else None
+        now, mark, most = child.state, child.mark.state, self.asked.span["max"]
+        if self.asked.in_clocks:
+            growth, missing = now.clock - mark.clock, most + 1 - (now.clock - oldest[0])
+        else:
+            growth, missing = now.counted - mark.counted, most + 1 - (now.counted - oldest[1])
+        return Found(child.tapes(), child.tapes(child.mark), max(0, -(-missing // growth)) + 1) if growth > 0 else None
 
 
 def replayed(
