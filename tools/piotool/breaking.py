@@ -120,11 +120,11 @@ def answer_of(source: str | Path, block: SetUp, span: dict[str, Any], seconds: f
 
     Where every state was visited, runs are searched in which the machines are enabled late.
     """
-    asked, end = Asked(block, span), time.monotonic() + seconds
+    asked, end = Asked(block, span), time.process_time() + seconds
     if asked.unmoved_from():
         return Answer(None, 0, 0, True, span["from_pin"])
     answer = searched(source, asked, end, is_guided)
-    if answer.is_done and time.monotonic() < end:
+    if answer.is_done and time.process_time() < end:
         late = searched(source, Asked(block, span, HELD), end, is_guided)
         answer = late if late.shown else answer
     return answer
@@ -133,7 +133,7 @@ def answer_of(source: str | Path, block: SetUp, span: dict[str, Any], seconds: f
 def searched(source: str | Path, asked: Asked, end: float, is_guided: bool) -> Answer:
     """What one search comes to, up to a time."""
     search, runs = Search(asked, is_guided), Runs(source, asked, end + MORE_SECONDS)
-    for found in search.found(end - time.monotonic()):
+    for found in search.found(end - time.process_time()):
         shown = shown_by(search, runs, found)
         if shown and runs.is_confirmed(shown):
             small = smaller(runs, shown)

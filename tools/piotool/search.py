@@ -58,11 +58,11 @@ class Search:
         self.is_done, self.has_more = False, True
 
     def found(self, seconds: float) -> Iterator[Found]:
-        """What may break the span, for so many seconds."""
-        first, begin = State(self.asked, self.guide.start()), time.monotonic()
+        """What may break the span, for so many seconds of a processor."""
+        first, begin = State(self.asked, self.guide.start()), time.process_time()
         for weight, part in WEIGHTS:
             yield from self.found_by(Node(first, None, [], 0), weight, begin + seconds * part)
-            if not self.has_more or time.monotonic() > begin + seconds:
+            if not self.has_more or time.process_time() > begin + seconds:
                 break
 
     def found_by(self, first: Node, weight: float, end: float) -> Iterator[Found]:
@@ -71,7 +71,7 @@ class Search:
         seen, number, is_complete = {self.keys.of(first.state)}, 0, True
         while ahead:
             self.states = max(self.states, len(seen))
-            if time.monotonic() > end or len(seen) > MOST_STATES:
+            if time.process_time() > end or len(seen) > MOST_STATES:
                 return
             node = heapq.heappop(ahead)[2]
             for stretch in self.ways_on(node):
@@ -139,6 +139,6 @@ def replayed(
     for number, tape in enumerate(tapes):
         stretch = Stretch(asked, guide, state, tape, log).run()
         state = stretch.state
-        if stretch.found is not None or number % 256 == 255 and time.monotonic() > until:
+        if stretch.found is not None or number % 256 == 255 and time.process_time() > until:
             break
     return stretch

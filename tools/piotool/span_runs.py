@@ -7,7 +7,7 @@ on are leapt over.
 from bisect import bisect_right
 from dataclasses import dataclass, field
 from math import inf
-from time import monotonic
+from time import process_time
 from typing import Any, Iterator, Optional
 
 from piotool import trace_text
@@ -78,7 +78,7 @@ def run_of(
     before = last = pads_of(stepped)  # the pads of two clocks ago, and of the one before
     clock = steps = 0
     while clock < clocks:
-        if steps >= most_steps or steps % 256 == 0 and monotonic() > until:
+        if steps >= most_steps or steps % 256 == 0 and process_time() > until:
             found.is_whole = False
             break
         steps += 1
