@@ -1,6 +1,6 @@
 """Random inputs: most are right or nearly right, and some are spoiled in a place or two."""
 
-from block_model import ALL_ONES
+from piotool.machine_model import ALL_ONES
 from config_model import MACHINE_KEYS, PIN_KEYS, Program
 
 NAMES = ["a", "b", "c", "loop", "next", "prev", "A", "_z", "k1", "word", "end"]

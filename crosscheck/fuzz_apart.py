@@ -1,9 +1,9 @@
 """Between calls: machines that share nothing, and blocks that see nothing of each other."""
 
 import fuzz_models as models
-import shares_model
 from fuzz_checks import block_words, changes, check, need, pair_words
 from fuzz_files import CONFIG, SECOND, SOURCE, STIMULUS, tables_as_toml
+from piotool import shares_model
 
 
 def stimulus_of(lines):

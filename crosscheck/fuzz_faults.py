@@ -3,10 +3,10 @@
 import random
 
 import fuzz_models as models
-import shares_model
 import source_model
 from fuzz_checks import block_words, check, look_at_fault, need, need_alike, pair_words, same
 from fuzz_files import CONFIG, SECOND, SOURCE, STIMULUS, TABLE
+from piotool import shares_model
 
 
 @check(SOURCE)

@@ -4,16 +4,14 @@ import re
 import tomllib
 from functools import lru_cache
 
-import block_model
 import config_model
-import shares_model
 import source_model
 import stimulus_model
 from fuzz_files import CONFIG, SOURCE, WORDS
+from piotool import shares_model
+from piotool.set_up import Program, SetUp
 
 LONGEST = {SOURCE: 262_144, CONFIG: 262_144, WORDS: 262_144}
-MACHINE = {key: False if limits is None else limits[0] for key, limits in config_model.MACHINE_KEYS.items()}
-MACHINE |= {"divider": 1, "set_count": 5, "in_right": True, "out_right": True, "push_threshold": 32, "pull_threshold": 32}
 SECOND_KEYS = ["level", "out", "bypass", "own"]
 # What docs/DECISIONS.md, "What is TOML?", names as taken here and not by Python's reader, or the other way round.
 OTHERWISE = [rb"[{]", rb"\\[ex]", rb"\d\d:\d\d(?!:)", rb":60", rb"\b0000-", rb"\xef\xbb\xbf"]
@@ -52,14 +50,14 @@ def labels_of(source):
     return [{name: place for name, place in labels.items() if place < count} for labels, count in found]
 
 
-class Loadable(config_model.Program):
-    """A program with the places of its labels and its wrap."""
+class Loadable(Program):
+    """A program of the model of sources, which it also has as it is listed."""
 
     def __init__(self, program, labels):
-        super().__init__(program.words, program.origin, labels)
-        self.name, self.listed = program.name, program
-        self.wrap = program.first or 0, len(program.words) - 1 if program.last is None else program.last
-        self.rule = {"side_bits": program.bits, "side_opt": int(program.opt), "side_pindirs": program.pindirs}
+        rule = {"side_bits": program.bits, "side_opt": int(program.opt), "side_pindirs": program.pindirs}
+        wrap = program.first or 0, len(program.words) - 1 if program.last is None else program.last
+        super().__init__(program.name, program.origin, rule, wrap, program.words, labels)
+        self.listed = program
 
 
 def config_fault(source, config, reader=config_model.Reader, word="config"):
@@ -99,33 +97,14 @@ def stimulus_fault(stimulus):
     return f"stimulus {fault}" if fault else None
 
 
-class Block:
-    """The block that a source and a configuration set up: memory, setups, pins as words, spans with the addresses of their stalls."""
+class Block(SetUp):
+    """The block that a source and a configuration set up."""
 
     def __init__(self, source, config):
         programs, fault = programs_of(source)
         if fault or (config is not None and config_fault(source, config)):
             raise Unknown
-        self.tables = default_tables(programs) if config is None else tables_of(config)
-        self.memory, places = [0] * 32, {}
-        for table in self.tables["load"]:
-            program = programs[table["program"]]
-            places[program.name] = at = table.get("at", program.origin or 0)
-            for place, word in enumerate(program.words):
-                self.memory[at + place] = word if word >> 13 else word + at
-        self.labels, self.setups = {}, {}
-        for table in self.tables["machine"]:
-            program = programs[table["program"]]
-            at, (bottom, top) = places[program.name], program.wrap
-            self.labels[table["id"]] = {name: at + place for name, place in program.labels.items()}
-            own = {"start": self.labels[table["id"]].get(table.get("start"), at), "wrap_bottom": at + bottom, "wrap_top": at + top}
-            self.setups[table["id"]] = MACHINE | {key: table[key] for key in MACHINE if key in table} | program.rule | own
-        self.pins = {key: sum(1 << pin for pin in set(self.tables["pins"].get(key, []))) for key in config_model.PIN_KEYS}
-        self.spans = [self.span(table) for table in self.tables["span"]]
-
-    def span(self, table):
-        labels = self.labels[table["machine"]]
-        return {"unit": "ticks"} | table | {"stalls": [labels[name] for name in table.get("stalls", [])]}
+        super().__init__(programs, default_tables(programs) if config is None else tables_of(config))
 
     def span_named(self, name):
         return next((span for span in self.spans if span["name"] == name), None)
@@ -185,54 +164,3 @@ def words_of(text):
         if len(words) > 32:
             return [], f"words line {number}: H2"
     return words, None
-
-
-# Runs.
-
-
-class Watched(block_model.Block):
-    """A block that notes each machine's ticks: the clock, and the address where the tick is late."""
-
-    def __init__(self, *parts):
-        super().__init__(*parts)
-        self.ticks = {number: [] for number in self.machines}
-
-    def step(self, clock, before, now):
-        for number, machine in self.machines.items():
-            if machine.has_tick(clock):
-                self.ticks[number].append((clock, machine.pc if machine.begun else None))
-        return super().step(clock, before, now)
-
-
-def run_of(block, lines, clocks):
-    """The samples of a run, and the ticks of its machines."""
-    watched = Watched(block.memory, block.setups, block.pins, block_model.System(lines))
-    return [values[0] for values in block_model.together([watched], 0, clocks)], watched.ticks
-
-
-def edges_of(shown, level, pin, edge):
-    """The clocks of a pin's edges."""
-    levels = [level >> pin & 1] + [values[pin] for values in shown]
-    wanted = (0, 1) if edge == "rise" else (1, 0)
-    return [clock for clock, pair in enumerate(zip(levels, levels[1:])) if pair == wanted]
-
-
-def broken_at(block, span, shown, ticks, lines):
-    """How a run breaks a span (docs/SPECIFICATION.md, "When a span holds"), or none."""
-    ends = edges_of(shown, block.pins["level"], span["to_pin"], span["to_edge"])
-    disturbed = [clock for clock, word, numbers in lines if word in ("disable", "restart") and numbers[0] == span["machine"]]
-    for begin in edges_of(shown, block.pins["level"], span["from_pin"], span["from_edge"]):
-        end = next((clock for clock in ends if clock > begin), None)
-        last = len(shown) - 1 if end is None else end
-        within = [address for clock, address in ticks[span["machine"]] if begin < clock <= last]
-        count = sum(address is None or address not in span["stalls"] for address in within)
-        if span["unit"] == "clocks":
-            if any(begin < clock <= last for clock in disturbed):
-                continue
-            count = last - begin
-        where = f"from clock {begin} to {last}"
-        if any(address is not None and address not in span["stalls"] for address in within):
-            return f"a wait that isn't named {where}"
-        if count > span["max"] or end is not None and count < span["min"]:
-            return f"{count} {span['unit']} {where}"
-    return None

@@ -2,12 +2,12 @@
 
 import random
 
-import block_model
 import fuzz_models as models
 import observers_model
 from fuzz_calls import Violation
 from fuzz_checks import block_words, changes, check, need, pair_words, run_words, same, without_spans
 from fuzz_files import CONFIG, SECOND, SENT, SOURCE, STIMULUS
+from piotool.span_runs import broken_at, run_of
 
 
 @check(SOURCE)
@@ -98,12 +98,12 @@ def stepped(program, files, asked):
     program.take(files)
     if ran.status != 0:
         return False
-    shown, ticks = models.run_of(block, lines, clocks)
-    wanted = block_model.trace(shown, clocks).encode()
+    stepped = run_of(block, lines, clocks)
+    wanted = stepped.trace().encode()
     same(ran, ran._replace(out=wanted), "the trace isn't the model's")
     told = program.call("check", *block_words(files))
     for span, verdict in zip(block.spans, told.out.split(b"\n")):
-        if b" proved " in verdict and (how := models.broken_at(block, span, shown, ticks, lines)):
+        if b" proved " in verdict and (how := broken_at(block, span, stepped, lines)):
             raise Violation(f"{verdict.decode()}, but the run has {how}", told.words, ran.words)
     return True
 

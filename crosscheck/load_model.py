@@ -1,6 +1,7 @@
 """The load of a seed and its summary, from the written rules (docs/SPECIFICATION.md, "A load from a seed")."""
 
-import block_model
+from piotool import block_model
+from piotool.set_up import MACHINE
 
 
 class Draws:
@@ -27,12 +28,7 @@ class Counted(block_model.System):
 
 
 # A machine's setup where nothing is said.
-DEFAULT = {
-    "divider": 1, "fraction": 0, "x": 0, "y": 0, "in_base": 0, "out_base": 0, "out_count": 0, "set_base": 0,
-    "set_count": 5, "side_base": 0, "jmp_pin": 0, "in_right": True, "out_right": True, "autopush": False,
-    "autopull": False, "push_threshold": 32, "pull_threshold": 32, "join_tx": False, "join_rx": False,
-    "status_rx": False, "status_n": 0, "side_bits": 0, "side_opt": 0, "side_pindirs": False,
-}  # fmt: skip
+DEFAULT = MACHINE | {"side_bits": 0, "side_opt": 0, "side_pindirs": False}
 
 
 def summary(seed, clocks):

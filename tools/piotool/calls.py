@@ -1,15 +1,17 @@
 """What the scripts share: one-line faults, files that are read, and calls of piotool."""
 
+import argparse
 import subprocess
 import sys
 from pathlib import Path
+from typing import Any, Callable, NoReturn
 
 
 class Fault(Exception):
     """A mistake in a file or a call, as its one line tells it."""
 
 
-def read_text(path):
+def read_text(path: str | Path) -> str:
     """The text of a file."""
     try:
         return Path(path).read_bytes().decode("utf-8")
@@ -19,7 +21,7 @@ def read_text(path):
         raise Fault(f"{path}: not UTF-8") from None
 
 
-def write_text(path, text):
+def write_text(path: str | Path, text: str) -> None:
     """Writes a file."""
     try:
         Path(path).write_bytes(text.encode("utf-8"))
@@ -27,23 +29,45 @@ def write_text(path, text):
         raise Fault(f"{path}: {fault.strerror}") from None
 
 
-def piotool(*words):
-    """A call of the piotool on the path: its status, its output, and its line on standard error."""
+def piotool(*words: Any, name: str = "piotool") -> tuple[int, str, str]:
+    """A call of the piotool on the path, or of a script beside it: its status, its output, and its line on standard error."""
     try:
-        ended = subprocess.run(["piotool", *map(str, words)], stdin=subprocess.DEVNULL, capture_output=True)
+        ended = subprocess.run([name, *map(str, words)], stdin=subprocess.DEVNULL, capture_output=True)
     except OSError as fault:
-        raise Fault(f"piotool: {fault.strerror}; it has to be on the path") from None
+        raise Fault(f"{name}: {fault.strerror}; it has to be on the path") from None
     told = ended.stderr.decode("utf-8", "replace").partition("\n")[0]
     return ended.returncode, ended.stdout.decode("utf-8", "replace"), told
 
 
-def run_script(name, work):
+def told_verdicts(source: str, config: str) -> list[str]:
+    """The lines of `piotool check`."""
+    status, text, told = piotool("check", "--source", source, "--config", config)
+    if status not in (0, 3):
+        raise Fault(told)
+    return text.splitlines()
+
+
+def seconds(text: str) -> float:
+    """A time above 0."""
+    try:
+        number = float(text)
+    except ValueError:
+        number = 0.0
+    if not 0 < number <= 86_400:
+        raise argparse.ArgumentTypeError("a time is a number of seconds above 0, up to 86400")
+    return number
+
+
+def run_script(name: str, work: Callable[[], int]) -> NoReturn:
     """Ends the script with the status that its work gives; a fault is one line and status 1."""
+    sys.stdout.reconfigure(errors="backslashreplace")
     try:
         status = work()
         sys.stdout.flush()
     except Fault as fault:
         print(f"{name}: {fault}", file=sys.stderr)
+        status = 1
+    except KeyboardInterrupt:
         status = 1
     except BrokenPipeError:
         sys.stderr.close()

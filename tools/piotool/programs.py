@@ -1,56 +1,19 @@
-"""What a source and a configuration set up, as the model of verdicts takes it; the source is read by `piotool asm`."""
+"""The programs of a source, as `piotool asm` reads it, and what they and a configuration set up."""
 
 import re
 import tempfile
-from dataclasses import dataclass, field
 from pathlib import Path
 
 from piotool.calls import Fault, piotool
+from piotool.set_up import Program, SetUp, Tables
 
 LABEL = re.compile(rb"^((?:.*\*/)?[ \t\r]*)(public[ \t\r]+)?([A-Za-z_]\w*)(?=[ \t\r]*:(?!:))", re.M | re.I)
 HEAD = re.compile(r"program (\S+) origin (\S+) side (\d+)( opt)?( pindirs)? wrap (\d+) (\d+)")
 PUBLIC = re.compile(r"public (\S+) (-?\d+)")
 WORD = re.compile(r"\d\d ([0-9a-f]{4}) .*")
-DEFAULTS = {
-    "divider": 1,
-    "fraction": 0,
-    "out_base": 0,
-    "out_count": 0,
-    "set_base": 0,
-    "set_count": 5,
-    "side_base": 0,
-    "autopush": False,
-    "autopull": False,
-    "x": 0,
-    "y": 0,
-}
 
 
-@dataclass
-class Program:
-    """A program of a listing: its words with their lines, and what its labels mean."""
-
-    name: str
-    origin: object
-    rule: dict
-    wrap: tuple
-    words: list = field(default_factory=list)
-    lines: list = field(default_factory=list)
-    labels: dict = field(default_factory=dict)
-
-
-@dataclass
-class Block:
-    """A block as it is set up: memory, the line and the label of each word, the machines' setups, the levels at the start."""
-
-    memory: list
-    lines: dict
-    labels: dict
-    setups: dict
-    level: int
-
-
-def listing_of(source):
+def listing_of(source: str | Path) -> str:
     """The listing of a source, or its fault as piotool tells it."""
     status, text, told = piotool("asm", source)
     if status != 0:
@@ -58,7 +21,7 @@ def listing_of(source):
     return text
 
 
-def programs_of(source):
+def programs_of(source: str | Path) -> dict[str, Program]:
     """The programs of a source by name."""
     programs = {program.name: program for program in read_listing(listing_of(source))}
     try:
@@ -71,7 +34,7 @@ def programs_of(source):
     return programs
 
 
-def listing_of_text(text):
+def listing_of_text(text: bytes) -> str:
     """The listing of a source that is in no file. With all labels public it tells their places."""
     with tempfile.TemporaryDirectory() as folder:
         copy = Path(folder) / "source.pio"
@@ -79,9 +42,9 @@ def listing_of_text(text):
         return listing_of(copy)
 
 
-def read_listing(text):
+def read_listing(text: str) -> list[Program]:
     """The programs of a listing."""
-    programs = []
+    programs: list[Program] = []
     for line in text.splitlines():
         if head := HEAD.fullmatch(line):
             rule = {"side_bits": int(head[3]), "side_opt": bool(head[4]), "side_pindirs": bool(head[5])}
@@ -95,35 +58,6 @@ def read_listing(text):
     return programs
 
 
-def block_of(source, tables):
+def set_up_by(source: str | Path, tables: Tables) -> SetUp:
     """What a source and the tables of a configuration set up; piotool has found no fault in them."""
-    programs, places = programs_of(source), {}
-    block = Block([0] * 32, {}, {}, {}, sum(1 << pin for pin in set(tables["pins"].get("level", []))))
-    for table in tables["load"]:
-        program = programs[table["program"]]
-        places[program.name] = at = table.get("at", program.origin or 0)
-        names = {place: name for name, place in program.labels.items()}
-        for place, word in enumerate(program.words):
-            block.memory[at + place] = word if word >> 13 else word + at
-            block.lines[at + place] = program.lines[place]
-            block.labels[at + place] = names.get(place)
-    for table in tables["machine"]:
-        program = programs[table["program"]]
-        block.setups[table["id"]] = setup_of(program, places[program.name], table)
-    return block
-
-
-def setup_of(program, at, table):
-    """A machine's setup: the keys of its table, and the places of its program."""
-    start = program.labels[table["start"]] if "start" in table else 0
-    bottom, top = program.wrap
-    keys = {key: table.get(key, default) for key, default in DEFAULTS.items()}
-    places = {"start": at + start, "wrap_bottom": at + bottom, "wrap_top": at + top}
-    return keys | program.rule | places | {"at": at, "program": program}
-
-
-def span_as_model(span, block):
-    """A span as the model takes it: its stalls are addresses."""
-    setup = block.setups[span.machine]
-    labels = setup["program"].labels
-    return vars(span) | {"stalls": [setup["at"] + labels[label] for label in span.stalls]}
+    return SetUp(programs_of(source), tables)

@@ -1,9 +1,12 @@
 """Reads configurations: the spans that they declare, and the periods of their machines."""
 
+import json
 import tomllib
 from dataclasses import dataclass
+from pathlib import Path
 
 from piotool.calls import Fault, read_text
+from piotool.set_up import Tables
 
 MOST = 2**24 - 1  # the greatest bound
 NUMBERS = {"machine": 3, "from_pin": 31, "to_pin": 31, "min": MOST, "max": MOST}
@@ -23,22 +26,29 @@ class Span:
     unit: str
     min: int
     max: int
-    stalls: tuple
+    stalls: tuple[str, ...]
 
-    def bounds(self):
+    def bounds(self) -> str:
         """The declared bounds as a text, as `2..7 ticks`."""
         return f"{self.min} {self.unit}" if self.min == self.max else f"{self.min}..{self.max} {self.unit}"
 
+    @property
+    def table(self) -> Tables:
+        """Its table in a configuration."""
+        return vars(self)
 
-def tables_of(path, text):
+
+def tables_of(path: str | Path, text: str) -> Tables:
     """The tables of a configuration's text, as Python's own reader of TOML gives them. A byte order mark is no part of it."""
     try:
         return {"load": [], "machine": [], "span": [], "pins": {}} | tomllib.loads(text.removeprefix("\ufeff"))
-    except tomllib.TOMLDecodeError as fault:
+    except ValueError as fault:
         raise Fault(f"{path}: {fault}") from None
+    except RecursionError:
+        raise Fault(f"{path}: too many brackets inside each other") from None
 
 
-def read_tables(path):
+def read_tables(path: str | Path) -> Tables:
     """The tables of a configuration, each of the right type."""
     tables = tables_of(path, read_text(path))
     for key in ("load", "machine", "span"):
@@ -49,12 +59,12 @@ def read_tables(path):
     return tables
 
 
-def spans_of(path, tables):
+def spans_of(path: str | Path, tables: Tables) -> list[Span]:
     """The spans of a configuration, in order."""
     return [span_of(path, f"span[{place}]", table) for place, table in enumerate(tables["span"])]
 
 
-def span_of(path, at, table):
+def span_of(path: str | Path, at: str, table: Tables) -> Span:
     """The span that a table declares."""
     table = {"unit": "ticks", "stalls": []} | table
     for key, most in NUMBERS.items():
@@ -70,7 +80,7 @@ def span_of(path, at, table):
     return Span(**{key: table[key] for key in keys}, stalls=tuple(stalls))
 
 
-def span_named(path, spans, name):
+def span_named(path: str | Path, spans: list[Span], name: str) -> Span:
     """The first span of this name."""
     for span in spans:
         if span.name == name:
@@ -78,7 +88,7 @@ def span_named(path, spans, name):
     raise Fault(f"{path}: no span is called {name!r}")
 
 
-def period_of(path, tables, machine):
+def period_of(path: str | Path, tables: Tables, machine: int) -> int:
     """The period of a machine's ticks, in 256ths of a clock."""
     for table in tables["machine"]:
         if table.get("id") == machine:
@@ -87,3 +97,17 @@ def period_of(path, tables, machine):
                 raise Fault(f"{path}: the divider of machine {machine} is no number")
             return 256 * (whole or 65536) + fraction
     raise Fault(f"{path}: machine {machine} isn't configured")
+
+
+def toml_of(tables: Tables) -> str:
+    """Tables as the text of a configuration."""
+    lines = ["[pins]", *assignments(tables["pins"])]
+    for key in ("load", "machine", "span"):
+        for table in tables[key]:
+            lines += [f"[[{key}]]", *assignments(table)]
+    return "\n".join(lines) + "\n"
+
+
+def assignments(table: Tables) -> list[str]:
+    """The lines of a table: its values are numbers, texts, truths, and lists of these."""
+    return [f"{key} = {json.dumps(value)}" for key, value in table.items()]

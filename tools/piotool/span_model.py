@@ -13,6 +13,11 @@ side_pindirs. A span has the keys of a configuration; stalls are addresses.
 import heapq
 from collections import Counter
 from dataclasses import dataclass, field
+from typing import Any, Iterator, Optional
+
+from piotool.machine_model import Setup, Write, period_of
+
+Span = dict[str, Any]
 
 JMP, WAIT, IN, OUT, PUSH_PULL, MOV, IRQ, SET = range(8)
 TO_PINS, TO_X, TO_Y, TO_PC = 0, 1, 2, 5
@@ -24,17 +29,17 @@ class Context:
     """A place with what is known there: registers that aren't known are None."""
 
     address: int
-    x: object
-    y: object
+    x: Optional[int]
+    y: Optional[int]
     from_level: int
     to_level: int
 
-    def order(self):
+    def order(self) -> tuple[int, int, int, int, int]:
         """The place in the order of contexts; a register that isn't known comes after 31."""
         x, y = (32 if value is None else value for value in (self.x, self.y))
         return self.address, x, y, self.from_level, self.to_level
 
-    def __str__(self):
+    def __str__(self) -> str:
         x, y = ("any" if value is None else value for value in (self.x, self.y))
         return f"{self.address} x {x} y {y} from {self.from_level} to {self.to_level}"
 
@@ -43,7 +48,7 @@ class Context:
 class Tick:
     """A tick of a course: the levels after it, its edges, and whether it is late."""
 
-    levels: tuple
+    levels: tuple[int, ...]
     begins: bool
     ends: bool
     is_late: bool = False
@@ -54,27 +59,27 @@ class Course:
     """A way through one instruction. Without a context after it no address is known."""
 
     before: Context
-    ticks: tuple
-    after: object
+    ticks: tuple[Tick, ...]
+    after: Optional[Context]
 
     @property
-    def waits(self):
+    def waits(self) -> bool:
         """Whether the instruction waits on this way."""
         return any(tick.is_late for tick in self.ticks)
 
-    def counted(self, first=0, end=None):
+    def counted(self, first: int = 0, end: Optional[int] = None) -> int:
         """How many ticks count, from the place first on and before the place end."""
         return sum(not tick.is_late for tick in self.ticks[first:end])
 
-    def carried(self):
+    def carried(self) -> Optional[int]:
         """The ticks that an open age gains by the whole course, or None where the course ends the span."""
         return None if any(tick.ends for tick in self.ticks) else self.counted()
 
-    def is_carrying(self):
+    def is_carrying(self) -> bool:
         """Whether a span stays open over the course, and an address is known after it."""
         return self.after is not None and self.carried() is not None
 
-    def opened(self):
+    def opened(self) -> Optional[int]:
         """The age at the end of a span that the course opens and doesn't end, or None."""
         for place in reversed(range(len(self.ticks))):
             if self.ticks[place].begins:
@@ -92,12 +97,12 @@ class Bounds:
     most: int
 
     @property
-    def cap(self):
+    def cap(self) -> int:
         """The age at which counting ends."""
         return self.most + 1
 
 
-def bounds_of(span, setup):
+def bounds_of(span: Span, setup: Setup) -> Bounds:
     """The bounds of a span in ticks."""
     if span["unit"] == "ticks":
         return Bounds(span["min"], span["max"])
@@ -105,17 +110,12 @@ def bounds_of(span, setup):
     return Bounds(-(-256 * span["min"] // period), 256 * span["max"] // period)
 
 
-def period_of(setup):
-    """The period of a machine's ticks, in 256ths of a clock."""
-    return 256 * (setup["divider"] or 65536) + setup["fraction"]
-
-
-def mapping(base, count):
+def mapping(base: int, count: int) -> list[int]:
     """The pins of a mapping, in order."""
     return [(base + place) % 32 for place in range(count)]
 
 
-def held(setup):
+def held(setup: Setup) -> set[int]:
     """The pins whose level a machine's mappings hold."""
     pins = mapping(setup["out_base"], setup["out_count"]) + mapping(setup["set_base"], setup["set_count"])
     return set(pins + ([] if setup["side_pindirs"] else mapping(setup["side_base"], setup["side_bits"])))
@@ -124,17 +124,17 @@ def held(setup):
 class Machine:
     """One machine beside one span's pins: the courses of each context."""
 
-    def __init__(self, memory, setup, span):
+    def __init__(self, memory: list[int], setup: Setup, span: Span) -> None:
         self.memory, self.setup = memory, setup
         self.pins = span["from_pin"], span["to_pin"]
         self.wanted = tuple(int(span[edge] == "rise") for edge in ("from_edge", "to_edge"))
 
-    def start(self, level):
+    def start(self, level: int) -> Context:
         """The first context, from the output levels of the pins at the start."""
         known = [self.setup[name] if self.setup[name] < 32 else None for name in ("x", "y")]
         return Context(self.setup["start"], *known, *(level >> pin & 1 for pin in self.pins))
 
-    def courses(self, context):
+    def courses(self, context: Context) -> list[Course]:
         """The courses of the instruction at a context."""
         word = self.memory[context.address]
         side, delay = self.side_and_delay(word)
@@ -147,7 +147,9 @@ class Machine:
                 courses += [self.course(context, path + [({}, False)] * delay, x, y, address) for path in paths]
         return list(dict.fromkeys(courses))
 
-    def course(self, context, writes, x, y, address):
+    def course(
+        self, context: Context, writes: list[tuple[Write, bool]], x: Optional[int], y: Optional[int], address: Optional[int]
+    ) -> Course:
         """The course of these writes, tick by tick."""
         levels, ticks = (context.from_level, context.to_level), []
         for write, is_late in writes:
@@ -157,7 +159,7 @@ class Machine:
             levels = after
         return Course(context, tuple(ticks), None if address is None else Context(address, x, y, *levels))
 
-    def side_and_delay(self, word):
+    def side_and_delay(self, word: int) -> tuple[Write, int]:
         """The levels that side-set writes, by pin, and the ticks of the delay."""
         bits, has_enable = self.setup["side_bits"], int(self.setup["side_opt"])
         shared, delay_bits = word >> 8 & 31, 5 - bits - has_enable
@@ -166,7 +168,7 @@ class Machine:
             return {}, delay
         return {pin: value >> place & 1 for place, pin in enumerate(mapping(self.setup["side_base"], bits))}, delay
 
-    def writes(self, word):
+    def writes(self, word: int) -> list[Write]:
         """What the instruction itself may write, by pin: one or more possibilities."""
         kind, high = word >> 13, word >> 5 & 7
         if kind == SET and high == TO_PINS:
@@ -177,7 +179,7 @@ class Machine:
         free = sorted(set(self.pins) & set(mapping(self.setup["out_base"], self.setup["out_count"])))
         return [{pin: number >> place & 1 for place, pin in enumerate(free)} for number in range(1 << len(free))]
 
-    def may_wait(self, word):
+    def may_wait(self, word: int) -> bool:
         """Whether the instruction may stall."""
         high, low = word >> 5 & 7, word & 31
         waits = {
@@ -189,12 +191,12 @@ class Machine:
         }
         return waits.get(word >> 13, False)
 
-    def after(self, word, context):
+    def after(self, word: int, context: Context) -> list[tuple[Optional[int], Optional[int], Optional[int]]]:
         """What is known after the instruction: X, Y and the address, of each way on."""
         x, y = self.register_after(word, TO_X, context), self.register_after(word, TO_Y, context)
         return [(x, y, address) for address in self.addresses_after(word, context)]
 
-    def register_after(self, word, which, context):
+    def register_after(self, word: int, which: int, context: Context) -> Optional[int]:
         """What is known of X or Y after the instruction."""
         kind, high = word >> 13, word >> 5 & 7
         old = context.x if which == TO_X else context.y
@@ -208,7 +210,7 @@ class Machine:
             return {1: context.x, 2: context.y, 3: 0}.get(word & 7)
         return None
 
-    def addresses_after(self, word, context):
+    def addresses_after(self, word: int, context: Context) -> list[Optional[int]]:
         """The addresses that may come next; None where none is known."""
         kind, high = word >> 13, word >> 5 & 7
         if kind == OUT and high in (TO_PC, OUT_EXEC) or kind == MOV and high in (TO_PC, MOV_EXEC) and is_move(word):
@@ -221,12 +223,12 @@ class Machine:
         return [address for address, may in ((word & 31, taken is not False), (after, taken is not True)) if may]
 
 
-def is_move(word):
+def is_move(word: int) -> bool:
     """Whether a word of MOV's kind has no reserved field."""
     return word >> 5 & 7 != 3 and word >> 3 & 3 != 3 and word & 7 != 4
 
 
-def is_taken(condition, x, y):
+def is_taken(condition: int, x: Optional[int], y: Optional[int]) -> Optional[bool]:
     """Whether a JMP is taken, or None where it may go both ways."""
     if condition == 0:
         return True
@@ -242,11 +244,11 @@ class Ages:
     open there is no greatest.
     """
 
-    least: dict = field(default_factory=dict)
-    most: dict = field(default_factory=dict)
-    looping: set = field(default_factory=set)
+    least: dict[Context, int] = field(default_factory=dict)
+    most: dict[Context, int] = field(default_factory=dict)
+    looping: set[Context] = field(default_factory=set)
 
-    def at(self, context, cap):
+    def at(self, context: Context, cap: int) -> Optional[tuple[int, int]]:
         """The ages at a context, up to a cap, or None."""
         if context not in self.least:
             return None
@@ -256,7 +258,7 @@ class Ages:
 class Graph:
     """The contexts that a machine may come to, with their courses and ages."""
 
-    def __init__(self, machine, level, bounds, stalls):
+    def __init__(self, machine: Machine, level: int, bounds: Bounds, stalls: set[int]) -> None:
         self.bounds, self.stalls = bounds, stalls
         self.start, self.rows = machine.start(level), {}
         ahead = [self.start]
@@ -269,11 +271,11 @@ class Graph:
         self.find_least()
         self.find_most()
 
-    def all_courses(self):
+    def all_courses(self) -> Iterator[Course]:
         """Every course after which an address is known."""
         return (course for courses in self.rows.values() for course in courses if course.after is not None)
 
-    def find_least(self):
+    def find_least(self) -> None:
         """Dijkstra's algorithm from all the courses that open a span."""
         ahead = [(it.opened(), it.after.order(), it.after) for it in self.all_courses() if it.opened() is not None]
         heapq.heapify(ahead)
@@ -287,7 +289,7 @@ class Graph:
                 if course.is_carrying():
                     heapq.heappush(ahead, (age + course.carried(), course.after.order(), course.after))
 
-    def find_most(self):
+    def find_most(self) -> None:
         """The longest ways: a context is ready when all that lead to it are done, so those in and after a loop never are."""
         most = self.ages.most
         carrying = {context: [it for it in self.rows[context] if it.is_carrying()] for context in self.ages.least}
@@ -305,7 +307,7 @@ class Graph:
                     ready.append(course.after)
         self.ages.looping = {context for context in carrying if missing[context]}
 
-    def causes(self, course):
+    def causes(self, course: Course) -> list[tuple[str, int]]:
         """The causes that a course has from the ages at its context, each with the place of its tick."""
         if course.after is None:
             return [("U4", 0)]
@@ -319,25 +321,25 @@ class Graph:
                 found.append(("U3", place))
         return found
 
-    def cause(self, context):
+    def cause(self, context: Context) -> Optional[str]:
         """The first cause of a context, or None."""
         found = {cause for course in self.rows[context] for cause, _ in self.causes(course)}
         return "U4" if "U4" in found else min(found, default=None)
 
-    def first_bad(self):
+    def first_bad(self) -> Optional[tuple[Context, str]]:
         """The first bad context with its cause, or None."""
         for context in sorted(self.rows, key=Context.order):
             if cause := self.cause(context):
                 return context, cause
         return None
 
-    def ages_at_ends(self):
+    def ages_at_ends(self) -> Optional[tuple[int, int]]:
         """The least and the greatest age at a to-edge, or None where no open span comes to one."""
         pairs = (pair for course in self.all_courses() for pair in zip(course.ticks, self.ages_within(course)))
         ages = [ages for tick, ages in pairs if tick.ends and ages]
         return (min(least for least, _ in ages), max(most for _, most in ages)) if ages else None
 
-    def ages_within(self, course):
+    def ages_within(self, course: Course) -> list[Optional[tuple[int, ...]]]:
         """The ages in each tick of a course, grown, before its edges."""
         cap, found = self.bounds.cap, []
         ages = self.ages.at(course.before, cap)
@@ -351,24 +353,24 @@ class Graph:
                 ages = (0, ages[1] if ages else 0)
         return found
 
-    def opens(self):
+    def opens(self) -> bool:
         """Whether some course has a from-edge."""
         return any(tick.begins for courses in self.rows.values() for course in courses for tick in course.ticks)
 
 
-def sharing(setups, span):
+def sharing(setups: dict[int, Setup], span: Span) -> Optional[int]:
     """The least other machine whose mappings hold a pin of the span, or None."""
     pins = {span["from_pin"], span["to_pin"]}
     return next((number for number in sorted(setups) if number != span["machine"] and held(setups[number]) & pins), None)
 
 
-def graph_of(memory, setups, level, span):
+def graph_of(memory: list[int], setups: dict[int, Setup], level: int, span: Span) -> Graph:
     """The graph of a span's machine."""
     setup = setups[span["machine"]]
     return Graph(Machine(memory, setup, span), level, bounds_of(span, setup), set(span["stalls"]))
 
 
-def verdict(memory, setups, level, span):
+def verdict(memory: list[int], setups: dict[int, Setup], level: int, span: Span) -> str:
     """The verdict on a span, as `check` writes it after the span's name."""
     other = sharing(setups, span)
     if other is not None:
@@ -379,7 +381,7 @@ def verdict(memory, setups, level, span):
     return f"proved opens {'yes' if graph.opens() else 'no'}"
 
 
-def table(memory, setups, level, span):
+def table(memory: list[int], setups: dict[int, Setup], level: int, span: Span) -> str:
     """The table of a span that is proved, as `table` writes it."""
     graph = graph_of(memory, setups, level, span)
     lines = []

@@ -3,6 +3,7 @@
 import re
 from bisect import bisect_right
 from dataclasses import dataclass, field
+from pathlib import Path
 
 from piotool.calls import Fault, read_text
 
@@ -18,19 +19,19 @@ SECOND = {"p": "q", "d": "e", "f": "g"}
 class Bit:
     """A value of one bit: the clocks in which the trace tells it, in order, and what it is from each of them on."""
 
-    clocks: list = field(default_factory=list)
-    values: list = field(default_factory=list)
+    clocks: list[int] = field(default_factory=list)
+    values: list[int] = field(default_factory=list)
 
-    def at(self, clock):
+    def at(self, clock: int) -> int:
         """The value in the sample of a clock."""
         place = bisect_right(self.clocks, clock)
         return self.values[place - 1] if place else 0
 
-    def changes(self, first, last):
+    def changes(self, first: int, last: int) -> list[tuple[int, int]]:
         """The clocks after first and before last in which the value changes, each with the new value."""
         return [(when, value) for when, value in self.edges(0) if first < when < last]
 
-    def edges(self, before):
+    def edges(self, before: int) -> list[tuple[int, int]]:
         """The clocks in which the value differs from the one before, each with the new value; before clock 0 it is given."""
         found = []
         for when, value in zip(self.clocks, self.values):
@@ -44,11 +45,11 @@ class Bit:
 class Trace:
     """The one-bit values of a trace by name, in its order, and its number of clocks."""
 
-    bits: dict
+    bits: dict[str, Bit]
     clocks: int
 
 
-def read_trace(path):
+def read_trace(path: str | Path) -> Trace:
     """The trace in a file."""
     lines = read_text(path).splitlines()
     bits, by_id, head = read_names(path, lines)
@@ -66,9 +67,11 @@ def read_trace(path):
     return Trace(bits, clock)
 
 
-def read_names(path, lines):
+def read_names(path: str | Path, lines: list[str]) -> tuple[dict[str, Bit], dict[str, Bit], int]:
     """The one-bit values by name and by identifier, and how many lines the head has."""
-    bits, by_id, names = {}, {}, {}
+    bits: dict[str, Bit] = {}
+    by_id: dict[str, Bit] = {}
+    names: dict[str, str] = {}
     for number, line in enumerate(lines, 1):
         if var := VAR.fullmatch(line):
             if var[1] == "1":
@@ -82,7 +85,7 @@ def read_names(path, lines):
     raise Fault(f"{path}: no trace that piotool writes")
 
 
-def bits_named(path, trace, names):
+def bits_named(path: str | Path, trace: Trace, names: str) -> dict[str, Bit]:
     """The one-bit values of these names; the names are a text with commas between them."""
     for name in names.split(","):
         if name not in trace.bits:

@@ -2,6 +2,9 @@
 
 from collections import deque
 from dataclasses import dataclass, field
+from typing import Callable, Iterator, Optional
+
+from piotool.span_model import Context, Course, Graph
 
 # So many ages are looked at for the shortest way on which a count passes `max`.
 MOST_STATES = 100_000
@@ -16,26 +19,26 @@ class Way:
     """
 
     cause: str
-    last: list
+    last: list[Course]
     tick: int
-    opens: object = None
-    first: list = field(default_factory=list)
-    loop: list = field(default_factory=list)
-    greatest: object = None
+    opens: Optional[int] = None
+    first: list[Course] = field(default_factory=list)
+    loop: list[Course] = field(default_factory=list)
+    greatest: Optional[int] = None
 
-    def length(self):
+    def length(self) -> int:
         """The number of courses."""
         return len(self.first) + len(self.loop) + len(self.last)
 
 
-def way_to(graph, context, cause):
+def way_to(graph: Graph, context: Context, cause: str) -> Way:
     """The shortest way to a bad context, which has this cause."""
     if cause == "U4":
         return Way(cause, path_from(graph, graph.start, context, lambda course: True) + graph.rows[context][:1], 0)
     return min(ways_to(graph, context, cause), key=Way.length)
 
 
-def ways_to(graph, context, cause):
+def ways_to(graph: Graph, context: Context, cause: str) -> Iterator[Way]:
     """A way to the first tick of each course at which the cause comes."""
     for course in graph.rows[context]:
         tick = next((tick for found, tick in graph.causes(course) if found == cause), None)
@@ -48,7 +51,7 @@ def ways_to(graph, context, cause):
             yield way_from_outside(graph, course, cause, tick)
 
 
-def opened_within(course, tick):
+def opened_within(course: Course, tick: int) -> Optional[int]:
     """The place of the tick before this one at which the course opens a span that is still open, or None."""
     for place in reversed(range(tick)):
         if course.ticks[place].begins:
@@ -58,13 +61,13 @@ def opened_within(course, tick):
     return None
 
 
-def is_bad(graph, course, cause, tick, opens):
+def is_bad(graph: Graph, course: Course, cause: str, tick: int, opens: int) -> bool:
     """Whether a span that is opened at a tick of the course has the cause at a later one."""
     count = course.counted(opens + 1, tick + 1)
     return cause == "U3" or (count > graph.bounds.most if cause == "U1" else count < graph.bounds.least)
 
 
-def way_from_outside(graph, course, cause, tick):
+def way_from_outside(graph: Graph, course: Course, cause: str, tick: int) -> Way:
     """A way to a bad tick from a from-edge in an earlier course."""
     context, rest = course.before, course.counted(0, tick + 1)
     shortest = way_of_ages(graph, context, graph.ages.least)
@@ -76,12 +79,12 @@ def way_from_outside(graph, course, cause, tick):
     return Way(cause, [*way, course], tick, opens=opening_tick(way[0]), greatest=graph.ages.most[context] + rest)
 
 
-def opening_tick(course):
+def opening_tick(course: Course) -> int:
     """The place of the last tick of a course with a from-edge."""
     return max(place for place, tick in enumerate(course.ticks) if tick.begins)
 
 
-def way_of_ages(graph, context, ages):
+def way_of_ages(graph: Graph, context: Context, ages: dict[Context, int]) -> list[Course]:
     """The courses from a from-edge to a context that give its age in these, the least ages or the greatest ones."""
     before = {}
     for course in graph.all_courses():
@@ -100,7 +103,7 @@ def way_of_ages(graph, context, ages):
         context = course.before
 
 
-def long_way(graph, context, wanted):
+def long_way(graph: Graph, context: Context, wanted: int) -> list[Course]:
     """The courses from a from-edge to a context that isn't after a loop, with the least age that is as much as wanted.
 
     Where there are too many ages on the ways to it, those that give the greatest age.
@@ -121,7 +124,7 @@ def long_way(graph, context, wanted):
     return way
 
 
-def path_from(graph, start, goal, is_kept):
+def path_from(graph: Graph, start: Context, goal: Context, is_kept: Callable[[Course], bool]) -> Optional[list[Course]]:
     """The fewest courses from one context to another, of those that are kept; or None."""
     before, ahead = {start: None}, deque([start])
     while ahead and goal not in before:
@@ -138,12 +141,12 @@ def path_from(graph, start, goal, is_kept):
     return path
 
 
-def is_carrying(course):
+def is_carrying(course: Course) -> bool:
     """Whether a span stays open over the course."""
     return course.is_carrying()
 
 
-def loop_through(graph, context):
+def loop_through(graph: Graph, context: Context) -> Optional[list[Course]]:
     """The fewest courses from a context to itself on which a span stays open, or None."""
     loops = []
     for course in filter(is_carrying, graph.rows[context]):
@@ -153,7 +156,7 @@ def loop_through(graph, context):
     return min(loops, key=len, default=None)
 
 
-def nearest_before(graph, context):
+def nearest_before(graph: Graph, context: Context) -> list[Context]:
     """The contexts in and after loops from which an open span may come to a context, the nearest first."""
     before = {}
     for course in filter(is_carrying, graph.all_courses()):
@@ -167,7 +170,7 @@ def nearest_before(graph, context):
     return list(found)
 
 
-def looping_way(graph, course, tick):
+def looping_way(graph: Graph, course: Course, tick: int) -> Way:
     """A way to a bad tick with the loop that is nearest to it; the course is in or after a loop."""
     context, loop = next((it, loop) for it in nearest_before(graph, course.before) if (loop := loop_through(graph, it)))
     first = way_of_ages(graph, context, graph.ages.least)

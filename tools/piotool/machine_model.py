@@ -1,28 +1,48 @@
-"""A block of four state machines, clock by clock, from the written rules (docs/SPECIFICATION.md).
+"""A state machine, tick by tick, from the written rules (docs/SPECIFICATION.md, "The machine").
 
-It shares no code and no form with the crates: FIFOs are lists, pads are looked up in their whole history, a divider's ticks
-are a formula, and a clock's writes are dictionaries of pins.
+It shares no code and no form with the crates: FIFOs are lists, a divider's ticks are a formula, and a tick's writes are
+dictionaries of pins. A setup has the keys of a configuration and the places of its program: start, wrap_bottom, wrap_top,
+side_bits, side_opt, side_pindirs.
 """
+
+from typing import Any, Optional
+
+Setup = dict[str, Any]
+Write = dict[int, int]
 
 WORD = 2**32
 ALL_ONES = WORD - 1
 TX_OVER, RX_UNDER, TX_STALL, RX_STALL = 1, 2, 4, 8
 
 
-def rotated_right(word, places):
+def period_of(setup: Setup) -> int:
+    """The period of a machine's ticks, in 256ths of a clock."""
+    return 256 * (setup["divider"] or 65536) + setup["fraction"]
+
+
+def rooms_of(setup: Setup) -> tuple[int, int]:
+    """How many words TX and RX hold."""
+    if setup["join_tx"]:
+        return 8, 0
+    return (0, 8) if setup["join_rx"] else (4, 4)
+
+
+def rotated_right(word: int, places: int) -> int:
+    """The 32 bits, each moved down so many places; those that fall out enter at the top."""
     return word >> places | word % 2**places << (32 - places)
 
 
-def reversed_bits(word):
+def reversed_bits(word: int) -> int:
+    """The 32 bits from the last to the first."""
     return int(f"{word:032b}"[::-1], 2)
 
 
-def mapped(base, count, value):
+def mapped(base: int, count: int, value: int) -> Write:
     """The pins of a mapping, each with its bit of a value."""
     return {(base + place) % 32: value >> place & 1 for place in range(count)}
 
 
-def with_pins(pins, write):
+def with_pins(pins: int, write: Write) -> int:
     """The 32 pins after a write."""
     for pin, bit in write.items():
         pins = pins & ~(1 << pin) | bit << pin
@@ -32,42 +52,47 @@ def with_pins(pins, write):
 class Intent:
     """What a tick does outside its machine's registers."""
 
-    def __init__(self):
-        self.levels, self.directions = [], []
+    def __init__(self) -> None:
+        self.levels: list[Write] = []
+        self.directions: list[Write] = []
         self.lowers = self.raises = self.sticky = 0
-        self.takes, self.gives = False, None
+        self.takes = False
+        self.gives: Optional[int] = None
 
 
 class Machine:
     """A machine with its FIFOs. The setup has the keys of a configuration, and the places of its program."""
 
-    def __init__(self, setup):
+    def __init__(self, setup: Setup) -> None:
         self.setup = setup
         self.pc, self.x, self.y = setup["start"], setup["x"], setup["y"]
         self.isr = self.osr = self.in_count = self.delay = self.sticky = self.got = self.restarted = 0
         self.out_count = 32
-        self.pending, self.begun, self.enabled = None, False, True
-        self.tx, self.rx = [], []
-        self.tx_room = 8 if setup["join_tx"] else 0 if setup["join_rx"] else 4
-        self.rx_room = 8 if setup["join_rx"] else 0 if setup["join_tx"] else 4
+        self.pending: Optional[int] = None
+        self.begun, self.enabled = False, True
+        self.has_turned = False  # whether the last instruction was a turn of a counted loop of one instruction
+        self.tx: list[int] = []
+        self.rx: list[int] = []
+        self.tx_room, self.rx_room = rooms_of(setup)
 
-    def has_tick(self, clock):
+    def has_tick(self, clock: int) -> bool:
         """Whether some k periods after the last restart fall into the clock."""
-        period = 256 * (self.setup["divider"] or 65536) + self.setup["fraction"]
-        passed = clock - self.restarted
+        period, passed = period_of(self.setup), clock - self.restarted
         k = -(-passed * 256 // period)
         return self.enabled and k * period // 256 == passed
 
-    def refill(self, intent):
+    def refill(self, intent: Intent) -> None:
         """Autopull, by the FIFO at the clock's start."""
         if self.setup["autopull"] and self.out_count >= self.setup["pull_threshold"] and self.tx:
             self.osr, self.out_count, intent.takes = self.tx[0], 0, True
 
-    def tick(self, number, seen, flags, memory):
+    def tick(self, number: int, seen: int, flags: int, memory: list[int]) -> Intent:
+        """One tick, by the pins that the machine sees and the flags at the clock's start."""
         intent = Intent()
         if self.delay > 0:
             self.delay -= 1
         else:
+            self.has_turned = False
             Instruction(self, number, seen, flags, memory).run(intent)
         self.refill(intent)
         return intent
@@ -76,22 +101,26 @@ class Machine:
 class Instruction:
     """One tick of the current instruction of a machine."""
 
-    def __init__(self, machine, number, seen, flags, memory):
+    def __init__(self, machine: Machine, number: int, seen: int, flags: int, memory: list[int]) -> None:
         self.machine, self.setup = machine, machine.setup
         self.number, self.seen, self.flags = number, seen, flags
         self.is_pending = machine.pending is not None
         self.word = machine.pending if self.is_pending else memory[machine.pc]
-        self.jump = self.next_word = None
+        self.jump: Optional[int] = None
+        self.next_word: Optional[int] = None
 
     @property
-    def high(self):
+    def high(self) -> int:
+        """Bits 7 to 5 of the word."""
         return self.word >> 5 & 7
 
     @property
-    def low(self):
+    def low(self) -> int:
+        """Bits 4 to 0 of the word."""
         return self.word & 31
 
-    def side_and_delay(self):
+    def side_and_delay(self) -> tuple[Optional[int], int]:
+        """The value of side-set, if there is any, and the ticks of the delay."""
         shared = self.word >> 8 & 31
         bits, opt = self.setup["side_bits"], self.setup["side_opt"]
         delay_bits = 5 - bits - opt
@@ -99,13 +128,14 @@ class Instruction:
         is_there = shared >> 4 == 1 if opt else bits > 0
         return value if is_there else None, shared & 2**delay_bits - 1
 
-    def flag(self):
+    def flag(self) -> int:
         """The number of the flag that the index means."""
         if self.low & 16:
             return self.low & 4 | (self.low + self.number) & 3
         return self.low & 7
 
-    def run(self, intent):
+    def run(self, intent: Intent) -> None:
+        """Does the tick."""
         machine, setup = self.machine, self.setup
         side, delay = self.side_and_delay()
         side_set = mapped(setup["side_base"], setup["side_bits"], side or 0)
@@ -127,6 +157,7 @@ class Instruction:
         if stalls:
             return
         if self.jump is not None:
+            machine.has_turned = self.word >> 13 == 0 and self.high in (2, 4) and self.jump == machine.pc and not self.is_pending
             machine.pc = self.jump
         elif not self.is_pending:
             machine.pc = setup["wrap_bottom"] if machine.pc == setup["wrap_top"] else (machine.pc + 1) % 32
@@ -135,7 +166,8 @@ class Instruction:
 
     # Each of these does an instruction's effect, and is true where it stalls.
 
-    def jmp(self, intent):
+    def jmp(self, intent: Intent) -> Optional[bool]:
+        """JMP never stalls."""
         machine = self.machine
         holds = [
             True,
@@ -154,7 +186,8 @@ class Instruction:
         if holds:
             self.jump = self.low
 
-    def wait(self, intent):
+    def wait(self, intent: Intent) -> Optional[bool]:
+        """WAIT stalls until its source has the polarity."""
         polarity, source = self.word >> 7 & 1, self.word >> 5 & 3
         if source == 3:
             return False
@@ -165,7 +198,8 @@ class Instruction:
         if source == 2 and polarity:
             intent.lowers |= 1 << self.flag()
 
-    def shift_in(self, intent):
+    def shift_in(self, intent: Intent) -> Optional[bool]:
+        """IN shifts in its first tick, and with autopush it waits for room."""
         machine, setup, count = self.machine, self.setup, self.low or 32
         if self.high in (4, 5):
             return False
@@ -181,7 +215,8 @@ class Instruction:
         if setup["autopush"] and machine.in_count >= setup["push_threshold"]:
             return self.give(intent, blocks=True)
 
-    def shift_out(self, intent):
+    def shift_out(self, intent: Intent) -> Optional[bool]:
+        """OUT, with autopull, waits until the OSR was refilled."""
         machine, setup, count = self.machine, self.setup, self.low or 32
         if setup["autopull"] and machine.out_count >= setup["pull_threshold"]:
             if not machine.tx:
@@ -199,7 +234,8 @@ class Instruction:
         else:
             self.put({0: "pins", 1: "x", 2: "y", 3: "null", 5: "pc", 7: "exec"}[self.high], value, intent)
 
-    def push_or_pull(self, intent):
+    def push_or_pull(self, intent: Intent) -> Optional[bool]:
+        """PUSH and PULL."""
         machine, setup = self.machine, self.setup
         conditional, blocks = self.word >> 6 & 1, self.word >> 5 & 1 == 1
         if self.low:
@@ -221,7 +257,7 @@ class Instruction:
         intent.takes = bool(machine.tx)
         machine.osr, machine.out_count = machine.tx[0] if machine.tx else machine.x, 0
 
-    def give(self, intent, blocks):
+    def give(self, intent: Intent, blocks: bool) -> Optional[bool]:
         """Pushes the ISR; a full RX stalls it, or loses the word."""
         machine = self.machine
         if len(machine.rx) >= machine.rx_room:
@@ -232,7 +268,8 @@ class Instruction:
             intent.gives = machine.isr
         machine.isr = machine.in_count = 0
 
-    def mov(self, intent):
+    def mov(self, intent: Intent) -> Optional[bool]:
+        """MOV never stalls."""
         machine, setup = self.machine, self.setup
         operation, source = self.word >> 3 & 3, self.word & 7
         if self.high == 3 or operation == 3 or source == 4:
@@ -249,7 +286,7 @@ class Instruction:
         else:
             self.put({0: "pins", 1: "x", 2: "y", 4: "exec", 5: "pc"}[self.high], value, intent)
 
-    def put(self, destination, value, intent):
+    def put(self, destination: str, value: int, intent: Intent) -> None:
         """What OUT and MOV have in common."""
         if destination == "pins":
             intent.levels.append(mapped(self.setup["out_base"], self.setup["out_count"], value))
@@ -262,7 +299,8 @@ class Instruction:
         elif destination == "exec":
             self.next_word = value % 2**16
 
-    def irq(self, intent):
+    def irq(self, intent: Intent) -> Optional[bool]:
+        """IRQ raises its flag once, and waits until it is lowered, or lowers it."""
         flag, clears, waits = 1 << self.flag(), self.word >> 6 & 1, self.word >> 5 & 1
         if self.word >> 7 & 1:
             return False
@@ -274,7 +312,8 @@ class Instruction:
         else:
             return self.flags & flag != 0
 
-    def set(self, intent):
+    def set(self, intent: Intent) -> Optional[bool]:
+        """SET never stalls."""
         write = mapped(self.setup["set_base"], self.setup["set_count"], self.low)
         if self.high == 0:
             intent.levels.append(write)
@@ -284,169 +323,3 @@ class Instruction:
             self.machine.y = self.low
         elif self.high == 4:
             intent.directions.append(write)
-
-
-class System:
-    """The lines of a stimulus and its transfers. A line is its clock, its word and its numbers."""
-
-    def __init__(self, lines):
-        self.lines = {}
-        for line in lines:
-            self.lines.setdefault(line[0], []).append(line[1:])
-        self.feeds, self.drains = {}, {}
-
-    def accesses(self, clock, machines):
-        """The words that are written to each TX and the RXs that are read, by the FIFOs at the clock's start."""
-        writes, reads = {}, set()
-        for word, numbers in self.lines.get(clock, []):
-            number = numbers[0]
-            if word == "tx":
-                writes[number] = numbers[1]
-            elif word == "rx":
-                reads.add(number)
-            elif word == "feed":
-                self.feeds[number] = {"words": list(numbers[2:]), "due": clock, "every": numbers[1]}
-            elif word == "drain":
-                self.drains[number] = {"due": clock, "every": numbers[1]}
-        for number, machine in machines.items():
-            feed, drain = self.feeds.get(number), self.drains.get(number)
-            has_room = len(machine.tx) < machine.tx_room
-            if feed and feed["words"] and clock >= feed["due"] and has_room and number not in writes:
-                writes[number] = feed["words"].pop(0)
-                feed["due"] = clock + feed["every"]
-            if drain and clock >= drain["due"] and machine.rx and number not in reads:
-                reads.add(number)
-                drain["due"] = clock + drain["every"]
-        return writes, reads
-
-
-class Block:
-    """A block that is stepped from given pads. Setups are by machine number; pins has high, level, out and bypass as words."""
-
-    def __init__(self, memory, setups, pins, system):
-        self.memory, self.system, self.bypass = memory, system, pins["bypass"]
-        self.machines = {number: Machine(setup) for number, setup in sorted(setups.items())}
-        self.levels, self.directions, self.outside, self.flags = pins["level"], pins["out"], pins["high"], 0
-
-    def begin(self, clock):
-        """What the clock's lines do before the machines act."""
-        for word, numbers in self.system.lines.get(clock, []):
-            machine = self.machines.get(numbers[0])
-            if word == "pin":
-                self.outside = with_pins(self.outside, {numbers[0]: numbers[1]})
-            elif word in ("enable", "disable") and machine:
-                machine.enabled = word == "enable"
-            elif word == "restart" and machine:
-                machine.restarted = clock
-
-    def step(self, clock, before, now):
-        """The clock's machines, by its pads and those of two clocks before; the values after it."""
-        seen = before & ~self.bypass | now & self.bypass
-        writes, reads = self.system.accesses(clock, self.machines)
-        intents = {}
-        for number, machine in self.machines.items():
-            ticks = machine.has_tick(clock)
-            intents[number] = machine.tick(number, seen, self.flags, self.memory) if ticks else Intent()
-        for intent in intents.values():
-            for write in intent.levels:
-                self.levels = with_pins(self.levels, write)
-            for write in intent.directions:
-                self.directions = with_pins(self.directions, write)
-        for intent in intents.values():
-            self.flags &= ~intent.lowers
-        for intent in intents.values():
-            self.flags |= intent.raises
-        for number, machine in self.machines.items():
-            settle(machine, intents[number], writes.get(number), number in reads)
-        return sample(self.levels, self.directions, self.flags, self.machines)
-
-
-def samples(memory, setups, pins, lines, clocks, system=None):
-    """The 88 values after each clock."""
-    block = Block(memory, setups, pins, system or System(lines))
-    for shown in together([block], 0, clocks):
-        yield shown[0]
-
-
-def together(blocks, own, clocks):
-    """The values of each block after each clock. The second, where there is one, owns these pins; the outside is the first one's."""
-    first, owner = blocks[0], blocks[-1]
-
-    def pads():
-        levels = first.levels & ~own | owner.levels & own
-        directions = first.directions & ~own | owner.directions & own
-        return levels & directions | first.outside & ~directions
-
-    history = {-2: pads(), -1: pads()}
-    for clock in range(clocks):
-        for block in blocks:
-            block.begin(clock)
-        history[clock] = pads()
-        yield [block.step(clock, history[clock - 2], history[clock]) for block in blocks]
-
-
-def settle(machine, intent, written, is_read):
-    """The end of a clock at a machine's FIFOs, by their levels at its start."""
-    machine.sticky |= intent.sticky
-    tx_is_full, rx_is_empty = len(machine.tx) >= machine.tx_room, not machine.rx
-    if intent.takes:
-        machine.tx = machine.tx[1:]
-    if written is not None and tx_is_full:
-        machine.sticky |= TX_OVER
-    elif written is not None:
-        machine.tx = machine.tx + [written]
-    if is_read and rx_is_empty:
-        machine.sticky |= RX_UNDER
-    elif is_read:
-        machine.got, machine.rx = machine.rx[0], machine.rx[1:]
-    if intent.gives is not None:
-        machine.rx = machine.rx + [intent.gives]
-
-
-def sample(levels, directions, flags, machines):
-    values = [levels >> pin & 1 for pin in range(32)] + [directions >> pin & 1 for pin in range(32)]
-    values += [flags >> flag & 1 for flag in range(8)]
-    shown = [lambda m: len(m.tx), lambda m: len(m.rx), lambda m: m.got, lambda m: m.sticky]
-    return values + [show(machines[n]) if n in machines else 0 for show in shown for n in range(4)]
-
-
-NAMES = [f"{letter}{n}" for letter, count in (("p", 32), ("d", 32), ("f", 8)) for n in range(count)]
-NAMES += [f"{letter}{n}" for letter in "trws" for n in range(4)]
-WIDTHS = [1] * 72 + [4] * 8 + [32] * 4 + [4] * 4
-
-
-def trace(all_samples, clocks):
-    """The value-change text of samples."""
-    return text_of([[now] for now in all_samples], clocks, [("pio", "")])
-
-
-def pair_trace(all_samples, clocks):
-    """The value-change text of the samples of two blocks."""
-    return text_of(all_samples, clocks, [("pio0", ""), ("pio1", "~")])
-
-
-def text_of(all_samples, clocks, scopes):
-    def line(front, place, value):
-        identifier = front + chr(33 + place)
-        return f"{value}{identifier}" if WIDTHS[place] == 1 else f"b{value:b} {identifier}"
-
-    text = ["$timescale 1 ns $end"]
-    for scope, front in scopes:
-        text.append(f"$scope module {scope} $end")
-        text += [f"$var wire {WIDTHS[i]} {front}{chr(33 + i)} {name} $end" for i, name in enumerate(NAMES)]
-        text.append("$upscope $end")
-    text += ["$enddefinitions $end", "#0"]
-    before = None
-    for clock, now in enumerate(all_samples):
-        changed = [
-            line(front, place, value)
-            for block, (_, front) in enumerate(scopes)
-            for place, value in enumerate(now[block])
-            if before is None or value != before[block][place]
-        ]
-        if clock == 0:
-            text += ["$dumpvars"] + changed + ["$end"]
-        elif changed:
-            text += [f"#{clock}"] + changed
-        before = now
-    return "\n".join(text + ([f"#{clocks}"] if clocks else [])) + "\n"

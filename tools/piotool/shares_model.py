@@ -3,34 +3,42 @@
 Sets of addresses, pins and flags are sets of numbers here, and a machine's reach is looked for by a search.
 """
 
+from piotool.machine_model import Setup
 
-def pins_from(base, count):
+
+def pins_from(base: int, count: int) -> set[int]:
+    """The pins of a mapping."""
     return {(base + place) % 32 for place in range(count)}
 
 
 class Touched:
     """What a machine reaches, reads, writes, sees and changes."""
 
-    def __init__(self, number, setup, memory):
+    def __init__(self, number: int, setup: Setup, memory: list[int]) -> None:
         self.number, self.setup = number, setup
-        self.reads, self.sees, self.changes = set(), set(), set()
+        self.reads: set[int] = set()
+        self.sees: set[int] = set()
+        self.changes: set[int] = set()
         self.writes = pins_from(setup["side_base"], setup["side_bits"])
         self.writes |= pins_from(setup["out_base"], setup["out_count"])
         self.writes |= pins_from(setup["set_base"], setup["set_count"])
         self.is_wild = False
-        reach, ahead = set(), [setup["start"]]
+        reach: set[int] = set()
+        ahead = [setup["start"]]
         while ahead:
             address = ahead.pop()
             if address not in reach:
                 reach.add(address)
                 ahead += self.feel(address, memory[address])
+        self.reach = set(range(32)) if self.is_wild else reach
         if self.is_wild:
             self.reads, self.sees, self.changes = set(range(32)), set(range(8)), set(range(8))
 
-    def flag(self, low):
+    def flag(self, low: int) -> int:
+        """The number of the flag that an index means."""
         return low & 4 | (low + self.number) & 3 if low & 16 else low & 7
 
-    def feel(self, address, word):
+    def feel(self, address: int, word: int) -> list[int]:
         """Takes what a word touches, and gives the addresses after it."""
         kind, high, low = word >> 13, word >> 5 & 7, word & 31
         setup = self.setup
@@ -65,11 +73,12 @@ class Touched:
         return [after]
 
 
-def report(memory, setups):
+def report(memory: list[int], setups: dict[int, Setup]) -> str:
+    """The lines of `shares`."""
     touched = {number: Touched(number, setup, memory) for number, setup in sorted(setups.items())}
-    lines = []
+    lines: list[str] = []
     for number, one in touched.items():
-        told = []
+        told: list[str] = []
         for other_number, other in touched.items():
             pins = other.writes & (one.reads | one.writes)
             flags = other.changes & (one.sees | one.changes)

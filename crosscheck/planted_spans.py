@@ -1,0 +1,262 @@
+"""Programs into which a violation was planted: a span that holds in most runs, and is broken where data, pins, levels or flags are as the
+author of the case says. Each is known to be broken, since its docstring says by which run.
+"""
+
+SETUP = '[[load]]\nprogram = "q"\n[[machine]]\nid = 0\nprogram = "q"\n'
+
+
+def pulse(least, most, stalls=(), unit="ticks"):
+    """The table of a span: how long pin 0 is high."""
+    named = f"stalls = {list(stalls)}\n".replace("'", '"')
+    return (
+        '[[span]]\nname = "high"\nmachine = 0\nfrom_pin = 0\nfrom_edge = "rise"\nto_pin = 0\nto_edge = "fall"\n'
+        f'unit = "{unit}"\nmin = {least}\nmax = {most}\n' + (named if stalls else "")
+    )
+
+
+def secret_word(random):
+    """A pulse is longer by one tick where a byte of the system is one of 256: a run with that word."""
+    key, wide = random.randrange(32), random.randrange(1, 9)
+    source = f"""
+.program q
+    set x, {key}
+.wrap_target
+    pull
+    out y, {random.randrange(5, 9)}
+    set pins, 1 [{wide}]
+    jmp x!=y right
+    nop
+right:
+    set pins, 0
+.wrap
+"""
+    return source, SETUP + "[pins]\nout = [0]\n" + pulse(wide + 2, wide + 2)
+
+
+def late_frame(random):
+    """The pulse after some frames is longer: a run with so many words."""
+    frames, turns = random.randrange(2, 24), random.randrange(1, 6)
+    source = f"""
+.program q
+    set x, {frames}
+.wrap_target
+    pull
+    set pins, 1 [{turns}]
+    jmp x-- right
+    nop
+right:
+    set pins, 0
+.wrap
+"""
+    return source, SETUP + "[pins]\nout = [0]\n" + pulse(turns + 2, turns + 2)
+
+
+def pattern_of_pin(random):
+    """A pulse is longer where a pin had one pattern in four samples: a run with the pin so."""
+    bits = random.randrange(3, 6)
+    key = random.randrange(1 << bits)
+    source = f"""
+.program q
+    set x, {key}
+.wrap_target
+    set y, {bits - 1}
+    mov isr, null
+sample:
+    in pins, 1 [{random.randrange(4)}]
+    jmp y-- sample
+    mov y, isr
+    set pins, 1 [3]
+    jmp x!=y right
+    nop
+right:
+    set pins, 0
+.wrap
+"""
+    return source, SETUP + f"in_base = {random.randrange(1, 32)}\nin_right = false\n[pins]\nout = [0]\n" + pulse(5, 5)
+
+
+def deep_fifo(random):
+    """A pulse is longer where TX has some words: a run with so many written before. (Right after a take it can't have four.)"""
+    level = random.randrange(1, 5)
+    source = f"""
+.program q
+.wrap_target
+    pull [{random.randrange(1, 8)}]
+    mov x, status
+    set pins, 1 [2]
+    jmp !x many
+    jmp over
+many:
+    nop [1]
+over:
+    set pins, 0
+.wrap
+"""
+    return source, SETUP + f"status_n = {level}\n[pins]\nout = [0]\n" + pulse(5, 5)
+
+
+def full_fifo(random):
+    """A pulse has a wait where RX is full: a run in which nobody reads."""
+    every = random.randrange(1, 4)
+    source = f"""
+.program q
+.wrap_target
+    in null, {32 // every if every == 2 else 32}
+    set pins, 1 [{every}]
+    push iffull
+    set pins, 0
+.wrap
+"""
+    return source, SETUP + f"join_rx = {'true' if random.random() < 0.3 else 'false'}\n[pins]\nout = [0]\n" + pulse(every + 2, every + 2)
+
+
+def counted_by_data(random):
+    """A pulse is as long as the system says: a run with a great word."""
+    bits, most = random.randrange(4, 13), 0
+    most = random.randrange(3, (1 << bits) - 1)
+    source = f"""
+.program q
+.side_set 1
+.wrap_target
+    pull        side 0
+    out x, {bits}   side 0
+count:
+    jmp x-- count side 1
+    nop         side 0
+.wrap
+"""
+    return source, SETUP + "set_count = 0\n[pins]\nout = [0]\n" + pulse(1, most)
+
+
+def nested_loops(random):
+    """A pulse lasts as long as two loops inside each other, and one turn more where a pin is high at its end: a run with the pin high."""
+    outer, inner, pin = random.randrange(2, 32), random.randrange(2, 32), random.randrange(1, 32)
+    turn = inner + 1 + 2
+    ticks = 1 + (outer + 1) * turn + 1 + 1
+    source = f"""
+.program q
+.wrap_target
+    set pins, 1
+    set x, {outer}
+outer:
+    set y, {inner}
+inner:
+    jmp y-- inner
+    jmp x-- outer
+    jmp pin longer
+    jmp over
+longer:
+    nop [1]
+over:
+    set pins, 0
+.wrap
+"""
+    return source, SETUP + f"jmp_pin = {pin}\n[pins]\nout = [0]\n" + pulse(1, ticks + 1)
+
+
+def flag_of_another(random):
+    """A pulse waits for a flag which another machine raises for each word: a run without words."""
+    flag, rest = random.randrange(8), random.randrange(1, 32)
+    source = f"""
+.program q
+.wrap_target
+    set pins, 1 [{rest % 8}]
+    wait 1 irq {flag}
+    set pins, 0
+.wrap
+
+.program r
+.wrap_target
+    irq nowait {flag} [{rest % 4}]
+    out null, {random.randrange(1, 33)}
+.wrap
+"""
+    config = '[[load]]\nprogram = "q"\nat = 0\n[[load]]\nprogram = "r"\nat = 8\n[[machine]]\nid = 0\nprogram = "q"\n'
+    config += '[[machine]]\nid = 2\nprogram = "r"\nset_count = 0\nautopull = true\npull_threshold = 32\n'
+    return source, config + "[pins]\nout = [0]\n" + pulse(1, 100)
+
+
+def jump_by_data(random):
+    """The system says where the program goes on, and one way is longer: a run with that word."""
+    longer = random.randrange(1, 6)
+    source = f"""
+.program q
+.origin 0
+.wrap_target
+    pull
+    set pins, 1
+    out pc, 5
+    nop
+one:
+    set pins, 0
+.wrap
+    nop [{longer}]
+    jmp one
+"""
+    return source, SETUP + "[pins]\nout = [0]\n" + pulse(2, 2 + longer)
+
+
+def run_by_data(random):
+    """The system says which instruction is run inside the pulse: a run with a wait, a jump or a long delay."""
+    source = f"""
+.program q
+.wrap_target
+    pull
+    set pins, 1 [{random.randrange(8)}]
+    out exec, 16
+    set pins, 0
+.wrap
+"""
+    return source, SETUP + "[pins]\nout = [0]\n" + pulse(1, random.randrange(12, 31))
+
+
+def slow_wait(random):
+    """A pulse of many clocks waits for a pin in clocks of a divider: a run in which the pin is low too long."""
+    divider, turns = random.randrange(2, 700), random.randrange(2, 32)
+    source = f"""
+.program q
+.wrap_target
+    set x, {turns}
+    set pins, 1
+again:
+    jmp pin done
+    jmp x-- again
+done:
+    set pins, 0
+.wrap
+"""
+    ticks = 2 * (turns + 1) + 1
+    return source, SETUP + f"divider = {divider}\njmp_pin = 9\n[pins]\nout = [0]\n" + pulse(0, ticks * divider - 1, unit="clocks")
+
+
+def written_by_another(random):
+    """Another machine writes the pin of the span for a certain word: a run with that word."""
+    key = random.randrange(1, 32)
+    source = f"""
+.program q
+.wrap_target
+    set pins, 1 [9]
+    set pins, 0 [9]
+.wrap
+
+.program r
+    set y, {key}
+.wrap_target
+    pull
+    out x, {random.randrange(5, 9)}
+    jmp x!=y other
+    set pins, 0
+other:
+.wrap
+    jmp 8
+"""
+    source = source.replace("other:\n.wrap\n    jmp 8\n", "other:\n    nop\n.wrap\n")
+    config = '[[load]]\nprogram = "q"\nat = 0\n[[load]]\nprogram = "r"\nat = 8\n[[machine]]\nid = 0\nprogram = "q"\n'
+    config += '[[machine]]\nid = 1\nprogram = "r"\nset_count = 1\n'
+    return source, config + "[pins]\nout = [0]\n" + pulse(10, 10)
+
+
+KINDS = (
+    secret_word, late_frame, pattern_of_pin, deep_fifo, full_fifo, counted_by_data, nested_loops,
+    flag_of_another, jump_by_data, run_by_data, slow_wait, written_by_another,
+)  # fmt: skip

@@ -1,0 +1,210 @@
+"""Runs of a block, also long ones, and whether a span holds in them, from the written rules (docs/SPECIFICATION.md).
+
+A run is the samples of clocks in which something may have changed. Clocks in which only delays, waits and turns of a counted loop go
+on are leapt over.
+"""
+
+from bisect import bisect_right
+from dataclasses import dataclass, field
+from math import inf
+from time import process_time
+from typing import Any, Iterator, Optional
+
+from piotool import trace_text
+from piotool.block_model import Block, Line, System, TickLog
+from piotool.machine_model import Machine, period_of
+from piotool.set_up import SetUp
+
+
+@dataclass(frozen=True)
+class Mark:
+    """All that the clocks from one on hang on, beside lines and transfers."""
+
+    clock: int
+    state: tuple[Any, ...]
+
+
+@dataclass
+class Run:
+    """A run: its number of clocks, the samples of clocks in which something may have changed, and the ticks of its machines."""
+
+    clocks: int
+    samples: list[tuple[int, list[int]]]
+    ticks: dict[int, TickLog]
+    is_whole: bool = True
+    marks: list["Mark"] = field(default_factory=list)
+    places: list[tuple[int, dict[int, int]]] = field(default_factory=list)  # the address of each machine, where marks are asked
+
+    def trace(self) -> str:
+        """The value-change text."""
+        return trace_text.sparse_trace(self.samples, self.clocks)
+
+    def edges(self, level: int, pin: int, edge: str) -> list[int]:
+        """The clocks of a pin's edges; the level before clock 0 is that of the setup."""
+        found, before, wanted = [], level >> pin & 1, int(edge == "rise")
+        for clock, values in self.samples:
+            if values[pin] != before:
+                before = values[pin]
+                found += [clock] if before == wanted else []
+        return found
+
+
+@dataclass(frozen=True)
+class Broken:
+    """How a run breaks a span: the from-edge, the to-edge or none, the last clock that counts, the count, and the bad wait."""
+
+    begin: int
+    end: Optional[int]
+    last: int
+    count: int
+    wait: Optional[tuple[int, int]] = None  # the clock of a late tick, and its address
+
+    def __str__(self) -> str:
+        what = "a wait that isn't named" if self.wait else f"a count of {self.count}"
+        return f"{what} from clock {self.begin} to {self.last}"
+
+
+def run_of(
+    block: SetUp, lines: list[Line], clocks: int, most_steps: float = inf, until: float = inf, marks: tuple[int, ...] = ()
+) -> Run:
+    """A run, with the states at the start of the clocks that are marked.
+
+    Where more clocks than the most have to be worked out singly, or a time is over, it isn't whole.
+    """
+    stepped = Block(block.memory, block.setups, block.pins, System(lines))
+    own = sorted({line[0] for line in lines} | set(marks))
+    samples: list[tuple[int, list[int]]] = []
+    found = Run(clocks, samples, stepped.ticks)
+    before = last = pads_of(stepped)  # the pads of two clocks ago, and of the one before
+    clock = steps = 0
+    while clock < clocks:
+        if steps >= most_steps or steps % 256 == 0 and process_time() > until:
+            found.is_whole = False
+            break
+        steps += 1
+        if clock in marks:
+            found.marks.append(Mark(clock, (state_of(stepped, clock), before, last)))
+        if marks:
+            found.places.append((clock, {number: machine.pc for number, machine in stepped.machines.items()}))
+        stepped.begin(clock)
+        now = pads_of(stepped)
+        samples.append((clock, stepped.step(clock, before, now)))
+        after = int(min(clocks, next_clock(stepped, own, clock)))
+        for number, machine in stepped.machines.items() if after > clock + 1 else ():
+            rest(stepped, machine, stepped.ticks[number], clock + 1, after)
+        settled = pads_of(stepped)
+        before = last if after == clock + 1 else now if after == clock + 2 else settled
+        last = now if after == clock + 1 else settled
+        clock = after
+    return found
+
+
+def state_of(block: Block, clock: int) -> tuple[Any, ...]:
+    """The state of a block at the start of a clock, before its lines act."""
+    machines = tuple(
+        (
+            it.pc, it.x, it.y, it.isr, it.osr, it.in_count, it.out_count, it.delay, it.pending, it.begun, it.enabled,
+            tuple(it.tx), tuple(it.rx), (clock - it.restarted) * 256 % period_of(it.setup),
+        )
+        for it in block.machines.values()
+    )  # fmt: skip
+    return machines, block.levels, block.directions, block.outside, block.flags
+
+
+def pads_of(block: Block) -> int:
+    """The pads of a block."""
+    return block.levels & block.directions | block.outside & ~block.directions
+
+
+def next_clock(block: Block, lines: list[int], clock: int) -> float:
+    """The next clock in which more may happen than delays, waits that go on, and turns of a counted loop."""
+    place = bisect_right(lines, clock)
+    found = lines[place] if place < len(lines) else inf
+    for number, machine in block.machines.items():
+        feed, drain = block.system.feeds.get(number), block.system.drains.get(number)
+        if feed and feed["words"] and len(machine.tx) < machine.tx_room:
+            found = min(found, max(feed["due"], clock + 1))
+        if drain and machine.rx:
+            found = min(found, max(drain["due"], clock + 1))
+        if machine.enabled:
+            found = min(found, next_move(block, machine, block.ticks[number], clock))
+    return found
+
+
+def next_move(block: Block, machine: Machine, log: TickLog, clock: int) -> float:
+    """The clock of a machine's next tick that is neither delay, nor a wait that goes on, nor a turn of a counted loop.
+
+    A wait goes on where a tick was late since something moved, and what moved was seen.
+    """
+    if machine.begun and log.rows[-1].address is not None and log.lasts[-1] > block.moved + 2:
+        return inf
+    tick = log.ticks_before(clock + 1, machine.restarted)
+    refills = machine.setup["autopull"] and machine.out_count >= machine.setup["pull_threshold"] and machine.tx
+    if not refills:
+        turns, length = turns_of(block, machine)
+        tick += machine.delay + turns * length
+    return machine.restarted + (tick * log.period >> 8)
+
+
+def turns_of(block: Block, machine: Machine) -> tuple[int, int]:
+    """How many turns of a counted loop of one instruction a machine has before it, where it is in one, and the ticks of each."""
+    if not machine.has_turned or machine.begun:
+        return 0, 1
+    word = block.memory[machine.pc]
+    if word >> 13 or word >> 5 & 7 not in (2, 4) or word & 31 != machine.pc:
+        return 0, 1
+    bits, has_enable = machine.setup["side_bits"], int(machine.setup["side_opt"])
+    return machine.x if word >> 5 & 7 == 2 else machine.y, 1 + (word >> 8 & (1 << 5 - bits - has_enable) - 1)
+
+
+def rest(block: Block, machine: Machine, log: TickLog, first: int, after: int) -> None:
+    """The ticks of a machine in clocks that are leapt over."""
+    if not machine.enabled:
+        return
+    count = log.ticks_before(after, machine.restarted) - log.ticks_before(first, machine.restarted)
+    waits = machine.begun and not machine.delay
+    log.add(first, after - 1, count, machine.pc if waits else None, machine.restarted)
+    turns, length = turns_of(block, machine)
+    count, machine.delay = max(0, count - machine.delay), max(0, machine.delay - count)
+    if count and turns and not waits:
+        done, left = divmod(count, length)
+        name = "x" if block.memory[machine.pc] >> 5 & 7 == 2 else "y"
+        setattr(machine, name, turns - done - (left > 0))
+        machine.delay = length - left if left else 0
+
+
+def broken_at(block: SetUp, span: dict[str, Any], run: Run, lines: list[Line]) -> Optional[Broken]:
+    """How a run breaks a span first, or none. Lines that disable or restart the machine excuse a span in clocks."""
+    begins, ends = (run.edges(block.pins["level"], span[f"{it}_pin"], span[f"{it}_edge"]) for it in ("from", "to"))
+    disturbed = [clock for clock, word, numbers in lines if word in ("disable", "restart") and numbers[0] == span["machine"]]
+    for begin in begins:
+        place = bisect_right(ends, begin)
+        end = ends[place] if place < len(ends) else None
+        last = run.clocks - 1 if end is None else end
+        if span["unit"] == "clocks" and any(begin < clock <= last for clock in disturbed):
+            continue
+        count, wait = counted(span, run.ticks[span["machine"]].within(begin, last))
+        count = last - begin if span["unit"] == "clocks" else count
+        if wait or count > span["max"] or end is not None and count < span["min"]:
+            return Broken(begin, end, last, count, wait)
+    return None
+
+
+def open_at(block: SetUp, span: dict[str, Any], run: Run) -> Optional[Broken]:
+    """The oldest from-edge that no to-edge has ended at the end of a run, with its count, or none."""
+    begins, ends = (run.edges(block.pins["level"], span[f"{it}_pin"], span[f"{it}_edge"]) for it in ("from", "to"))
+    begin = next((it for it in begins if not ends or it >= ends[-1]), None)
+    if begin is None:
+        return None
+    count, wait = counted(span, run.ticks[span["machine"]].within(begin, run.clocks - 1))
+    return Broken(begin, None, run.clocks - 1, run.clocks - 1 - begin if span["unit"] == "clocks" else count, wait)
+
+
+def counted(span: dict[str, Any], rows: Iterator[Any]) -> tuple[int, Optional[tuple[int, int]]]:
+    """How many of these ticks count, and the first late one at an address that isn't named."""
+    count, wait = 0, None
+    for row in rows:
+        if row.address is None or row.address not in span["stalls"]:
+            count += row.count
+            wait = wait or (row.address is not None and (row.first, row.address)) or None
+    return count, wait

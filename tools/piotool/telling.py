@@ -1,0 +1,70 @@
+"""What is told of a span that was searched: its line, and the calls that show its run."""
+
+import os
+from pathlib import Path
+from typing import Any, Optional
+
+from piotool.breaking import Answer, Shown
+from piotool.set_up import SetUp
+
+ROOM = 30  # clocks that a picture shows before the from-edge and after the end
+EDGES = {"rise": ("rises", "risen"), "fall": ("falls", "fallen")}
+
+
+def bounds_of(span: dict[str, Any]) -> str:
+    """The declared bounds, as `2..7`."""
+    return f"{span['min']}..{span['max']}"
+
+
+def line_of(block: SetUp, span: dict[str, Any], answer: Answer, seconds: float, stem: Optional[str] = None) -> str:
+    """The line that is told of a span."""
+    name = span["name"]
+    if answer.shown:
+        how = f"by {stem or name}.stim" if answer.shown.lines else "with no stimulus at all"
+        return f"span {name} broken {how}: {broken_text(block, span, answer.shown)}"
+    if answer.unmoved is not None:
+        return f"span {name}: no run breaks it: no instruction that a run comes to writes p{answer.unmoved}; not a proof"
+    if answer.is_done:
+        visited = f"({answer.states} state{'s' * (answer.states != 1)}, all visited)"
+        return f"span {name}: no run breaks it beside a stimulus without enable, disable and restart {visited}; not a proof"
+    return f"span {name}: no run found ({seconds:g} s, {answer.states} states, up to clock {answer.last})"
+
+
+def broken_text(block: SetUp, span: dict[str, Any], shown: Shown) -> str:
+    """How a run breaks a span."""
+    broken, pins = shown.broken, (span["from_pin"], span["to_pin"])
+    begins = f"p{pins[0]} {EDGES[span['from_edge']][0]} at clock {broken.begin}"
+    ends, ended = EDGES[span["to_edge"]]
+    if shown.loop:
+        same = f" and never {ends}" if pins[0] == pins[1] else f", and p{pins[1]} never {ends}"
+        return f"{begins}{same}: it goes round {place_of(block, span['machine'], shown.loop)} from then on"
+    if broken.wait:
+        clock, address = broken.wait
+        where = place_of(block, span["machine"], (address,))
+        return f"{begins}, and machine {span['machine']} waits at clock {clock} at {where}, which the span doesn't name"
+    count = f"{broken.count} {span['unit'] if broken.count != 1 else span['unit'][:-1]} of {bounds_of(span)}"
+    if broken.end is not None:
+        return f"{begins}, p{pins[1]} {ends} at clock {broken.end}: {count}"
+    same = f" and hasn't {ended}" if pins[0] == pins[1] else f", and p{pins[1]} hasn't {ended}"
+    return f"{begins}{same} at clock {broken.last}: {count}"
+
+
+def place_of(block: SetUp, machine: int, addresses: tuple[int, ...]) -> str:
+    """The label of the first of these addresses that has one, or the first address."""
+    labels = (block.label_at(machine, address) for address in addresses)
+    label = next((it for it in labels if it), None)
+    return f'"{label}"' if label else f"address {addresses[0]}"
+
+
+def calls_of(
+    source: str, config: str, span: dict[str, Any], stem: str, folder: Path, shown: Shown
+) -> list[tuple[list[str], str]]:
+    """The calls that write the trace and the picture of a run, each with the file that its output is."""
+    files = {ending: os.path.normpath(folder / f"{stem}.{ending}") for ending in ("bare.toml", "stim", "vcd", "svg")}
+    files = {ending: f"./{path}" if path.startswith("-") else path for ending, path in files.items()}
+    run = ["piotool", "run", "--source", source, "--config", files["bare.toml"]]
+    run += ["--stimulus", files["stim"]] if shown.lines else []
+    first, last = max(0, shown.broken.begin - ROOM), min(shown.clocks, shown.broken.last + 1 + ROOM)
+    part = [] if first == 0 else ["--from", str(first)]
+    draw = ["piotool-draw", files["vcd"], *part, "--to", str(last), "--span", f"{config}:{span['name']}"]
+    return [([*run, "--clocks", str(shown.clocks)], files["vcd"]), (draw, files["svg"])]
