@@ -4,7 +4,7 @@ Machines that are enabled aren't run. What a machine and its block are at the cl
 each enabling; what the system sends it later is kept with the start.
 """
 
-from dataclasses import dataclass, field
+from dataclasses import dataclass, field, replace
 
 from piotool import firmware_map as at
 from piotool.firmware_forced import Machine, Pins
@@ -37,10 +37,11 @@ class Pads:
     pads: list[int] = field(default_factory=lambda: [at.PAD_AFTER_RESET] * at.PINS)
     levels: int = 0
     directions: int = 0
+    are_known: bool = True
 
     def copy(self) -> "Pads":
         """They as they are now."""
-        return Pads(list(self.controls), list(self.pads), self.levels, self.directions)
+        return replace(self, controls=list(self.controls), pads=list(self.pads))
 
     def function(self, pin: int) -> int:
         """The number of the function that a pin has."""

@@ -49,7 +49,7 @@ def open_drain_lines(pads: Pads, own: int, open_drain: bool) -> int:
 def notes_of(index: int, pads: Pads, own: int, directions: int) -> list[str]:
     """Notes on pins that aren't at the pad what the block has."""
     notes = []
-    for pin in range(PINS):
+    for pin in range(PINS) if pads.are_known else ():
         is_out = bool(directions >> pin & 1)
         if is_out and not own >> pin & 1:
             notes.append(f"Pin {pin} is an output of block {index} but not its pin (pio_gpio_init): nothing comes out on the chip.")

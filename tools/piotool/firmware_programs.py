@@ -150,7 +150,7 @@ def text_of(program: Program) -> str:
     bottom, top = program.wrap
     for place, text in enumerate(texts_of(program.words, rule)):
         lines += [".wrap_target"] * (place == bottom)
-        lines += [f"{labels[place]}:"] * (place in labels)
+        lines += [f"{labels.get(place)}:"] * (place in labels)
         text = TARGET.sub(lambda it: it[1] + labels.get(int(it[2]), it[2]), text) if text.startswith("jmp") else text
         lines += ["    " + text] + [".wrap"] * (place == top)
     return "\n".join(lines) + "\n"
