@@ -19,8 +19,8 @@ sys.path[:0] = [str(TOP / "tools")]
 from piotool.programs import Program, programs_of  # noqa: E402
 
 COMPILER = "arm-none-eabi-gcc"
-FLAGS = "-mcpu=cortex-m0plus -mthumb -Os -g -ffunction-sections -Wall -Wextra -Werror -Wno-unused-function -Wno-unused-variable".split()
-LINKER = ["-nostartfiles", "-Wl,--gc-sections", "-T", str(SHIM / "link.ld")]
+FLAGS = "-mcpu=cortex-m0plus -mthumb -Os -g -Wall -Wextra -Werror -Wno-unused-function -Wno-unused-variable".split()
+LINKER = ["-nostartfiles", "-T", str(SHIM / "link.ld")]
 
 
 def has_compiler() -> bool:

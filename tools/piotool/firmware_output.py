@@ -76,6 +76,7 @@ def texts_of(setup: Setup, wanted: Wanted) -> Texts:
 def config_for(path: Path, setup: Setup, block: BlockSetup, wanted: Wanted) -> str:
     """The text of one configuration: the kept one with the set-up written anew, or a new one."""
     if wanted.keep and path.is_file():
+        read_tables(path)
         return kept_text(str(path), read_text(path), block, wanted.added)
     if path.is_file() and tables_of(path, read_text(path))["span"]:
         raise Fault(f"{path} has spans: give --keep {path}, which leaves them, or another name by --out")

@@ -4,6 +4,7 @@ from dataclasses import dataclass, field, replace
 
 from piotool.calls import Fault
 from piotool.firmware_chip import Block, Start
+from piotool.firmware_forced import rotated_left
 from piotool.firmware_map import DEFAULTS
 from piotool.firmware_pins import pins_of
 from piotool.firmware_programs import Memory, Placed, Rule, Sources, memory_of, placed_for, placements, with_label
@@ -240,7 +241,8 @@ def fit_state(
         osr = {"osr": it.osr, "osr_count": it.osr_count} if needs_osr else {}
         machine.keys |= isr | osr | ({"pending": it.pending} if it.pending is not None else {})
         return
-    side = (last.pins.directions if rule.pindirs else last.pins.levels) >> int(machine.keys["side_base"]) & (1 << rule.bits) - 1
+    driven = last.pins.directions if rule.pindirs else last.pins.levels
+    side = rotated_left(driven, -int(machine.keys["side_base"]) % 32) & (1 << rule.bits) - 1
     state = State(it.isr, it.isr_count, it.osr, it.osr_count, it.pending, needs_isr, reads_osr, side)
     made = said_by_lines(machine.number, state, machine.placed, machine.start_place, machine.keys)
     machine.placed, machine.start, machine.before = made.placed, None, made.words + machine.before

@@ -6,6 +6,9 @@
 #include <stddef.h>
 #include <stdint.h>
 
+#ifdef __cplusplus
+extern "C" {
+#endif
 typedef unsigned int uint;
 typedef volatile uint32_t reg;
 #define REGISTER(address) (*(reg *)(uintptr_t)(address))
@@ -204,4 +207,7 @@ static inline void dma_channel_configure(
     CHANNEL(channel, 0x08) = count;
     CHANNEL(channel, now ? 0x0c : 0x10) = c->ctrl;
 }
+#ifdef __cplusplus
+}
+#endif
 #endif
