@@ -16,7 +16,7 @@ FIRMWARE = HERE / "firmware"
 SHIM = FIRMWARE / "shim"
 sys.path[:0] = [str(TOP / "tools")]
 
-from piotool.programs import Program, programs_of  # noqa: E402
+from piotool.programs import Program, listing_of, programs_of, read_listing  # noqa: E402
 
 COMPILER = "arm-none-eabi-gcc"
 FLAGS = "-mcpu=cortex-m0plus -mthumb -Os -g -Wall -Wextra -Werror -Wno-unused-function -Wno-unused-variable".split()
@@ -31,16 +31,17 @@ def has_compiler() -> bool:
 def header_of(source: Path) -> str:
     """The header of a source's programs."""
     parts = ["#pragma once", '#include "hardware/pio.h"']
-    return "\n".join(parts + [part_of(program) for program in programs_of(source).values()]) + "\n"
+    public = {program.name: set(program.labels) for program in read_listing(listing_of(source))}
+    return "\n".join(parts + [part_of(program, public[program.name]) for program in programs_of(source).values()]) + "\n"
 
 
-def part_of(program: Program) -> str:
-    """What a header has of one program."""
+def part_of(program: Program, public: set[str]) -> str:
+    """What a header has of one program; of its labels those that are public."""
     name, rule, (bottom, top) = program.name, program.rule, program.wrap
     words = ", ".join(f"{word:#06x}" for word in program.words)
     count = rule["side_bits"] + rule["side_opt"]
     flags = [str(rule[key]).lower() for key in ("side_opt", "side_pindirs")]
-    lines = [f"#define {name}_offset_{label} {place}u" for label, place in program.labels.items()]
+    lines = [f"#define {name}_offset_{label} {place}u" for label, place in program.labels.items() if label in public]
     lines += [f"static const uint16_t {name}_program_instructions[] = {{{words}}};"]
     origin = -1 if program.origin is None else program.origin
     fields = f".instructions = {name}_program_instructions, .length = {len(program.words)}, .origin = {origin}"

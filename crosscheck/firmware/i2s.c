@@ -4,6 +4,8 @@
 #include "hardware/clocks.h"
 #include "i2s.pio.h"
 
+enum { FETCH = 7 }; // the place of its label
+
 int main(void) {
     uint at = pio_add_program_at_offset(pio0, &i2s_program, 0);
     pio_sm_config c = i2s_program_get_default_config(at);
@@ -16,7 +18,7 @@ int main(void) {
     for (uint pin = 0; pin < 3; pin++)
         pio_gpio_init(pio0, pin);
     pio_sm_set_consecutive_pindirs(pio0, 0, 0, 3, true);
-    pio_sm_init(pio0, 0, at + i2s_offset_fetch, &c);
+    pio_sm_init(pio0, 0, at + FETCH, &c);
     pio_sm_set_enabled(pio0, 0, true);
     pio_sm_put_blocking(pio0, 0, 0x8001c35a);
     pio_sm_put_blocking(pio0, 0, 0x12347fff);

@@ -3,6 +3,9 @@
 #include "pico/stdlib.h"
 #include "manchester.pio.h"
 
+// The places of the labels in the programs.
+enum { GET_BIT = 4, START_OF_1 = 3 };
+
 int main(void) {
     uint at = pio_add_program_at_offset(pio0, &manchester_tx_program, 0);
     uint rx_at = pio_add_program_at_offset(pio0, &manchester_rx_program, 6);
@@ -12,7 +15,7 @@ int main(void) {
     pio_sm_set_pins_with_mask(pio0, 0, 0, 1);
     pio_sm_set_consecutive_pindirs(pio0, 0, 0, 1, true);
     pio_gpio_init(pio0, 0);
-    pio_sm_init(pio0, 0, at + manchester_tx_offset_get_bit, &c);
+    pio_sm_init(pio0, 0, at + GET_BIT, &c);
     pio_sm_config r = manchester_rx_program_get_default_config(rx_at);
     sm_config_set_in_pins(&r, 0);
     sm_config_set_jmp_pin(&r, 0);
@@ -21,7 +24,7 @@ int main(void) {
     pio_sm_init(pio0, 1, rx_at, &r);
     pio_sm_exec(pio0, 1, pio_encode_set(pio_x, 1));
     pio_sm_exec(pio0, 1, pio_encode_set(pio_y, 0));
-    pio_sm_exec(pio0, 1, pio_encode_jmp(rx_at + manchester_rx_offset_start_of_1));
+    pio_sm_exec(pio0, 1, pio_encode_jmp(rx_at + START_OF_1));
     pio_enable_sm_mask_in_sync(pio0, 3);
     pio_sm_put_blocking(pio0, 0, 0xcb);
     pio_sm_get_blocking(pio0, 1);
