@@ -84,7 +84,7 @@ def stimulus_of(setup: Setup) -> str | None:
             lines.append(" ".join([f"{before} feed {number} 1", *(f"{word:#x}" for word in it.later)]))
         if it.is_drained:
             lines.append(f"{before} drain {number} 1")
-    return "\n".join(lines) + "\n" if lines else None
+    return "\n".join(["# Written by piotool-setup.", *lines]) + "\n" if lines else None
 
 
 def own_source(setup: Setup) -> str | None:

@@ -116,9 +116,10 @@ def write_machines(tomlkit: Any, document: Any, machines: list[dict[str, Any]], 
         if table is None:
             kept.append(table_of(tomlkit, machine))
             continue
-        for key in [it for it in table if it not in machine and table[it] != DEFAULTS.get(it)]:
+        for key in [it for it in table if it not in machine and it not in DEFAULTS]:
             del table[key]
-        for key, value in machine.items():
+        said = {key: default for key, default in DEFAULTS.items() if key in table}
+        for key, value in (said | machine).items():
             set_key(table, key, value)
 
 

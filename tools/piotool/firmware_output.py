@@ -11,7 +11,7 @@ from piotool.firmware_programs import Sources
 from piotool.firmware_setup import BlockSetup, Setup
 from piotool.setups import read_tables, tables_of
 
-MADE = "; Written by piotool-setup"
+MADE = "ritten by piotool-setup"  # on the first line of each file that is made
 
 
 @dataclass
@@ -76,10 +76,11 @@ def texts_of(setup: Setup, wanted: Wanted) -> Texts:
 def config_for(path: Path, setup: Setup, block: BlockSetup, wanted: Wanted) -> str:
     """The text of one configuration: the kept one with the set-up written anew, or a new one."""
     if wanted.keep and path.is_file():
-        read_tables(path)
+        if not any(read_tables(path)[key] for key in ("load", "machine", "pins")):
+            return config_text(setup, block, wanted.origin) + "\n" + read_text(path)
         return kept_text(str(path), read_text(path), block, wanted.added)
-    if path.is_file() and tables_of(path, read_text(path))["span"]:
-        raise Fault(f"{path} has spans: give --keep {path}, which leaves them, or another name by --out")
+    if path.is_file() and (is_foreign(path) or tables_of(path, read_text(path))["span"]):
+        raise Fault(f"{path} is there, and has more than a set-up: give --keep {path}, which leaves it, or another name by --out")
     return config_text(setup, block, wanted.origin)
 
 
@@ -112,17 +113,25 @@ def look_at_stimulus(text: str, source: str | Path, config: str, is_pair: bool, 
         raise Fault(f"the stimulus would have a fault: {told.removeprefix('piotool: ')}")
 
 
+def is_foreign(path: Path) -> bool:
+    """Whether a file is there that this script hasn't written."""
+    return path.is_file() and MADE not in read_text(path).partition("\n")[0]
+
+
 def written(texts: Texts, wanted: Wanted) -> list[str]:
-    """Writes the files; their names."""
+    """Writes the files; their names. A stimulus beside a kept configuration is left where somebody else wrote it."""
     first = texts.configs[0][0]
     base = first.with_name(first.name.removesuffix(".toml"))
     files = list(texts.configs)
-    if texts.stimulus is not None:
-        files.append((base.with_name(base.name + ".stim"), texts.stimulus))
+    stimulus = base.with_name(base.name + ".stim")
+    if texts.stimulus is not None and is_foreign(stimulus) and not wanted.keep:
+        raise Fault(f"{stimulus} is there, and somebody else wrote it: give another name by --out")
+    if texts.stimulus is not None and not is_foreign(stimulus):
+        files.append((stimulus, texts.stimulus))
     if texts.source is not None:
         path = base.with_name(base.name + ".pio")
         is_given = any(Path(it).resolve() == path.resolve() for it in wanted.sources)
-        if is_given or path.is_file() and not read_text(path).startswith(MADE):
+        if is_given or is_foreign(path):
             raise Fault(f"{path} would be written anew, and is a source of yours: give another name by --out")
         files.append((path, texts.source))
     for path, text in files:
