@@ -10,7 +10,8 @@ import subprocess
 from dataclasses import dataclass
 from pathlib import Path
 
-from piotool.firmware_forced import Machine, Pins
+from piotool import firmware_forced
+from piotool.firmware_forced import Machine, Pins, Tick
 from piotool.firmware_map import registers_of
 
 PUSH_IFFULL, PUSH, MOV_ISR = 0x8040, 0x8000, 0xA0C0
@@ -19,10 +20,25 @@ WAIT_FOR_31, JMP_NOT_OSRE, INVERTED = 0x209F | 0x80, 0x00E0, 8
 BEFORE, AFTER, CLOCKS = 1500, 1600, 4000
 
 
+class Told(Tick):
+    """A tick after which the pins are kept."""
+
+    def run(self) -> None:
+        """The tick."""
+        super().run()
+        history.append((self.pins.levels, self.pins.directions))
+
+
+firmware_forced.Tick = Told  # type: ignore[misc]
+history: list[tuple[int, int]] = []
+
+
 @dataclass
 class Sequence:
-    """A machine, the words that are forced on it, and the words in TX before."""
+    """A machine, the words that are forced on it, the words in TX before, and the pins after each tick."""
 
+    number: int
+    states: list[tuple[int, int]]
     keys: dict[str, int]
     rule: tuple[int, int, int]
     words: list[int]
@@ -42,20 +58,23 @@ def drawn(seed: int) -> tuple[Sequence, Machine, Pins]:
     keys |= {key: draw.choice([32, 8, draw.randint(1, 32)]) for key in ("push_threshold", "pull_threshold")}
     keys |= {"status_n": draw.randrange(6), "join_tx": 0, "join_rx": 0, "divider": 4}
     fields = keys | {"side_opt": opt, "side_pindirs": pindirs, "side_count": bits + opt, "wrap_bottom": 0, "wrap_top": 31}
-    machine, pins = Machine(0, registers_of(fields)), Pins(draw.getrandbits(31), draw.getrandbits(31))
-    sequence = Sequence(keys, (bits, opt, pindirs), [], [draw.getrandbits(32) for _ in range(draw.randrange(5))], pins.levels, pins.directions)
+    machine, pins = Machine(draw.randrange(4), registers_of(fields)), Pins(draw.getrandbits(31), draw.getrandbits(31))
+    sent, states = [draw.getrandbits(32) for _ in range(draw.randrange(5))], [(pins.levels, pins.directions)]
+    sequence = Sequence(machine.number, states, keys, (bits, opt, pindirs), [], sent, pins.levels, pins.directions)
     machine.tx = list(sequence.sent)
     for _ in range(draw.randrange(1, 17)):
         for _ in range(50):
             word = word_at(draw, len(sequence.words) + 1, bits + opt)
             trial, trial_pins = machine.copy(), Pins(pins.levels, pins.directions, pins.flags)
             trial.pc = len(sequence.words) + 1
+            history.clear()
             trial.force(word, trial_pins)
             # Pin 31 says when the last words come, so it has to stay the outside's.
             is_free = not trial_pins.directions >> 31
             if trial.pending is None and not trial.unsaid and is_free and trial.pc == len(sequence.words) + 1:
                 machine, pins = trial, trial_pins
                 sequence.words.append(word)
+                sequence.states += history
                 break
     return sequence, machine, pins
 
@@ -101,33 +120,46 @@ def files_of(sequence: Sequence, pins: Pins) -> tuple[str, str, str]:
     truths = ("in_right", "out_right", "autopush", "autopull", "status_rx", "join_tx", "join_rx")
     keys = [f"{key} = {str(bool(value)).lower() if key in truths else value}" for key, value in sequence.keys.items()]
     lists = [f"{name} = {[pin for pin in range(32) if word >> pin & 1]}" for name, word in (("level", sequence.levels), ("out", sequence.directions))]
-    config = "\n".join(['[[load]]\nprogram = "forced"', '[[machine]]\nid = 0\nprogram = "forced"', *keys, "[pins]", "bypass = [31]", *lists])
-    sent = [f"{clock} tx 0 {word}" for clock, word in enumerate(sequence.sent)]
-    lines = ["version 2", "0 disable 0", *sent, "20 enable 0", "20 restart 0", f"{BEFORE} drain 0 1", f"{AFTER} pin 31 1"]
+    config = "\n".join(['[[load]]\nprogram = "forced"', f'[[machine]]\nid = {sequence.number}\nprogram = "forced"', *keys, "[pins]", "bypass = [31]", *lists])
+    number = sequence.number
+    sent = [f"{clock} tx {number} {word}" for clock, word in enumerate(sequence.sent)]
+    lines = ["version 2", f"0 disable {number}", *sent, f"20 enable {number}", f"20 restart {number}"]
+    lines += [f"{BEFORE} drain {number} 1", f"{AFTER} pin 31 1"]
     return source, config + "\n", "\n".join(lines) + "\n"
 
 
-def run_of(program: Path, sequence: Sequence, pins: Pins, folder: Path) -> tuple[dict[str, int], list[int]]:
-    """The values of piotool's trace before the system reads, and the words that it reads."""
+@dataclass
+class Seen:
+    """What a trace has: the values just before the drain, the words that are read from then on, and the pins clock by clock."""
+
+    before: dict[str, int]
+    read: list[int]
+    states: list[tuple[int, int]]
+
+
+def run_of(program: Path, sequence: Sequence, pins: Pins, folder: Path) -> Seen:
+    """What piotool's trace has."""
     paths = [folder / name for name in ("forced.pio", "forced.toml", "forced.stim")]
     for path, text in zip(paths, files_of(sequence, pins)):
         path.write_text(text)
     words = [program, "run", "--source", paths[0], "--config", paths[1], "--stimulus", paths[2], "--clocks", str(CLOCKS)]
     text = subprocess.run([str(word) for word in words], capture_output=True, text=True, check=True).stdout
-    return values_of(text)
+    return seen_in(text, sequence.number)
 
 
-def values_of(text: str) -> tuple[dict[str, int], list[int]]:
-    """What a trace has: values just before the drain, and the words that are read from then on."""
-    names, now, before, read, clock, level = {}, {}, {}, [], 0, 0  # type: ignore[var-annotated]
+def seen_in(text: str, number: int) -> Seen:
+    """What a trace has of a machine."""
+    names, now, seen, clock, level = {}, {}, Seen({}, [], []), 0, 0  # type: dict[str, str], dict[str, int], Seen, int, int
 
     def settle() -> None:
         nonlocal level
+        filled = now[f"r{number}"]
         if clock < BEFORE:
-            before.update(now)
-        elif now["r0"] < level or now["r0"] == level > 0:
-            read.append(now["w0"])
-        level = now.get("r0", 0)
+            seen.before.update(now)
+            seen.states.append((word_of(now, "p"), word_of(now, "d")))
+        elif filled < level:
+            seen.read.append(now[f"w{number}"])
+        level = filled
 
     for line in text.splitlines():
         if line.startswith("$var"):
@@ -136,27 +168,35 @@ def values_of(text: str) -> tuple[dict[str, int], list[int]]:
         elif line.startswith("#"):
             settle() if now else None
             clock = int(line[1:])
-        elif line[:1] in "01" and line:
+        elif line[:1] in ("0", "1"):
             now[names[line[1:]]] = int(line[0])
         elif line.startswith("b"):
             value, identifier = line[1:].split()
             now[names[identifier]] = int(value, 2)
-    return before, read
+    return seen
+
+
+def word_of(now: dict[str, int], front: str) -> int:
+    """The word of 32 values of one bit."""
+    return sum(now[f"{front}{pin}"] << pin for pin in range(32))
+
+
+def changes(states: list[tuple[int, int]]) -> list[tuple[int, int]]:
+    """The states without those that are as the one before."""
+    return [state for place, state in enumerate(states) if place == 0 or state != states[place - 1]]
 
 
 def differs(program: Path, seed: int, folder: Path) -> str | None:
     """What differs between the importer and piotool for the sequence of a seed, or none."""
     sequence, machine, pins = drawn(seed)
-    before, read = run_of(program, sequence, pins, folder)
+    seen, number = run_of(program, sequence, pins, folder), sequence.number
     told = " ".join(f"{word:04x}" for word in sequence.words)
-    for front, word in (("p", pins.levels), ("d", pins.directions)):
-        run = sum(before[f"{front}{pin}"] << pin for pin in range(32))
-        if run != word:
-            return f"seed {seed} ({told}): {front} {word:#x}, piotool {run:#x}"
-    flags = sum(before[f"f{flag}"] << flag for flag in range(8))
-    levels = (len(machine.tx), len(machine.rx), pins.flags)
-    if levels != (before["t0"], before["r0"], flags):
-        return f"seed {seed} ({told}): TX, RX, flags {levels}, piotool {(before['t0'], before['r0'], flags)}"
-    if read != shown_by(machine):
-        return f"seed {seed} ({told}): {shown_by(machine)}, piotool {read}"
+    if changes(sequence.states) != changes(seen.states):
+        return f"seed {seed} ({told}): levels and directions {changes(sequence.states)}, piotool {changes(seen.states)}"
+    flags = sum(seen.before[f"f{flag}"] << flag for flag in range(8))
+    levels, run = (len(machine.tx), len(machine.rx), pins.flags), (seen.before[f"t{number}"], seen.before[f"r{number}"], flags)
+    if levels != run:
+        return f"seed {seed} ({told}): TX, RX, flags {levels}, piotool {run}"
+    if seen.read != shown_by(machine):
+        return f"seed {seed} ({told}): {shown_by(machine)}, piotool {seen.read}"
     return None
