@@ -65,8 +65,14 @@ def assignments(table: Table, clock: int | None = None) -> list[str]:
     if clock and ("divider" in table or "fraction" in table):
         period = 256 * (int(str(table.get("divider", 1))) or 65536) + int(str(table.get("fraction", 0)))
         first = next(place for place, line in enumerate(lines) if line.startswith(("divider", "fraction")))
-        lines[first] += f"  # {clock * 256 / period:.6g} ticks a second"
+        lines[first] += f"  # {rate_of(clock, period)} ticks a second"
     return lines
+
+
+def rate_of(clock: int, period: int) -> str:
+    """The ticks in a second, of a period in 256ths of a clock."""
+    whole, rest = divmod(clock * 256, period)
+    return f"{clock * 256 / period:,.2f}" if rest else f"{whole:,}"
 
 
 def stimulus_of(setup: Setup) -> str | None:

@@ -8,6 +8,7 @@ from typing import Any
 
 from piotool import firmware_map as at
 from piotool.calls import Fault, piotool
+from piotool.firmware_files import rate_of
 from piotool.firmware_programs import Memory, Placed, memory_of, read_sources, relocated, texts_of
 from piotool.setups import read_tables
 
@@ -101,7 +102,7 @@ def rates_of(tables: dict[str, Any], hertz: int | None) -> str:
     lines = []
     for table in sorted(tables["machine"], key=lambda it: it["id"]):
         period = 256 * (table.get("divider", 1) or 65536) + table.get("fraction", 0)
-        lines.append(f"# machine {table['id']}: {hertz * 256 / period:.10g} ticks a second at {hertz / 1e6:g} MHz\n")
+        lines.append(f"# machine {table['id']}: {rate_of(hertz, period)} Hz, as ticks a second, at {hertz / 1e6:g} MHz\n")
     return "".join(lines)
 
 

@@ -17,6 +17,7 @@ ROM, FLASH, RAM = (0x00000000, 0x4000), (0x10000000, 0x1000000), (0x20000000, 0x
 DEVICES = ((0x40000000, 0x80000), (0x50000000, 0x500000), (0xD0000000, 0x1000), (0xE0000000, 0x10000))
 RETURN, NULL_FUNCTION, RETURN_CODE = 0x100, 0x110, b"\x70\x47"
 LOOK_EVERY = 4096  # blocks of code between two looks whether the code comes round
+MOST_VISITS = 64  # of the same block after a look, at which registers are compared
 MOST_WORDS = 256  # words that the processor sends to one machine that runs
 WAIT_FOR_INTERRUPT, WAIT_FOR_EVENT = b"\x30\xbf", b"\x20\xbf"
 
@@ -35,7 +36,7 @@ class Run:
         self.bus = Bus(recording, self.memory, self.fill)
         self.hertz, self.most, self.done, self.blocks = hertz, most, 0, 0
         self.why, self.fault, self.sleeps = "", None, set()  # type: str, BaseException | None, set[int]
-        self.look_at, self.state = 0, None  # type: int, tuple[Any, ...] | None
+        self.look_at, self.visits, self.state = 0, 0, None  # type: int, int, tuple[Any, ...] | None
         self.registers = [getattr(arm_const, f"UC_ARM_REG_{name}") for name in [*(f"R{it}" for it in range(13)), "SP", "LR"]]
         self.load()
 
@@ -186,9 +187,17 @@ class Run:
         if self.done > self.most:
             self.stop(f"{self.most} instructions were run, the last in {self.firmware.function_at(address)}")
         elif self.blocks % LOOK_EVERY == 0:
-            self.look_at, self.state = address, self.whole_state()
-        elif address == self.look_at and self.state is not None and self.state == self.whole_state():
+            self.look_at, self.state, self.visits = address, self.whole_state(), 0
+        elif address == self.look_at and self.visits < MOST_VISITS and self.state is not None and self.is_as_before(self.state):
             self.stop(f"the code comes round in {self.waiting_at(address)}")
+
+    def is_as_before(self, state: tuple[Any, ...]) -> bool:
+        """Whether registers and memory are those of a state; the registers first, since they mostly tell."""
+        self.visits += 1
+        for place in range(len(self.registers)):
+            if self.register(place) != state[place]:
+                return False
+        return state == self.whole_state()
 
     def whole_state(self) -> tuple[Any, ...]:
         """Registers and memory, to tell whether they come again."""
