@@ -15,7 +15,7 @@ DUMP = """0x50200000 0x00000001
 0x50200030: 0x0 0x0 0x0 0x0 0x10000
 0x502000c8: 0x00028000 0x00007200 0x000c0000 0x00000005 0x0000e101 0x04000200
 """
-RP2 = ("/usr/src/micropython*/ports/rp2/modules/rp2.py", "/tmp/src/micropython*/ports/rp2/modules/rp2.py")
+RP2 = ("/usr/src/micropython*/ports/rp2/modules/rp2.py",)
 STATEMENTS = "import rp2\n@rp2.asm_pio(set_init=rp2.PIO.OUT_LOW)\ndef f():\n    set(pins, 1)\nsm = rp2.StateMachine(0, f, set_base=1)\n"
 
 
