@@ -111,7 +111,7 @@ fn run_lines<R: Files>(
     wanted: Wanted,
 ) -> Result<u32, Fault> {
     let mut count = 0_u32;
-    let mut before = "";
+    let mut before = String::new(alloc);
     let mut row = String::new(alloc);
     for (number, line) in text.lines().enumerate() {
         let part = if row.is_empty() {
@@ -124,12 +124,13 @@ fn run_lines<R: Files>(
             continue;
         }
         if let Some(head) = part.strip_prefix("before:") {
-            before = head.trim_start();
+            before.clear();
+            before.push_str(head.trim_start())?;
             continue;
         }
         row.push_str(part)?;
         if is_row(&row) {
-            let told = line_told(rt, alloc, kind, before, &row);
+            let told = line_told(rt, alloc, kind, &before, &row);
             judge(alloc, number.saturating_add(2), &row, told, wanted)?;
             count = count.saturating_add(1);
         }
