@@ -13,6 +13,7 @@ pub struct Program {
 }
 
 impl Program {
+    /// A program without words.
     pub fn new() -> Program {
         Program {
             memory: [0; 32],
@@ -28,6 +29,7 @@ impl Program {
         Some(word)
     }
 
+    /// The memory with its words from address 0 on.
     pub fn memory(&self) -> [u16; 32] {
         self.memory
     }
