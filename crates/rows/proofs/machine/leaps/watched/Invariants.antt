@@ -1,5 +1,0 @@
-use Rattle.rows.proofs.machine.leaps.watched.Given as goal
-
--- the run has a ledger of its own, in one part
-abbrev pub ghosts-has_ended : goal.ghosts-has_ended
-ghosts-has_ended g a = record { name = a.blank.name; parts = a.blank.parts }

@@ -1,0 +1,107 @@
+//! The setup and the span of a row.
+ghost use Rattle.std.specs.Prelude.{◌≡◌, ◌≤◌, true, IsTrue, IsSome, IfSome, None, slice_index_or};
+ghost use Rattle.pin_matrix.specs.Spans as spec;
+
+use crate::keys::Keys;
+use pin_matrix::{MachineSetup, Mapping, Setup, Span, SpanUnit, Stalls, is_span_name};
+use pio_encode::Name;
+use std::alloc::Global;
+
+/// The most clocks or ticks of a bound.
+const MOST: u32 = 16_777_215;
+
+/// A machine; none where a key is out of its range.
+pub fn machine_of(id: u8, keys: &Keys) -> Option<MachineSetup> {
+    if id > 3 || keys.start > 31 || keys.wrap_top > 31 || keys.divider == 0 {
+        return None;
+    }
+    let mut machine = MachineSetup::of(id, keys.side_rule);
+    machine.start = keys.start;
+    machine.wrap_top = keys.wrap_top;
+    machine.x = keys.x;
+    machine.y = keys.y;
+    machine.int = keys.divider;
+    machine.frac = keys.fraction;
+    machine.autopush = keys.autopush;
+    machine.autopull = keys.autopull;
+    machine.out = mapping(keys.out_base, keys.out_count)?;
+    machine.set = set_mapping(keys.set_base, keys.set_count)?;
+    machine.side = mapping(keys.side_base, keys.side_count)?;
+    Some(machine)
+}
+
+fn mapping(base: u8, count: u8) -> Option<Mapping> {
+    if base > 31 || count > 32 {
+        return None;
+    }
+    Some(Mapping { base, count })
+}
+
+fn set_mapping(base: u8, count: u8) -> Option<Mapping>
+    ensures { IfSome result (λ pins. pins.count ≤ 5) }
+{
+    if base > 31 || count > 5 {
+        return None;
+    }
+    Some(Mapping { base, count })
+}
+
+/// The span of this name on machine 0, from an edge of pin 0, where its keys are in their ranges and there is memory.
+pub fn span_of(alloc: Global, keys: &Keys, name: &str) -> Option<Span> {
+    let stalls = stalls_of(alloc, keys.stalls)?;
+    let in_range = keys.min <= keys.max && keys.max <= MOST && keys.to_pin < 32;
+    if !in_range || keys.unit == SpanUnit::Clocks && !stalls.is_empty() {
+        return None;
+    }
+    Some(Span {
+        name: name_of(alloc, name)?,
+        machine: 0,
+        from_pin: 0,
+        from_rise: keys.from_rise,
+        to_pin: keys.to_pin,
+        to_rise: keys.to_rise,
+        unit: keys.unit,
+        min: keys.min,
+        max: keys.max,
+        stalls: Stalls::new(stalls)?,
+    })
+}
+
+fn name_of(alloc: Global, text: &str) -> Option<Name>
+    ensures { IfSome result (λ name. IsTrue (spec.is_span_name name)) }
+{
+    let name = Name::new(String::from_str(alloc, text).ok()?);
+    if is_span_name(name.as_bytes()) {
+        Some(name)
+    } else {
+        None
+    }
+}
+
+/// The addresses of a list with blanks between.
+fn stalls_of(alloc: Global, list: &str) -> Option<Vec<u8>> {
+    let mut stalls = Vec::new(alloc);
+    for address in list.split(' ') {
+        if !address.is_empty() {
+            stalls.push(address.parse().ok()?).ok()?;
+        }
+    }
+    Some(stalls)
+}
+
+/// Whether the machine of a span is configured, where it is machine 0.
+pub fn is_configured(setup: &Setup, span: &Span) -> bool
+    ensures { result ≡ true
+        → IsSome (slice_index_or setup.now.machines span.now.machine None) }
+{
+    if span.machine != 0 {
+        return false;
+    }
+    has_machine_0(&setup.machines)
+}
+
+fn has_machine_0(machines: &[Option<MachineSetup>; 4]) -> bool
+    ensures { result ≡ true → IsSome (slice_index_or machines.now 0 None) }
+{
+    machines[0].is_some()
+}
