@@ -186,13 +186,15 @@ def of_counts(crates):
     page, text = "docs/ARCHITECTURE.md", text_of("docs/ARCHITECTURE.md")
     if f"a house of {NUMBERS[len(crates.storeys)]} storeys" not in text:
         yield page, 1, f"the storeys are {len(crates.storeys)}"
-    listed = text_of("crates/rows/args").split()
-    found = sorted(str(it.relative_to(TOP / "crates/rows/data")) for it in TOP.glob("crates/rows/data/**/*.rows"))
-    if listed != found:
-        yield "crates/rows/args", 1, f"the tables are {' '.join(sorted(set(listed) ^ set(found))) or 'in another order'}"
+    for data in sorted(TOP.glob("crates/*_rows/data")):
+        args = str(data.relative_to(TOP).parent / "args")
+        listed = text_of(args).split()
+        found = sorted(str(it.relative_to(data)) for it in data.glob("**/*.rows"))
+        if sorted(listed) != found:
+            yield args, 1, f"the tables are {' '.join(sorted(set(listed) ^ set(found)))}"
     for name in crates.order:
         if any("#[test]" in path.read_text() for path in TOP.glob(f"crates/{name}/src/**/*.rt")):
-            yield page, 1, f"{name} has tests: what they ask are rows of the program rows"
+            yield page, 1, f"{name} has tests: what they ask are rows of a program of rows"
     part = text.partition("## What a change proves again")[2]
     for row in costs():
         if row not in part:
