@@ -1,6 +1,5 @@
 """Lays a capture beside a trace: aligned at an edge, pin by pin and edge by edge."""
 
-import math
 import re
 from dataclasses import dataclass, field
 from fractions import Fraction
@@ -111,7 +110,8 @@ class Comparison:
 def drift_of(pairs: list[Pair]) -> Optional[tuple[float, float]]:
     """How much longer the capture's times are, in millionths, and how sure that is; none of fewer than three pairs.
 
-    It is the slope of the differences over time, by least squares, and its standard error.
+    It is the slope of the differences over time, by least squares. Samples may err all one way at one end, and all the other way at
+    the other: so it is unsure by what errors within the range of the rest can make at most.
     """
     if len(pairs) < 3:
         return None
@@ -122,8 +122,9 @@ def drift_of(pairs: list[Pair]) -> Optional[tuple[float, float]]:
     if width == 0:
         return None
     slope = sum((time - middle) * (it - mean) for time, it in zip(times, late)) / width
-    rest = sum((it - mean - slope * (time - middle)) ** 2 for time, it in zip(times, late))
-    return slope * 1e6, math.sqrt(rest / (len(pairs) - 2) / width) * 1e6
+    rest = [it - slope * time for time, it in zip(times, late)]
+    unsure = sum(abs(time - middle) for time in times) * (max(rest) - min(rest)) / 2 / width
+    return slope * 1e6, unsure * 1e6
 
 
 def edge_text(level: int) -> str:
@@ -148,7 +149,7 @@ def lines_of(comparison: Comparison, results: list[Compared]) -> list[str]:
                 text = f"pin {it.pin}: {len(edges)} edges only in the {where}; the first {edge_text(level)}"
                 lines.append(f"{text} at clock {shown(time / comparison.clock, 1)} ({shown(time)} ns), where the {other} has none")
     drift = drift_of(sorted(pair for it in results for pair in it.pairs))
-    told = f"{shown(drift[0])} ppm, give or take {shown(2 * drift[1])}" if drift else "unknown, of fewer than three edges"
+    told = f"{shown(drift[0])} ppm, give or take {shown(drift[1])}" if drift else "unknown, of fewer than three edges"
     return [*lines, f"drift: {told}"]
 
 
