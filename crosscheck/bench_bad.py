@@ -2,7 +2,13 @@
 
 import subprocess
 import sys
+from argparse import Namespace
+from fractions import Fraction
 from pathlib import Path
+from random import Random
+
+from piotool.calls import Fault
+from piotool.stimulus_calls import of_capture
 
 HEAD = "$timescale 1 ns $end\n$var wire 1 ! D0 $end\n$enddefinitions $end\n"
 ROWS = "; Channels (2/8): D0, D1\n; Samplerate: 24 MHz\n"
@@ -37,6 +43,7 @@ CAPTURES = [
     ("Time [s],Channel 0\n0.2,0\n0.1,1\n", "line 3: time 0.1 comes after a later one"),
     ("Time [s],Channel 0\n0.0,0\n20000,1\n", "clocks 2500000000000 to 2500000000000: a clock of a stimulus is 0 to 1000000000000"),
 ]
+NOISE = (b"", b"$", b"#", b"-1", b"9e9", b",", b"\n", b"x", b"\xff", b"\xc2\xb2", b"1000000000000000", b"$end", b"$comment ", b"b1 ")
 # Second stimuli of a join, each with what its line says.
 STIMULI = [
     ("0 pin 0 1\n5 tx 0 2\n", "line 2: T4, beside {folder}/good.stim line 2"),
@@ -57,6 +64,33 @@ def one_line(script: Path, words: list[object], status: int, wanted: str) -> Non
         sys.exit(1)
 
 
+def fault_of(path: Path) -> str | None:
+    """The fault of a capture that is taken as a stimulus, or none."""
+    try:
+        of_capture(Namespace(file=str(path), mhz=Fraction(125), at=None, pin=[]))
+    except Fault as fault:
+        return str(fault)
+    return None
+
+
+def look_at_mutated(folder: Path, kept: Path, count: int, seed: int) -> None:
+    """Captures with some bytes changed are taken, or have a fault of one line that names the file."""
+    random, path = Random(seed), folder / "mutated.cap"
+    rows = "; Channels (2/8): D0, D1\n; Samplerate: 24 MHz\nTime,D0,D1\n" + "".join(f"{41 * it},{it & 1},{it >> 1 & 1}\n" for it in range(1, 60))
+    changes = "Time [s],Channel 0,Channel 1\n" + "".join(f"{it / 10**6:.9f},{it & 1},{it >> 1 & 1}\n" for it in range(60))
+    texts = [(kept / "board.vcd").read_bytes()[:1500], rows.encode(), changes.encode()]
+    for _ in range(count):
+        text = bytearray(random.choice(texts))
+        for _ in range(random.randint(1, 4)):
+            at = random.randrange(len(text))
+            text[at : at + random.randint(0, 3)] = random.choice(NOISE)
+        path.write_bytes(text)
+        told = fault_of(path)
+        if told is not None and ("\n" in told or not told.startswith((f"{path}: ", "clocks "))):
+            print(f"{bytes(text)!r}: {told!r}")
+            sys.exit(1)
+
+
 def look_at_bad(folder: Path, tools: Path, kept: Path) -> int:
     """Looks at all of them; how many there are."""
     stimulus, compare, measure = (tools / f"piotool-{it}" for it in ("stimulus", "compare", "measure"))
@@ -64,8 +98,11 @@ def look_at_bad(folder: Path, tools: Path, kept: Path) -> int:
     calls: list[tuple[Path, list[object], str]] = []
     for text, wanted in CAPTURES:
         bad.write_text(text)
-        front = "" if wanted.startswith("clocks ") else f"{bad}: "
-        one_line(stimulus, ["capture", bad], 1, front + wanted)
+        told, wanted = fault_of(bad), ("" if wanted.startswith("clocks ") else f"{bad}: ") + wanted
+        if told != wanted:
+            print(f"{text!r}: {told}\nwanted: {wanted}")
+            sys.exit(1)
+    one_line(stimulus, ["capture", bad], 1, wanted)
     good.write_text("0 feed 1 1 7\n5 tx 0 1\n")
     for text, wanted in STIMULI:
         other.write_text(text)

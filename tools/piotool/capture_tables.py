@@ -7,10 +7,10 @@ from piotool.calls import Fault
 from piotool.captures import Capture
 from piotool.traces import Bit
 
-RATE = re.compile(r";\s*Samplerate:\s*(\d+(?:\.\d+)?)\s*(Hz|kHz|MHz|GHz)\s*")
+RATE = re.compile(r";\s*Samplerate:\s*(\d{1,20}(?:\.\d{1,20})?)\s*(Hz|kHz|MHz|GHz)\s*")
 CHANNELS = re.compile(r";\s*Channels \(\d+/\d+\):\s*(.*)")
 HERTZ = {"Hz": 1, "kHz": 10**3, "MHz": 10**6, "GHz": 10**9}
-SECONDS = re.compile(r"-?\d+(?:\.\d+)?(?:[eE][+-]?\d+)?")
+SECONDS = re.compile(r"-?\d{1,20}(?:\.\d{1,30})?(?:[eE][+-]?\d{1,2})?")
 PICOSECONDS = 10**12
 
 
