@@ -6,9 +6,8 @@ from functools import lru_cache
 
 import config_model
 import source_model
-import stimulus_model
 from fuzz_files import CONFIG, SOURCE, WORDS
-from piotool import shares_model
+from piotool import shares_model, stimulus_model
 from piotool.set_up import Program, SetUp
 
 LONGEST = {SOURCE: 262_144, CONFIG: 262_144, WORDS: 262_144}

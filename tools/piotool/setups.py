@@ -4,6 +4,7 @@ import json
 import tomllib
 from dataclasses import dataclass
 from pathlib import Path
+from typing import Optional
 
 from piotool.calls import Fault, read_text
 from piotool.set_up import Tables
@@ -97,6 +98,12 @@ def period_of(path: str | Path, tables: Tables, machine: int) -> int:
                 raise Fault(f"{path}: the divider of machine {machine} is no number")
             return 256 * (whole or 65536) + fraction
     raise Fault(f"{path}: machine {machine} isn't configured")
+
+
+def clocks_allowed(path: str | Path, tables: Tables, span: Span) -> Optional[tuple[int, int]]:
+    """The clocks that a span allows: ticks count as clocks of the machine's divider. None where it names stalls, whose waits aren't known."""
+    period = period_of(path, tables, span.machine) if span.unit == "ticks" else 256
+    return None if span.stalls else (span.min * period // 256, -(-span.max * period // 256))
 
 
 def toml_of(tables: Tables) -> str:

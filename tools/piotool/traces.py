@@ -67,6 +67,22 @@ def read_trace(path: str | Path) -> Trace:
     return Trace(bits, clock)
 
 
+def read_values(text: str) -> dict[str, list[tuple[int, int]]]:
+    """All values of a trace of one block by name, also wide ones: the clocks in which they change, each with the new value."""
+    names = {name: kind + place for _, name, kind, place in VAR.findall(text)}
+    found: dict[str, list[tuple[int, int]]] = {name: [] for name in names.values()}
+    clock = 0
+    for line in text.partition("$enddefinitions $end\n")[2].splitlines():
+        if line[0] == "#":
+            clock = int(line[1:])
+        elif line[0] == "b":
+            digits, _, name = line[1:].partition(" ")
+            found[names[name]].append((clock, int(digits, 2)))
+        elif line[0] in "01":
+            found[names[line[1:]]].append((clock, int(line[0])))
+    return found
+
+
 def read_names(path: str | Path, lines: list[str]) -> tuple[dict[str, Bit], dict[str, Bit], int]:
     """The one-bit values by name and by identifier, and how many lines the head has."""
     bits: dict[str, Bit] = {}

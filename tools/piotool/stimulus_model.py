@@ -1,27 +1,31 @@
 """The first fault of a stimulus, from the written rules (docs/SPECIFICATION.md)."""
 
 import re
+from typing import Optional
 
 NUMBER = re.compile(rb"[0-9]+|0x[0-9a-fA-F]+")
-LAST_CLOCK, LONGEST_PERIOD = 10**12, 10**6
+LAST_CLOCK, LONGEST_PERIOD, MOST_LINES = 10**12, 10**6, 10**6
 # How many numbers come after each word; a feed has three or more.
 NUMBERS = {b"pin": 2, b"tx": 2, b"rx": 1, b"feed": 3, b"drain": 2, b"enable": 1, b"disable": 1, b"restart": 1}
 OF_VERSION_2 = (b"enable", b"disable", b"restart")
 
 
-def number_of(field):
+def number_of(field: bytes) -> Optional[int]:
+    """The number of a field, or none."""
     if not NUMBER.fullmatch(field):
         return None
     return int(field, 16) if field.startswith(b"0x") else int(field)
 
 
-def fields_of(line):
+def fields_of(line: bytes) -> list[bytes]:
+    """The fields of a line."""
     return [field for field in re.split(rb"[ \t\r]+", line.split(b"#")[0]) if field]
 
 
-def is_in_range(clock, word, numbers):
+def is_in_range(clock: int, word: bytes, numbers: list[int], last_machine: int) -> bool:
+    """Whether the numbers of a line are in their ranges."""
     first, *rest = numbers
-    if clock > LAST_CLOCK or first > (31 if word == b"pin" else 3):
+    if clock > LAST_CLOCK or first > (31 if word == b"pin" else last_machine):
         return False
     if word == b"pin":
         return rest[0] <= 1
@@ -33,10 +37,14 @@ def is_in_range(clock, word, numbers):
 
 
 class Reader:
-    def __init__(self):
-        self.version, self.is_first, self.clock, self.known = 1, True, 0, set()
+    """Reads the lines of a stimulus. Of `pair` the last machine is 7."""
 
-    def read(self, fields):
+    def __init__(self, last_machine: int = 3) -> None:
+        self.version: Optional[int] = 1
+        self.is_first, self.clock, self.last_machine = True, 0, last_machine
+        self.known: set[tuple[bytes, int, Optional[int]]] = set()
+
+    def read(self, fields: list[bytes]) -> Optional[str]:
         """The code of a line's fault, or none."""
         was_first, self.is_first = self.is_first, False
         if fields[0] == b"version":
@@ -46,7 +54,7 @@ class Reader:
         has_form = len(numbers) == NUMBERS.get(word) or word == b"feed" and len(numbers) > 3
         if clock is None or None in numbers or not has_form or word in OF_VERSION_2 and self.version == 1:
             return "T1"
-        if not is_in_range(clock, word, numbers):
+        if not is_in_range(clock, word, numbers, self.last_machine):
             return "T2"
         if clock < self.clock:
             return "T3"
@@ -58,14 +66,15 @@ class Reader:
         self.known.add(access)
         return None
 
-    def read_version(self, fields, was_first):
+    def read_version(self, fields: list[bytes], was_first: bool) -> Optional[str]:
+        """The code of a version line's fault, or none."""
         if len(fields) != 2 or number_of(fields[1]) is None or not was_first:
             return "T1"
         self.version = number_of(fields[1])
         return None if self.version in (1, 2) else "T2"
 
 
-def fault_of(text):
+def fault_of(text: bytes) -> Optional[str]:
     """The first fault with its line, or none."""
     reader = Reader()
     for number, line in enumerate(text.split(b"\n"), 1):

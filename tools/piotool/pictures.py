@@ -1,0 +1,245 @@
+"""Draws pins over clocks as a picture (SVG): rows of levels, rows of spans, the clocks below. The same rows give the same picture."""
+
+from dataclasses import dataclass, field
+from itertools import accumulate
+from typing import Optional, Sequence
+
+from piotool.calls import Fault
+from piotool.traces import Bit, Trace, bits_named
+
+# The width of all clocks at most, and that of one.
+MOST_WIDE, MOST_A_CLOCK = 880, 48
+# Points: the margins, a character's width, rows of pins with the height of a level, rows of spans with that of one more arrow.
+MARGIN, CHARACTER, TOP = 12, 7.5, 14
+PITCH, LEVEL = 34, 20
+LANE, ARROW = 40, 22
+LEAST_STEP = 44
+SMALL = ' font-size="11"'
+INK, SOFT, GRID, WAVE, FILL = "#222222", "#8a8a8a", "#e6e6e6", "#1f4e8c", "#d6e4f5"
+GOOD, BAND, BAD = "#1b6e37", "#bfe6c9", "#c62828"
+
+
+@dataclass
+class Row:
+    """A row of the picture: a value, and the direction of its pin where it is a pin's level."""
+
+    name: str
+    bit: Bit
+    direction: Optional[Bit] = None
+
+
+@dataclass
+class Lane:
+    """A row for a span: its name, its bounds as a text, its pairs of edges, and the clocks that are allowed between them."""
+
+    name: str
+    bounds: str
+    rows: tuple[str, str]
+    pairs: list[tuple[int, int]]
+    allowed: Optional[tuple[int, int]] = None
+
+
+# A red stripe over two rows: the first one, and the clocks that it goes from and to.
+Mark = tuple[int, float, float]
+
+
+@dataclass
+class Sheet:
+    """Where clocks are on the picture, and the lines of its text so far."""
+
+    first: int
+    last: int
+    left: float
+    scale: float
+    lines: list[str] = field(default_factory=list)
+
+    def x(self, clock: float) -> float:
+        """The place of a clock, kept within the clocks drawn."""
+        return self.left + (min(max(clock, self.first), self.last) - self.first) * self.scale
+
+    def put(self, line: str) -> None:
+        """Puts a line of the picture's text."""
+        self.lines.append(line)
+
+    def line(self, x1: float, y1: float, x2: float, y2: float, colour: str, more: str = "") -> None:
+        """Draws a line."""
+        self.put(f'<line x1="{at(x1)}" y1="{at(y1)}" x2="{at(x2)}" y2="{at(y2)}" stroke="{colour}"{more}/>')
+
+    def text(self, x: float, y: float, colour: str, text: str, more: str = "") -> None:
+        """Writes a text."""
+        self.put(f'<text x="{at(x)}" y="{at(y)}" fill="{colour}"{more}>{escaped(text)}</text>')
+
+
+def at(number: float) -> str:
+    """A place as a text of at most one decimal."""
+    return f"{number:.1f}".removesuffix(".0")
+
+
+def escaped(text: str) -> str:
+    """A text as XML writes it."""
+    return text.replace("&", "&amp;").replace("<", "&lt;").replace(">", "&gt;")
+
+
+def direction_of(trace: Trace, name: str) -> Optional[Bit]:
+    """The direction of the pin of this name, or none where the name is a flag's or a direction's."""
+    return trace.bits.get({"p": "d", "q": "e"}.get(name[0], "-") + name[1:])
+
+
+def rows_of(path: str, trace: Trace, names: Optional[str], first: int, last: int) -> list[Row]:
+    """The rows: of these names, or of the pins that change."""
+    if names:
+        return [Row(name, bit, direction_of(trace, name)) for name, bit in bits_named(path, trace, names).items()]
+    pins = [Row(name, bit, direction_of(trace, name)) for name, bit in trace.bits.items() if name[0] in "pq"]
+    moved = [row for row in pins if row.bit.changes(first, last) or row.direction.changes(first, last)]
+    if not moved:
+        raise Fault(f"{path}: no pin changes in these clocks; --pins says which to draw")
+    return moved
+
+
+def step_of(scale: float, last: int) -> int:
+    """The clocks from one label of the axis to the next: 1, 2 or 5, times a power of ten."""
+    room = max(LEAST_STEP, CHARACTER * len(str(last)) + MARGIN)
+    steps = (digit * 10**power for power in range(13) for digit in (1, 2, 5))
+    return next(step for step in steps if step * scale >= room)
+
+
+def draw_axis(sheet: Sheet, top: float, bottom: float) -> None:
+    """The clocks below, and a faint line up from each."""
+    step = step_of(sheet.scale, sheet.last)
+    for clock in range(-(-sheet.first // step) * step, sheet.last + 1, step):
+        sheet.line(sheet.x(clock), top, sheet.x(clock), bottom, GRID)
+        sheet.text(sheet.x(clock), bottom + 14, SOFT, str(clock), ' text-anchor="middle"')
+    sheet.text(MARGIN, bottom + 14, SOFT, "clock")
+
+
+def pieces_of(row: Row, first: int, last: int) -> list[tuple[float, float, int, bool]]:
+    """A row's pieces in which neither level nor direction changes: from, to, level, and whether it is driven."""
+    bits = [row.bit, row.direction] if row.direction else [row.bit]
+    places = sorted({first, last, *(when for bit in bits for when, _ in bit.changes(first, last))})
+    pairs = zip(places, places[1:])
+    return [(start, end, row.bit.at(start), row.direction is None or row.direction.at(start) == 1) for start, end in pairs]
+
+
+def draw_row(sheet: Sheet, row: Row, top: int) -> None:
+    """A row: its name, its high levels filled, its line; a change takes the line of the piece after it."""
+    low, high = top + LEVEL, top
+    sheet.text(MARGIN, low - 5, INK, row.name)
+    pieces, path = pieces_of(row, sheet.first, sheet.last), {True: "", False: ""}
+    before = None
+    for start, end, level, is_driven in pieces:
+        y = high if level else low
+        if level and is_driven:
+            width = (end - start) * sheet.scale
+            sheet.put(f'<rect x="{at(sheet.x(start))}" y="{high}" width="{at(width)}" height="{LEVEL}" fill="{FILL}"/>')
+        begin = y if before is None else before
+        path[is_driven] += f"M{at(sheet.x(start))} {begin}" + f"V{y}" * (begin != y) + f"H{at(sheet.x(end))}"
+        before = y
+    if path[False]:
+        sheet.put(f'<path d="{path[False]}" fill="none" stroke="{SOFT}" stroke-width="1.2" stroke-dasharray="3 3"/>')
+    if path[True]:
+        sheet.put(f'<path d="{path[True]}" fill="none" stroke="{WAVE}" stroke-width="1.6" stroke-linecap="square"/>')
+
+
+def stacked(pairs: list[tuple[int, int]]) -> list[tuple[int, int, int]]:
+    """The pairs with a number for each: those of one number don't overlap."""
+    ends, placed = [], []
+    for start, end in pairs:
+        number = next((number for number, taken in enumerate(ends) if taken <= start), len(ends))
+        ends[number:number + 1] = [end]
+        placed.append((start, end, number))
+    return placed
+
+
+def pairs_within(sheet: Sheet, lane: Lane) -> list[tuple[int, int, int]]:
+    """The pairs of a span that are in the clocks drawn, stacked."""
+    return stacked([pair for pair in lane.pairs if sheet.first <= pair[0] and pair[1] <= sheet.last])
+
+
+def height_of(sheet: Sheet, lane: Lane) -> int:
+    """The height of a span's row."""
+    return LANE + ARROW * max((number for _, _, number in pairs_within(sheet, lane)), default=0)
+
+
+def draw_lane(sheet: Sheet, lane: Lane, top: float, edges_at: dict[str, int]) -> None:
+    """A span's row: its name and bounds, and an arrow for each pair of edges."""
+    sheet.text(MARGIN, top + 14, INK, lane.name)
+    sheet.text(MARGIN, top + 28, SOFT, lane.bounds, SMALL)
+    pairs = pairs_within(sheet, lane)
+    for place, (start, end, number) in enumerate(pairs):
+        y = top + 20 + ARROW * number
+        for clock, row in ((start, lane.rows[0]), (end, lane.rows[1])):
+            sheet.line(sheet.x(clock), edges_at.get(row, top), sheet.x(clock), y + 5, SOFT, ' stroke-dasharray="1 3"')
+        if lane.allowed:
+            after = next((it[0] for it in pairs[place + 1 :] if it[2] == number), sheet.last)
+            draw_allowed(sheet, start + lane.allowed[0], start + lane.allowed[1], after, y)
+        draw_arrow(sheet, start, end, y, is_good(lane, end - start))
+
+
+def is_good(lane: Lane, clocks: int) -> bool:
+    """Whether so many clocks are allowed; of a span that names stalls the trace doesn't say."""
+    return lane.allowed is None or lane.allowed[0] <= clocks <= lane.allowed[1]
+
+
+def draw_allowed(sheet: Sheet, first: int, last: int, after: int, y: float) -> None:
+    """The time in which the to-edge may come, as far as the next arrow; a time of one clock is four points wide, to be seen."""
+    if first > after:
+        return
+    left, width = sheet.x(first), sheet.x(min(last, after)) - sheet.x(first)
+    left, width = (left - 2, 4) if width < 4 else (left, width)
+    sheet.put(f'<rect x="{at(left)}" y="{at(y - 7)}" width="{at(width)}" height="14" fill="{BAND}"/>')
+
+
+def draw_arrow(sheet: Sheet, start: int, end: int, y: float, good: bool) -> None:
+    """An arrow from edge to edge with its number of clocks, where there is room for them."""
+    colour, left, right = GOOD if good else BAD, sheet.x(start), sheet.x(end)
+    sheet.line(left, y, right, y, colour)
+    for x in (left, right):
+        sheet.line(x, y - 5, x, y + 5, colour)
+    if right - left >= 16:
+        for x, away in ((left, 5), (right, -5)):
+            sheet.put(f'<path d="M{at(x)} {y}L{at(x + away)} {y - 3}L{at(x + away)} {y + 3}Z" fill="{colour}"/>')
+    text = str(end - start)
+    if right - left >= CHARACTER * len(text) + 2:
+        sheet.text((left + right) / 2, y - 6, colour, text, ' text-anchor="middle"' + SMALL)
+
+
+def draw_mark(sheet: Sheet, top: float, start: float, end: float) -> None:
+    """A red stripe over two rows, at least two points wide."""
+    left, width = sheet.x(start), max(2.0, sheet.x(end) - sheet.x(start))
+    sheet.put(f'<rect x="{at(left)}" y="{at(top - 4)}" width="{at(width)}" height="{PITCH + LEVEL + 8}" fill="{BAD}" fill-opacity="0.45"/>')
+
+
+def sheet_for(rows: list[Row], lanes: list[Lane], first: int, last: int) -> Sheet:
+    """An empty picture of these clocks, with room on the left for the names."""
+    names = ["clock", *(row.name for row in rows), *(text for lane in lanes for text in (lane.name, lane.bounds))]
+    left = MARGIN + CHARACTER * max(map(len, names)) + 1.5 * MARGIN
+    return Sheet(first, last, left, min(MOST_A_CLOCK, MOST_WIDE / (last - first)))
+
+
+def draw_all(sheet: Sheet, rows: list[Row], lanes: list[Lane], marks: Sequence[Mark]) -> float:
+    """The rows, the spans below them, the clocks below these; the height that they take."""
+    row_tops = [TOP + PITCH * place for place in range(len(rows) + 1)]
+    lane_tops = [*accumulate((height_of(sheet, lane) for lane in lanes), initial=row_tops[-1])]
+    bottom = lane_tops[-1] + 2
+    draw_axis(sheet, TOP - 6, bottom)
+    edges_at = {row.name: top + LEVEL for row, top in zip(rows, row_tops)}
+    for lane, top in zip(lanes, lane_tops):
+        draw_lane(sheet, lane, top, edges_at)
+    for place, start, end in marks:
+        draw_mark(sheet, row_tops[place], start, end)
+    for row, top in zip(rows, row_tops):
+        draw_row(sheet, row, top)
+    if all(is_driven for row in rows for *_, is_driven in pieces_of(row, sheet.first, sheet.last)):
+        return bottom + 24
+    sheet.text(sheet.left, bottom + 32, SOFT, "dashed: direction in, the block doesn't drive the pin", SMALL)
+    return bottom + 40
+
+
+def picture(title: str, rows: list[Row], lanes: list[Lane], first: int, last: int, marks: Sequence[Mark] = ()) -> str:
+    """The whole text of the picture."""
+    sheet = sheet_for(rows, lanes, first, last)
+    width, height = at(sheet.x(last) + 2 * MARGIN), at(draw_all(sheet, rows, lanes, marks))
+    head = f'<svg xmlns="http://www.w3.org/2000/svg" width="{width}" height="{height}" viewBox="0 0 {width} {height}"'
+    head += ' role="img" font-family="monospace" font-size="12">'
+    ground = f'<rect width="{width}" height="{height}" fill="#ffffff"/>'
+    return "\n".join([head, f"<title>{escaped(title)}</title>", ground, *sheet.lines, "</svg>"]) + "\n"
