@@ -11,6 +11,7 @@ from pathlib import Path
 import cases
 import observers_model
 from piotool.block_model import Block, System, together
+from piotool.calls import piotool
 from piotool.lint_all import findings
 from piotool.lint_files import Files
 
@@ -89,6 +90,30 @@ def is_seen_outside(text, run, spans):
         return False
     seen = numbers_in(observers_model.seen([span], run.samples, run.case.pins["level"]).partition(" seen ")[2])
     return len(seen) == 3 and (seen[1] < tight if key == "min" else seen[2] > tight)
+
+
+def look_at_source(seed, folder):
+    """What is wrong with the places in a random source: the program's fault is at a line where the reader finds it too, or there is none."""
+    path = Path(folder) / "random.pio"
+    path.write_bytes(cases.Source(random.Random(seed)).text())
+    status, text, told = piotool("asm", path)
+    source = Files([str(path)], None, None, Path(folder)).source
+    bad = [(it.bad.line, it.bad.code) for it in source.statements if it.bad]
+    if status == 0:
+        heads = re.findall(r"^program (\S+) |^\d\d [0-9a-f]{4} ", text, re.M)
+        words = {name: 0 for name in heads if name}
+        name = ""
+        for head in heads:
+            name = head or name
+            words[name] += not head
+        own = {name: len(words) for name, words in source.words.items()}
+        return f"words {own}, not {words}" if source.bad or bad or own != words else None
+    line, code = re.fullmatch(r"piotool: source line (\d+): (\w+).*", told).groups()
+    if code[0] == "L":
+        is_right = source.bad is not None and (source.bad.line, source.bad.code) == (int(line), code)
+    else:
+        is_right = code not in ("S1", "S11", "V5", "V6") or (int(line), code) in bad
+    return None if is_right else f"{told}, and the reader finds {source.bad or bad}"
 
 
 def look(seed, folder):

@@ -132,6 +132,8 @@ class BlockLint:
         self.machines = {number: Reached(number, setup, block.memory) for number, setup in sorted(block.setups.items())}
         self.out = {pin for pin in MOST_PINS if block.pins["out"] >> pin & 1}
         self.out = self.out.union(*(it.may_direct() for it in self.machines.values()))
+        lines = (fields_of_line(line) for line in files.stimulus_bytes.split(b"\n") if b"pin" in line)
+        self.driven = {number(it[2]) for it in lines if len(it) == 4 and it[1] == "pin"}
         self.raised = set().union(*(it.raises() for it in self.machines.values()))
 
     def found(self, stimulus: bool) -> Iterator[Said]:
@@ -240,14 +242,7 @@ class BlockLint:
         """Whether a pad never changes: no machine has the pin in a mapping, and no line of the stimulus drives it."""
         if any(pin in it.touched.writes for it in self.machines.values()):
             return False
-        return pin not in self.files_pins()
-
-    def files_pins(self) -> set[int]:
-        """The pins that the stimulus drives."""
-        if not hasattr(self, "driven"):
-            lines = (fields_of_line(line) for line in self.files.stimulus_bytes.split(b"\n") if b"pin" in line)
-            self.driven = {number(it[2]) for it in lines if len(it) == 4 and it[1] == "pin"}
-        return self.driven
+        return pin not in self.driven
 
     def level(self, pin: int) -> int:
         """The pad of a pin that never changes."""

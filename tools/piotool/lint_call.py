@@ -8,7 +8,7 @@ from piotool.calls import seconds
 from piotool.lint_all import findings
 from piotool.lint_files import Files
 from piotool.lint_said import sarif_of
-from piotool.lint_sentences import about
+from piotool.lint_sentences import WARNINGS, about
 
 SECONDS = 2.0
 
@@ -50,6 +50,7 @@ def read_words(about_it: str, given: list[str]) -> argparse.Namespace:
     parser.add_argument("--table", type=table, action="append", default=[], metavar="SPAN=FILE", help="a kept table of a span, or several")
     parser.add_argument("--words", metavar="FILE", help="a file of words, as piotool dis reads it")
     parser.add_argument("--werror", action="store_true", help="warnings count as errors")
+    parser.add_argument("--allow", choices=list(WARNINGS), action="append", default=[], metavar="NAME", help="leave out the warnings of a name")
     parser.add_argument("--json", action="store_true", help="write SARIF 2.1.0")
     parser.add_argument("--seconds", type=seconds, default=SECONDS, metavar="S", help="how long to search for a run that breaks a span (2)")
     words = parser.parse_args(given)
@@ -64,6 +65,7 @@ def answer(about_it: str, given: list[str]) -> tuple[int, str]:
     with tempfile.TemporaryDirectory() as folder:
         files = Files(words.sources, words.config, words.stimulus, Path(folder))
         found, is_refused = findings(files, words)
+    found = [it for it in found if it.code not in words.allow]
     text = sarif_of(found, about()) if words.json else "".join(it.lines() for it in found)
     if is_refused:
         return 3, text

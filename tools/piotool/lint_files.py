@@ -4,7 +4,6 @@ Lines of the whole source are mapped back to the files. What isn't UTF-8 is kept
 """
 
 import re
-import tempfile
 from dataclasses import dataclass, field
 from pathlib import Path
 from typing import Optional
@@ -95,8 +94,3 @@ def fields_of(data: bytes, line: int) -> list[tuple[str, int]]:
     lines = data.split(b"\n")
     text = text_of(lines[line - 1]) if line <= len(lines) else ""
     return [(it[0], it.start() + 1) for it in FIELD.finditer(text.partition("#")[0])]
-
-
-def files_in(sources: list[str], config: Optional[str], stimulus: Optional[str], folder: "tempfile.TemporaryDirectory[str]") -> Files:
-    """The files of a call, with their copies in a folder."""
-    return Files(sources, config, stimulus, Path(folder.name))

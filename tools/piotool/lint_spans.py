@@ -16,7 +16,7 @@ from piotool.telling import broken_text
 from piotool.ways import Way, way_to
 
 MOST_LINES = 3  # of a stimulus that is shown
-RATE = re.compile(r"(?<![\w.])(\d+(?:[.,]\d+)?) ?([kM]?)Hz\b")
+RATE = re.compile(r"(?<![\w.])(?<!at )(\d+(?:[.,]\d+)?) ?([kM]?)Hz\b")
 UNITS = {"": 1, "k": 10**3, "M": 10**6}
 AWAY = 0.02  # how far a rate is from the one of a comment that is surely another
 
@@ -112,7 +112,7 @@ class SpanLint:
         """Periods of another frequency than the one that the comments of their tables say."""
         for place, table in enumerate(self.tables):
             is_period = table["from_pin"] == table["to_pin"] and table["from_edge"] == table["to_edge"]
-            said = self.rates(place)
+            said = {text: rate for text, rate in self.rates(place).items() if rate <= mhz * 5e5}
             if not is_period or table.get("stalls") or len(said) != 1:
                 continue
             (text, rate), = said.items()
@@ -135,7 +135,7 @@ class SpanLint:
         return self.files.config_place(f"machine[{number}].divider")
 
     def rates(self, place: int) -> dict[str, float]:
-        """The frequencies that the comments of a span say: those on its lines, and those right above its header."""
+        """The frequencies that the comments of a span say: those on its lines, and those right above its header; none after `at`."""
         toml, header = self.files.toml, self.files.toml.key(f"span[{place}]")
         if header is None:
             return {}

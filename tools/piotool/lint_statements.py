@@ -50,6 +50,7 @@ class Reader:
 
     def __init__(self, tokens: list[Token], end: int) -> None:
         self.tokens, self.place, self.end, self.open = tokens, 0, end, 0
+        self.is_reversed = False  # whether `::` is the token before
         self.said = Statement(tokens[0])
         try:
             self.statement()
@@ -119,8 +120,6 @@ class Reader:
                 return
             if reverse is not None and operates:
                 raise Stop("V6", reverse.column)
-
-    is_reversed = False
 
     def value(self, column: int) -> None:
         """A number, a name, or a parenthesis."""

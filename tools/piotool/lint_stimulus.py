@@ -75,7 +75,8 @@ def out_of_range(fields: list[tuple[str, int]]) -> tuple[int, str, str]:
             continue
         name, least, most = limit
         if not least <= int(text, 16 if text.startswith("0x") else 10) <= most:
-            return column, f"{name} {text}", f"it goes from {least} to {most}"
+            more = "; 4 to 7 are the second block's in piotool pair" if name == "M" else ""
+            return column, f"{name} {text}", f"it goes from {least} to {most}{more}"
     return fields[0][1], "a number", ""
 
 
