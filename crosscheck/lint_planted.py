@@ -59,7 +59,7 @@ class Planted:
 
 
 def line_after(text, more):
-    """The line so many lines after a text."""
+    """The line that stands this number of lines after a text."""
     return text.count("\n") + more
 
 

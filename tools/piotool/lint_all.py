@@ -65,7 +65,7 @@ def first_fault(files: Files) -> tuple[Optional[Said], list[str]]:
 
 
 def fault_of(files: Files, told: str) -> Said:
-    """The fault that a line of the program's tells."""
+    """The fault that a line of the program names."""
     said = said_of(files, told)
     if said:
         return said
@@ -115,7 +115,7 @@ def of_table(files: Files, name: str, path: str) -> list[Said]:
         return [said]
     flaw = told.partition(" table: ")[2]
     if not flaw:
-        return []  # refused by another machine, which is told already
+        return []  # refused for another machine, which is an error already
     kind, cause = flaw.split()[0], flaw.rpartition(": ")[2]
     return [Said(Place(path, row_of(data, flaw)), "error", sentence(kind, name=name, value=cause), kind)]
 

@@ -1,4 +1,4 @@
-"""A fault that the program tells, with its file, its line, its column and its sentence.
+"""A fault that the program finds, with its file, its line, its column and its sentence.
 
 The program finds the fault; what is looked for here is its place in the text. Where a text isn't as this expects it, the place is that
 of the first token of the line.

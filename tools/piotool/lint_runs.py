@@ -32,7 +32,7 @@ def lines_of(files: Files) -> tuple[list[Line], list[int]]:
 
 
 class RunLint:
-    """The warnings of a run of so many clocks; without a number of clocks only those of the stimulus."""
+    """The warnings of a run; without a number of clocks only the ones of the stimulus."""
 
     def __init__(self, files: Files, lint: BlockLint, clocks: Optional[int]) -> None:
         self.files, self.lint, self.clocks = files, lint, clocks

@@ -5,6 +5,7 @@ A place is a file, a line and a column, each counted from 1. A column counts cha
 
 import json
 from dataclasses import dataclass, field
+from pathlib import Path
 from typing import Any
 from urllib.parse import quote
 
@@ -49,8 +50,9 @@ class Said:
 
 def location_of(place: Place) -> dict[str, Any]:
     """A place as a location of SARIF."""
+    uri = Path(place.file).as_uri() if Path(place.file).is_absolute() else quote(place.file)
     region = {"startLine": place.line, "startColumn": place.column}
-    return {"physicalLocation": {"artifactLocation": {"uri": quote(place.file)}, "region": region}}
+    return {"physicalLocation": {"artifactLocation": {"uri": uri}, "region": region}}
 
 
 def sarif_of(found: list[Said], about: dict[str, str]) -> str:

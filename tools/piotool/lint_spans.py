@@ -162,7 +162,7 @@ def shown(rate: float) -> str:
 
 
 def reason(graph: Graph, way: Way, span: dict) -> str:
-    """How a way comes to a count that is refused."""
+    """How a way reaches a count that is refused."""
     bounds = graph.bounds
     if way.loop:
         turn, address = sum(it.counted() for it in way.loop), way.loop[0].before.address

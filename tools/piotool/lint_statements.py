@@ -276,7 +276,7 @@ class Source:
 
     @staticmethod
     def end_of(tokens: list[Token], ends: list[int]) -> int:
-        """The column after the last token, as far as its line goes; that of a token on its last line is enough."""
+        """The column after the last token, within its line."""
         last = tokens[-1]
         return min(last.column + len(last.text), ends[last.line - 1] + 1)
 

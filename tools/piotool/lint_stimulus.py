@@ -101,7 +101,7 @@ def of_lines(path: str, data: bytes, told: str) -> Optional[Said]:
 
 
 def bad_form(data: bytes, line: int, fields: list[tuple[str, int]]) -> int:
-    """The column at which a line is none of a table: that of the first field or blank that is wrong."""
+    """The column at which a line is none of a table: the first field or blank that is wrong."""
     text = text_of(data.split(b"\n")[line - 1])
     wanted = re.compile(r"pio table 1" if line == 1 else r"(?:0|[1-9]\d*|any|-)(?: (?:0|[1-9]\d*|any|-))*")
     it = wanted.match(text)

@@ -1,7 +1,7 @@
 """Where the keys of a TOML text stand: a scanner for places. Python's own reader has the values.
 
-A place is a line and a column. Paths are those of piotool's lines, as `machine[0].divider`; an element of an array has its number,
-as `pins.high[2]`. A table has the place of its header; one that dotted keys make, that of the first of them.
+A place is a line and a column. Paths are as piotool's lines have them, `machine[0].divider`; an element of an array has its number,
+as `pins.high[2]`. A table has the place of its header, and a table of dotted keys the place of the first of them.
 """
 
 import json
@@ -16,6 +16,8 @@ LONG = re.compile(r'"""(?:[^\\]|\\.)*?"{3,5}|' + r"'''.*?'{3,5}", re.S)
 OTHER = re.compile(r"[^,\]}#\n]+")
 AT = re.compile(r"\(at line (\d+), column (\d+)\)")
 GREAT = re.compile(r"(?<![\w.])[+-]?\d{16,}(?![\w.])|(?<![\w.])[+-]?\d[\d_]*(?:\.\d+)?[eE][+-]?\d{3,}")
+COMMENT = re.compile(r"#[^\n]*")
+MOST_DEEP = 80
 Point = tuple[int, int]
 
 
@@ -168,6 +170,20 @@ def unquoted(text: str) -> str:
         return text[1:-1]
 
 
+def deepest(text: str) -> Optional[int]:
+    """Where the 81st bracket opens inside others, or nothing."""
+    depth, at = 0, 0
+    while at < len(text):
+        if it := LONG.match(text, at) or BASIC.match(text, at) or LITERAL.match(text, at) or COMMENT.match(text, at):
+            at = it.end()
+            continue
+        depth += (text[at] in "[{") - (text[at] in "]}")
+        if depth > MOST_DEEP:
+            return at
+        at += 1
+    return None
+
+
 def fault_of(data: bytes) -> tuple[Point, str]:
     """Where a text isn't TOML in UTF-8, and what Python's reader says of it; the beginning where that reader takes it."""
     try:
@@ -187,6 +203,8 @@ def fault_of(data: bytes) -> tuple[Point, str]:
         return places.point(len(text.rstrip())), what
     except RecursionError:
         return (1, 1), ": too many brackets inside each other"
+    if (at := deepest(text)) is not None:
+        return places.point(at), ": more than 80 brackets inside each other"
     if it := GREAT.search(text):
         return places.point(it.start()), ": a number past 64 bits"
     return (1, 1), ""
