@@ -1,0 +1,135 @@
+"""Random set-ups whose warnings are compared with a run: what a warning says never comes, or stands for good, is looked for in it.
+
+The run is that of the model of the block, clock by clock, and goes on for a while after the clocks that the linter looked at.
+"""
+
+import random
+import re
+from argparse import Namespace
+from pathlib import Path
+
+import cases
+import observers_model
+from piotool.block_model import Block, System, together
+from piotool.calls import piotool
+from piotool.lint_all import findings
+from piotool.lint_files import Files
+
+MORE = 200  # clocks after those of the linter's run
+NUMBER = re.compile(r"\d+")
+
+
+class Run:
+    """A run of a case: its samples, and of each machine and clock PC, whether its instruction has begun, and OSR."""
+
+    def __init__(self, case, clocks):
+        self.case, self.samples, self.states = case, [], []
+        self.block = Block(case.memory, case.setups, case.pins, System(case.lines))
+        for shown in together([self.block], 0, clocks):
+            self.samples.append(shown[0])
+            self.states.append({number: (it.pc, it.begun, it.osr) for number, it in self.block.machines.items()})
+
+    def was(self, place, levels):
+        """Whether a value is one of these in any clock."""
+        return any(values[place] in levels for values in self.samples)
+
+
+def numbers_in(text):
+    """The numbers of a text."""
+    return [int(it) for it in NUMBER.findall(text)]
+
+
+def pins_in(text):
+    """The pins that a text names: p0, p1 or p0 to p4."""
+    if it := re.search(r"p(\d+) to p(\d+)", text):
+        return list(range(int(it[1]), int(it[2]) + 1))
+    return [int(it) for it in re.findall(r"\bp(\d+)", text)]
+
+
+def is_contested(said, run, spans, clocks):
+    """Whether a run shows that a warning isn't right."""
+    case, text, name = run.case, said.text, said.code
+    numbers = numbers_in(text)
+    if name in ("pin-not-out", "mapping-not-out"):
+        pins = pins_in(text.partition(": ")[2] if name == "pin-not-out" else text.partition(" writes ")[2])
+        return any(run.was(32 + pin, {1}) for pin in pins)
+    if name == "empty-mapping":
+        return case.setups[numbers[0]]["set_count" if text.startswith("set") else "out_count"] != 0
+    if name == "out-not-fed":
+        return any(state[numbers[0]][2] for state in run.states)
+    if name == "in-not-emptied":
+        return run.was(76 + numbers[0], set(range(1, 9)))
+    if name == "flag-not-raised":
+        return run.was(64 + numbers[1], {1})
+    if name == "pin-not-driven":
+        machine, polarity, pin = numbers[:3]
+        driven = [line for line in case.lines if line[1] == "pin" and line[2] == [pin, polarity]]
+        level = case.pins["level" if case.pins["out"] >> pin & 1 else "high"] >> pin & 1
+        return bool(driven) or level == polarity or run.was(32 + pin, {1 - (case.pins["out"] >> pin & 1)})
+    if name == "set-count":
+        return True  # each machine of a case has its own
+    if name == "span-not-seen":
+        lines = observers_model.seen(spans, run.samples[:clocks], case.pins["level"]).splitlines()
+        return not any(line == f"span {text.partition(': ')[0].removeprefix('span ')} seen 0" for line in lines)
+    if name == "bound-not-tight":
+        return is_seen_outside(text, run, spans)
+    if name == "stands-still":
+        machine, address, clock = numbers[:3]
+        return any(state[machine][:2] != (address, True) for state in run.states[clock + 1 :])
+    if name == "no-machine":
+        return numbers[0] in case.setups
+    return name == "every-word"  # all of a case's are decimal
+
+
+def is_seen_outside(text, run, spans):
+    """Whether a run sees a span in clocks outside the bound that is called the tight one."""
+    name, key = re.match(r"span (\S+): (min|max) ", text).groups()
+    tight = numbers_in(text)[-1]
+    span = next(it for it in spans if it["name"] == name)
+    if span["unit"] != "clocks" or any(word in ("disable", "restart") for _, word, _ in run.case.lines):
+        return False
+    seen = numbers_in(observers_model.seen([span], run.samples, run.case.pins["level"]).partition(" seen ")[2])
+    return len(seen) == 3 and (seen[1] < tight if key == "min" else seen[2] > tight)
+
+
+def look_at_source(seed, folder):
+    """What is wrong with the places in a random source: the program's fault is at a line where the reader finds it too, or there is none."""
+    path = Path(folder) / "random.pio"
+    path.write_bytes(cases.Source(random.Random(seed)).text())
+    status, text, told = piotool("asm", path)
+    source = Files([str(path)], None, None, Path(folder)).source
+    bad = [(it.bad.line, it.bad.code) for it in source.statements if it.bad]
+    if status == 0:
+        heads = re.findall(r"^program (\S+) |^\d\d [0-9a-f]{4} ", text, re.M)
+        words = {name: 0 for name in heads if name}
+        name = ""
+        for head in heads:
+            name = head or name
+            words[name] += not head
+        own = {name: len(words) for name, words in source.words.items()}
+        return f"words {own}, not {words}" if source.bad or bad or own != words else None
+    line, code = re.fullmatch(r"piotool: source line (\d+): (\w+).*", told).groups()
+    if code[0] == "L":
+        is_right = source.bad is not None and (source.bad.line, source.bad.code) == (int(line), code)
+    else:
+        is_right = code not in ("S1", "S11", "V5", "V6") or (int(line), code) in bad
+    return None if is_right else f"{told}, and the reader finds {source.bad or bad}"
+
+
+def look(seed, folder):
+    """The warnings of a random set-up, and those of them that a run contests."""
+    chance = random.Random(seed)
+    case = cases.Run(chance)
+    spans = cases.observed_spans(chance, case.setups)
+    paths = [Path(folder) / f"case.{ending}" for ending in ("pio", "toml", "stim")]
+    for path, text in zip(paths, (case.source, case.config + cases.as_tables(spans), case.stimulus)):
+        path.write_text(text)
+    files = Files([str(paths[0])], str(paths[1]), str(paths[2]), Path(folder))
+    words = Namespace(clocks=case.clocks, mhz=None, seconds=0.05, table=[], words=None)
+    found, _ = findings(files, words)
+    faults = [it for it in found if it.level == "error" and it.code[0] != "U"]
+    if faults:
+        raise AssertionError(f"seed {seed}: {faults[0].lines()}")
+    warnings = [it for it in found if it.level == "warning"]
+    run = Run(case, case.clocks + MORE)
+    return warnings, [it for it in warnings if is_contested(it, run, spans, case.clocks)]

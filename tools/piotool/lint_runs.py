@@ -1,0 +1,150 @@
+"""Warnings of a run: spans that it never sees, machines that stand still, and lines of its stimulus.
+
+`piotool measure` says what is seen of spans; the model of the block says where a machine stands at the end.
+"""
+
+import re
+from time import process_time
+from typing import Iterator, Optional
+
+from piotool.block_model import Line
+from piotool.calls import Fault, piotool
+from piotool.lint_block import IN, IRQ, OUT, WAIT, BlockLint, Op, fields_of_line, number
+from piotool.lint_files import Files
+from piotool.lint_said import Place, Said
+from piotool.machine_model import period_of
+from piotool.span_runs import Run, run_of
+
+MOST_STEPS, MOST_SECONDS = 400_000, 10.0
+SEEN = re.compile(r"span (\S+) seen (\d+)(?: least (\d+) most (\d+))?")
+STATE = ("pc", "x", "y", "isr", "osr", "in_count", "out_count", "delay", "pending", "begun", "enabled", "tx", "rx", "phase")
+
+
+def lines_of(files: Files) -> tuple[list[Line], list[int]]:
+    """The lines of a stimulus that has no fault, and the line of the file that each stands on."""
+    lines, places = [], []
+    for place, line in enumerate(files.stimulus_bytes.split(b"\n")):
+        fields = fields_of_line(line)
+        if fields and fields[0] != "version":
+            lines.append((number(fields[0]), fields[1], [number(it) for it in fields[2:]]))
+            places.append(place + 1)
+    return lines, places
+
+
+class RunLint:
+    """The warnings of a run; without a number of clocks only the ones of the stimulus."""
+
+    def __init__(self, files: Files, lint: BlockLint, clocks: Optional[int]) -> None:
+        self.files, self.lint, self.clocks = files, lint, clocks
+        self.lines, self.places = lines_of(files)
+
+    def of_stimulus(self) -> Iterator[Said]:
+        """Lines for machines that aren't there, and feeds whose EVERY looks like a word."""
+        told: set[int] = set()
+        for (_, word, numbers), place in zip(self.lines, self.places):
+            if word == "pin":
+                continue
+            fields = self.files.stimulus_fields(place)
+            if numbers[0] not in self.lint.machines and numbers[0] not in told:
+                told.add(numbers[0])
+                text = f"machine {numbers[0]} isn't configured: this line does nothing"
+                yield Said(Place(self.files.stimulus or "", place, fields[2][1]), "warning", text, "no-machine")
+            if word == "feed" and fields[3][0].startswith("0x"):
+                text = f"EVERY is {fields[3][0]}, which looks like the first word: a feed is CLOCK feed M EVERY WORD .."
+                yield Said(Place(self.files.stimulus or "", place, fields[3][1]), "warning", text, "every-word")
+
+    def measured(self) -> list[tuple[int, int, int]]:
+        """How often each span is seen, and its fewest and most clocks."""
+        words = ["--source", self.files.whole, *(["--config", self.files.own_config] if self.files.own_config else [])]
+        words += ["--stimulus", self.files.own_stimulus] if self.files.own_stimulus else []
+        status, text, told = piotool("measure", *words, "--clocks", self.clocks)
+        if status != 0:
+            raise Fault(told.removeprefix("piotool: "))
+        found = [SEEN.fullmatch(line) for line in text.splitlines()]
+        return [(int(it[2]), int(it[3] or 0), int(it[4] or 0)) for it in found if it]
+
+    def of_spans(self, tight: list[Optional[tuple[int, int]]]) -> Iterator[Said]:
+        """Spans that the run never sees, or at neither tight bound (in ticks) and in less than half of what lies between."""
+        if not self.clocks or not self.lint.block.tables["span"]:
+            return
+        disturbed = {numbers[0] for _, word, numbers in self.lines if word in ("disable", "restart")}
+        for place, (table, (seen, least, most)) in enumerate(zip(self.lint.block.tables["span"], self.measured())):
+            at, name = self.files.key_place(f"span[{place}]"), table["name"]
+            if not seen:
+                text = f"span {name}: this run of {self.clocks} clocks never sees it"
+                yield Said(at, "warning", text, "span-not-seen")
+            elif tight[place] and table["machine"] not in disturbed and not table.get("stalls"):
+                period = period_of(self.lint.block.setups[table["machine"]])
+                low, high = -(-tight[place][0] * period // 256), tight[place][1] * period // 256
+                if least > low and most < high and 2 * (most - least) < high - low:
+                    text = f"span {name}: this run sees {least} to {most} clocks, and the program may make {low} to {high}"
+                    yield Said(at, "warning", text, "bounds-not-seen")
+
+    def stood(self) -> Iterator[Said]:
+        """Machines that stand still at the end of the run, and for good."""
+        if not self.clocks:
+            return
+        run = run_of(self.lint.block, self.lines, self.clocks, MOST_STEPS, process_time() + MOST_SECONDS, (self.clocks - 1,))
+        if not run.is_whole or not run.marks:
+            return
+        states = {it: dict(zip(STATE, state)) for it, state in zip(sorted(self.lint.block.setups), run.marks[0].state[0][0])}
+        waiting = {it: state["pc"] for it, state in states.items() if state["begun"] and not state["delay"] and state["enabled"]}
+        ops = {it: self.op_of(at, states[it]["pending"]) for it, at in waiting.items()}
+        flags = run.marks[0].state[0][4]
+        goes_on = set(states) - {it for it, op in ops.items() if not self.is_there(it, op, flags)}
+        while more := {it for it, op in ops.items() if it not in goes_on and self.may_go_on(it, op, goes_on)}:
+            goes_on |= more
+        for machine, op in ops.items():
+            if machine not in goes_on:
+                clock = stood_from(run, machine, op.address)
+                text = f"machine {machine} stands still at address {op.address} from clock {clock} on: {self.why(machine, op, flags)}"
+                yield Said(self.lint.place_of(machine, op.address), "warning", text, "stands-still")
+
+    def op_of(self, address: int, pending: Optional[int]) -> Op:
+        """The instruction at which a machine waits."""
+        return Op(address, self.lint.block.memory[address] if pending is None else pending)
+
+    def flag_of(self, machine: int, op: Op) -> Optional[int]:
+        """The flag that a machine waits for, or none."""
+        is_flag = op.kind == IRQ or op.kind == WAIT and op.word >> 5 & 3 == 2
+        return self.lint.machines[machine].touched.flag(op.low) if is_flag else None
+
+    def is_there(self, machine: int, op: Op, flags: int) -> bool:
+        """Whether the flag that a machine waits for is there, so that it goes on at its next tick."""
+        flag = self.flag_of(machine, op)
+        wanted = op.word >> 7 & 1 if op.kind == WAIT else 0
+        return flag is not None and flags >> flag & 1 == wanted
+
+    def changing(self, machine: int, flag: int) -> list[int]:
+        """The other machines that may change a flag."""
+        return [it for it, other in self.lint.machines.items() if it != machine and flag in other.touched.changes]
+
+    def may_go_on(self, machine: int, op: Op, goes_on: set[int]) -> bool:
+        """Whether what a machine waits for may come: the system serves its FIFO, a pin moves, or a machine that goes on changes its flag."""
+        own = {word for _, word, numbers in self.lines if word != "pin" and numbers[0] == machine}
+        if op.is_pull() or op.kind == OUT:
+            return bool(own & {"tx", "feed"})
+        if op.is_push() or op.kind == IN:
+            return bool(own & {"rx", "drain"})
+        flag = self.flag_of(machine, op)
+        return flag is None or any(it in goes_on for it in self.changing(machine, flag))
+
+    def why(self, machine: int, op: Op, flags: int) -> str:
+        """What a machine waits for that never comes."""
+        flag = self.flag_of(machine, op)
+        if flag is not None:
+            who = "no machine that goes on" if self.changing(machine, flag) else "no other machine"
+            return f"{who} {'lowers' if flags >> flag & 1 else 'raises'} flag {flag}"
+        if op.is_push() or op.kind == IN:
+            return "RX is full, and no line of the stimulus reads it"
+        return "TX is empty, and no line of the stimulus writes to it"
+
+
+def stood_from(run: Run, machine: int, address: int) -> int:
+    """The first clock of the wait at the end of a run."""
+    first = run.clocks - 1
+    for row in reversed(run.ticks[machine].rows):
+        if row.address != address:
+            break
+        first = row.first
+    return first
