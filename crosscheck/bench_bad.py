@@ -112,7 +112,7 @@ def look_at_bad(folder: Path, tools: Path, kept: Path) -> int:
     gone = folder / "gone"
     calls += [(stimulus, ["capture", it], wanted) for it, wanted in ((bad, f"{bad}: not UTF-8"), (gone, f"{gone}: No such file or directory"))]
     calls += [
-        (stimulus, ["capture", board, "--pin", "1=D7"], f"{board}: no signal is called 'D7'; it has D0, D1"),
+        (stimulus, ["capture", board, "--pin", "1=D7"], f"{board}: no signal is called 'D7'; it has CH0, CH1"),
         (stimulus, ["capture", board, "--at", "1s..2s"], f"{board}: no such part: it goes from 0us to 800.0417us"),
         (stimulus, ["uart", "--file", gone, "--pin", "1", "--bit", "9"], f"{gone}: No such file or directory"),
         (stimulus, ["uart", "--bytes", "55", "--pin", "1", "--bit", "9", "--wrong-stop", "1"], "--wrong-stop: no byte 1: there are 1, from 0 on"),
@@ -123,7 +123,7 @@ def look_at_bad(folder: Path, tools: Path, kept: Path) -> int:
         (compare, [trace, board, "--align", "p0:rise:9999"], f"{trace}: pin 0 has no such edge to align at: p0:rise:9999"),
         (measure, [board, "--config", gone], f"{gone}: No such file or directory"),
         (measure, [board, "--config", config, "--span", "none"], f"{config}: no span is called 'none'"),
-        (measure, [board, "--config", config, "--pin", "1=D1"], f"{board}: no signal for pin 0 of span low; --pin says which"),
+        (measure, [board, "--config", config, "--pin", "1=CH1"], f"{board}: no signal for pin 0 of span low; --pin says which"),
     ]
     for script, words, wanted in calls:
         one_line(script, words, 1, wanted)
