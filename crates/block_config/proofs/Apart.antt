@@ -1,7 +1,7 @@
 -- The loads of a configuration lie apart.
 use Rattle.std.proofs.Common.{◌≡◌, ℕ, suc, zero, ◌+◌, ◌<◌, ◌≤◌, ◌==◌, ◌&&◌, ◌||◌, ◌++◌, cond, Bool, true, false, Option, Some, None, Result, Ok, Err, List, [], ◌∷◌, refl, sym, subst, ◌∙◌, arith, codes, inl, inr}
 use Rattle.std.specs.List.{find, range_with_len}
-use Rattle.std.proofs.lemmas.Bool.{cases_Bool, false≢true, eqb-true, eqb-false}
+use Rattle.std.proofs.lemmas.Bool.{cases_Bool, false≢true, eqb-true, eqb-false, or_from, or_parts}
 use Rattle.std.proofs.lemmas.List.Folds.{list_any-append}
 use Rattle.toml.specs.Data.{Items, no_items, item, Members, as_table, get_member}
 use Rattle.pio_assemble.specs.Program.{Assembled}
@@ -15,7 +15,6 @@ use Rattle.block_config.specs.Tables.{in_section, section_at, element_of, are_kn
 use Rattle.block_config.specs.Memory.{fits_at}
 use Rattle.block_config.specs.Programs.{Loaded}
 use Rattle.block_config.specs.Values.{number_of}
-use Rattle.block_config.proofs.Outside.{neither}
 use Rattle.block_config.proofs.Ranges.{goes_on, off_key}
 
 none_here : (p : ℕ → Bool) (a i n : ℕ) (b : Bool) → p a ≡ b → cond b (Some a) (find p (range_with_len (a + 1) n)) ≡ None → (p a ≡ false) × (find p (range_with_len (a + 1) n) ≡ None)
@@ -73,10 +72,6 @@ lone_element : (programs : List Assembled) (front : List Loaded) (place : ℕ) (
 lone_element programs front place None found e = cc
 lone_element programs front place (Some t) found e = lone_known programs front (Load place) t found _ refl e
 
-both_fail : (a b : Bool) → a ≡ false → b ≡ false → (a || b) ≡ false
-both_fail false b p q = q
-both_fail true b p q = cc
-
 taken : (a b : Bool) → (a || b) ≡ false → a ≡ true → false ≡ true
 taken false b e is = is
 taken true b e is = sym e
@@ -94,8 +89,8 @@ apart_more : (front : List Loaded) (l : Loaded) → AreApart front → Lone fron
 apart_more [] l apart lone = (λ a within covered. refl, tt)
 apart_more (f ∷ front) l apart lone = (
   λ a within covered. list_any-append (λ x. covers x a) front (l ∷ [])
-      ∙ both_fail (is_covered front a) (covers l a || false) (apart.0 a within covered) (both_fail (covers l a) false (not_there f l front a within covered lone) refl),
-  apart_more front l apart.1 (λ a within covered. (neither (covers f a) (is_covered front a) (lone a within covered)).1),
+      ∙ or_from (is_covered front a) (covers l a || false) (apart.0 a within covered) (or_from (covers l a) false (not_there f l front a within covered lone) refl),
+  apart_more front l apart.1 (λ a within covered. (or_parts (covers f a) (is_covered front a) (lone a within covered)).1),
 )
 
 apart_gathered : (programs : List Assembled) (tables : Items) (place : ℕ) (front loads : List Loaded) → AreApart front → gather (load_in programs) place front tables ≡ Ok loads → AreApart loads

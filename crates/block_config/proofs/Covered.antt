@@ -1,5 +1,5 @@
 -- Addresses that loads cover, programs by their names, and memory with loads in it.
-use Rattle.std.proofs.Common.{◌≡◌, ℕ, suc, ◌+◌, ◌-◌, ◌<◌, ◌≤◌, ◌&&◌, ◌++◌, nat_lt, true, false, Bool, Bor, Option, Some, None, option_map, option_copied, List, [], ◌∷◌, map, drop, length, get_or, refl, ap, ◌∙◌, arith}
+use Rattle.std.proofs.Common.{◌≡◌, ℕ, suc, ◌+◌, ◌-◌, ◌<◌, ◌≤◌, ◌++◌, nat_lt, true, false, Bool, Bor, Option, Some, None, option_map, option_copied, List, [], ◌∷◌, map, drop, length, get_or, refl, ap, ◌∙◌, arith}
 use Rattle.std.specs.List.{find, range_with_len}
 use Rattle.std.proofs.lemmas.List.{drop_all, drop_more}
 use Rattle.std.proofs.lemmas.List.Folds.{list_all-append}
@@ -54,16 +54,6 @@ memory_more ls i d l words memory after all so_far within is its more = so_far �
 pub memory_ends : (ls : List LoadedProgram) (i : ℕ) (memory all : List ℕ) → all ≡ memory_of memory (map loaded_of (drop i ls)) → length ls ≤ i → all ≡ memory
 unfolding memory_of
 memory_ends ls i memory all so_far past = so_far ∙ rw (drop_all i ls past) refl
-
-pub second_fails : (a b : Bool) → b ≡ false → (a && b) ≡ false
-second_fails true b e = e
-second_fails false b e = refl
-
-pub first_fails : (a b : Bool) → a ≡ false → (a && b) ≡ false
-first_fails a b e = rw e refl
-
-pub both_pass : (a b : Bool) → a ≡ true → b ≡ true → (a && b) ≡ true
-both_pass a b e f = rw (e, f) refl
 
 -- one address more
 pub addresses_more : (those after : List ℕ) (a : ℕ) → are_addresses those ≡ true → a < 32 → after ≡ those ++ a ∷ [] → are_addresses after ≡ true

@@ -1,6 +1,7 @@
 -- A clock in which the pads change, or a machine begins an instruction, moves the block on.
 use Rattle.std.proofs.Common.{◌≡◌, ℕ, ◌==◌, Bool, true, false, not, ◌&&◌, ◌||◌, Option, Some, None, is_some, List, [], ◌∷◌, map, cond, refl, ap, sym, ◌∙◌, subst}
 use Rattle.std.specs.List.{list_any}
+use Rattle.std.proofs.lemmas.Bool.{and_parts, or_left, or_right}
 use Rattle.pin_matrix.specs.declared.machine.MachineSetup.{MachineSetup}
 use Rattle.sm_registers.specs.declared.registers.Registers.{Registers}
 use Rattle.sm_registers.specs.View.{View}
@@ -22,25 +23,12 @@ abbrev pub FirstTicksStir : Type 0
 FirstTicksStir =
     (s : MachineSetup) (v : View) (q : Queues) (r : Registers) → begins_next r ≡ true → stirs (tick_of s v q r).1 ≡ true
 
-both : (a b : Bool) → (a && b) ≡ true → (a ≡ true) × (b ≡ true)
-both true true h = (refl, refl)
-both true false h = cc
-both false b h = cc
-
-or_left : (a b : Bool) → a ≡ true → (a || b) ≡ true
-or_left true b h = refl
-or_left false b h = cc
-
-or_right : (a b : Bool) → b ≡ true → (a || b) ≡ true
-or_right true b h = refl
-or_right false b h = h
-
 -- a machine that begins an instruction stirs
 slot_begins : FirstTicksStir → (v : View) (s : Slot) → begins_now (Some s) ≡ true → stirs (acted v s).1 ≡ true
 unfolding acted
 slot_begins law v s h =
     let m = s.machine in
-    let parts = both (has_tick s) (begins_next m.registers) h in
+    let parts = and_parts (has_tick s) (begins_next m.registers) h in
     subst (λ b. stirs (cond b (tick_of m.setup v (queues_of m.ports.fifos) m.registers) (m.registers, no_intent)).1 ≡ true)
     (sym parts.0) (law m.setup v (queues_of m.ports.fifos) m.registers parts.1)
 
@@ -107,9 +95,9 @@ twin_by_machines t pad is h =
 ready_begins : (s : Slot) → is_ready (Some s) ≡ true → begins_now (Some s) ≡ true
 ready_begins s h =
     let r = s.machine.registers in
-    let parts = both (has_tick s) (simple.is_ready s.machine.setup r) h in
-    let rests = both (r.delay == 0) (not r.begun && not (is_some r.pending)) (both (not s.machine.setup.autopull) ((r.delay == 0) && (not r.begun && not (is_some r.pending))) parts.1).1 in
-    and_true (has_tick s) (begins_next r) parts.0 (and_true (r.delay == 0) (not r.begun) rests.0 (both (not r.begun) (not (is_some r.pending)) rests.1).0)
+    let parts = and_parts (has_tick s) (simple.is_ready s.machine.setup r) h in
+    let rests = and_parts (r.delay == 0) (not r.begun && not (is_some r.pending)) (and_parts (not s.machine.setup.autopull) ((r.delay == 0) && (not r.begun && not (is_some r.pending))) parts.1).1 in
+    and_true (has_tick s) (begins_next r) parts.0 (and_true (r.delay == 0) (not r.begun) rests.0 (and_parts (not r.begun) (not (is_some r.pending)) rests.1).0)
   where
     and_true : (a b : Bool) → a ≡ true → b ≡ true → (a && b) ≡ true
     and_true true b h k = k

@@ -1,5 +1,6 @@
 -- When a block next stirs, and what it is until then.
 use Rattle.std.proofs.Common.{◌≡◌, ℕ, ◌<◌, Bool, true, false, not, ◌||◌, Option, Some, None, List, [], ◌∷◌, map, refl, ap, sym, ◌∙◌, subst, arith}
+use Rattle.std.proofs.lemmas.Bool.{or_right, or_parts}
 use Rattle.sm_registers.specs.declared.shown.Shown.{Shown}
 use Rattle.dreq_pacing.specs.Due.{quiet}
 use Rattle.dreq_pacing.specs.Ports.{IsFirst}
@@ -11,7 +12,6 @@ use Rattle.block_core.specs.Slots.{Slot}
 use Rattle.block_core.specs.Stirring.{moves_on, machines_stir_over, pads_change_over, pads_change}
 use Rattle.block_core.proofs.Firsts.{first_same, first_while}
 use Rattle.block_core.proofs.LeaptRun.{CalmLaws, rests, leaps_by}
-use Rattle.block_core.proofs.Unused.{or_false_parts}
 
 -- Once it has leapt, over pads that don't change, it moves on where a machine stirs.
 only_machines : (a p : Bool) → p ≡ false → (a || p) ≡ (false || a)
@@ -30,21 +30,17 @@ first_moves laws r pad result is settled told h =
     (first_same _ (λ n. moves_on quiet (leapt n r)) result (moves_leapt r pad is settled) h)
 
 -- pads that change move it on at once
-or_true : (a b : Bool) → b ≡ true → (a || b) ≡ true
-or_true true b h = refl
-or_true false b h = h
-
 pub moves_at_once : (r : Run) (pad : ℕ) → pad ≡ pads_in quiet r.state → pads_change_over pad r ≡ true → IsFirst (λ n. moves_on quiet (run_from r (λ c. quiet) n)) 0 (Some 0)
 unfolding moves_on run_from
 moves_at_once r pad is h =
-    (omega arith, or_true _ _ (ap (λ p. pads_change_over p r) (sym is) ∙ h), λ c le lt. absurd (omega (arith, lt)))
+    (omega arith, or_right _ _ (ap (λ p. pads_change_over p r) (sym is) ∙ h), λ c le lt. absurd (omega (arith, lt)))
 
 -- in clocks in which it doesn't move on no machine stirs
 stir_parts : (r : Run) (pad k : ℕ) → pad ≡ pads_in quiet r.state → moves_on quiet (leapt k r) ≡ false → machines_stir_over pad quiet (leapt k r) ≡ false
 unfolding moves_on leapt
 stir_parts r pad k is h =
     subst (λ p. machines_stir_over p quiet (leapt k r) ≡ false) (sym is)
-    (or_false_parts (machines_stir_over (pads_in quiet r.state) quiet (leapt k r)) (pads_change quiet r) h).0
+    (or_parts (machines_stir_over (pads_in quiet r.state) quiet (leapt k r)) (pads_change quiet r) h).0
 
 pub machines_calm : CalmLaws → (r : Run) (pad n : ℕ) → pad ≡ pads_in quiet r.state → AreTold r.memory r.state.machines → ((k : ℕ) → k < n → moves_on quiet (run_from r (λ c. quiet) k) ≡ false) → (k : ℕ) → k < n → machines_stir_over pad quiet (leapt k r) ≡ false
 machines_calm laws r pad n is told h k lt =

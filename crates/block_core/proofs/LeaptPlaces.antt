@@ -1,6 +1,7 @@
 -- When the machines of four places next stir over given pads, and what they are until then.
 use Rattle.std.proofs.Common.{◌≡◌, ℕ, ◌+◌, ◌≤◌, ◌^◌, ◌==◌, Bool, true, false, not, ◌&&◌, ◌||◌, ◌↔◌, IsTrue, Option, Some, None, List, refl, ap, sym, subst, arith}
 use Rattle.std.proofs.lemmas.Bool.Decides.{nat_tests}
+use Rattle.std.proofs.lemmas.Bool.{or_parts}
 use Rattle.pin_matrix.specs.Pads.{Synchroniser, seen_of}
 use Rattle.sm_registers.specs.View.{View}
 use Rattle.dreq_pacing.specs.Due.{quiet}
@@ -11,7 +12,6 @@ use Rattle.block_core.specs.Slots.{Slot}
 use Rattle.block_core.specs.Stirring.{machines_stir_over}
 use Rattle.block_core.proofs.Firsts.{first_same}
 use Rattle.block_core.proofs.LeaptRun.{pads_same}
-use Rattle.block_core.proofs.Unused.{or_false_parts}
 use Rattle.block_core.proofs.Wanting.{view, run}
 
 join : (t a b c e : Bool) → (t || (a || (b || (c || (e || false))))) ≡ ((((t || a) || b) || c) || e)
@@ -43,10 +43,10 @@ pub record AreCalm (v : View) (a b c e : Option Slot) (n : ℕ) : Type 0 where
 
 parted : (v : View) (a b c e : Option Slot) (n : ℕ) → (stirs_after v a n || (stirs_after v b n || (stirs_after v c n || (stirs_after v e n || false)))) ≡ false → AreCalm v a b c e n
 parted v a b c e n h =
-    let one = or_false_parts (stirs_after v a n) _ h in
-    let two = or_false_parts (stirs_after v b n) _ one.1 in
-    let three = or_false_parts (stirs_after v c n) _ two.1 in
-    record { first = one.0; second = two.0; third = three.0; fourth = (or_false_parts (stirs_after v e n) false three.1).0 }
+    let one = or_parts (stirs_after v a n) _ h in
+    let two = or_parts (stirs_after v b n) _ one.1 in
+    let three = or_parts (stirs_after v c n) _ two.1 in
+    record { first = one.0; second = two.0; third = three.0; fourth = (or_parts (stirs_after v e n) false three.1).0 }
 
 pub are_calm : (memory : List ℕ) (clock levels directions flags outside : ℕ) (sync : Synchroniser) (a b c e : Option Slot) (pad seen n : ℕ) → seen ≡ seen_of sync.bypass pad sync.pad_2 → machines_stir_over pad quiet (leapt n (run memory clock levels directions flags outside sync a b c e)) ≡ false → AreCalm (view memory seen flags) a b c e n
 unfolding leapt

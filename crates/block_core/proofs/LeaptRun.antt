@@ -3,6 +3,7 @@ use Rattle.std.proofs.Common.{◌≡◌, ℕ, zero, suc, ◌+◌, ◌-◌, ◌<�
 use Rattle.std.proofs.lemmas.Bool.Decides.{nat_tests}
 use Rattle.std.specs.Int.Bits.{or_zero_l, or_zero_r}
 use Rattle.std.specs.List.{AllByRecursion, list_any}
+use Rattle.std.proofs.lemmas.Bool.{or_parts}
 use Rattle.clock_divider.specs.Ticks.{is_tick, tick_count}
 use Rattle.fifo_pair.specs.Fifos.{Fifos, settled}
 use Rattle.pin_matrix.specs.declared.machine.MachineSetup.{MachineSetup}
@@ -25,7 +26,6 @@ use Rattle.block_core.specs.Leaps.{ticks_in, leapt_slot, leapt_place, leapt}
 use Rattle.block_core.specs.Slots.{Slot, lined, has_tick, acted, settled_slot, slot_after, place_after, place_intent}
 use Rattle.block_core.specs.Stirring.{moves_on, moves_on_over, machines_stir_over, pads_change_over}
 use Rattle.block_core.proofs.Told.{known_in, told_leapt}
-use Rattle.block_core.proofs.Unused.{or_false_parts}
 
 -- what the laws of calm ticks and of quiet FIFOs say
 pub record CalmLaws : Type 0 where
@@ -120,14 +120,14 @@ places_leap laws v [] told h = refl
 places_leap laws v (None ∷ places) told h =
     ap (λ rest. None ∷ rest) (places_leap laws v places told.1 h)
 places_leap laws v (Some s ∷ places) told h =
-    let parts = or_false_parts _ (list_any stirs (map (place_intent v quiet) places)) h in
+    let parts = or_parts _ (list_any stirs (map (place_intent v quiet) places)) h in
     rw (slot_leaps laws v s told.0 parts.0, places_leap laws v places told.1 parts.1) refl
 
 places_wait : CalmLaws → (v : View) (places : List (Option Slot)) → AreTold v.memory places → list_any stirs (map (place_intent v quiet) places) ≡ false → AllByRecursion (λ i. i ≡ only_waits i) (map (place_intent v quiet) places)
 places_wait laws v [] told h = tt
 places_wait laws v (None ∷ places) told h = (refl, places_wait laws v places told.1 h)
 places_wait laws v (Some s ∷ places) told h =
-    let parts = or_false_parts _ (list_any stirs (map (place_intent v quiet) places)) h in
+    let parts = or_parts _ (list_any stirs (map (place_intent v quiet) places)) h in
     (only_waits_if laws v s told.0 parts.0, places_wait laws v places told.1 parts.1)
 
 -- what such places write
@@ -190,7 +190,7 @@ sync_leaps pad s h =
 pub leaps_once_over : CalmLaws → (pad : ℕ) (r : Run) → AreTold r.memory r.state.machines → moves_on_over pad quiet r ≡ false → next_over pad quiet r ≡ leapt 1 r
 unfolding leapt
 leaps_once_over laws pad r told h =
-    let parts = or_false_parts (machines_stir_over pad quiet r) (pads_change_over pad r) h in
+    let parts = or_parts (machines_stir_over pad quiet r) (pads_change_over pad r) h in
     rw (state_leaps laws r.memory (seen_over pad r) r.state told parts.0, sync_leaps pad r.synchroniser parts.1) refl
 
 -- the same with the block's own pads

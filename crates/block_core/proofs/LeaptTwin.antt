@@ -1,5 +1,6 @@
 -- Two blocks in clocks in which nothing stirs and the system does nothing, and when one of them next stirs.
 use Rattle.std.proofs.Common.{◌≡◌, ℕ, zero, suc, ◌<◌, Bool, true, false, ◌||◌, Option, Some, refl, ap, sym, ◌∙◌, subst, arith, add-one}
+use Rattle.std.proofs.lemmas.Bool.{or_parts}
 use Rattle.dreq_pacing.specs.Due.{quiet}
 use Rattle.dreq_pacing.specs.Ports.{IsFirst}
 use Rattle.block_core.specs.Kept.{AreTold}
@@ -9,7 +10,6 @@ use Rattle.block_core.specs.Twin.{TwinRun, twin_pads_in, twin_next, twin_from, l
 use Rattle.block_core.proofs.Firsts.{first_same, first_while}
 use Rattle.block_core.proofs.LeaptRun.{CalmLaws, leaps_once_over, leapt-once_more, leapt-none}
 use Rattle.block_core.proofs.Told.{told_leapt}
-use Rattle.block_core.proofs.Unused.{or_false_parts}
 
 -- in both the flags of stalls are up
 pub record AreBothTold (t : TwinRun) : Type 0 where
@@ -28,7 +28,7 @@ twin_leaps_once : CalmLaws → (t : TwinRun) → AreBothTold t → twin_moves_on
 unfolding twin_next twin_moves_on
 twin_leaps_once laws t told h =
     let pad = twin_pads_in quiet t in
-    let parts = or_false_parts (moves_on_over pad quiet t.first) (moves_on_over pad quiet t.second) h in
+    let parts = or_parts (moves_on_over pad quiet t.first) (moves_on_over pad quiet t.second) h in
     rw (leaps_once_over laws pad t.first told.first parts.0, leaps_once_over laws pad t.second told.second parts.1) refl
 
 leapt_twin-once_more : (n : ℕ) (t : TwinRun) → leapt_twin 1 (leapt_twin n t) ≡ leapt_twin (suc n) t
@@ -105,10 +105,10 @@ both_calm : (t : TwinRun) (pad k : ℕ) → pad ≡ twin_pads_in quiet t → twi
 unfolding twin_moves_on leapt
 both_calm t pad k is h =
     let own = twin_pads_in quiet t in
-    let two = or_false_parts (moves_on_over own quiet (leapt k t.first)) (moves_on_over own quiet (leapt k t.second)) h in
+    let two = or_parts (moves_on_over own quiet (leapt k t.first)) (moves_on_over own quiet (leapt k t.second)) h in
     subst (λ p. AreBothCalm p t k) (sym is) (record {
-      first = (or_false_parts (machines_stir_over own quiet (leapt k t.first)) (pads_change_over own t.first) two.0).0;
-      second = (or_false_parts (machines_stir_over own quiet (leapt k t.second)) (pads_change_over own t.second) two.1).0;
+      first = (or_parts (machines_stir_over own quiet (leapt k t.first)) (pads_change_over own t.first) two.0).0;
+      second = (or_parts (machines_stir_over own quiet (leapt k t.second)) (pads_change_over own t.second) two.1).0;
     })
 
 pub twin_machines_calm : CalmLaws → (t : TwinRun) (pad n : ℕ) → pad ≡ twin_pads_in quiet t → AreBothTold t → ((k : ℕ) → k < n → twin_moves_on quiet quiet (twin_from t (λ c. quiet) (λ c. quiet) k) ≡ false) → (k : ℕ) → k < n → AreBothCalm pad t k

@@ -1,6 +1,6 @@
 -- A machine's place in a run, and the pins to which it alone is mapped.
-use Rattle.std.proofs.Common.{◌≡◌, ℕ, zero, suc, ◌<◌, ◌==◌, Bool, true, false, not, ◌&&◌, ◌||◌, Option, Some, None, option_map, IfSome, List, [], ◌∷◌, ◌++◌, map, cond, slice_index_or, refl, ap, sym, ◌∙◌, subst, arith}
-use Rattle.std.proofs.lemmas.Bool.{and_parts}
+use Rattle.std.proofs.Common.{◌≡◌, ℕ, zero, suc, ◌<◌, ◌==◌, true, false, not, ◌&&◌, ◌||◌, Option, Some, None, option_map, IfSome, List, [], ◌∷◌, ◌++◌, map, cond, slice_index_or, refl, ap, sym, ◌∙◌, subst, arith}
+use Rattle.std.proofs.lemmas.Bool.{and_parts, not-true}
 use Rattle.std.proofs.lemmas.Nat.Bits.{bit_at-zero}
 use Rattle.std.proofs.Math.ListN.{get_or-map}
 use Rattle.std.specs.Int.{bit_at}
@@ -82,10 +82,6 @@ pub directions_are_last : TicksWritePins → IsWrite (0, 0) → LastWriteCounts 
 unfolding stepped
 directions_are_last law none last pad d r after is p below = rw is (last p r.state.directions _ below (all_turns law none _ d r.state.machines))
 
-is_not : (b : Bool) → not b ≡ true → b ≡ false
-is_not true h = cc
-is_not false h = refl
-
 free_two : (p : ℕ) (writes : List (ℕ × ℕ)) → AllByRecursion (IsFree p) writes → AllByRecursion (IsFree p) (two_writes writes)
 free_two p [] h = (bit_at-zero p, (bit_at-zero p, tt))
 free_two p (w ∷ []) h = (h.0, (bit_at-zero p, tt))
@@ -99,7 +95,7 @@ place_free law v d p inside (Some m) h =
     let rest = and_parts (not (holds s.set p)) (s.side_rule.pindirs || not (holds s.side p)) parts.1 in
     free_two p (place_intent v d (Some m)).level
     (of_intent (λ i. AllByRecursion (IsFree p) i.level) v d (bit_at-zero p, (bit_at-zero p, tt)) m
-    (law s v (queues_of m.machine.ports.fifos) m.machine.registers p inside (is_not _ parts.0) (is_not _ rest.0) rest.1))
+    (law s v (queues_of m.machine.ports.fifos) m.machine.registers p inside (not-true _ parts.0) (not-true _ rest.0) rest.1))
 
 -- writes that leave a pin, before others
 free_append : (p : ℕ) (a b : List (ℕ × ℕ)) → AllByRecursion (IsFree p) a → AllByRecursion (IsFree p) b → AllByRecursion (IsFree p) (a ++ b)

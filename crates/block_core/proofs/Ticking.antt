@@ -1,6 +1,6 @@
 -- Each machine's divider and whether it is enabled, by the history of the lines.
 use Rattle.std.proofs.Common.{◌≡◌, ℕ, zero, suc, ◌<◌, ◌==◌, Bool, true, false, ◌&&◌, ◌↔◌, IsTrue, Option, Some, None, option_map, IfSome, List, [], ◌∷◌, map, cond, slice_index_or, refl, sym, ap, ◌∙◌, arith, add-one}
-use Rattle.std.proofs.lemmas.Bool.{and_parts}
+use Rattle.std.proofs.lemmas.Bool.{and_parts, and_from}
 use Rattle.std.proofs.lemmas.Bool.Decides.{nat_tests}
 use Rattle.clock_divider.specs.Timing.{Timing, period_of, resumed, stepped}
 use Rattle.clock_divider.specs.Ticks.{IsTickClock, is_tick}
@@ -72,10 +72,6 @@ period_of-pos : (int frac : ℕ) → 0 < period_of int frac
 period_of-pos zero frac = omega arith
 period_of-pos (suc int) frac = let e : (suc int == 0) ≡ false = grind (arith, nat_tests) in rw e (omega arith)
 
-both : (a b : Bool) → a ≡ true → b ≡ true → (a && b) ≡ true
-both true b p q = q
-both false b p q = p
-
 -- a tick, by the history
 tick_timed : ((restarted period clock : ℕ) → 0 < period → IsTrue (is_tick restarted period clock) ↔ (IsTickClock restarted period clock)) → (host : ℕ → Due) (clock : ℕ) (m : Slot) → IsTimed host clock m → IsTrue (has_tick (lined (host clock) m)) ↔ (Ticks host m.machine.setup clock)
 tick_timed test host clock m h =
@@ -87,7 +83,7 @@ tick_timed test host clock m h =
     let ticks = test (restarted_at host s.id clock) period clock (period_of-pos s.int s.frac) in (
       (λ t. let parts = and_parts (enabled_at host s.id clock) (is_tick (restarted_at host s.id clock) period clock) (sym at ∙ t) in
           record { enabled = parts.0; period = ticks.0 parts.1 }),
-      (λ t. at ∙ both _ _ t.enabled (ticks.1 t.period)),
+      (λ t. at ∙ and_from _ _ t.enabled (ticks.1 t.period)),
     )
 
 pub ticks-states : ((restarted period clock : ℕ) → 0 < period → IsTrue (is_tick restarted period clock) ↔ (IsTickClock restarted period clock)) → (s : Setup) (memory : List ℕ) (seen : ℕ → ℕ) (host : ℕ → Due) (states : ℕ → BlockState) → states 0 ≡ first_state s → Follows memory seen host states → (clock : ℕ) → OfEach (λ m. IsTrue (has_tick (lined (host clock) m)) ↔ (Ticks host m.machine.setup clock)) (states clock).machines

@@ -1,6 +1,7 @@
 -- FIFOs at which nothing is done in a clock, and what their machines ask for after it.
 use Rattle.std.proofs.Common.{◌≡◌, ℕ, Bool, true, false, not, ◌||◌, Option, Some, None, is_some, List, [], ◌∷◌, map, refl, ap}
 use Rattle.std.specs.List.{list_any}
+use Rattle.std.proofs.lemmas.Bool.{or_parts}
 use Rattle.fifo_pair.specs.Fifos.{Fifos, settled, is_full}
 use Rattle.sm_registers.specs.State.{settled_ports}
 use Rattle.sm_registers.specs.View.{View}
@@ -40,15 +41,11 @@ place_rx : StaysQuiet → (v : View) (d : Due) (m : Option Slot) → place_uses_
 place_rx law v d None h = refl
 place_rx law v d (Some s) h = ap (λ (f : Fifos). asks_rx (Some (record s { machine = record s.machine { ports = record s.machine.ports { fifos = f } } }))) (fifos_stay law v d s h)
 
-pub or_false_parts : (a b : Bool) → (a || b) ≡ false → (a ≡ false) × (b ≡ false)
-or_false_parts false b h = (refl, h)
-or_false_parts true b h = cc
-
 -- the same of all places, by a test that stays at each
 all_stay : (used : Option Slot → Bool) (after : Option Slot → Option Slot) (asks : Option Slot → Bool) → ((m : Option Slot) → used m ≡ false → asks (after m) ≡ asks m) → (places : List (Option Slot)) → list_any used places ≡ false → map asks (map after places) ≡ map asks places
 all_stay used after asks stays [] h = refl
 all_stay used after asks stays (m ∷ places) h =
-    let parts = or_false_parts (used m) (list_any used places) h in
+    let parts = or_parts (used m) (list_any used places) h in
     rw (stays m parts.0, all_stay used after asks stays places parts.1) refl
 
 pub requests_stay_over : StaysQuiet → (pad : ℕ) (d : Due) (r : Run) → uses_fifos_over pad d r ≡ false → requests_of (next_over pad d r).state ≡ requests_of r.state

@@ -1,6 +1,6 @@
 -- Bits as tests.
 use Rattle.std.proofs.Common.{◌≡◌, ◌∙◌, ℕ, ◌+◌, ◌-◌, ◌*◌, ◌%◌, ◌^◌, ◌<◌, ◌==◌, min, max, Bool, true, false, not, ◌&&◌, ◌||◌, cond, refl, sym, ap, inl, inr, arith, bit_and, bit_or, w8}
-use Rattle.std.proofs.lemmas.Bool.{cases_eq}
+use Rattle.std.proofs.lemmas.Bool.{cases_eq, or_left, or_right}
 use Rattle.std.proofs.lemmas.Bool.Decides.{nat_tests}
 use Rattle.std.proofs.lemmas.Nat.Bits.{bit_at_and, bit_at_or, bit_at_not, bit_at-zero, bit_at-lt, bit_at-pow_same, bit_at_ones}
 use Rattle.std.specs.Int.{bit_at}
@@ -49,18 +49,6 @@ either x y p q =
 
 pub has_or : (a b i : ℕ) → has (bit_or a b) i ≡ (has a i || has b i)
 has_or a b i = ap (λ (x : ℕ). x == 1) (bit_at_or a b i) ∙ either (bit_at a i) (bit_at b i) (bit_at-lt a i) (bit_at-lt b i)
-
-pub or_left : (a b : Bool) → a ≡ true → (a || b) ≡ true
-or_left true b h = refl
-or_left false b h = cc
-
-pub or_right : (a b : Bool) → b ≡ true → (a || b) ≡ true
-or_right true b h = refl
-or_right false b h = h
-
-pub or_none : (a b : Bool) → (a || b) ≡ false → (a ≡ false) × (b ≡ false)
-or_none true b h = cc
-or_none false b h = (refl, h)
 
 pub has_or_left : (a b i : ℕ) → has a i ≡ true → has (bit_or a b) i ≡ true
 has_or_left a b i h = has_or a b i ∙ or_left (has a i) (has b i) h

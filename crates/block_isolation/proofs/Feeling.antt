@@ -1,6 +1,6 @@
 -- A machine that is among its words reads only its pins and flags, changes only its flags, and writes only its pins.
 use Rattle.std.proofs.Common.{◌≡◌, ◌∙◌, ℕ, ◌^◌, ◌<◌, nat_lt, bit_or, Bool, true, false, not, ◌||◌, cond, Option, Some, None, List, slice_index, refl, sym, ap, inl, inr, arith}
-use Rattle.std.proofs.lemmas.Bool.{cases_Bool}
+use Rattle.std.proofs.lemmas.Bool.{cases_Bool, or_parts}
 use Rattle.std.specs.Int.{bit_at}
 use Rattle.std.specs.List.{AllByRecursion}
 use Rattle.pio_encode.specs.declared.act.Act.{Act}
@@ -21,7 +21,7 @@ use Rattle.block_shares.specs.declared.touched.Touches.{Touches}
 use Rattle.block_shares.specs.Acts.{has, reads_of, sees_of, changes_of}
 use Rattle.block_shares.specs.Reach.{act_at, reach_of}
 use Rattle.block_shares.specs.Shares.{pins_of, writes_by, touched_wildly, touched_by}
-use Rattle.block_isolation.proofs.Bits.{bit_down, has_ones, has_or, or_none, has_zero}
+use Rattle.block_isolation.proofs.Bits.{bit_down, has_ones, has_or, has_zero}
 use Rattle.block_isolation.proofs.Changing.{IsAmong, changes_among}
 use Rattle.block_isolation.proofs.Homes.{IsHome, Runs, runs_memory}
 use Rattle.block_isolation.proofs.Premises.{TickLaws, PinLaws}
@@ -165,8 +165,8 @@ pub record LeavesPin (p : ℕ) (i : Intent) : Type 0 where
 
 pub leaves_pin : TickLaws → PinLaws → (s : MachineSetup) (v : View) (q : Queues) (r : Registers) (p : ℕ) → p < 32 → has (writes_by s) p ≡ false → LeavesPin p (tick_of s v q r).1
 leaves_pin laws pins s v q r p inside h =
-    let parts = or_none (has (pins_of s.side) p) (has (bit_or (pins_of s.out) (pins_of s.set)) p) (sym (has_or (pins_of s.side) (bit_or (pins_of s.out) (pins_of s.set)) p) ∙ h) in
-    let rest = or_none (has (pins_of s.out) p) (has (pins_of s.set) p) (sym (has_or (pins_of s.out) (pins_of s.set) p) ∙ parts.1) in
+    let parts = or_parts (has (pins_of s.side) p) (has (bit_or (pins_of s.out) (pins_of s.set)) p) (sym (has_or (pins_of s.side) (bit_or (pins_of s.out) (pins_of s.set)) p) ∙ h) in
+    let rest = or_parts (has (pins_of s.out) p) (has (pins_of s.set) p) (sym (has_or (pins_of s.out) (pins_of s.set) p) ∙ parts.1) in
     let side = unmapped pins s.side p inside parts.0 in
     let out = unmapped pins s.out p inside rest.0 in
     let set = unmapped pins s.set p inside rest.1 in

@@ -1,12 +1,12 @@
 -- 32 rounds come to all addresses that a program can come to; and what a reached instruction has is among what is joined.
 use Rattle.std.proofs.Common.{◌≡◌, ◌∙◌, ℕ, zero, suc, ◌+◌, ◌^◌, ◌<◌, ◌≤◌, Bool, true, false, cond, ◌&&◌, ◌||◌, ◌⊎◌, List, slice_index, refl, sym, ap, inl, inr, arith, bit_or}
-use Rattle.std.proofs.lemmas.Bool.{cases_lt}
+use Rattle.std.proofs.lemmas.Bool.{cases_lt, or_parts}
 use Rattle.pio_encode.specs.declared.act.Act.{Act}
 use Rattle.pio_encode.specs.Word.{act_of}
 use Rattle.pin_matrix.specs.declared.machine.MachineSetup.{MachineSetup}
 use Rattle.block_shares.specs.Acts.{has, leads_to, is_wild}
 use Rattle.block_shares.specs.Reach.{next_after, act_at, gathered, leads_from, after_these, one_round, reach_in, reach_of, any_wild}
-use Rattle.block_isolation.proofs.Bits.{has_or, has_or_left, has_or_right, or_none, has_own}
+use Rattle.block_isolation.proofs.Bits.{has_or, has_or_left, has_or_right, has_own}
 use Rattle.block_isolation.proofs.Counting.{count, Within, count-le, count_same, count_some}
 
 or_same : (a b : Bool) → (b ≡ true → a ≡ true) → a ≡ (a || b)
@@ -130,7 +130,7 @@ pub wild_none : (memory : List ℕ) (set n a : ℕ) → any_wild memory set n �
 unfolding any_wild
 wild_none memory set zero a h below inside = absurd (omega arith)
 wild_none memory set (suc n) a h below inside =
-    let parts = or_none (any_wild memory set n) (has set n && is_wild (act_at memory n)) h in
+    let parts = or_parts (any_wild memory set n) (has set n && is_wild (act_at memory n)) h in
     elim (cases_lt a n) [
       | inl low ↦ wild_none memory set n a parts.0 low inside
       | inr high ↦

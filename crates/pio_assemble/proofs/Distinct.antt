@@ -5,6 +5,7 @@ use Rattle.std.proofs.lemmas.List.Folds.{list_any-append}
 use Rattle.std.proofs.lemmas.Slice.Eq.{bytes_eq-Decides}
 use Rattle.std.specs.List.{list_any}
 use Rattle.std.specs.Str.{bytes_eq}
+use Rattle.std.proofs.lemmas.Bool.{or_parts}
 use Rattle.pio_lex.specs.Fault.{LexRefusal}
 use Rattle.pio_lex.specs.declared.token.Token.{Token}
 use Rattle.pio_lex.specs.Reading.{reading_of}
@@ -36,17 +37,13 @@ abbrev AreNew : List (List ℕ) → List (List ℕ) → Type 0
 AreNew names [] = Unit {0}
 AreNew names (n ∷ more) = (is_among names n ≡ false) × AreNew names more
 
-either_false : (a b : Bool) → (a || b) ≡ false → (a ≡ false) × (b ≡ false)
-either_false true b h = cc
-either_false false b h = (refl, h)
-
 -- a name that is not among these with one more is not among these, and is another one
 new_without : (names : List (List ℕ)) (name n : List ℕ) → is_among names name ≡ false → is_among (with_name names name) n ≡ false → (is_among names n ≡ false) × (n ≢ name)
 new_without names name n new h =
     let more : with_name names name ≡ names ++ name ∷ [] = rw new refl in
     let apart : (list_any (bytes_eq n) names || list_any (bytes_eq n) (name ∷ [])) ≡ false = sym (list_any-append (bytes_eq n) names (name ∷ [])) ∙ ap (λ ns. is_among ns n) (sym more) ∙ h in
-    let both = either_false (list_any (bytes_eq n) names) (list_any (bytes_eq n) (name ∷ [])) apart in
-    let other = (either_false (bytes_eq n name) false both.1).0 in
+    let both = or_parts (list_any (bytes_eq n) names) (list_any (bytes_eq n) (name ∷ [])) apart in
+    let other = (or_parts (bytes_eq n name) false both.1).0 in
     (both.0, λ same. let it : bytes_eq n name ≡ true = (bytes_eq-Decides n name).1 same in cc)
 
 all_new_without : (names : List (List ℕ)) (name : List ℕ) (ns : List (List ℕ)) → is_among names name ≡ false → AreNew (with_name names name) ns → AreNew names ns × Differs name ns

@@ -19,10 +19,11 @@ use Rattle.pio_expr.specs.Frames.{Kept, kept_at, kept_value, is_local, items_at,
 use Rattle.pio_expr.specs.Work.{placed, places_of, items_of, IsOwn, IsFrame, AreFrames, IsLowest, seen_of, AreSeen, frames_of, IsRightSoFar, left_to_do, StepsTo, Finished, IsNewlyKept, kept_of}
 use Rattle.pio_expr.proofs.Finding.{items_of_symbol, place_within}
 use Rattle.std.proofs.lemmas.Map.Steps.{length-le_from_distinct_below}
+use Rattle.std.proofs.lemmas.Cmp.{nat_eq_equiv}
 use Rattle.pio_expr.proofs.Keeping.{kept_exact}
 use Rattle.pio_expr.proofs.Agreeing.{agrees_kept, agrees_fewer, IsMore, pushed_some, pushed_none, kept_pushed}
 use Rattle.pio_expr.proofs.Framing.{head_new, or_left, or_right, not_key, not_kept, keys_length, frame_value, value_of_whole}
-use Rattle.pio_expr.proofs.Stepping.{Shown, defined, is_equivalence, seen_new}
+use Rattle.pio_expr.proofs.Stepping.{Shown, defined, seen_new}
 
 -- a new place goes last
 inserted : (kept : Kept) (p : ℕ) (v : ℤ) → kept_at kept p ≡ None → insert_entry nat_eq kept p v ≡ kept ++ (p, v) ∷ []
@@ -82,7 +83,7 @@ seen_pushed kept places p v = ap (λ ks. places ++ ks) (keys_pushed kept p v) �
 
 seen_kept : (scope : Scope) (kept : Kept) (places : List ℕ) (p : ℕ) (v : ℤ) → AreSeen scope (p ∷ places ++ keys_of kept) → AreSeen scope (places ++ keys_of (kept ++ (p, v) ∷ []))
 seen_kept scope kept places p v seen = subst (AreSeen scope) (sym (seen_pushed kept places p v)) (record {
-  distinct = IsDistinct-push is_equivalence (places ++ keys_of kept) p (IsDistinct-tail nat_eq p (places ++ keys_of kept) seen.distinct) (head_new p (places ++ keys_of kept) seen.distinct);
+  distinct = IsDistinct-push nat_eq_equiv (places ++ keys_of kept) p (IsDistinct-tail nat_eq p (places ++ keys_of kept) seen.distinct) (head_new p (places ++ keys_of kept) seen.distinct);
   within = λ q h. seen.within q (turned q (list_any (nat_eq q) (places ++ keys_of kept)) (nat_eq q p) (sym (list_any-append (nat_eq q) (places ++ keys_of kept) (p ∷ [])) ∙ h));
 }) where
   turned : (q : ℕ) (a b : Bool) → (a || (b || false)) ≡ true → (b || a) ≡ true

@@ -2,7 +2,6 @@
 use Rattle.std.proofs.Common.{◌≡◌, ℕ, ◌+◌, ◌-◌, ◌<◌, ℤ, Bool, true, false, List, [], ◌∷◌, ◌++◌, length, Option, Some, None, Result, Ok, Err, refl, ap, sym, subst, ◌∙◌, ◌||◌, cond, arith, nat_eq, true≢false}
 use Rattle.std.specs.List.{list_any}
 use Rattle.std.specs.Map.{keys_of}
-use Rattle.std.specs.Cmp.{IsEquivalence}
 use Rattle.std.proofs.lemmas.Bool.{eqb-true, eq-eqb}
 use Rattle.std.proofs.lemmas.List.Folds.{list_any-append}
 use Rattle.std.proofs.lemmas.Map.Keys.{IsDistinct-cons}
@@ -136,9 +135,6 @@ same_sym a b = by (nat_eq a b) (nat_eq b a) refl refl where
   by false false p q = refl
   by true false p q = sym (eq-eqb b a (sym (eqb-true a b p))) ∙ q
   by false true p q = sym p ∙ eq-eqb a b (sym (eqb-true b a q))
-
-pub is_equivalence : IsEquivalence nat_eq
-is_equivalence = record { refl = λ x. eq-eqb x x refl; symm = same_sym; congr = λ x y z h. ap (λ w. nat_eq w z) (eqb-true x y h) }
 
 pub begun_on : (p q : ℕ) (begun : Bool) (under : List ℕ) → begun ≡ is_among under q → cond (nat_eq p q) true begun ≡ is_among (p ∷ under) q
 begun_on p q begun under h = by (nat_eq p q) refl where

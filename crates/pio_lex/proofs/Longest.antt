@@ -4,7 +4,7 @@ use Rattle.std.specs.Prelude.{option_map, codes, ok_or}
 use Rattle.std.specs.List.{prefix_len, list_all}
 use Rattle.std.specs.Char.{is_ascii_digit}
 use Rattle.std.specs.Str.{bytes_eq}
-use Rattle.std.proofs.lemmas.Bool.{and_parts, and_from, eqb-true, eqb-false, eq-eqb}
+use Rattle.std.proofs.lemmas.Bool.{and_parts, and_from, eqb-true, eqb-false, eq-eqb, or_from}
 use Rattle.std.proofs.lemmas.List.{length-take-le, length-drop}
 use Rattle.pio_lex.specs.declared.fault.LexKind.{LexKind}
 use Rattle.pio_lex.specs.declared.fault.LexKind.TheVariants.{BadByte, BadNumber, OpenComment, OpenBlock}
@@ -218,9 +218,6 @@ nothing_there b bs a none = longer b bs 0 (λ m lt le s. no_shape b (take m bs)
 
 -- ---- the whole
 
-neither : (s t : Bool) → s ≡ false → t ≡ false → (s || t) ≡ false
-neither s t e f = rw (e, f) refl
-
 mark_apart : (b : ℕ) (bs : List ℕ) → is_newline b ≡ false → is_name_byte b ≡ false → eqb b 46 ≡ false → (k : TokenKind) (n : ℕ) → mark_at (b ∷ bs) ≡ Some (k, n) → IsLongest (b ∷ bs) n
 unfolding mark_at
 mark_apart b bs newline name dot k n e =
@@ -291,7 +288,7 @@ token_longest (b ∷ bs) k n lt e =
           | inl h ↦ directive_longest b bs k n (eqb-true b 46 h.0) h.1
           | inr h2 ↦ elim (chosen (is_ascii_digit b) _ _ _ h2.1) [
             | inl h ↦ subst P (counted_is (prefix_len is_name_byte (b ∷ bs)) (word_number (word_of (b ∷ bs))) k n h.1) (longest_word b bs (digit_is_name_byte b h.0))
-            | inr h3 ↦ mark_apart b bs h0.0 (neither (is_letter b) (is_ascii_digit b) h1.0 h3.0) h2.0 k n (mark_is (mark_at (b ∷ bs)) k n h3.1)
+            | inr h3 ↦ mark_apart b bs h0.0 (or_from (is_letter b) (is_ascii_digit b) h1.0 h3.0) h2.0 k n (mark_is (mark_at (b ∷ bs)) k n h3.1)
           ]
         ]
       ]
@@ -322,7 +319,7 @@ token_nothing (b ∷ bs) lt e =
           | inl h ↦ directive_nothing b bs (eqb-true b 46 h.0) h.1
           | inr h2 ↦ elim (chosen (is_ascii_digit b) _ _ _ h2.1) [
             | inl h ↦ absurd (counted_is_not (prefix_len is_name_byte (b ∷ bs)) (word_number (word_of (b ∷ bs))) h.1)
-            | inr h3 ↦ mark_nothing b bs h0.0 (neither (is_letter b) (is_ascii_digit b) h1.0 h3.0) h2.0 (no_mark (mark_at (b ∷ bs)) h3.1)
+            | inr h3 ↦ mark_nothing b bs h0.0 (or_from (is_letter b) (is_ascii_digit b) h1.0 h3.0) h2.0 (no_mark (mark_at (b ∷ bs)) h3.1)
           ]
         ]
       ]

@@ -6,6 +6,7 @@ use Rattle.std.specs.Char.{is_ascii_digit}
 use Rattle.std.proofs.lemmas.Bool.{and_parts, or_cases, eqb-true}
 use Rattle.std.proofs.lemmas.List.{length-drop}
 use Rattle.std.proofs.lemmas.List.Sums.{prefix_len-le-length}
+use Rattle.std.proofs.lemmas.Option.{same_Some}
 use Rattle.pio_lex.specs.declared.fault.LexKind.{LexKind}
 use Rattle.pio_lex.specs.declared.fault.LexKind.TheVariants.{BadByte, OpenComment, OpenBlock}
 use Rattle.pio_lex.specs.declared.token.TokenKind.{TokenKind}
@@ -162,11 +163,8 @@ pub mark_is : (o : Option (TokenKind × ℕ)) (k : TokenKind) (n : ℕ) → ok_o
 mark_is (Some m) k n e = cc
 mark_is None k n e = absurd cc
 
-pair_is : {A : Type 0} (x y : A) → Some x ≡ Some y → x ≡ y
-pair_is x y e = cc
-
 pub some_pair : (k l : TokenKind) (m n : ℕ) → ◌≡◌ {A = Option (TokenKind × ℕ)} (Some (k, m)) (Some (l, n)) → m ≡ n
-some_pair k l m n e = ap (λ (p : TokenKind × ℕ). p.1) (pair_is {A = TokenKind × ℕ} (k, m) (l, n) e)
+some_pair k l m n e = ap (λ (p : TokenKind × ℕ). p.1) (same_Some {A = TokenKind × ℕ} (k, m) (l, n) e)
 
 pub one_byte : (o : Option TokenKind) (k : TokenKind) (n : ℕ) → ◌≡◌ {A = Option (TokenKind × ℕ)} (option_map {U = TokenKind × ℕ} (λ mark. (mark, 1)) o) (Some (k, n)) → 1 ≡ n
 one_byte (Some m) k n e = some_pair m k 1 n e

@@ -1,7 +1,8 @@
 -- The transmitter's frames, tick by tick.
 --   IsWhole          what comes of a word from its start bit on
-use Rattle.std.proofs.Common.{◌≡◌, ◌==◌, ℕ, zero, suc, ◌+◌, ◌-◌, ◌*◌, ◌/◌, ◌%◌, ◌^◌, ◌<◌, ◌≤◌, ◌⊎◌, inl, inr, Bool, true, false, Option, None, List, [], ◌∷◌, ◌++◌, map, refl, sym, ap, ◌∙◌, subst, arith, append_assoc}
+use Rattle.std.proofs.Common.{◌≡◌, ◌==◌, ℕ, zero, suc, ◌+◌, ◌-◌, ◌*◌, ◌/◌, ◌%◌, ◌^◌, ◌<◌, ◌≤◌, inl, inr, Bool, true, false, Option, None, List, [], ◌∷◌, ◌++◌, map, refl, sym, ap, ◌∙◌, subst, arith, append_assoc}
 use Rattle.std.specs.Prelude.{option_to_list}
+use Rattle.std.proofs.lemmas.Bool.{cases_lt}
 use Rattle.pin_matrix.specs.declared.machine.MachineSetup.{MachineSetup}
 use Rattle.sm_registers.specs.declared.registers.Registers.{Registers}
 use Rattle.serial_receiver.specs.declared.frame.Frame.{Frame}
@@ -35,9 +36,6 @@ pub record IsWhole (regs : ℕ → Registers) (levels : ℕ → ℕ) (taken : �
 nothing : (words : List ℕ) (t : ℕ) → IsSent words (frames_from 8 0 t true [])
 unfolding frames_from
 nothing words t = none_sent words
-
-cases_lt : (a b : ℕ) → (a < b) ⊎ (b ≤ a)
-cases_lt a b = grind arith
 
 module _ (int : ℕ) (s : MachineSetup) (h : IsUartMachine int s) (regs : ℕ → Registers) (levels : ℕ → ℕ) (taken : ℕ → Option ℕ)
     (run : (t : ℕ) → IsStep s uart_memory 0 (regs t) (levels t) (regs (t + 1)) (levels (t + 1)) (taken t)) where

@@ -1,7 +1,7 @@
 -- The transmitter tick by tick, where a word is there whenever one is left: exactly which frames it sends, and when.
 --   frames_after     the frames of words, of which the first is pulled at a tick
-use Rattle.std.proofs.Common.{◌≡◌, ◌==◌, ℕ, zero, suc, ◌+◌, ◌-◌, ◌*◌, ◌/◌, ◌%◌, ◌^◌, ◌<◌, ◌≤◌, ◌⊎◌, inl, inr, Bool, true, false, cond, ltb, Option, Some, None, option_to_list, List, [], ◌∷◌, ◌++◌, slice_get, refl, sym, ap, ◌∙◌, subst, arith}
-use Rattle.std.proofs.lemmas.Bool.Decides.{nat_tests}
+use Rattle.std.proofs.Common.{◌≡◌, ◌==◌, ℕ, zero, suc, ◌+◌, ◌-◌, ◌*◌, ◌/◌, ◌%◌, ◌^◌, ◌<◌, ◌≤◌, inl, inr, Bool, true, cond, ltb, Option, Some, None, option_to_list, List, [], ◌∷◌, ◌++◌, slice_get, refl, sym, ap, ◌∙◌, subst, arith}
+use Rattle.std.proofs.lemmas.Bool.{cases_lt, lt-ltb, le-ltb}
 use Rattle.pin_matrix.specs.declared.machine.MachineSetup.{MachineSetup}
 use Rattle.sm_registers.specs.declared.registers.Registers.{Registers}
 use Rattle.serial_receiver.specs.declared.frame.Frame.{Frame}
@@ -42,15 +42,6 @@ high_for bit clock (suc k) (suc n) at h =
 pub all_high : (bit clock n : ℕ) (at : ℕ → Bool) → ((j : ℕ) → j < n → at (clock + j) ≡ true) → frames_from bit 0 clock true (row at clock n) ≡ []
 all_high bit clock n at h =
     high_for bit clock n n at h ∙ ap (λ m. frames_from bit 0 (clock + n) true (row at (clock + n) m)) (let e : n - n ≡ 0 = omega arith in e) ∙ no_frames bit (clock + n)
-
-cases_lt : (a b : ℕ) → (a < b) ⊎ (b ≤ a)
-cases_lt a b = grind arith
-
-ltb_true : (a b : ℕ) → a < b → ltb a b ≡ true
-ltb_true a b h = grind (arith, nat_tests)
-
-ltb_false : (a b : ℕ) → b ≤ a → ltb a b ≡ false
-ltb_false a b h = grind (arith, nat_tests)
 
 module _ (int : ℕ) (s : MachineSetup) (h : IsUartMachine int s) (regs : ℕ → Registers) (levels : ℕ → ℕ) (taken : ℕ → Option ℕ)
     (run : (t : ℕ) → IsStep s uart_memory 0 (regs t) (levels t) (regs (t + 1)) (levels (t + 1)) (taken t))
@@ -127,10 +118,10 @@ module _ (int : ℕ) (s : MachineSetup) (h : IsUartMachine int s) (regs : ℕ �
             ∙ ap (λ c. frame_of (t + 8) word ∷ frames_from 8 0 c true (row (is_up levels) c (n - 3 - (76 + 1)))) (let q : t + 8 + 76 + 1 ≡ t + 80 + 5 = omega arith in q)
             ∙ ap (λ m. frame_of (t + 8) word ∷ frames_from 8 0 (t + 80 + 5) true (row (is_up levels) (t + 80 + 5) m)) (let q : n - 3 - (76 + 1) ≡ n - 80 = omega arith in q)
             ∙ ap (λ fs. frame_of (t + 8) word ∷ fs) (in_time words (t + 80) (n - 80) (omega arith) next rest)
-            ∙ sym (ap (λ b. cond b (frame_of (t + 8) word ∷ frames_after (t + 80) (n - 80) words) []) (ltb_true 79 n fits))
+            ∙ sym (ap (λ b. cond b (frame_of (t + 8) word ∷ frames_after (t + 80) (n - 80) words) []) (lt-ltb 79 n fits))
         | inr cut ↦
             cut_off 8 (t + 8) word (is_up levels) (n - 3) f.frame (omega (arith, cut))
-            ∙ sym (ap (λ b. cond b (frame_of (t + 8) word ∷ frames_after (t + 80) (n - 80) words) []) (ltb_false 79 n cut))
+            ∙ sym (ap (λ b. cond b (frame_of (t + 8) word ∷ frames_after (t + 80) (n - 80) words) []) (le-ltb 79 n cut))
       ]
 
   -- from tick 0 on, at which no word is there yet

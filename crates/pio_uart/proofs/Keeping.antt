@@ -1,14 +1,12 @@
 -- Ticks in a row that take no word and leave the line at one level.
 --   Keeps            so many ticks do
-use Rattle.std.proofs.Common.{◌≡◌, ℕ, ◌+◌, ◌-◌, ◌<◌, ◌≤◌, ◌⊎◌, inl, inr, Option, None, ap, ◌∙◌, arith}
+use Rattle.std.proofs.Common.{◌≡◌, ℕ, ◌+◌, ◌-◌, ◌<◌, inl, inr, Option, None, ap, ◌∙◌, arith}
+use Rattle.std.proofs.lemmas.Bool.{cases_lt}
 
 -- so many ticks from one on take nothing, and after each the level is this one
 pub record Keeps (levels : ℕ → ℕ) (taken : ℕ → Option ℕ) (t n level : ℕ) : Type 0 where
   pub levels_are : (j : ℕ) → j < n → levels (t + j + 1) ≡ level
   pub nothing : (j : ℕ) → j < n → taken (t + j) ≡ None
-
-cases_lt : (a b : ℕ) → (a < b) ⊎ (b ≤ a)
-cases_lt a b = grind arith
 
 pub keeps-join : (levels : ℕ → ℕ) (taken : ℕ → Option ℕ) (t a b level : ℕ) → Keeps levels taken t a level → Keeps levels taken (t + a) b level → Keeps levels taken t (a + b) level
 keeps-join levels taken t a b level h k = record { levels_are = level_at; nothing = none_at } where

@@ -2,6 +2,7 @@
 use Rattle.std.proofs.Common.{◌≡◌, ℕ, ◌+◌, ◌-◌, ◌*◌, ◌%◌, ◌<◌, ◌≤◌, ◌⊎◌, inl, inr, Bool, true, false, cond, ltb, List, [], ◌∷◌, map, slice_get, refl, ap, ◌∙◌, arith, length, subst, suc}
 use Rattle.std.proofs.Math.Nat.{mul-le-mul_right}
 use Rattle.std.proofs.lemmas.Bool.Decides.{nat_tests}
+use Rattle.std.proofs.lemmas.Bool.{lt-ltb}
 use Rattle.pin_matrix.specs.declared.machine.MachineSetup.{MachineSetup}
 use Rattle.pin_matrix.specs.declared.setup.Setup.{Setup}
 use Rattle.serial_receiver.specs.declared.frame.Frame.{Frame}
@@ -61,15 +62,12 @@ sends_in_time told int some u t words run supply n =
     ∙ ap (λ m. map (at_clock int) (frames_after 1 m words)) (let e : ticks - 6 ≡ ticks - 6 - 80 * 0 = omega arith in e)
     ∙ in_clocks int n ticks 0 words (ticks_most int n some) (ticks_least int n some)
 
-lt_true : (a b : ℕ) → a < b → ltb a b ≡ true
-lt_true a b h = grind (arith, nat_tests)
-
 -- with clocks enough, all frames are whole
 all_whole : (int n k : ℕ) (words : List ℕ) → int * (80 * (k + length words) + 5) < n → map (λ f. f.byte) (frames_fed int n k words) ≡ map (λ w. w % 256) words
 all_whole int n k [] enough = refl
 all_whole int n k (word ∷ words) enough =
     ap (λ b. map (λ f. f.byte) (cond {A = List Frame} b (record { start = int * (9 + 80 * k); byte = word % 256; good = true } ∷ frames_fed int n (k + 1) words) []))
-    (lt_true (int * (85 + 80 * k)) n (let m = mul_up int (85 + 80 * k) (80 * (k + suc (length words)) + 5) (omega arith) in omega (arith, m, enough)))
+    (lt-ltb (int * (85 + 80 * k)) n (let m = mul_up int (85 + 80 * k) (80 * (k + suc (length words)) + 5) (omega arith) in omega (arith, m, enough)))
     ∙ ap (λ bs. word % 256 ∷ bs) (all_whole int n (k + 1) words (subst (λ j. int * (80 * j + 5) < n) (let e : k + suc (length words) ≡ k + 1 + length words = omega arith in e) enough))
 
 pub sends_all : (int : ℕ) (u : Setup) → SendsInTime int u → SendsAll int u

@@ -4,6 +4,7 @@ use Rattle.std.proofs.Common.{◌≡◌, ◌==◌, ℕ, zero, suc, ◌+◌, ◌-
 use Rattle.std.specs.Prelude.{◌&&◌}
 use Rattle.std.proofs.lemmas.Bool.Decides.{nat_tests}
 use Rattle.std.proofs.lemmas.Nat.{mod-pow-add}
+use Rattle.std.proofs.lemmas.Bool.{lt-ltb, le-ltb, lt-leb, le-leb}
 use Rattle.serial_receiver.specs.declared.frame.Frame.{Frame}
 use Rattle.serial_receiver.specs.Frames.{bits_read, bit_value, falls, frame_at, frames_from, level_in, middle}
 use Rattle.program_runs.specs.Levels.{row}
@@ -51,41 +52,29 @@ both_true a b frame next other p q = rw (p, q) refl
 not_whole : (a b : Bool) (frame : Frame) (next other : List Frame) → a ≡ true → b ≡ false → cond (a && true) (cond b (frame ∷ next) []) other ≡ []
 not_whole a b frame next other p q = rw (p, q) refl
 
-ltb_true : (a b : ℕ) → a < b → ltb a b ≡ true
-ltb_true a b h = grind (arith, nat_tests)
-
-ltb_false : (a b : ℕ) → b ≤ a → ltb a b ≡ false
-ltb_false a b h = grind (arith, nat_tests)
-
-leb_false : (a b : ℕ) → b < a → leb a b ≡ false
-leb_false a b h = grind (arith, nat_tests)
-
 no_look : (a f : Bool) (x y : List Frame) → a ≡ false → cond (a && f) x y ≡ y
 no_look a f x y p = rw p refl
 
 same_look : (a b f : Bool) (x y z : List Frame) → a ≡ b → y ≡ z → cond (a && f) x y ≡ cond (b && f) x z
 same_look a b f x y z p q = rw (p, q) refl
 
-leb_true : (a b : ℕ) → a ≤ b → leb a b ≡ true
-leb_true a b h = grind (arith, nat_tests)
-
 -- once its first clock has passed, a frame may begin in any clock
 passed : (bit from clock : ℕ) (before : Bool) (levels : List Bool) → from ≤ clock → frames_from bit from clock before levels ≡ frames_from bit 0 clock before levels
 unfolding frames_from
 passed bit from clock before [] h = refl
 passed bit from clock before (level ∷ rest) h =
-    same_look (leb from clock) (leb 0 clock) (falls before level) _ _ _ (leb_true from clock h ∙ sym (leb-zero clock)) (passed bit from (clock + 1) level rest (omega (arith, h)))
+    same_look (leb from clock) (leb 0 clock) (falls before level) _ _ _ (le-leb from clock h ∙ sym (leb-zero clock)) (passed bit from (clock + 1) level rest (omega (arith, h)))
 
 -- before that none begins
 skipped : (bit from clock : ℕ) (before : Bool) (at : ℕ → Bool) (n k : ℕ) → clock + suc k ≤ from → suc k ≤ n
     → frames_from bit from clock before (row at clock n) ≡ frames_from bit from (clock + suc k) (at (clock + k)) (row at (clock + suc k) (n - suc k))
 skipped bit from clock before at zero k h l = absurd (omega (arith, l))
 skipped bit from clock before at (suc n) zero h l =
-    frame_of_row bit from clock before at n ∙ no_look (leb from clock) (falls before (at clock)) _ _ (leb_false from clock (omega (arith, h)))
+    frame_of_row bit from clock before at n ∙ no_look (leb from clock) (falls before (at clock)) _ _ (lt-leb from clock (omega (arith, h)))
     ∙ ap (λ j. frames_from bit from (clock + 1) (at j) (row at (clock + 1) n)) (let e : clock ≡ clock + 0 = omega arith in e)
     ∙ ap (λ j. frames_from bit from (clock + 1) (at (clock + 0)) (row at (clock + 1) j)) (let e : n ≡ suc n - 1 = omega arith in e)
 skipped bit from clock before at (suc n) (suc k) h l =
-    frame_of_row bit from clock before at n ∙ no_look (leb from clock) (falls before (at clock)) _ _ (leb_false from clock (omega (arith, h)))
+    frame_of_row bit from clock before at n ∙ no_look (leb from clock) (falls before (at clock)) _ _ (lt-leb from clock (omega (arith, h)))
     ∙ skipped bit from (clock + 1) (at clock) at n k (omega (arith, h)) (omega (arith, l))
     ∙ ap (λ j. frames_from bit from j (at (clock + 1 + k)) (row at j (n - suc k))) (let e : clock + 1 + suc k ≡ clock + suc (suc k) = omega arith in e)
     ∙ ap (λ j. frames_from bit from (clock + suc (suc k)) (at j) (row at (clock + suc (suc k)) (n - suc k))) (let e : clock + 1 + k ≡ clock + suc k = omega arith in e)
@@ -103,7 +92,7 @@ cut_off bit clock word at zero f h = refl
 cut_off bit clock word at (suc n) f h =
     frame_of_row bit 0 clock true at n
     ∙ ap (λ v. cond (leb 0 clock && falls true v) (cond (ltb (middle bit 8) (suc n)) (frame_at (level_in (row at clock (suc n))) bit clock ∷ frames_from bit (clock + middle bit 8 + 1) (clock + 1) (at clock) (row at (clock + 1) n)) []) (frames_from bit 0 (clock + 1) (at clock) (row at (clock + 1) n))) f.fall
-    ∙ not_whole (leb 0 clock) (ltb (middle bit 8) (suc n)) _ _ _ (leb-zero clock) (ltb_false (middle bit 8) (suc n) h)
+    ∙ not_whole (leb 0 clock) (ltb (middle bit 8) (suc n)) _ _ _ (leb-zero clock) (le-ltb (middle bit 8) (suc n) h)
 
 -- one that is whole is given, and then the next one is looked for after its stop bit
 pub given : (bit clock word : ℕ) (at : ℕ → Bool) (n : ℕ) → IsFrame bit at clock word → middle bit 8 < n
@@ -112,7 +101,7 @@ given bit clock word at zero f h = absurd (omega (arith, h))
 given bit clock word at (suc n) f h =
     frame_of_row bit 0 clock true at n
     ∙ ap (λ v. cond (leb 0 clock && falls true v) (cond (ltb (middle bit 8) (suc n)) (frame_at (level_in (row at clock (suc n))) bit clock ∷ frames_from bit (clock + middle bit 8 + 1) (clock + 1) (at clock) (row at (clock + 1) n)) []) (frames_from bit 0 (clock + 1) (at clock) (row at (clock + 1) n))) f.fall
-    ∙ both_true (leb 0 clock) (ltb (middle bit 8) (suc n)) _ _ _ (leb-zero clock) (ltb_true (middle bit 8) (suc n) h)
+    ∙ both_true (leb 0 clock) (ltb (middle bit 8) (suc n)) _ _ _ (leb-zero clock) (lt-ltb (middle bit 8) (suc n) h)
     ∙ ap (λ x. x ∷ frames_from bit (clock + middle bit 8 + 1) (clock + 1) (at clock) (row at (clock + 1) n)) frame
     ∙ ap (λ xs. frame_of clock word ∷ xs) next where
       level : (i : ℕ) → i < 9 → level_in (row at clock (suc n)) (middle bit i) ≡ at (clock + middle bit i)

@@ -1,6 +1,7 @@
 -- From ticks to clocks: a bit and a wait in the levels after each clock.
 use Rattle.std.proofs.Common.{◌≡◌, ℕ, zero, suc, ◌+◌, ◌-◌, ◌*◌, ◌<◌, inl, inr, Bool, ap, ◌∙◌, arith}
-use Rattle.pio_ws2812.proofs.Numbers.{cases_lt, mul_suc, suc_mul}
+use Rattle.std.proofs.lemmas.Bool.{cases_lt}
+use Rattle.pio_ws2812.proofs.Numbers.{mul_suc, suc_mul}
 
 -- levels that stay for some ticks stay for `int` times as many clocks
 pub stay : (int : ℕ) (at up : ℕ → Bool) → ((t e : ℕ) → e < int → at (int * t + e) ≡ up t) → (k a : ℕ) (v : Bool) → ((j : ℕ) → j < k → up (a + j) ≡ v)

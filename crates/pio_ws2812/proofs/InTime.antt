@@ -3,6 +3,7 @@
 use Rattle.std.proofs.Common.{◌≡◌, ◌==◌, ℕ, zero, suc, ◌+◌, ◌-◌, ◌*◌, ◌^◌, ◌<◌, ◌≤◌, inl, inr, min, Bool, true, false, cond, Option, Some, None, option_to_list, List, [], ◌∷◌, ◌++◌, slice_get, refl, sym, ap, subst, ◌∙◌, arith, append_assoc}
 use Rattle.std.proofs.lemmas.Grind.{flat_map-append}
 use Rattle.std.proofs.Math.Nat.{mul-le-mul_right}
+use Rattle.std.proofs.lemmas.Bool.{cases_lt}
 use Rattle.pin_matrix.specs.declared.machine.MachineSetup.{MachineSetup}
 use Rattle.sm_registers.specs.declared.registers.Registers.{Registers}
 use Rattle.sm_registers.specs.Tick.{tick_of}
@@ -14,7 +15,7 @@ use Rattle.pio_ws2812.specs.Feeding.{low_fed, pulses_fed}
 use Rattle.pio_ws2812.specs.Transmitter.{ws2812_memory, IsLightMachine}
 use Rattle.pio_ws2812.proofs.Clocked.{stay}
 use Rattle.pio_ws2812.proofs.Instructions.{AreMapped}
-use Rattle.pio_ws2812.proofs.Numbers.{cases_lt, less_true, less_false, mul_add}
+use Rattle.pio_ws2812.proofs.Numbers.{less_true, less_false, mul_add}
 use Rattle.pio_ws2812.proofs.PulseRows.{row_at, no_pulses, stays, lows-for, low_in, before_pulse, pulse_of, lead_of}
 use Rattle.pio_ws2812.proofs.Sent.{bit_row}
 use Rattle.pio_ws2812.proofs.Transmitting.{IsReady, sends, waits}

@@ -1,9 +1,9 @@
 -- The pulses of levels in a row: none begins where the level stays, and one begins where it rises.
 use Rattle.std.proofs.Common.{◌≡◌, ℕ, zero, suc, ◌+◌, ◌-◌, ◌*◌, ◌<◌, ◌≤◌, inl, inr, min, Bool, true, false, cond, List, [], ◌∷◌, drop, refl, sym, ap, ◌∙◌, arith}
+use Rattle.std.proofs.lemmas.Bool.{cases_lt}
 use Rattle.program_runs.specs.Levels.{row}
 use Rattle.pio_ws2812.specs.Pulses.{Pulse, highs, lows, pulse_at, pulses_from, rises}
 use Rattle.pio_ws2812.specs.Sending.{high_of}
-use Rattle.pio_ws2812.proofs.Numbers.{cases_lt}
 
 -- the same row, from another clock or of another length
 pub row_at : (at : ℕ → Bool) (a b m n : ℕ) → a ≡ b → m ≡ n → row at a m ≡ row at b n

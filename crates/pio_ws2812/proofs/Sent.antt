@@ -2,6 +2,7 @@
 --   IsSoFar          what it sends in some clocks, from a tick on at which it begins an OUT
 use Rattle.std.proofs.Common.{◌≡◌, ◌==◌, ℕ, zero, suc, ◌+◌, ◌-◌, ◌*◌, ◌^◌, ◌<◌, ◌≤◌, ◌⊎◌, inl, inr, nat_lt, min, Bool, true, false, cond, Option, Some, option_to_list, List, [], ◌∷◌, ◌++◌, length, refl, sym, ap, subst, ◌∙◌, arith}
 use Rattle.std.proofs.lemmas.Grind.{flat_map-append}
+use Rattle.std.proofs.lemmas.Bool.{cases_lt}
 use Rattle.pin_matrix.specs.declared.machine.MachineSetup.{MachineSetup}
 use Rattle.sm_registers.specs.declared.registers.Registers.{Registers}
 use Rattle.program_runs.specs.Levels.{row}
@@ -11,7 +12,7 @@ use Rattle.pio_ws2812.specs.Sending.{word_bits, bits_of, high_of, low_of, low_af
 use Rattle.pio_ws2812.specs.Transmitter.{ws2812_memory, IsLightMachine}
 use Rattle.pio_ws2812.proofs.Clocked.{stay}
 use Rattle.pio_ws2812.proofs.Instructions.{AreMapped}
-use Rattle.pio_ws2812.proofs.Numbers.{cases_lt, less_true, less_false, is_some, mul_suc, mul_add, mul_up}
+use Rattle.pio_ws2812.proofs.Numbers.{less_true, less_false, is_some, mul_suc, mul_add, mul_up}
 use Rattle.pio_ws2812.proofs.Places.{place_of, most, new_place, last_place, other_place, place_next}
 use Rattle.pio_ws2812.proofs.PulseRows.{IsBitRow, no_pulses, stays, lows-for, lows-most, low_in, before_pulse, pulse_of, lead_of}
 use Rattle.pio_ws2812.proofs.Transmitting.{IsReady, IsBit, bits-join, sends, waits, low_next}

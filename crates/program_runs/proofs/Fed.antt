@@ -1,7 +1,8 @@
 -- A feed with a word a clock: from clock 1 on TX has a word wherever one is left.
-use Rattle.std.proofs.Common.{◌≡◌, ◌==◌, ℕ, zero, suc, ◌+◌, ◌≤◌, Bool, true, false, not, cond, leb, nat_lt, None, option_to_list, List, [], ◌∷◌, ◌++◌, length, slice_get, slice_index_or, refl, sym, ap, subst, ◌∙◌, arith, append_assoc}
+use Rattle.std.proofs.Common.{◌≡◌, ◌==◌, ℕ, zero, suc, ◌+◌, ◌≤◌, Bool, true, false, not, cond, nat_lt, None, option_to_list, List, [], ◌∷◌, ◌++◌, length, slice_get, slice_index_or, refl, sym, ap, subst, ◌∙◌, arith, append_assoc}
 use Rattle.std.proofs.Math.ListN.{get_or-map}
 use Rattle.std.proofs.lemmas.Bool.Decides.{nat_tests}
+use Rattle.std.proofs.lemmas.Bool.{le-leb}
 use Rattle.fifo_pair.specs.Fifos.{queued, less_front, if_room, is_full, settled}
 use Rattle.pin_matrix.specs.declared.machine.MachineSetup.{MachineSetup}
 use Rattle.pin_matrix.specs.declared.setup.Setup.{Setup}
@@ -47,9 +48,6 @@ full_stays true (x ∷ y ∷ tx) l e = cc
 full_stays false [] l e = omega (arith, l)
 full_stays false (x ∷ tx) l e = cc
 
-leb_true : (a b : ℕ) → a ≤ b → leb a b ≡ true
-leb_true a b h = grind (arith, nat_tests)
-
 lt_false : (a b : ℕ) → nat_lt a b ≡ false → b ≤ a
 lt_false a b h = grind (arith, nat_tests)
 
@@ -57,16 +55,16 @@ is_moved : (take : Bool) (tx words : List ℕ) (clock every due : ℕ) → every
 is_moved take tx words clock every due few past = by (nat_lt (length tx) 4) refl words where
   by : (room : Bool) → nat_lt (length tx) 4 ≡ room → (ws : List ℕ) → IsMoved take 4 tx clock (record { words = ws; every = every; due = due })
   by true e [] = record {
-    goes = rw (e, leb_true due clock past) (front_and_rest take tx []);
-    dry = rw (e, leb_true due clock past) (λ q. refl);
-    every = rw (e, leb_true due clock past) refl;
-    due = rw (e, leb_true due clock past) (omega (arith, past));
+    goes = rw (e, le-leb due clock past) (front_and_rest take tx []);
+    dry = rw (e, le-leb due clock past) (λ q. refl);
+    every = rw (e, le-leb due clock past) refl;
+    due = rw (e, le-leb due clock past) (omega (arith, past));
   }
   by true e (w ∷ ws) = record {
-    goes = rw (e, leb_true due clock past, e) (ap (λ xs. option_to_list (cond take (slice_get tx 0) None) ++ xs) (append_assoc (less_front take tx) (w ∷ []) ws) ∙ front_and_rest take tx (w ∷ ws));
-    dry = rw (e, leb_true due clock past, e) (λ q. absurd (not_empty (less_front take tx) w q));
-    every = rw (e, leb_true due clock past) refl;
-    due = rw (e, leb_true due clock past) (omega (arith, few));
+    goes = rw (e, le-leb due clock past, e) (ap (λ xs. option_to_list (cond take (slice_get tx 0) None) ++ xs) (append_assoc (less_front take tx) (w ∷ []) ws) ∙ front_and_rest take tx (w ∷ ws));
+    dry = rw (e, le-leb due clock past, e) (λ q. absurd (not_empty (less_front take tx) w q));
+    every = rw (e, le-leb due clock past) refl;
+    due = rw (e, le-leb due clock past) (omega (arith, few));
   }
   by false e ws = record {
     goes = rw e (front_and_rest take tx ws);

@@ -1,6 +1,6 @@
 -- Ticks that change nothing, and ticks that see only what they read.
 use Rattle.std.proofs.Common.{◌≡◌, ℕ, ◌+◌, ◌-◌, ◌*◌, ◌/◌, ◌%◌, ◌^◌, ◌<◌, ◌==◌, nat_lt, nat_le, min, Bool, true, false, cond, not, ◌&&◌, if◌then◌else◌, Option, Some, None, is_some, [], ◌∷◌, refl, sym, ap, ◌∙◌, rules, arith}
-use Rattle.std.proofs.lemmas.Bool.{and_parts}
+use Rattle.std.proofs.lemmas.Bool.{and_parts, not-true}
 use Rattle.std.proofs.lemmas.Bool.Decides.{nat_tests}
 use Rattle.pio_encode.specs.declared.act.Act.{Act}
 use Rattle.pio_encode.specs.declared.act.Act.TheVariants.{Jmp, Wait, In, Out, Push, Pull, Mov, Irq, Set, Nothing}
@@ -304,13 +304,9 @@ late_stall_waits s v q r begun left h stalled =
     ∙ ap (λ c. (r, record no_intent { sticky = c; kind = Late; stalled = true })) (sym (ap (λ x. x.1.sticky) here))
 
 -- a WAIT whose bit hasn't the polarity only stalls
-is_false : (b : Bool) → not b ≡ true → b ≡ false
-is_false false h = refl
-is_false true h = cc
-
 unmet_effect : (act : Act) (s : MachineSetup) (v : View) (q : Queues) (r : Registers) → is_unmet act s v ≡ true → effect_of act s v q r ≡ stall r
 unfolding effect_of wait_effect
-unmet_effect (Wait polarity source index) s v q r h = rw (is_false (has_polarity polarity (waited_bit source index s v)) h) refl
+unmet_effect (Wait polarity source index) s v q r h = rw (not-true (has_polarity polarity (waited_bit source index s v)) h) refl
 unmet_effect (Jmp c address) s v q r h = cc
 unmet_effect (In source n) s v q r h = cc
 unmet_effect (Out destination n) s v q r h = cc
@@ -333,7 +329,7 @@ unmet_waits s v q r h =
     let none : nat_lt 0 r.delay ≡ false = grind (arith, nat_tests) in
     let here : tick_of s v q r ≡ tick_by op s q r e = rw none refl in
     let stalls : e ≡ stall r = unmet_effect op.act s v q r c.1 in
-    let empty : refills s q r ≡ false = rw (is_false s.autopull a.0) refl in
+    let empty : refills s q r ≡ false = rw (not-true s.autopull a.0) refl in
     late_stall_waits s v q r c.0 left empty (ap (λ x. x.1.stalled) here ∙ ap (λ (x : Effect). x.stalled) stalls)
     ∙ ap (λ k. (r, record no_intent { sticky = k; kind = Late; stalled = true })) (ap (λ x. x.1.sticky) here ∙ ap (λ (x : Effect). x.sticky) stalls)
   where

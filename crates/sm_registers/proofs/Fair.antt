@@ -1,6 +1,7 @@
 -- That a tick takes a word only where TX has one, and gives one only where RX has room.
-use Rattle.std.proofs.Common.{◌≡◌, ℕ, ◌-◌, ◌<◌, nat_lt, nat_le, Bool, true, false, cond, not, ◌&&◌, ◌||◌, Option, Some, None, is_some, IsSome, IsTrue, List, [], ◌∷◌, length, slice_get, refl, sym, subst, rules, arith}
+use Rattle.std.proofs.Common.{◌≡◌, ℕ, ◌-◌, ◌<◌, nat_lt, nat_le, Bool, true, false, cond, ◌&&◌, ◌||◌, Option, Some, None, is_some, IsSome, IsTrue, List, [], ◌∷◌, length, slice_get, refl, sym, subst, rules, arith}
 use Rattle.std.proofs.lemmas.Bool.Decides.{nat_tests}
+use Rattle.std.proofs.lemmas.Bool.{not-true}
 use Rattle.pio_encode.specs.declared.act.Act.{Act}
 use Rattle.pio_encode.specs.declared.act.Act.TheVariants.{Jmp, Wait, In, Out, Push, Pull, Mov, Irq, Set, Nothing}
 use Rattle.pio_encode.specs.declared.act.OutDestination.{OutDestination}
@@ -36,10 +37,6 @@ fair_if q false x y h k = k refl
 
 fair_word : (q : Queues) (e : Effect) → e.take ≡ false → q.rx_full ≡ false → IsFairEffect q e
 fair_word q e h k = record { take = λ t. cc; word = λ w. k }
-
-not_full : (b : Bool) → not b ≡ true → b ≡ false
-not_full true h = cc
-not_full false h = refl
 
 fair_autopushed : (s : MachineSetup) (q : Queues) (r : Registers) → IsFairEffect q (autopushed s q r)
 fair_autopushed s q r = search (rules, fair_if, fair_none, fair_word)
@@ -80,7 +77,7 @@ fair_effect (Jmp c a) s v q r = fair_none q _ refl refl
 fair_effect (Wait polarity source index) s v q r = search (rules, fair_if, fair_none)
 fair_effect (In source n) s v q r = fair_autopushed s q _
 fair_effect (Out d n) s v q r = search (rules, fair_if, fair_none, fair_out_to)
-fair_effect (Push if_full block) s v q r = search (rules, fair_if, fair_none, fair_word, not_full) depth 20
+fair_effect (Push if_full block) s v q r = search (rules, fair_if, fair_none, fair_word, not-true) depth 20
 fair_effect (Pull if_empty block) s v q r = search (rules, fair_if, fair_none, fair_pulled)
 fair_effect (Mov d o source) s v q r = fair_mov_to d _ s q r
 fair_effect (Irq clear waits index) s v q r = search (rules, fair_if, fair_none) depth 20

@@ -1,7 +1,7 @@
 -- Ticks that don't stir, one and many, and which tick is the next that does.
 use Rattle.std.proofs.Common.{◌≡◌, ℕ, zero, suc, ◌-◌, ◌<◌, ◌==◌, Bool, true, false, cond, not, ◌&&◌, ◌||◌, refl, sym, ap, ◌∙◌, inl, inr, arith}
 use Rattle.std.proofs.Math.Nat.{sub-zero}
-use Rattle.std.proofs.lemmas.Bool.{cases_lt}
+use Rattle.std.proofs.lemmas.Bool.{cases_lt, and_parts}
 use Rattle.std.proofs.lemmas.Bool.Decides.{nat_tests}
 use Rattle.pin_matrix.specs.declared.machine.MachineSetup.{MachineSetup}
 use Rattle.sm_registers.specs.declared.idle.Idle.TheVariants.{Ticks, Never}
@@ -136,17 +136,12 @@ delay_calm :
     → stirs (tick_of s v q r).1 ≡ false
 delay_calm s v q r left h = ap (λ x. stirs x.1) (delay_counts s v q r left h)
 
-pub both : (a b : Bool) → (a && b) ≡ true → (a ≡ true) × (b ≡ true)
-both true true h = (refl, refl)
-both true false h = cc
-both false b h = cc
-
 -- nor does a stall that lasts, whatever delay is left
 stay_calm :
     (s : MachineSetup) (v : View) (q : Queues) (r : Registers) (delay : ℕ) → refills s q r ≡ false → stays s v q r ≡ true
     → stirs (tick_of s v q (record r { delay = delay })).1 ≡ false
 stay_calm s v q r zero h stay =
-    let parts = both r.begun (undelayed s v q r).stalled stay in
+    let parts = and_parts r.begun (undelayed s v q r).stalled stay in
     let z : Registers = record r { delay = 0 } in
     let stalled : (tick_of s v q z).1.stalled ≡ true = stalled_is s v q z refl ∙ parts.1 in
     ap (λ x. stirs x.1) (late_stall_waits s v q z parts.0 refl h stalled)
@@ -173,7 +168,7 @@ not_begun false stalled h = refl
 pub first_stirs :
     (s : MachineSetup) (v : View) (q : Queues) (r : Registers) → begins_next r ≡ true → stirs (tick_of s v q r).1 ≡ true
 first_stirs s v q r h =
-    let parts = both (r.delay == 0) (not r.begun) h in
+    let parts = and_parts (r.delay == 0) (not r.begun) h in
     let zero : (r.delay == 0) ≡ true = parts.0 in
     let none : r.delay ≡ 0 = grind (arith, nat_tests) in
     stirs_word s v q r none ∙ woken r.begun _ _ (not_begun r.begun _ parts.1)

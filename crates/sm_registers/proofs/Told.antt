@@ -2,7 +2,7 @@
 use Rattle.std.proofs.Common.{◌≡◌, ℕ, ◌-◌, ◌<◌, ◌≤◌, ◌==◌, nat_le, max, Bool, true, false, cond, ◌&&◌, Option, Some, None, is_some, List, [], ◌∷◌, length, slice_get, bit_or, refl, sym, ap, subst, ◌∙◌, inl, inr, rules, arith}
 use Rattle.std.specs.Int.{bit_at}
 use Rattle.std.specs.Int.Bits.{or_zero_l}
-use Rattle.std.proofs.lemmas.Bool.{cases_lt}
+use Rattle.std.proofs.lemmas.Bool.{cases_lt, and_parts}
 use Rattle.std.proofs.lemmas.Bool.Decides.{nat_tests}
 use Rattle.std.proofs.lemmas.Nat.Bits.{bit_at_or, same_from_bits}
 use Rattle.pio_encode.specs.declared.act.Act.{Act}
@@ -28,7 +28,7 @@ use Rattle.sm_registers.specs.Idling.{stirs}
 use Rattle.sm_registers.specs.Told.{AreUp, IsToldAct, IsKnown}
 use Rattle.sm_registers.proofs.Autopull.{below_refilled}
 use Rattle.sm_registers.proofs.Ticks.{op_now, effect_now, in_delay, at_rest, sticky_is}
-use Rattle.sm_registers.proofs.Stirs.{both, calm_from}
+use Rattle.sm_registers.proofs.Stirs.{calm_from}
 
 -- what was raised is up, and stays up
 max_twice : (a b : ℕ) → max a (max a b) ≡ max a b
@@ -162,7 +162,7 @@ out_stalls :
     (d : OutDestination) (n : ℕ) (s : MachineSetup) (q : Queues) (r : Registers) → (out_effect d n s q r).stalled ≡ true
     → (s.autopull ≡ true) × (nat_le s.pull_threshold r.out_count ≡ true)
 unfolding out_effect
-out_stalls d n s q r h = both s.autopull _ (stalls_by (s.autopull && nat_le s.pull_threshold r.out_count) _ _ (done_out_to d _ n s _) h)
+out_stalls d n s q r h = and_parts s.autopull _ (stalls_by (s.autopull && nat_le s.pull_threshold r.out_count) _ _ (done_out_to d _ n s _) h)
 
 -- a refill keeps what is known
 reached_if :

@@ -3,6 +3,7 @@ use Rattle.std.proofs.Common.{◌≡◌, ◌≢◌, ℕ, zero, suc, ◌+◌, ◌
 use Rattle.std.proofs.Math.ListN.{set}
 use Rattle.std.proofs.lemmas.Bool.Decides.{nat_tests}
 use Rattle.std.proofs.lemmas.List.{length-set, get_or-set_same, get_or-set_other, take_more, length-take-le, length-replicate, get_or-replicate}
+use Rattle.std.proofs.lemmas.Bool.{and_parts}
 use Rattle.pin_matrix.specs.declared.setup.Setup.{Setup}
 use Rattle.pin_matrix.specs.declared.span.Span.{Span}
 use Rattle.span_step.specs.declared.ages.Ages.{Ages}
@@ -33,10 +34,6 @@ one_more v n p = rw p refl
 
 no_more : (v : ℕ) (n : Next) → n.passes ≡ false → one_if (n.passes && spot n == v) ≡ 0
 no_more v n p = rw p refl
-
-and_both : (o p : Bool) → (o && p) ≡ true → (o ≡ true) × (p ≡ true)
-and_both true p e = (refl, e)
-and_both false p e = cc
 
 -- LieBut at one place
 but_at : (o : Bool) (f : ℕ → Entry) (ns : List Next) (k : ℕ) (d : Next) → LieBut o f ns → k < length ns → (o && (get_or ns k d).passes) ≡ false → LiesAt (get_or ns k d).ages (f (spot (get_or ns k d)))
@@ -111,7 +108,7 @@ Counting-step u sp g x x' m m' i a items k n reach l entry e lk q near c r = on 
     small v h o = let h' : slice_index m v ≤ 8 * i + k = rw size at h in omega arith
 
     counted : (v : ℕ) → slice_index m v ≡ total i (waits u sp (at g) v) + (if is_open a then passages v (take k items) else 0) → slice_index m v + one_if (spot n == v) ≡ total i (waits u sp (at g) v) + (if is_open a then passages v (take (k + 1) items) else 0)
-    counted v h = rw (h, open_count v (and_both (is_open a) n.passes z).0 (and_both (is_open a) n.passes z).1) (omega arith)
+    counted v h = rw (h, open_count v (and_parts (is_open a) n.passes z).0 (and_parts (is_open a) n.passes z).1) (omega arith)
   on false z w = rw (w.0, w.1) (record {
     under = IsUnder-join u sp g x (spot n) n.ages near c.under (λ f s. lies f s z) (here (λ y. IsHeldBy y.ages (at g (spot y))) held);
     numbers = c.numbers;

@@ -2,7 +2,7 @@
 use Rattle.std.proofs.Common.{◌≡◌, ◌≢◌, ℕ, zero, suc, ◌+◌, ◌-◌, ◌<◌, ◌≤◌, ◌==◌, ◌⊎◌, Bool, true, false, ◌&&◌, if◌then◌else◌, MatchBool, List, [], ◌∷◌, ◌++◌, length, get_or, take, drop, slice_index, sum_by, refl, sym, ap, ◌∙◌, subst, inl, inr, arith}
 use Rattle.std.proofs.Math.ListN.{set}
 use Rattle.std.proofs.lemmas.Bool.Decides.{nat_tests}
-use Rattle.std.proofs.lemmas.Bool.{cases_lt}
+use Rattle.std.proofs.lemmas.Bool.{cases_lt, and_parts, true_from_ne_false}
 use Rattle.std.proofs.lemmas.List.{length-set, get_or-set_same, get_or-set_other, drop_more, length_push, get_or_past, take_more, take_all}
 use Rattle.std.proofs.lemmas.List.Sums.{sum_by-set, sum_by_push}
 use Rattle.pin_matrix.specs.declared.setup.Setup.{Setup}
@@ -91,10 +91,6 @@ IsTaking-skip u sp l x m ready i q t = record {
   bad j e o z = clash (ready_is j o z) (rw (← e) at q) where
     ready_is : (j : ℕ) → open_at (at l j) ≡ true → slice_index m j ≡ 0 → is_ready l m j ≡ true
     ready_is j o z = rw (o, z) refl
-
-and_parts : (a b : Bool) → (a && b) ≡ true → (a ≡ true) × (b ≡ true)
-and_parts true b e = (refl, e)
-and_parts false b e = cc
 
 zero_from : (n : ℕ) → (n == 0) ≡ true → n ≡ 0
 zero_from n e = grind (arith, nat_tests)
@@ -196,10 +192,6 @@ passed_waits u sp l x m ready i a done rest n t b q =
     let o : one_if (n.passes && spot n == spot n) ≡ 1 = rw (q, self_number (spot n)) refl in
     omega arith
 
-not_false : (b : Bool) → (b ≡ false → ⊥) → b ≡ true
-not_false true h = refl
-not_false false h = absurd (h refl)
-
 -- one next more, as the code has it
 pub TakesRow-step : (u : Setup) (sp : Span) (l x x' : List Entry) (m m' ready ready' : List ℕ) (i : ℕ) (a : Ages) (items : List Next) (k : ℕ) (n : Next) → k < length items → n ≡ get_or items k n → spot n < 139392 → i < 139392 →
     TakesRow u sp l x m ready i a (take k items) (drop k items) → Passed n x x' m m' ready ready' → TakesRow u sp l x' m' ready' i a (take (k + 1) items) (drop (k + 1) items)
@@ -271,7 +263,7 @@ TakesRow-step u sp l x x' m m' ready ready' i a items k n lk q b bi t0 r = on n.
     some = passed_waits u sp l x m ready i a (take k items) (drop (k + 1) items) n t b z
 
     open_p : open_at (at l (spot n)) ≡ true
-    open_p = not_false _ (λ o. absurd (zero_one (s.settled (spot n) b o) some)) where
+    open_p = true_from_ne_false _ (λ o. absurd (zero_one (s.settled (spot n) b o) some)) where
       zero_one : {v : ℕ} → v ≡ 0 → 1 ≤ v → ⊥
       zero_one e h = omega arith
 
@@ -409,7 +401,7 @@ IsTaken-ends u sp l x m ready none t = record {
   waited v w a c q o = let e : waits u sp (at l) v w ≡ passages v (nexts_at u sp w a) = rw (q, o) refl in omega (arith, total-one 139392 (waits u sp (at l) v) w c)
 
   goes_left : (w : ℕ) (a : Ages) → w < 139392 → at l w ≡ Present a → is_open a ≡ true → (n : Next) → (n.passes ≡ true → 1 ≤ passages (spot n) (nexts_at u sp w a)) → IsHeldBy n.ages (at t.reach (spot n)) → n.passes ≡ true → open_at (at l (spot n)) ≡ true
-  goes_left w a c q o n k h p = not_false _ (λ shut. never (s.count (spot n) b) (s.settled (spot n) b shut) (k p) (waited (spot n) w a c q o)) where
+  goes_left w a c q o n k h p = true_from_ne_false _ (λ shut. never (s.count (spot n) b) (s.settled (spot n) b shut) (k p) (waited (spot n) w a c q o)) where
     b : spot n < 139392
     b = near n.ages (spot n) h (cases_lt (spot n) 139392)
 

@@ -1,6 +1,6 @@
 -- The clocks of a machine's ticks, from a clock in which the span's from-edge comes to the next line that disables or restarts it.
-use Rattle.std.proofs.Common.{◌≡◌, ◌==◌, ℕ, zero, suc, ◌+◌, ◌*◌, ◌/◌, ◌<◌, ◌≤◌, inl, inr, Bool, true, false, ◌&&◌, ◌||◌, cond, Some, List, slice_index_or, refl, ap, sym, subst, ◌∙◌, arith, add-one}
-use Rattle.std.proofs.lemmas.Bool.{and_parts}
+use Rattle.std.proofs.Common.{◌≡◌, ◌==◌, ℕ, zero, suc, ◌+◌, ◌*◌, ◌/◌, ◌<◌, ◌≤◌, inl, inr, Bool, true, false, ◌&&◌, cond, Some, List, slice_index_or, refl, ap, sym, subst, ◌∙◌, arith, add-one}
+use Rattle.std.proofs.lemmas.Bool.{and_parts, or_parts}
 use Rattle.std.specs.Int.{bit_at}
 use Rattle.clock_divider.specs.Timing.{Timing}
 use Rattle.clock_divider.specs.Timing as timing
@@ -107,10 +107,6 @@ ticks_with : (t : Timing) (clock restarted period : ℕ) → t ≡ record { cloc
 ticks_with t clock restarted period e = ap (λ (x : Timing). is_tick x.restarted x.period x.clock) e
 
 -- without such a line it stays enabled, and its divider isn't restarted
-neither : (a b : Bool) → (a || b) ≡ false → (a ≡ false) × (b ≡ false)
-neither true b h = cc
-neither false b h = (refl, h)
-
 stays_enabled : (enable disable enabled : Bool) → disable ≡ false → enabled ≡ true → cond enable true (cond disable false enabled) ≡ true
 stays_enabled true disable enabled e f = refl
 stays_enabled false disable enabled e f = rw e f
@@ -184,7 +180,7 @@ module _ (laws : Laws) (sp : Span) (period : ℕ) (long : 256 ≤ period) (none 
   paced_after s c after broken p =
       let d = host c in
       let v = view_of memory (seen c) (states c) in
-      let lines = neither (slice_index_or d.disable sp.machine false) (slice_index_or d.restart sp.machine false) broken in
+      let lines = or_parts (slice_index_or d.disable sp.machine false) (slice_index_or d.restart sp.machine false) broken in
       let marks : ℕ → Mark = marks_over sp memory seen host states in
       let enabled : (lined d p.m).enabled ≡ true =
       stays_enabled (slice_index_or d.enable p.m.machine.setup.id false) (slice_index_or d.disable p.m.machine.setup.id false) p.m.enabled (ap (λ id. slice_index_or d.disable id false) p.id ∙ lines.0) p.enabled in

@@ -1,6 +1,6 @@
 -- A closed and good table, and what the laws of the block say of a run, put together.
 use Rattle.std.proofs.Common.{◌≡◌, ◌==◌, ℕ, zero, suc, ◌+◌, ◌<◌, nat_lt, Bool, true, false, not, ◌&&◌, ◌||◌, cond, Option, Some, None, option_map, IfSome, List, [], ◌∷◌, length, unwrap_or, slice_index_or, refl, ap, sym, subst, ◌∙◌, arith}
-use Rattle.std.proofs.lemmas.Bool.{and_parts}
+use Rattle.std.proofs.lemmas.Bool.{and_parts, or_parts, and_from}
 use Rattle.std.proofs.lemmas.Bool.Decides.{nat_tests}
 use Rattle.std.specs.List.{AllByRecursion, Contains}
 use Rattle.pin_matrix.specs.Setups.{ids_are_places}
@@ -75,10 +75,6 @@ leaves false false true side h = refl
 leaves false false false true h = cc
 leaves false false false false h = refl
 
-neither : (a b : Bool) → (a || b) ≡ false → (a ≡ false) × (b ≡ false)
-neither true b h = cc
-neither false b h = (refl, h)
-
 -- the pin is one of the span's
 may-not : (p : ℕ) (sp : Span) (m : Option MachineSetup) → ((s : MachineSetup) → writes_span s sp ≡ false → writes_pin s p ≡ false) → may_write m sp ≡ false → IfSome m (λ s. leaves_level p s ≡ true)
 may-not p sp None of h = tt
@@ -95,10 +91,10 @@ not-shared u sp h m apart = by (m == sp.machine) (not-own m sp.machine apart) (h
   by false e f = f
 
 pub others-leave-from : (u : Setup) (sp : Span) → IsUnshared u sp → OthersLeave sp.machine sp.from_pin u.machines
-others-leave-from u sp h m apart = may-not sp.from_pin sp (slice_index_or u.machines m None) (λ s e. (neither (writes_pin s sp.from_pin) (writes_pin s sp.to_pin) e).0) (not-shared u sp h m apart)
+others-leave-from u sp h m apart = may-not sp.from_pin sp (slice_index_or u.machines m None) (λ s e. (or_parts (writes_pin s sp.from_pin) (writes_pin s sp.to_pin) e).0) (not-shared u sp h m apart)
 
 pub others-leave-to : (u : Setup) (sp : Span) → IsUnshared u sp → OthersLeave sp.machine sp.to_pin u.machines
-others-leave-to u sp h m apart = may-not sp.to_pin sp (slice_index_or u.machines m None) (λ s e. (neither (writes_pin s sp.from_pin) (writes_pin s sp.to_pin) e).1) (not-shared u sp h m apart)
+others-leave-to u sp h m apart = may-not sp.to_pin sp (slice_index_or u.machines m None) (λ s e. (or_parts (writes_pin s sp.from_pin) (writes_pin s sp.to_pin) e).1) (not-shared u sp h m apart)
 
 -- the machine's number is that of its place
 place_id : (place i : ℕ) (machines : List (Option MachineSetup)) (s : MachineSetup) → ids_are_places place machines ≡ true → slice_index_or machines i None ≡ Some s → s.id ≡ place + i
@@ -133,13 +129,9 @@ known_small n = by (nat_lt n 32) refl where
   by true e = e
   by false e = refl
 
-both : (a b : Bool) → a ≡ true → b ≡ true → (a && b) ≡ true
-both true b p q = q
-both false b p q = p
-
 start-agrees : (u : Setup) (sp : Span) (s : MachineSetup) → IsContextOf (started (Some s) u sp) (flow_of (first_registers s))
 start-agrees u sp s = record {
-  placed = both _ _ below (both _ _ (known_small s.x) (known_small s.y));
+  placed = and_from _ _ below (and_from _ _ (known_small s.x) (known_small s.y));
   address = refl;
   x = known_covers s.x;
   y = known_covers s.y;

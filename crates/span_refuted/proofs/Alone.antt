@@ -1,6 +1,6 @@
 -- The run of a setup without stimulus lines, for a span whose pins no other machine may write.
 use Rattle.std.proofs.Common.{◌≡◌, ◌==◌, ℕ, zero, suc, ◌+◌, ◌<◌, Bool, true, false, not, ◌&&◌, ◌||◌, Option, Some, None, option_map, IfSome, List, [], ◌∷◌, unwrap_or, slice_index_or, refl, sym, ap, subst, ◌∙◌, arith}
-use Rattle.std.proofs.lemmas.Bool.{and_parts}
+use Rattle.std.proofs.lemmas.Bool.{and_parts, or_parts}
 use Rattle.std.proofs.lemmas.Bool.Decides.{nat_tests}
 use Rattle.std.specs.Int.{bit_at}
 use Rattle.pin_matrix.specs.Pins.{last_of}
@@ -55,10 +55,6 @@ leaves false false true side h = refl
 leaves false false false true h = cc
 leaves false false false false h = refl
 
-neither : (a b : Bool) → (a || b) ≡ false → (a ≡ false) × (b ≡ false)
-neither true b h = cc
-neither false b h = (refl, h)
-
 may_not : (p : ℕ) (sp : Span) (m : Option MachineSetup) → ((s : MachineSetup) → writes_span s sp ≡ false → writes_pin s p ≡ false) → may_write m sp ≡ false → IfSome m (λ s. leaves_level p s ≡ true)
 may_not p sp None of h = tt
 may_not p sp (Some s) of h = leaves (holds s.out p) (holds s.set p) s.side_rule.pindirs (holds s.side p) (of s h)
@@ -74,10 +70,10 @@ not_shared u sp h m apart = by (m == sp.machine) (not_own m sp.machine apart) (h
   by false e f = f
 
 others_from : (u : Setup) (sp : Span) → IsUnshared u sp → OthersLeave sp.machine sp.from_pin u.machines
-others_from u sp h m apart = may_not sp.from_pin sp (slice_index_or u.machines m None) (λ s e. (neither (writes_pin s sp.from_pin) (writes_pin s sp.to_pin) e).0) (not_shared u sp h m apart)
+others_from u sp h m apart = may_not sp.from_pin sp (slice_index_or u.machines m None) (λ s e. (or_parts (writes_pin s sp.from_pin) (writes_pin s sp.to_pin) e).0) (not_shared u sp h m apart)
 
 others_to : (u : Setup) (sp : Span) → IsUnshared u sp → OthersLeave sp.machine sp.to_pin u.machines
-others_to u sp h m apart = may_not sp.to_pin sp (slice_index_or u.machines m None) (λ s e. (neither (writes_pin s sp.from_pin) (writes_pin s sp.to_pin) e).1) (not_shared u sp h m apart)
+others_to u sp h m apart = may_not sp.to_pin sp (slice_index_or u.machines m None) (λ s e. (or_parts (writes_pin s sp.from_pin) (writes_pin s sp.to_pin) e).1) (not_shared u sp h m apart)
 
 -- the machine's number is that of its place
 place_id : (place i : ℕ) (machines : List (Option MachineSetup)) (s : MachineSetup) → ids_are_places place machines ≡ true → slice_index_or machines i None ≡ Some s → s.id ≡ place + i

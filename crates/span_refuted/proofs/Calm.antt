@@ -1,5 +1,6 @@
 -- A prompt course of an instruction with one way is bad for no other cause than U1 and U2.
-use Rattle.std.proofs.Common.{◌≡◌, ℕ, zero, suc, ◌⊎◌, Bool, true, false, ◌||◌, Some, None, inl, inr, refl}
+use Rattle.std.proofs.Common.{◌≡◌, ℕ, zero, suc, ◌⊎◌, Bool, true, false, Some, None, inl, inr, refl}
+use Rattle.std.proofs.lemmas.Bool.{or_from}
 use Rattle.pio_encode.specs.declared.op.Op.{Op}
 use Rattle.pin_matrix.specs.declared.machine.MachineSetup.{MachineSetup}
 use Rattle.pin_matrix.specs.declared.setup.Setup.{Setup}
@@ -21,12 +22,9 @@ pub record IsCalm (c : Causes) : Type 0 where
   pub u3 : c.u3 ≡ false
   pub u4 : c.u4 ≡ false
 
-or_false : (a b : Bool) → a ≡ false → b ≡ false → (a || b) ≡ false
-or_false a b h k = rw (h, k) refl
-
 calm_tick : (r : Rules) (t : Tick) (w : Watch) → t.late ≡ false → IsCalm w.causes → IsCalm (watched r w t).causes
 unfolding watched
-calm_tick r t w l h = record { u3 = rw l (or_false _ _ h.u3 refl); u4 = or_false _ _ h.u4 refl }
+calm_tick r t w l h = record { u3 = rw l (or_from _ _ h.u3 refl); u4 = or_from _ _ h.u4 refl }
 
 calm_delay : (r : Rules) (n : ℕ) (w : Watch) → IsCalm w.causes → IsCalm (followed r (delay_ticks n) w).causes
 calm_delay r zero w h = h

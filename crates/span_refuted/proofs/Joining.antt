@@ -1,6 +1,7 @@
 -- A course from joined ages ends with joined ages, without cause where neither has one.
 use Rattle.std.proofs.Common.{◌≡◌, ℕ, ◌+◌, ◌≤◌, Bool, true, false, not, ◌&&◌, ◌||◌, if◌then◌else◌, Some, None, List, [], ◌∷◌, unwrap_or, refl, arith}
 use Rattle.std.proofs.lemmas.Bool.Decides.{nat_tests}
+use Rattle.std.proofs.lemmas.Bool.{or_from}
 use Rattle.span_step.specs.declared.ages.Ages.{Ages}
 use Rattle.span_step.specs.declared.ages.Ages.TheVariants.{Empty, Between}
 use Rattle.span_step.specs.declared.cause.Causes.{Causes}
@@ -33,9 +34,6 @@ none_by false false false true h = some_none h
 pub none_clean : (c : Causes) → first_cause c ≡ None → IsClean c
 none_clean c h = none_by c.u1 c.u2 c.u3 c.u4 h
 
-or_false : (a b : Bool) → a ≡ false → b ≡ false → (a || b) ≡ false
-or_false a b h k = rw (h, k) refl
-
 or_left : (a b : Bool) → (a || b) ≡ false → a ≡ false
 or_left true b h = h
 or_left false b h = refl
@@ -47,7 +45,7 @@ or_right true b h = absurd (bad h) where
 or_right false b h = h
 
 pub clean_joined : (a b : Causes) → IsClean a → IsClean b → IsClean (joined a b)
-clean_joined a b h k = record { u1 = or_false _ _ h.u1 k.u1; u2 = or_false _ _ h.u2 k.u2; u3 = or_false _ _ h.u3 k.u3; u4 = or_false _ _ h.u4 k.u4 }
+clean_joined a b h k = record { u1 = or_from _ _ h.u1 k.u1; u2 = or_from _ _ h.u2 k.u2; u3 = or_from _ _ h.u3 k.u3; u4 = or_from _ _ h.u4 k.u4 }
 
 pub clean_left : (a b : Causes) → IsClean (joined a b) → IsClean a
 clean_left a b h = record { u1 = or_left _ _ h.u1; u2 = or_left _ _ h.u2; u3 = or_left _ _ h.u3; u4 = or_left _ _ h.u4 }

@@ -1,7 +1,8 @@
 -- The tests of a table say what a table's being closed and good says.
-use Rattle.std.proofs.Common.{◌≡◌, ◌≤◌, nat_le, Bool, true, false, ◌&&◌, Option, Some, None, List, [], ◌∷◌, refl, arith}
+use Rattle.std.proofs.Common.{◌≡◌, ◌≤◌, nat_le, true, false, Option, Some, None, List, [], ◌∷◌, refl, arith}
 use Rattle.std.proofs.lemmas.Bool.Decides.{nat_tests}
 use Rattle.std.specs.List.{list_all}
+use Rattle.std.proofs.lemmas.Bool.{and_parts}
 use Rattle.pin_matrix.specs.declared.setup.Setup.{Setup}
 use Rattle.pin_matrix.specs.declared.span.Span.{Span}
 use Rattle.span_step.specs.declared.ages.Ages.{Ages}
@@ -43,15 +44,9 @@ pub lies_at-true : (a : Ages) (e : Entry) → LiesAt a e → lies_at a e ≡ tru
 lies_at-true a Absent h = absurd h
 lies_at-true a (Present b) h = is_inside-true a b h
 
-both : (a b : Bool) → (a && b) ≡ true → (a ≡ true) × (b ≡ true)
-both true b e = (refl, e)
-both false b e = absurd (bad e) where
-  bad : false ≡ true → ⊥
-  bad e = cc
-
 all_lie : (rows : List Row) (ns : List Next) → list_all (λ n. lies_in rows n.context n.ages) ns ≡ true → AllLieIn rows ns
 all_lie rows [] e = tt
-all_lie rows (n ∷ ns) e = let p = both _ _ e in (lies n.ages _ p.0, all_lie rows ns p.1)
+all_lie rows (n ∷ ns) e = let p = and_parts _ _ e in (lies n.ages _ p.0, all_lie rows ns p.1)
 
 list_all-lies : (rows : List Row) (ns : List Next) → AllLieIn rows ns → list_all (λ n. lies_in rows n.context n.ages) ns ≡ true
 list_all-lies rows [] h = refl
@@ -65,7 +60,7 @@ none (Some cause) e = absurd (bad e) where
 
 right : (u : Setup) (sp : Span) (rows : List Row) (r : Row) → is_right u sp rows r ≡ true → (first_cause (context_steps u sp r.context r.ages).causes ≡ None) × AllLieIn rows (context_steps u sp r.context r.ages).nexts
 unfolding is_right all_lie_in
-right u sp rows r e = let p = both _ _ e in (none _ p.0, all_lie rows _ p.1)
+right u sp rows r e = let p = and_parts _ _ e in (none _ p.0, all_lie rows _ p.1)
 
 is_right-true : (u : Setup) (sp : Span) (rows : List Row) (r : Row) → first_cause (context_steps u sp r.context r.ages).causes ≡ None → AllLieIn rows (context_steps u sp r.context r.ages).nexts → is_right u sp rows r ≡ true
 unfolding is_right all_lie_in
@@ -73,11 +68,11 @@ is_right-true u sp rows r e h = rw (e, list_all-lies rows _ h) refl
 
 good : (u : Setup) (sp : Span) (rows rs : List Row) → list_all (is_right u sp rows) rs ≡ true → IsGood u sp rs
 good u sp rows [] e = tt
-good u sp rows (r ∷ rs) e = let p = both _ _ e in ((right u sp rows r p.0).0, good u sp rows rs p.1)
+good u sp rows (r ∷ rs) e = let p = and_parts _ _ e in ((right u sp rows r p.0).0, good u sp rows rs p.1)
 
 steps : (u : Setup) (sp : Span) (rows rs : List Row) → list_all (is_right u sp rows) rs ≡ true → EachRow (λ r. AllLieIn rows (context_steps u sp r.context r.ages).nexts) rs
 steps u sp rows [] e = tt
-steps u sp rows (r ∷ rs) e = let p = both _ _ e in ((right u sp rows r p.0).1, steps u sp rows rs p.1)
+steps u sp rows (r ∷ rs) e = let p = and_parts _ _ e in ((right u sp rows r p.0).1, steps u sp rows rs p.1)
 
 all_right : (u : Setup) (sp : Span) (rows rs : List Row) → EachRow (λ r. AllLieIn rows (context_steps u sp r.context r.ages).nexts) rs → IsGood u sp rs → list_all (is_right u sp rows) rs ≡ true
 all_right u sp rows [] h k = refl

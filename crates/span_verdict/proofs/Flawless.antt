@@ -1,6 +1,7 @@
 -- A table has no flaw exactly where its tests pass.
 use Rattle.std.proofs.Common.{◌≡◌, Bool, true, false, cond, ◌&&◌, Option, Some, None, List, [], ◌∷◌, refl, sym, ◌∙◌}
 use Rattle.std.specs.List.{list_all}
+use Rattle.std.proofs.lemmas.Bool.{and_parts}
 use Rattle.pin_matrix.specs.declared.setup.Setup.{Setup}
 use Rattle.pin_matrix.specs.declared.span.Span.{Span}
 use Rattle.span_step.specs.declared.ages.Ages.TheVariants.{Empty}
@@ -49,19 +50,13 @@ parts (Some f) b e = absurd (bad e) where
   bad : {A : Type 0} {x : A} → Some x ≡ None → ⊥
   bad e = cc
 
-both : (a b : Bool) → (a && b) ≡ true → (a ≡ true) × (b ≡ true)
-both true b e = (refl, e)
-both false b e = absurd (bad e) where
-  bad : false ≡ true → ⊥
-  bad e = cc
-
 rows_right : (u : Setup) (sp : Span) (rows rs : List Row) → rows_flaw u sp rows rs ≡ None → list_all (is_right u sp rows) rs ≡ true
 rows_right u sp rows [] e = refl
 rows_right u sp rows (r ∷ rs) e = let p = parts _ _ e in rw (row_right u sp rows r p.0, rows_right u sp rows rs p.1) refl
 
 right_rows : (u : Setup) (sp : Span) (rows rs : List Row) → list_all (is_right u sp rows) rs ≡ true → rows_flaw u sp rows rs ≡ None
 right_rows u sp rows [] e = refl
-right_rows u sp rows (r ∷ rs) e = let p = both _ _ e in rw (right_row u sp rows r p.0, right_rows u sp rows rs p.1) refl
+right_rows u sp rows (r ∷ rs) e = let p = and_parts _ _ e in rw (right_row u sp rows r p.0, right_rows u sp rows rs p.1) refl
 
 -- with a row for the start, a table whose rows have no flaw is closed and good
 pub flawless : (u : Setup) (sp : Span) (rows : List Row) → lies_in rows (start_context u sp) Empty ≡ true → rows_flaw u sp rows rows ≡ None → IsClosed u sp rows × IsGood u sp rows

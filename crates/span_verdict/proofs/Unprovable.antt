@@ -1,6 +1,7 @@
 -- A context that is bad in each closed table leaves none that is good.
 use Rattle.std.proofs.Common.{◌≡◌, ℕ, zero, suc, ◌+◌, Bool, true, false, Option, Some, None, List, [], ◌∷◌, refl, sym, ap, subst, arith}
 use Rattle.std.specs.List.{Contains}
+use Rattle.std.proofs.lemmas.Option.{same_Some}
 use Rattle.pin_matrix.specs.declared.setup.Setup.{Setup}
 use Rattle.pin_matrix.specs.declared.span.Span.{Span}
 use Rattle.span_step.specs.declared.ages.Ages.{Ages}
@@ -44,11 +45,8 @@ has_first U4 c h f = on c.u1 c.u2 c.u3 refl refl refl where
   on false false true p q r = some_none (rw (p, q, r) at f)
   on false false false p q r = some_none (rw (p, q, r, h) at f)
 
-some_same : {A : Type 0} (x y : A) → Some x ≡ Some y → x ≡ y
-some_same x y e = cc
-
 first_of : (p q : Context × Cause) → Some p ≡ Some q → p.0 ≡ q.0
-first_of p q e = ap (λ r. r.0) (some_same p q e)
+first_of p q e = ap (λ r. r.0) (same_Some p q e)
 
 -- the first bad row is in range
 placed : (u : Setup) (sp : Span) (n : ℕ) (rows : List Row) (k : Context) (cause : Cause) → IsTableFrom n rows → first_bad u sp rows ≡ Some (k, cause) → is_placed k.address k.x k.y ≡ true

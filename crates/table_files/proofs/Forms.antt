@@ -3,6 +3,7 @@ use Rattle.std.proofs.Common.{◌≡◌, ℕ, ◌<◌, ◌≤◌, ◌==◌, ◌&
 use Rattle.std.specs.Prelude.{option_map}
 use Rattle.std.proofs.lemmas.Bool.{cases_lt}
 use Rattle.std.proofs.lemmas.Bool.Decides.{nat_tests}
+use Rattle.std.proofs.lemmas.Option.{same_Some}
 use Rattle.span_step.specs.declared.ages.Ages.{Ages}
 use Rattle.span_step.specs.declared.ages.Ages.TheVariants.{Empty, Between}
 use Rattle.span_bounds.specs.declared.row.Row.{Row}
@@ -105,14 +106,11 @@ none_said least (Some s) e = absurd (bad e) where
   bad : {A : Type 0} {x : A} → None ≡ Some x → ⊥
   bad e = cc
 
-some_same : {A : Type 0} (x y : A) → Some x ≡ Some y → x ≡ y
-some_same x y e = cc
-
 -- a line that says this
 pub some_said : (least : ℕ) (o : Option Said) (s : Said) → Some s ≡ option_map capped_said o → in_order least (row_of s) ≡ row_from least o
 some_said least None s e = absurd (bad e) where
   bad : {A : Type 0} {x : A} → Some x ≡ None → ⊥
   bad e = cc
 some_said least (Some t) s e =
-    let h : s ≡ capped_said t = some_same s (capped_said t) e in
+    let h : s ≡ capped_said t = same_Some s (capped_said t) e in
     ap (λ (r : Option Row). in_order least r) (ap row_of h ∙ row_of-capped t)

@@ -2,11 +2,12 @@
 use Rattle.std.proofs.Common.{◌≡◌, ℕ, ◌+◌, ◌-◌, ◌*◌, ◌^◌, ◌<◌, ◌≤◌, nat_lt, nat_le, nat_eq, cond, ◌&&◌, ◌==◌, Bool, true, false, List, [], ◌∷◌, length, get_or, Option, Some, None, refl, sym, ap, ◌∙◌, codes, decimal, inl, inr, arith}
 use Rattle.std.specs.Prelude.{option_and_then, option_map}
 use Rattle.std.specs.Str.{bytes_eq}
-use Rattle.std.proofs.lemmas.Bool.{cases_lt, cases_Bool}
+use Rattle.std.proofs.lemmas.Bool.{cases_lt, cases_Bool, and_parts}
 use Rattle.std.proofs.lemmas.Bool.Decides.{nat_tests}
 use Rattle.std.proofs.lemmas.Fmt.{decimal-digits_value}
 use Rattle.std.specs.Char.{digit_value}
 use Rattle.std.specs.Str.Parse.{AllDigits, digits_value_after}
+use Rattle.std.proofs.lemmas.Option.{same_Some}
 use Rattle.byte_lines.specs.Bytes.{digit_of}
 use Rattle.table_files.specs.Lines.{known_in}
 use Rattle.table_files.specs.Numbers.{number_from, number_in}
@@ -18,9 +19,6 @@ some_none e = cc
 
 pub none_some : {A : Type 0} {x : A} → None ≡ Some x → ⊥
 none_some e = cc
-
-pub some_same : {A : Type 0} (x y : A) → Some x ≡ Some y → x ≡ y
-some_same x y e = cc
 
 pub true_false : true ≡ false → ⊥
 true_false e = cc
@@ -62,7 +60,7 @@ digit_value-of b d e = elim (cases_lt b 48) [
     | inr to ↦ (
         let v : digit_value b ≡ b - 48 = digit_value-low b from to in
         let small : digit_value b < 10 = omega (arith, v) in
-        (small, some_same (digit_value b) d (sym (digit_of-value b small) ∙ e)))
+        (small, same_Some (digit_value b) d (sym (digit_of-value b small) ∙ e)))
   ]
 ]
 
@@ -76,7 +74,7 @@ digit_first v n b bs (Some d) p e more =
     ((q.0, r.0), ap (λ (x : ℕ). digits_value_after 10 (v * 10 + x) bs) q.1 ∙ r.1)
 
 digits-number_from : (v n : ℕ) (ds : List ℕ) → number_from v ds ≡ Some n → AllDigits 10 ds × (digits_value_after 10 v ds ≡ n)
-digits-number_from v n [] e = (tt, some_same v n e)
+digits-number_from v n [] e = (tt, same_Some v n e)
 digits-number_from v n (b ∷ bs) e = digit_first v n b bs (digit_of 10 b) refl e (λ w h. digits-number_from w n bs h)
 
 -- the text of a number of digits without a leading zero
@@ -98,24 +96,20 @@ decimal-number_in n (b ∷ c ∷ ds) h e = elim (cases_Bool (b == 48)) [
 same_byte : (x y : ℕ) → nat_eq x y ≡ true → x ≡ y
 same_byte x y e = grind (arith, nat_tests)
 
-both : (a b : Bool) → (a && b) ≡ true → (a ≡ true) × (b ≡ true)
-both true b e = (refl, e)
-both false b e = absurd (false_true e)
-
 -- texts that compare as equal are the same
 pub bytes_same : (xs ys : List ℕ) → bytes_eq xs ys ≡ true → xs ≡ ys
 bytes_same [] [] e = refl
 bytes_same [] (y ∷ ys) e = absurd (false_true e)
 bytes_same (x ∷ xs) [] e = absurd (false_true e)
 bytes_same (x ∷ xs) (y ∷ ys) e =
-    let p = both (nat_eq x y) (bytes_eq xs ys) e in
+    let p = and_parts (nat_eq x y) (bytes_eq xs ys) e in
     ap (λ (z : ℕ). z ∷ xs) (same_byte x y p.0) ∙ ap (λ (zs : List ℕ). y ∷ zs) (bytes_same xs ys p.1)
 
 -- what is known of X or Y is told by its text
 pub known_text-known_in : (o : Option ℕ) (field : List ℕ) → ((n : ℕ) → o ≡ Some n → n < 2 ^ 64) → known_in field ≡ Some o → known_text o ≡ field
 known_text-known_in o field h e = elim (cases_Bool (bytes_eq field (codes "any"))) [
   | inl yes' ↦ (
-      let p : None ≡ o = some_same None o (any field o yes' e) in
+      let p : None ≡ o = same_Some None o (any field o yes' e) in
       ap known_text (sym p) ∙ sym (bytes_same field (codes "any") yes'))
   | inr no' ↦ number o field h (other field o no' e)
 ] where
@@ -130,5 +124,5 @@ known_text-known_in o field h e = elim (cases_Bool (bytes_eq field (codes "any")
     on : (p : Option ℕ) → number_in field ≡ p → known_text o ≡ field
     on None q = absurd (none_some (rw q at e))
     on (Some n) q =
-        let s : Some n ≡ o = some_same (Some n) o (rw q at e) in
+        let s : Some n ≡ o = same_Some (Some n) o (rw q at e) in
         ap known_text (sym s) ∙ decimal-number_in n field (h n (sym s)) q

@@ -3,10 +3,11 @@ use Rattle.std.proofs.Common.{◌≡◌, ℕ, ◌+◌, ◌≤◌, nat_lt, nat_le
 use Rattle.std.specs.Prelude.{option_map}
 use Rattle.std.specs.List.{join_with_byte}
 use Rattle.std.specs.Str.{bytes_eq}
-use Rattle.std.proofs.lemmas.Bool.{cases_Bool}
+use Rattle.std.proofs.lemmas.Bool.{cases_Bool, and_parts}
 use Rattle.std.proofs.lemmas.Bool.Decides.{nat_tests}
 use Rattle.std.proofs.lemmas.Fmt.{decimal_digit}
 use Rattle.std.proofs.lemmas.List.Splits.{join_with_byte-slice_split}
+use Rattle.std.proofs.lemmas.Option.{same_Some}
 use Rattle.byte_lines.specs.Lines.{lines_of}
 use Rattle.span_step.specs.declared.ages.Ages.{Ages}
 use Rattle.span_step.specs.declared.ages.Ages.TheVariants.{Empty, Between}
@@ -22,7 +23,7 @@ use Rattle.table_files.specs.Numbers.{number_in}
 use Rattle.table_files.specs.Reading.{head_line, end_line, left_open, ended, with_row, rows_from, rows_after, rows_in, table_of}
 use Rattle.table_files.specs.Rows.{known_text, level_text, row_line, row_lines, table_text}
 use Rattle.table_files.specs.Told.{IsAgeRange, HaveAgeRanges}
-use Rattle.table_files.proofs.Numerals.{none_some, some_same, false_true, decimal-number_in, bytes_same, known_text-known_in}
+use Rattle.table_files.proofs.Numerals.{none_some, decimal-number_in, bytes_same, known_text-known_in}
 use Rattle.table_files.proofs.Readback.{written}
 use Rattle.table_files.proofs.Texts.{ages_fields, row_fields, row_text, row_line-text, AreSmall}
 
@@ -49,7 +50,7 @@ row_parts (Some a) (Some x) (Some y) None t g r e = absurd (none_some e)
 row_parts (Some a) (Some x) (Some y) (Some f) None g r e = absurd (none_some e)
 row_parts (Some a) (Some x) (Some y) (Some f) (Some t) None r e = absurd (none_some e)
 row_parts (Some a) (Some x) (Some y) (Some f) (Some t) (Some g) r e =
-    let s : record { context = record { address = a; x = x; y = y; from = f; to = t }; ages = g } ≡ r = some_same _ r e in
+    let s : record { context = record { address = a; x = x; y = y; from = f; to = t }; ages = g } ≡ r = same_Some _ r e in
     record {
       address = ap (λ (q : Row). Some q.context.address) s;
       x_is = ap (λ (q : Row). Some q.context.x) s;
@@ -76,7 +77,7 @@ sayings (Some a) (Some x) (Some y) None t g s e = absurd (none_some e)
 sayings (Some a) (Some x) (Some y) (Some f) None g s e = absurd (none_some e)
 sayings (Some a) (Some x) (Some y) (Some f) (Some t) None s e = absurd (none_some e)
 sayings (Some a) (Some x) (Some y) (Some f) (Some t) (Some g) s e =
-    let q : record { address = a; x = x; y = y; from = f; to = t; ages = g } ≡ s = some_same _ s e in
+    let q : record { address = a; x = x; y = y; from = f; to = t; ages = g } ≡ s = same_Some _ s e in
     record {
       address = ap (λ (p : Said). Some p.address) q;
       x_is = ap (λ (p : Said). Some p.x) q;
@@ -87,7 +88,7 @@ sayings (Some a) (Some x) (Some y) (Some f) (Some t) (Some g) s e =
     }
 
 placed_by : (b : Bool) (n a : ℕ) → cond b (Some n) None ≡ Some a → (n ≡ a) × (b ≡ true)
-placed_by true n a e = (some_same n a e, refl)
+placed_by true n a e = (same_Some n a e, refl)
 placed_by false n a e = absurd (none_some e)
 
 placed_is : (n a : ℕ) → placed n ≡ Some a → (n ≡ a) × (nat_lt a 32 ≡ true)
@@ -96,42 +97,38 @@ placed_is n a e =
     (p.0, rw p.0 at p.1)
 
 known_is : (o k : Option ℕ) → known_placed o ≡ Some k → (o ≡ k) × (is_small k ≡ true)
-known_is None k e = let s : None ≡ k = some_same None k e in (s, ap is_small (sym s))
+known_is None k e = let s : None ≡ k = same_Some None k e in (s, ap is_small (sym s))
 known_is (Some n) k e = on (placed n) refl e where
   on : (p : Option ℕ) → placed n ≡ p → option_map Some p ≡ Some k → (Some n ≡ k) × (is_small k ≡ true)
   on None q f = absurd (none_some f)
   on (Some m) q f =
-      let s : Some m ≡ k = some_same (Some m) k f in
+      let s : Some m ≡ k = same_Some (Some m) k f in
       let t = placed_is n m q in
       (ap (λ (i : ℕ). Some i) t.0 ∙ s, ap is_small (sym s) ∙ t.1)
 
 level_by : (b c : Bool) (n : ℕ) (l : Bool) → (n == 0) ≡ b → (n == 1) ≡ c → cond b (Some false) (cond c (Some true) None) ≡ Some l → n ≡ level_number l
 level_by true c n l p q e =
-    let s : false ≡ l = some_same false l e in
+    let s : false ≡ l = same_Some false l e in
     let z : n ≡ 0 = grind (arith, nat_tests) in z ∙ ap level_number s
 level_by false true n l p q e =
-    let s : true ≡ l = some_same true l e in
+    let s : true ≡ l = same_Some true l e in
     let z : n ≡ 1 = grind (arith, nat_tests) in z ∙ ap level_number s
 level_by false false n l p q e = absurd (none_some e)
 
 level_is : (n : ℕ) (l : Bool) → level_of n ≡ Some l → n ≡ level_number l
 level_is n l e = level_by (n == 0) (n == 1) n l refl refl e
 
-and_both : (a b : Bool) → (a && b) ≡ true → (a ≡ true) × (b ≡ true)
-and_both true b e = (refl, e)
-and_both false b e = absurd (false_true e)
-
 at_most : (n m : ℕ) → nat_le n m ≡ true → n ≤ m
 at_most n m e = grind (arith, nat_tests)
 
 ages_by : (b : Bool) (lo hi : ℕ) (g : Ages) → (nat_le lo hi && nat_le hi most_age) ≡ b → cond b (Some (Between lo hi)) None ≡ Some g → (Between lo hi ≡ g) × IsAgeRange (Between lo hi)
 ages_by true lo hi g p e =
-    let q = and_both (nat_le lo hi) (nat_le hi most_age) p in
-    (some_same (Between lo hi) g e, (at_most lo hi q.0, at_most hi most_age q.1))
+    let q = and_parts (nat_le lo hi) (nat_le hi most_age) p in
+    (same_Some (Between lo hi) g e, (at_most lo hi q.0, at_most hi most_age q.1))
 ages_by false lo hi g p e = absurd (none_some e)
 
 ages_are : (a g : Ages) → ages_placed a ≡ Some g → (a ≡ g) × IsAgeRange a
-ages_are Empty g e = (some_same Empty g e, tt)
+ages_are Empty g e = (same_Some Empty g e, tt)
 ages_are (Between lo hi) g e = ages_by (nat_le lo hi && nat_le hi most_age) lo hi g refl e
 
 -- a level's field
@@ -141,7 +138,7 @@ level_field false field e = sym (decimal_digit 0 (omega arith)) ∙ decimal-numb
 
 empty_by : (b : Bool) (field : List ℕ) (g : Ages) → bytes_eq field (codes "-") ≡ b → cond b (Some Empty) None ≡ Some g → ages_fields g ≡ field ∷ []
 empty_by true field g p e =
-    let s : Empty ≡ g = some_same Empty g e in
+    let s : Empty ≡ g = same_Some Empty g e in
     ap ages_fields (sym s) ∙ ap (λ (x : List ℕ). x ∷ []) (sym (bytes_same field (codes "-") p))
 empty_by false field g p e = absurd (none_some e)
 
@@ -149,7 +146,7 @@ between_by : (o p : Option ℕ) (lo hi : List ℕ) (g : Ages) → number_in lo �
 between_by None p lo hi g h k l e = absurd (none_some e)
 between_by (Some n) None lo hi g h k l e = absurd (none_some e)
 between_by (Some n) (Some m) lo hi g h k l e =
-    let s : Between n m ≡ g = some_same (Between n m) g e in
+    let s : Between n m ≡ g = same_Some (Between n m) g e in
     let small : AreSmall (Between n m) = subst (λ (a : Ages). AreSmall a) (sym s) l in
     ap ages_fields (sym s) ∙ (ap (λ (x : List ℕ). x ∷ decimal m ∷ []) (decimal-number_in n lo small.0 h) ∙ ap (λ (x : List ℕ). lo ∷ x ∷ []) (decimal-number_in m hi small.1 k))
 
