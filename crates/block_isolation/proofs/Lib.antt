@@ -16,3 +16,4 @@ pub mod Running
 pub mod Others
 pub mod Isolating
 pub mod Isolated
+mod IsolationRows

@@ -19,3 +19,4 @@ pub mod Stepping
 pub mod Ending
 pub mod Naming
 pub mod Trees
+mod OwnRows

@@ -9,3 +9,4 @@ pub mod Answers
 pub mod Spelled
 pub mod Longest
 pub mod Function
+mod LongestRows

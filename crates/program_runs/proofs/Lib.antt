@@ -8,3 +8,4 @@ pub mod Ticks
 pub mod Fed
 pub mod ByTicks
 pub mod Words
+mod RunRows

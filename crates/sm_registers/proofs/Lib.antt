@@ -15,3 +15,5 @@ pub mod Autopull
 pub mod OwnPins
 pub mod Stirs
 pub mod Told
+mod RulesRows
+mod SeenRows

@@ -15,3 +15,4 @@ pub mod Members
 pub mod Prefix
 pub mod Pushed
 pub mod Marked
+mod BadRows

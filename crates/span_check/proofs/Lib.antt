@@ -13,3 +13,5 @@ pub mod Pacing
 pub mod InClocks
 pub mod Sound
 pub mod Held
+mod HoldsRows
+mod PairRows

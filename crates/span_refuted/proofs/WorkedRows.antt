@@ -1,8 +1,9 @@
 -- Worked rows: machines without choice, and the first bad visits of their spans, worked out by hand.
-use Rattle.std.proofs.Common.{◌≡◌, ℕ, zero, suc, ◌<◌, ◌≤◌, ◌^◌, ◌⊎◌, true, false, Some, None, List, [], ◌∷◌, ◌++◌, replicate, inl, inr, refl, arith}
-use Rattle.pio_encode.specs.declared.act.Act.TheVariants.{Jmp, Wait, Out}
+use Rattle.std.proofs.Common.{◌≡◌, ℕ, zero, suc, ◌<◌, ◌≤◌, ◌^◌, ◌⊎◌, true, false, Some, None, List, [], ◌∷◌, ◌++◌, map, replicate, inl, inr, refl, arith}
+use Rattle.pio_encode.specs.declared.act.Act.TheVariants.{Jmp, Wait, Out, Set, Nothing}
 use Rattle.pio_encode.specs.declared.act.Condition.TheVariants as condition
 use Rattle.pio_encode.specs.declared.act.OutDestination.TheVariants as out_destination
+use Rattle.pio_encode.specs.declared.act.SetDestination.TheVariants as set_destination
 use Rattle.pio_encode.specs.declared.act.WaitSource.TheVariants as wait_source
 use Rattle.pio_encode.specs.Word.{reading_of, act_of, delay_of, side_of, set_at}
 use Rattle.pin_matrix.specs.declared.mapping.Mapping.{Mapping}
@@ -15,7 +16,7 @@ use Rattle.span_step.specs.Courses.{prompt, courses, watched}
 use Rattle.span_step.specs.Outcomes.{outcomes, is_wild, may_stall}
 use Rattle.span_step.specs.Steps.{bounds_of, rules_of, visit_of, with_end, with_outcome, step_by, context_steps}
 use Rattle.span_bounds.specs.Tables.{start_context}
-use Rattle.span_refuted.specs.OneWay.{is_settled, has_one_way, goes_to, reached, instruction_at, LeavesNoChoice}
+use Rattle.span_refuted.specs.OneWay.{is_always, is_settled, has_one_way, goes_to, reached, instruction_at, LeavesNoChoice}
 use Rattle.span_refuted.specs.Visits.{visit, cause_at}
 
 -- pin 0
@@ -158,3 +159,13 @@ blink-choice-row = record {
 choices-row : (has_one_way (Wait true wait_source.Gpio 5) machine ≡ false) × ((has_one_way (Jmp condition.Pin 3) machine ≡ false) × (has_one_way (Out out_destination.Pins 1) machine ≡ false))
 unfolding is_settled may_stall
 choices-row = (refl, (refl, refl))
+
+-- what leaves none: a JMP without a condition, which goes on at its address, and instructions that need no word and no flag
+settled-row : (has_one_way (Jmp condition.Always 3) machine ≡ true) × ((goes_to (Jmp condition.Always 3) 1 ≡ 3) × ((has_one_way (Set set_destination.Pins 1) machine ≡ true) × ((goes_to (Set set_destination.Pins 1) 1 ≡ 1) × (has_one_way Nothing machine ≡ true))))
+unfolding is_settled may_stall goes_to
+settled-row = (refl, (refl, (refl, (refl, refl))))
+
+-- a JMP with any condition leaves a choice
+jumps-row : map (λ c. is_always c) (condition.Always ∷ condition.XZero ∷ condition.XDecrement ∷ condition.YZero ∷ condition.YDecrement ∷ condition.XNotY ∷ condition.Pin ∷ condition.OsrNotEmpty ∷ [])
+    ≡ true ∷ replicate 7 false
+jumps-row = refl

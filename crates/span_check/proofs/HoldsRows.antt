@@ -1,0 +1,97 @@
+-- Rows of what it means that a span holds, worked by hand on the marks of some clocks, and of which lines break one.
+use Rattle.std.proofs.Common.{◌≡◌, ℕ, zero, suc, ◌<◌, ◌==◌, Bool, true, false, [], ◌∷◌, map, refl, arith}
+use Rattle.pin_matrix.specs.declared.span.SpanUnit.TheVariants.{Ticks, Clocks}
+use Rattle.dreq_pacing.specs.declared.due.Due.{Due}
+use Rattle.dreq_pacing.specs.declared.line.LineAct.TheVariants.{Pin, Tx, Rx, Feed, Drain, Enable, Disable, Restart}
+use Rattle.dreq_pacing.specs.Due.{quiet}
+use Rattle.span_check.specs.Marks.{Mark, is_broken}
+use Rattle.span_check.specs.Holding.{counted, IsQuiet, IsFirstToEdge, IsUnbroken, Holds}
+use Rattle.span_check.specs.Runs.{is_breaking}
+
+-- The from-edge comes in clock 2, and the to-edge in clock 4. Each clock has a tick that counts. These clocks have a line that breaks
+-- the span, and these a late tick at an address that it doesn't name.
+abbrev marks : (breaks strays : ℕ → Bool) → ℕ → Mark
+marks breaks strays c = record { from = c == 2; to = c == 4; counts = true; strays = strays c; breaks = breaks c }
+
+abbrev nowhere : ℕ → Bool
+nowhere c = false
+
+-- the to-edge is the first one, two ticks or clocks after the from-edge
+not_before : (breaks strays : ℕ → Bool) (c : ℕ) → 2 < c → c < 4 → (marks breaks strays c).to ≡ false
+not_before breaks strays c after before = let e : c ≡ 3 = omega (arith, after, before) in rw e refl
+
+first_row : (breaks strays : ℕ → Bool) → IsFirstToEdge (marks breaks strays) 2 4
+first_row breaks strays = record { after = omega arith; first = not_before breaks strays; edge = refl }
+
+two_row : (breaks strays : ℕ → Bool) → counted (marks breaks strays) 2 5 ≡ 2
+unfolding counted
+two_row breaks strays = refl
+
+-- a line breaks the machine's clock 1
+abbrev early : ℕ → Mark
+early = marks (λ c. c == 1) nowhere
+
+-- that is before the from-edge, so in clocks the span is spoken of, and with at least 3 it doesn't hold
+none_between : (c : ℕ) → 2 < c → c < 5 → (early c).breaks ≡ false
+none_between zero after before = absurd (omega (arith, after))
+none_between (suc zero) after before = absurd (omega (arith, after))
+none_between (suc (suc zero)) after before = absurd (omega (arith, after))
+none_between (suc (suc (suc zero))) after before = refl
+none_between (suc (suc (suc (suc zero)))) after before = refl
+none_between (suc (suc (suc (suc (suc c))))) after before = absurd (omega (arith, before))
+
+early_in_clocks : Holds Clocks 3 9 early 5 → ⊥
+early_in_clocks holds = omega (arith, (holds 2 (omega arith) refl).least 4 (first_row _ _) (omega arith) none_between)
+
+-- with at most 1 neither
+early_in_clocks_late : Holds Clocks 0 1 early 5 → ⊥
+early_in_clocks_late holds = omega (arith, (holds 2 (omega arith) refl).most 4 (first_row _ _) (omega arith) none_between)
+
+-- a line breaks clock 3, while the span is open: in ticks it is spoken of all the same
+abbrev disturbed : ℕ → Mark
+disturbed = marks (λ c. c == 3) nowhere
+
+disturbed_in_ticks : Holds Ticks 3 9 disturbed 5 → ⊥
+disturbed_in_ticks holds = omega (arith, (holds 2 (omega arith) refl).least 4 (first_row _ _) (omega arith) tt, two_row (λ c. c == 3) nowhere)
+
+disturbed_in_ticks_late : Holds Ticks 0 1 disturbed 5 → ⊥
+disturbed_in_ticks_late holds = omega (arith, (holds 2 (omega arith) refl).most 4 (first_row _ _) (omega arith) tt, two_row (λ c. c == 3) nowhere)
+
+-- in clocks nothing is said of it
+disturbed_in_clocks : IsUnbroken disturbed 2 5 → ⊥
+disturbed_in_clocks unbroken = let e = unbroken 3 (omega arith) (omega arith) in cc
+
+-- a late tick comes in clock 3, while the span is open: in neither unit does it hold, whatever its bounds
+abbrev straying : ℕ → Mark
+straying = marks nowhere (λ c. c == 3)
+
+quiet_before_3 : IsQuiet straying 2 3
+quiet_before_3 c after before = absurd (omega (arith, after, before))
+
+straying_in_ticks : (min max : ℕ) → Holds Ticks min max straying 5 → ⊥
+straying_in_ticks min max holds = let e = (holds 2 (omega arith) refl).strays 3 (omega arith) (omega arith) quiet_before_3 tt in cc
+
+straying_in_clocks : (min max : ℕ) → Holds Clocks min max straying 5 → ⊥
+straying_in_clocks min max holds =
+    let e = (holds 2 (omega arith) refl).strays 3 (omega arith) (omega arith) quiet_before_3 (λ c after before. refl) in cc
+
+-- of the lines that name machine 1 a disable and a restart break its spans, and no other line does
+kinds_row : map (is_breaking 1) (Pin 1 true ∷ Tx 1 1 ∷ Rx 1 ∷ Feed 1 1 (1 ∷ []) ∷ Drain 1 1 ∷ Enable 1 ∷ Disable 1 ∷ Restart 1 ∷ [])
+    ≡ false ∷ false ∷ false ∷ false ∷ false ∷ false ∷ true ∷ true ∷ []
+kinds_row = refl
+
+-- nor do those of the other machines
+others_row : map (is_breaking 1) (Disable 0 ∷ Restart 0 ∷ Disable 2 ∷ Restart 2 ∷ Disable 3 ∷ Restart 3 ∷ [])
+    ≡ false ∷ false ∷ false ∷ false ∷ false ∷ false ∷ []
+others_row = refl
+
+-- the same of what the system does in a clock: machine 3 is restarted and machine 2 disabled
+abbrev busy : Due
+busy = record quiet { disable = false ∷ false ∷ true ∷ false ∷ []; restart = false ∷ false ∷ false ∷ true ∷ []; enable = true ∷ true ∷ true ∷ true ∷ [] }
+
+broken_row : map (is_broken busy) (0 ∷ 1 ∷ 2 ∷ 3 ∷ []) ≡ false ∷ false ∷ true ∷ true ∷ []
+broken_row = refl
+
+-- where nothing is done no machine's spans are broken
+quiet_row : map (is_broken quiet) (0 ∷ 1 ∷ 2 ∷ 3 ∷ []) ≡ false ∷ false ∷ false ∷ false ∷ []
+quiet_row = refl

@@ -1,0 +1,57 @@
+-- Rows of spans that don't hold in a run, worked by hand: of one block beside a stimulus that disturbs it, and of two blocks, of which
+-- the second owns pin 0.
+use Rattle.std.proofs.Common.{◌≡◌, ℕ, true, false, [], ◌∷◌, refl, arith}
+use Rattle.clock_divider.specs.Ticks.{is_tick}
+use Rattle.fifo_pair.specs.Fifos.{settled}
+use Rattle.pio_encode.specs.Word.{reading_of, act_of, push_or_pull_at, delay_of, side_of, mov_at, set_at}
+use Rattle.pin_matrix.specs.Pins.{merged}
+use Rattle.pin_matrix.specs.declared.setup.Setup.{Setup}
+use Rattle.pin_matrix.specs.declared.span.Span.{Span}
+use Rattle.pin_matrix.specs.declared.span.SpanUnit.TheVariants.{Ticks}
+use Rattle.sm_registers.specs.Effects.{effect_of, jmp_effect, out_effect, pull_effect, set_effect, mov_effect}
+use Rattle.sm_registers.specs.State.{settled_ports}
+use Rattle.sm_registers.specs.Tick.{tick_of, tick_delay, tick_word, tick_by, after_effect}
+use Rattle.dreq_pacing.specs.declared.line.LineAct.TheVariants.{Restart}
+use Rattle.dreq_pacing.specs.Ports.{due_in, transfers_after}
+use Rattle.block_core.specs.Shown.{requests_of}
+use Rattle.block_core.specs.Block.{stepped, next}
+use Rattle.block_core.specs.Hosted.{hosted_at, hosted_next}
+use Rattle.block_core.specs.HostedTwin.{hosted_twin_at, hosted_twin_next}
+use Rattle.block_core.specs.Twin.{first_twin, twin_from}
+use Rattle.block_core.specs.Slots.{acted, settled_slot}
+use Rattle.span_check.specs.Marks.{Mark, mark_of}
+use Rattle.span_check.specs.Holding.{counted, Holds}
+use Rattle.span_check.specs.Runs.{marks_over, marks_in, HoldsUpTo}
+use Rattle.span_check.specs.Pairs.{first_does, second_does, pair_sees, HoldsInFirst, HoldsInSecond}
+use Rattle.span_check.proofs.WorkedSetups.{plain_machine, block_of, span_of}
+
+-- `set pins, 1`, `set pins, 0` on pin 0, which is high for one tick
+short : Setup
+short = block_of (record plain_machine { wrap_top = 1; wrap_top_in_memory = omega arith }) refl (57345 ∷ 57344 ∷ []) 0
+
+-- `set pins, 1 [2]`, `set pins, 0` on pin 0, which is high for three ticks
+long : Setup
+long = block_of (record plain_machine { wrap_top = 1; wrap_top_in_memory = omega arith }) refl (57857 ∷ 57344 ∷ []) 0
+
+-- at least two ticks of high are asked
+at_least_two : Span
+at_least_two = span_of true false 2 9 (omega arith) (omega arith) []
+
+-- a pulse of one tick, from clock 0 on, is too short
+too_short : (m : ℕ → Mark) → (m 0).from ≡ true → (m 1).to ≡ true → counted m 0 2 ≡ 1 → Holds Ticks 2 9 m 2 → ⊥
+too_short m from to count holds =
+    omega (arith, count, (holds 0 (omega arith) from).least 1 (record { after = omega arith; first = λ c after before. absurd (omega (arith, after, before)); edge = to }) (omega arith) tt)
+
+-- in one block, beside a line that restarts its divider meanwhile
+short_beside_a_line : HoldsUpTo at_least_two short (record { clock = 1; act = Restart 0 } ∷ []) 2 → ⊥
+unfolding short at_least_two mark_of counted hosted_at hosted_next next stepped acted settled_slot is_tick settled merged reading_of act_of push_or_pull_at delay_of side_of set_at mov_at effect_of jmp_effect out_effect pull_effect set_effect mov_effect settled_ports tick_of tick_delay tick_word tick_by after_effect due_in transfers_after requests_of
+short_beside_a_line = too_short (marks_in at_least_two short (record { clock = 1; act = Restart 0 } ∷ [])) refl refl refl
+
+-- in the first of two blocks, and in the second
+short_in_the_first : HoldsInFirst at_least_two 1 short long [] [] 2 → ⊥
+unfolding short long at_least_two mark_of counted hosted_at hosted_next next stepped acted settled_slot is_tick settled merged reading_of act_of push_or_pull_at delay_of side_of set_at mov_at effect_of jmp_effect out_effect pull_effect set_effect mov_effect settled_ports tick_of tick_delay tick_word tick_by after_effect due_in transfers_after requests_of hosted_twin_at hosted_twin_next twin_from
+short_in_the_first = too_short (marks_over at_least_two short.memory (pair_sees short.bypass 1 short long [] []) (first_does 1 short long [] []) (λ c. (hosted_twin_at (first_twin 1 short long) [] [] c).first.run.state)) refl refl refl
+
+short_in_the_second : HoldsInSecond at_least_two 1 long short [] [] 2 → ⊥
+unfolding short long at_least_two mark_of counted hosted_at hosted_next next stepped acted settled_slot is_tick settled merged reading_of act_of push_or_pull_at delay_of side_of set_at mov_at effect_of jmp_effect out_effect pull_effect set_effect mov_effect settled_ports tick_of tick_delay tick_word tick_by after_effect due_in transfers_after requests_of hosted_twin_at hosted_twin_next twin_from
+short_in_the_second = too_short (marks_over at_least_two short.memory (pair_sees short.bypass 1 long short [] []) (second_does 1 long short [] []) (λ c. (hosted_twin_at (first_twin 1 long short) [] [] c).second.run.state)) refl refl refl
