@@ -86,6 +86,9 @@ def of_crates(crates):
     for storey, names in crates.storeys.items():
         if storey in told and told[storey] != names:
             yield "docs/ARCHITECTURE.md", 1, f"its crates of {storey} aren't those of crates.txt, in their order: {' '.join(names)}"
+    list_of = re.findall(r"^\| (\w[\w ]*) \| .* \| (\[`.*) \|$", text_of("crates/README.md"), re.M)
+    if [(storey, re.findall(r"`(\w+)`", names)) for storey, names in list_of] != list(crates.storeys.items()):
+        yield "crates/README.md", 1, "its storeys and crates aren't those of crates.txt, in their order"
     for name in crates.order:
         own = TOP / "crates" / name / "README.md"
         if not own.is_file() or not re.match(rf"# `?{name}`?\n", own.read_text()):
@@ -105,7 +108,7 @@ def of_names(crates):
         page, text = str(path.relative_to(TOP)), path.read_text()
         prose = CODE.sub(lambda it: "\n" * it[0].count("\n"), text)
         for it in re.finditer(r"\bcrates/(\w+)", prose):
-            if it[1] != "NAME" and it[1] not in crates.uses:
+            if it[1] not in ("NAME", "README") and it[1] not in crates.uses:
                 yield page, line_of(prose, it.start()), f"no crate has the name {it[1]}"
         # (that page names what the SDK has)
         for it in SPAN.finditer(prose) if page not in ("docs/FROM_THE_SDK.md", "docs/SETUP_BY_HAND.md") else ():

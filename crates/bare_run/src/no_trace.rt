@@ -8,7 +8,7 @@ use sample_trace::{Trace, TraceFailed};
 #[derive(Drop)]
 pub struct NoTrace;
 
-impl Trace for NoTrace {
+impl Trace<Sample> for NoTrace {
     ghost name = { λ _. 0 };
 
     ghost faults = { λ _. 0 };

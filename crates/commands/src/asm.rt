@@ -16,6 +16,8 @@ use stages::read_source;
 use std::alloc::Global;
 
 /// Writes the listing of a source's programs. All memory is taken before the first piece is put.
+///
+/// With status 0: `AsmPassed` (`specs/Passed.antt`).
 #[tactic(auto, unfolding(crate::specs::Tasks::judge))]
 pub fn asm<F: Shelf, O: Sink>(
     alloc: Global,

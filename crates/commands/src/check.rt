@@ -20,6 +20,8 @@ use verdict_lines::{Refusal, put_verdict};
 
 /// Writes the line of the verdict on each span of a setup, and then ends with the fault of the first one that isn't provable,
 /// if there is one. All memory is taken before the first piece is put.
+///
+/// With status 0: `CheckPassed` (`specs/Passed.antt`).
 #[tactic(auto, unfolding(crate::specs::Tasks::judge))]
 pub fn check<F: Shelf, O: Sink>(
     alloc: Global,

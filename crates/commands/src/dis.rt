@@ -16,6 +16,8 @@ use word_file::{make_rule, put_words};
 
 /// Writes the lines of a file's words, read under a rule of so many side-set bits. All memory is taken before the
 /// first piece is put.
+///
+/// With status 0: `DisPassed` (`specs/Passed.antt`).
 #[tactic(auto, unfolding(crate::specs::Tasks::judge))]
 pub fn dis<F: Shelf, O: Sink>(
     alloc: Global,

@@ -8,14 +8,17 @@ ghost use Rattle.pio_edge.specs.Edge.{PutCounts, Takes, with_bytes};
 use fault_lines::Fault;
 use pio_edge::{Sink, SinkFailed};
 
-/// Hands on what the output still keeps of a text that was put; where the put failed, or handing on fails, ends with that.
-pub fn hand_on<O: Sink>(out: &mut O, put: Result<(), SinkFailed>) -> Result<(), Fault>
+/// Hands on what the output still keeps of a text that was put; where the put failed, in whatever way, or handing on fails, ends
+/// with that.
+pub fn hand_on<O: Sink, E: Drop>(out: &mut O, put: Result<(), E>) -> Result<(), Fault>
     ensures { (before : Output) (text : List ℕ) → Takes before.taken text (O.taken out.old) put
         → PutCounts before.faults (O.faults out.old) put
         → Writes before (output_by O.taken O.waiting O.faults out.new) text result }
 {
-    put?;
-    finish(out)
+    match put {
+        Ok(()) => finish(out),
+        Err(_) => Err(Fault::Out),
+    }
 }
 
 /// Hands on what the output still keeps of a text that it has taken.

@@ -31,6 +31,8 @@ use step_count::Steps;
 /// Writes a line for each span of the block that a source sets up, by a configuration or by default: what it measures in so
 /// many clocks, beside a stimulus where one is named. It doesn't ask whether a span is provable. All memory is taken before the
 /// first piece is put.
+///
+/// With status 0: `MeasurePassed` (`specs/Passed.antt`).
 #[tactic(auto, unfolding(crate::specs::Tasks::judge), using(crate::proofs::Working::worked_by))]
 pub fn measure<F: Shelf, O: Sink, L: Ledger>(
     alloc: Global,

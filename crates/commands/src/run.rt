@@ -1,9 +1,8 @@
 //! The command `run`: the trace of the first clocks of a block that a source and a configuration set up, beside a stimulus.
-ghost use Rattle.std.specs.Prelude.{◌≡◌, ◌+◌, ◌≤◌, ◌^◌, false, option_map};
+ghost use Rattle.std.specs.Prelude.{◌≡◌, ◌+◌, ◌≤◌, ◌^◌, option_map};
 ghost use Rattle.block_core.specs.Block.{first_run};
 ghost use Rattle.block_core.specs.Stirring.{stirring};
 ghost use Rattle.command_line.specs.Words.{run as run_asked};
-ghost use Rattle.pio_edge.specs.Edge.{PutCounts, Takes};
 ghost use Rattle.commands.specs.Tasks.{trace_text};
 ghost use Rattle.commands.specs.Outside.{call_by};
 ghost use Rattle.commands.specs.Promise.{CommandAsks, CommandEnds};
@@ -18,16 +17,18 @@ use fault_lines::Fault;
 use fifo_pair::RingFifo;
 use idle_engine::{a_stopped_run_leaves_a_first_part, simulate};
 use pin_matrix::Setup;
-use pio_edge::{Shelf, Sink, SinkFailed};
+use pio_edge::{Shelf, Sink};
 use stages::{ask_spans, prepare};
 use std::alloc::Global;
 use std::sync::ledger::Ledger;
 use step_count::Steps;
-use vcd_trace::{TraceFailed, VcdTrace, failing_early_leaves_a_first_part};
+use vcd_trace::{VcdTrace, failing_early_leaves_a_first_part};
 
 /// Writes the trace of so many clocks of the block that a source sets up, by a configuration or by default, beside a
 /// stimulus where one is named. Each span of the block has to be provable; the first one that isn't ends the run, and nothing
 /// is written. All memory is taken before the first piece is put.
+///
+/// With status 0: `RunPassed` (`specs/Passed.antt`).
 #[tactic(auto, unfolding(crate::specs::Tasks::judge), using(crate::proofs::Working::worked_by))]
 pub fn run<F: Shelf, O: Sink, L: Ledger>(
     alloc: Global,
@@ -52,11 +53,11 @@ pub fn run<F: Shelf, O: Sink, L: Ledger>(
 {
     let (setup, schedule) = prepare(alloc, shelf, files)?;
     ask_spans(alloc, &setup)?;
-    write_run(alloc, &setup, &schedule, clocks, out, steps)
+    write_trace(alloc, &setup, &schedule, clocks, out, steps)
 }
 
 /// Writes the text of so many clocks from a setup, or answers want of memory before it has put anything.
-fn write_run<O: Sink, L: Ledger>(
+fn write_trace<O: Sink, L: Ledger>(
     alloc: Global,
     setup: &Setup,
     schedule: &Schedule,
@@ -70,71 +71,10 @@ fn write_run<O: Sink, L: Ledger>(
     ensures steps { steps.new ≤ steps.old + clocks }
     ensures stirring { steps.new ≤ steps.old + stirring (first_run setup.now) schedule.now clocks + 1 }
 {
-    let mut block = Block::<RingFifo>::new(alloc, setup)?;
-    write_trace(&mut block, schedule, clocks, out, steps)
-}
-
-/// Writes the text of so many clocks, and hands on what the output still keeps.
-fn write_trace<O: Sink, L: Ledger>(
-    block: &mut Block<RingFifo>,
-    schedule: &Schedule,
-    clocks: u64,
-    out: &mut O,
-    steps: &mut Steps<L>,
-) -> Result<(), Fault>
-    requires fresh { block.old.run.clock ≡ 0 }
-    requires within { clocks ≤ 10 ^ 12 }
-    ensures ends { SinkWrites O.taken O.waiting O.faults out.old out.new
-        (trace_text block.old.run schedule.now clocks) result }
-    ensures steps { steps.new ≤ steps.old + clocks }
-    ensures stirring { steps.new ≤ steps.old + stirring block.old.run schedule.now clocks + 1 }
-{
-    let put = put_trace(block, schedule, clocks, out, steps);
-    hand_on(out, put)
-}
-
-/// Puts the text of so many clocks.
-fn put_trace<O: Sink, L: Ledger>(
-    block: &mut Block<RingFifo>,
-    schedule: &Schedule,
-    clocks: u64,
-    out: &mut O,
-    steps: &mut Steps<L>,
-) -> Result<(), SinkFailed>
-    requires fresh { block.old.run.clock ≡ 0 }
-    requires within { clocks ≤ 10 ^ 12 }
-    ensures bytes { Takes (O.taken out.old) (trace_text block.old.run schedule.now clocks) (O.taken out.new) result }
-    ensures cause { PutCounts (O.faults out.old) (O.faults out.new) result }
-    ensures steps { steps.new ≤ steps.old + clocks }
-    ensures stirring { steps.new ≤ steps.old + stirring block.old.run schedule.now clocks + 1 }
-{
-    let mut trace = VcdTrace::new(out);
-    trace_run(block, schedule, clocks, &mut trace, steps)
-}
-
-/// Tells a trace so many clocks.
-#[tactic(auto, unfolding(crate::specs::Tasks::trace_text))]
-fn trace_run<O: Sink, L: Ledger>(
-    block: &mut Block<RingFifo>,
-    schedule: &Schedule,
-    clocks: u64,
-    trace: &mut VcdTrace<'_, O>,
-    steps: &mut Steps<L>,
-) -> Result<(), SinkFailed>
-    requires fresh { block.old.run.clock ≡ 0 }
-    requires within { clocks ≤ 10 ^ 12 }
-    requires working { trace.old.failed ≡ false }
-    ensures bytes { Takes (O.taken trace.old.sink.now) (trace_text block.old.run schedule.now clocks)
-        (O.taken trace.new.sink.now) result }
-    ensures cause { PutCounts (O.faults trace.old.sink.now) (O.faults trace.new.sink.now) result }
-    ensures same { trace.new.sink.ghost_name ≡ trace.old.sink.ghost_name }
-    ensures steps { steps.new ≤ steps.old + clocks }
-    ensures stirring { steps.new ≤ steps.old + stirring block.old.run schedule.now clocks + 1 }
-{
     a_stopped_run_leaves_a_first_part();
     failing_early_leaves_a_first_part();
-    match simulate(block, schedule, clocks, trace, steps) {
-        Ok(()) => Ok(()),
-        Err(TraceFailed) => Err(SinkFailed),
-    }
+    let mut block = Block::<RingFifo>::new(alloc, setup)?;
+    let mut trace = VcdTrace::new(out);
+    let put = simulate(&mut block, schedule, clocks, &mut trace, steps);
+    hand_on(out, put)
 }

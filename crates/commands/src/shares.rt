@@ -16,6 +16,8 @@ use std::alloc::Global;
 
 /// Writes the report on what the machines of a setup share, by a configuration or by default. No span is asked. All memory is
 /// taken before the first piece is put.
+///
+/// With status 0: `SharesPassed` (`specs/Passed.antt`).
 #[tactic(auto, unfolding(crate::specs::Tasks::judge))]
 pub fn shares<F: Shelf, O: Sink>(
     alloc: Global,

@@ -23,6 +23,8 @@ use verdict_lines::Refusal;
 
 /// Writes the table of the first span of this name, the least closed one, where the span is provable; else nothing. All memory is
 /// taken before the first piece is put.
+///
+/// With status 0: `TablePassed` (`specs/Passed.antt`).
 pub fn table<F: Shelf, O: Sink>(
     alloc: Global,
     source: &str,

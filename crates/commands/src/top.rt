@@ -30,6 +30,8 @@ use std::sync::ledger::Ledger;
 use step_count::Steps;
 
 /// Does all that the program does. The words begin with the program's name.
+///
+/// With status 0: the record of the command that they ask for, `RunPassed` and its kin (`specs/Passed.antt`).
 pub fn piotool<F: Shelf, O: Sink, E: Sink, L: Ledger>(
     alloc: Global,
     words: &[String],

@@ -25,6 +25,8 @@ use step_count::Steps;
 
 /// Writes a line for each byte of a file that the transmitter sends in so many clocks, with a tick every `divider` clocks, 1 to 8,191.
 /// All memory is taken before the first piece is put.
+///
+/// With status 0: `UartPassed` (`specs/Passed.antt`).
 #[tactic(auto, unfolding(crate::specs::Tasks::judge), using(crate::proofs::Working::sent_by))]
 pub fn uart<F: Shelf, O: Sink, L: Ledger>(
     alloc: Global,

@@ -1,18 +1,14 @@
 //! What a run has to offer so that `run` can run it: one block beside a stimulus, or two beside one each.
 ghost use Rattle.std.specs.Prelude.{◌≡◌, ℕ, ◌+◌, ◌<◌, ◌≤◌, ◌^◌, Bool, true, false};
+ghost use Rattle.std.specs.Cow.{cow_value};
 ghost use Rattle.dreq_pacing.specs.Ports.{IsFirst};
 ghost use Rattle.idle_engine.specs.Kinds.{Kind, IsKind, IsUntil, IsCalm};
 
 use block_core::News;
-
-/// What shows a V.
-pub(crate) trait Shows<V> {
-    /// What it shows now.
-    ghost shows: { Self → V };
-}
+use std::borrow::Cow;
 
 /// A run beside ports P that shows a V after each clock.
-pub(crate) trait Runs<V, P>: Shows<V> {
+pub(crate) trait Runs<V, P> {
     /// The states of a run, with what is left of the transfers.
     ghost Hosted: { Type 0 };
 
@@ -34,12 +30,15 @@ pub(crate) trait Runs<V, P>: Shows<V> {
     /// How many clocks were worked out singly.
     ghost calls: { Self → ℕ };
 
-    /// The laws of the kind, what it shows, and that the ports needn't be asked of clocks in which the system doesn't act. This call does nothing.
+    /// The laws of the kind, and that the ports needn't be asked of clocks in which the system doesn't act. This call does nothing.
     fn is_of_its_kind(&self, ports: &P)
         ensures kind { IsKind kind }
-        ensures shows { (s : Self) (p : P) → Self.shows s ≡ kind.shown (hosted s p) }
         ensures waits { (p : P) (h : Hosted) (n m : ℕ) → ready p n → n ≤ m
             → ((c : ℕ) → n ≤ c → c < m → kind.acts (lines p) h c ≡ false) → ready p m };
+
+    /// What it shows, lent where it is kept as one value.
+    fn shown(&self, ports: &P) -> Cow<'_, V>
+        ensures { cow_value result ≡ kind.shown (hosted self.now ports.now) };
 
     /// Works out a clock for which the ports are asked.
     fn asked_clock(&mut self, ports: &mut P, clock: u64)

@@ -6,7 +6,6 @@ mod kind;
 mod laws;
 mod one;
 mod simulation;
-mod telling;
 mod two;
 
 pub use laws::{

@@ -2,18 +2,13 @@
 ghost use Rattle.std.specs.Prelude.{◌≡◌, ◌≤◌, List};
 ghost use Rattle.idle_engine.specs.One.{one};
 
-use crate::kind::{Runs, Shows, until};
+use crate::kind::{Runs, until};
 use block_core::{
     Block, News, Sample, a_leap_shows_nothing_new, unused_fifos_ask_as_before, what_begins_moves_on,
 };
 use dreq_pacing::{HostPorts, a_clock_without_acts_does_nothing};
 use fifo_pair::Fifo;
-
-impl<F: Fifo> Shows<Sample> for Block<F> {
-    ghost use Rattle.block_core.specs.Shown.{sample_of};
-
-    ghost shows = { λ b. sample_of b.run.state };
-}
+use std::borrow::Cow;
 
 impl<'a, F: Fifo> Runs<Sample, HostPorts<'a>> for Block<F> {
     ghost use Rattle.dreq_pacing.specs.declared.line.Line.{Line};
@@ -37,6 +32,11 @@ impl<'a, F: Fifo> Runs<Sample, HostPorts<'a>> for Block<F> {
     #[inline(always)]
     fn is_of_its_kind(&self, _ports: &HostPorts<'a>) {
         a_clock_without_acts_does_nothing();
+    }
+
+    #[inline(always)]
+    fn shown(&self, _ports: &HostPorts<'a>) -> Cow<'_, Sample> {
+        Cow::Borrowed(self.view())
     }
 
     #[cold]

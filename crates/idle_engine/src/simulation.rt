@@ -9,12 +9,11 @@ ghost use Rattle.idle_engine.specs.Kinds.{IsCourse};
 ghost use Rattle.idle_engine.specs.Stops.{Stops, StopsAt, TwinStopsAt};
 
 use crate::clocks::{leap, step};
-use crate::kind::{Runs, Shows};
-use crate::telling::Telling;
-use block_core::{Block, Twin};
+use crate::kind::Runs;
+use block_core::{Block, Sample, Twin};
 use dreq_pacing::{HostPorts, Schedule};
 use fifo_pair::Fifo;
-use sample_trace::{Trace, TraceFailed, TwinTrace};
+use sample_trace::{Trace, TraceFailed};
 use std::sync::ledger::Ledger;
 use step_count::Steps;
 
@@ -25,7 +24,7 @@ use step_count::Steps;
 /// `Block::clock` or `Block::quiet_clock`: clock 0, and each later one that stirs. The trace isn't told of the others, which
 /// repeat the sample before them, nor of one of these that is known to repeat it. Where the trace fails, the run stops after
 /// the clock whose sample it was told.
-pub fn simulate<F: Fifo, T: Trace, L: Ledger>(
+pub fn simulate<F: Fifo, T: Trace<Sample>, L: Ledger>(
     block: &mut Block<F>,
     schedule: &Schedule,
     clocks: u64,
@@ -60,7 +59,7 @@ pub fn simulate<F: Fifo, T: Trace, L: Ledger>(
 /// `Twin::clock` or `Twin::quiet_clock`: clock 0, and each later one that stirs in either block. The trace isn't told of the
 /// others, which repeat the samples before them, nor of one of these that is known to repeat them. Where the trace fails, the
 /// run stops after the clock whose samples it was told.
-pub fn simulate_twin<F: Fifo, T: TwinTrace, L: Ledger>(
+pub fn simulate_twin<F: Fifo, T: Trace<(Sample, Sample)>, L: Ledger>(
     twin: &mut Twin<F>,
     first: &Schedule,
     second: &Schedule,
@@ -93,7 +92,7 @@ pub fn simulate_twin<F: Fifo, T: TwinTrace, L: Ledger>(
 /// Runs for some clocks from clock 0 on, and tells a trace what each shows and that they end there. One step is one clock
 /// worked out singly.
 #[inline(always)]
-fn run<V, P, R: Runs<V, P>, T: Telling<V, R>, L: Ledger>(
+fn run<V: Drop, P, R: Runs<V, P>, T: Trace<V>, L: Ledger>(
     runs: &mut R,
     ports: &mut P,
     clocks: u64,
@@ -122,39 +121,40 @@ fn run<V, P, R: Runs<V, P>, T: Telling<V, R>, L: Ledger>(
         steps.new ≤ steps.old + worked (λ c. R.kind.stirs (R.lines ports.old) (course.at c)) clocks }
 {
     runs.is_of_its_kind(ports);
-    trace.open()?;
+    trace.begin()?;
     let mut until = runs.rests_until(ports, 0, clocks);
     let mut clock = 0;
     'clocks: while clock < clocks {
         let (rests, is_new) = step(runs, ports, clock, until, clocks);
         until = rests;
         steps.count();
-        tell(trace, clock, runs, is_new | (clock == 0))?;
+        tell(trace, clock, runs, ports, is_new | (clock == 0))?;
         clock = leap(runs, ports, clock + 1, until);
     }
-    trace.close(clocks)
+    trace.end(clocks)
 }
 
 /// Tells a trace what a run shows after a clock, where that may be new.
 #[inline(always)]
-fn tell<V, R: Shows<V>, T: Telling<V, R>>(
+fn tell<V: Drop, P, R: Runs<V, P>, T: Trace<V>>(
     trace: &mut T,
     clock: u64,
     runs: &R,
+    ports: &P,
     is_new: bool,
 ) -> Result<(), TraceFailed>
     requires { T.has_failed trace.old ≡ false }
     ensures again { is_new ≡ false → trace.new ≡ trace.old }
     ensures ok { is_new ≡ true → OnOk result ((b : Option (List ℕ)) (l : List V) → T.holds trace.old b l false
-        → IsNext l clock → T.holds trace.new b (told_at clock (R.shows runs.now) l) false) }
+        → IsNext l clock → T.holds trace.new b (told_at clock (R.kind.shown (R.hosted runs.now ports.now)) l) false) }
     ensures err { OnErr result ((b : Option (List ℕ)) (l : List V) → T.holds trace.old b l false
-        → IsNext l clock → T.broken trace.new b (told_at clock (R.shows runs.now) l) false) }
+        → IsNext l clock → T.broken trace.new b (told_at clock (R.kind.shown (R.hosted runs.now ports.now)) l) false) }
     ensures cause { PutCounts (T.faults trace.old) (T.faults trace.new) result }
     ensures failed { T.has_failed trace.new ≡ is_err result }
     ensures same { T.name trace.new ≡ T.name trace.old }
 {
     if is_new {
-        return trace.tell(clock, runs);
+        return trace.sample(clock, &runs.shown(ports));
     }
     Ok(())
 }

@@ -2,19 +2,14 @@
 ghost use Rattle.std.specs.Prelude.{◌≡◌, ◌≤◌, List};
 ghost use Rattle.idle_engine.specs.Two.{two};
 
-use crate::kind::{Runs, Shows, until};
+use crate::kind::{Runs, until};
 use block_core::{
     News, Sample, Twin, a_leap_shows_nothing_new, unused_fifos_ask_as_before_over_any_pads,
     what_begins_moves_two_on,
 };
 use dreq_pacing::{HostPorts, a_clock_without_acts_does_nothing};
 use fifo_pair::Fifo;
-
-impl<F: Fifo> Shows<(Sample, Sample)> for Twin<F> {
-    ghost use Rattle.block_core.specs.Shown.{sample_of};
-
-    ghost shows = { λ t. (sample_of t.twin.first.state, sample_of t.twin.second.state) };
-}
+use std::borrow::Cow;
 
 impl<'a, F: Fifo> Runs<(Sample, Sample), (HostPorts<'a>, HostPorts<'a>)> for Twin<F> {
     ghost use Rattle.dreq_pacing.specs.declared.line.Line.{Line};
@@ -43,6 +38,11 @@ impl<'a, F: Fifo> Runs<(Sample, Sample), (HostPorts<'a>, HostPorts<'a>)> for Twi
     #[inline(always)]
     fn is_of_its_kind(&self, _ports: &(HostPorts<'a>, HostPorts<'a>)) {
         a_clock_without_acts_does_nothing();
+    }
+
+    #[inline(always)]
+    fn shown(&self, _ports: &(HostPorts<'a>, HostPorts<'a>)) -> Cow<'_, (Sample, Sample)> {
+        Cow::Owned(self.view())
     }
 
     #[cold]

@@ -1,8 +1,7 @@
 //! A trace that looks whether it is told of other clocks than those of a list.
 ghost use Rattle.std.specs.Prelude.{false};
 
-use block_core::Sample;
-use sample_trace::{Trace, TraceFailed, TwinTrace};
+use sample_trace::{Trace, TraceFailed};
 
 /// It keeps no samples, and never fails.
 #[derive(Drop)]
@@ -20,7 +19,7 @@ impl ClockWatch {
     }
 }
 
-impl Trace for ClockWatch {
+impl<V> Trace<V> for ClockWatch {
     ghost name = { λ _. 0 };
 
     ghost faults = { λ _. 0 };
@@ -37,38 +36,7 @@ impl Trace for ClockWatch {
         Ok(())
     }
 
-    fn sample(&mut self, clock: u64, _sample: &Sample) -> Result<(), TraceFailed> {
-        self.watch(clock);
-        Ok(())
-    }
-
-    fn end(&mut self, _clock: u64) -> Result<(), TraceFailed> {
-        Ok(())
-    }
-
-    fn failed(&self) -> bool {
-        false
-    }
-}
-
-impl TwinTrace for ClockWatch {
-    ghost name = { λ _. 0 };
-
-    ghost faults = { λ _. 0 };
-
-    ghost has_failed = { λ _. false };
-
-    ghost ready = { λ _ _. Unit {0} };
-
-    ghost holds = { λ _ _ _ _. Unit {0} };
-
-    ghost broken = { λ _ _ _ _. Unit {0} };
-
-    fn begin(&mut self) -> Result<(), TraceFailed> {
-        Ok(())
-    }
-
-    fn sample(&mut self, clock: u64, _first: &Sample, _second: &Sample) -> Result<(), TraceFailed> {
+    fn sample(&mut self, clock: u64, _shown: &V) -> Result<(), TraceFailed> {
         self.watch(clock);
         Ok(())
     }

@@ -44,7 +44,7 @@ impl EdgeTrace {
     }
 }
 
-impl Trace for EdgeTrace {
+impl Trace<Sample> for EdgeTrace {
     ghost name = { λ _. 0 };
 
     ghost faults = { λ _. 0 };

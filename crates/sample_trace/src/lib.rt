@@ -4,9 +4,7 @@
 mod edges;
 mod list;
 mod trace;
-mod twin_trace;
 
 pub use edges::EdgeTrace;
 pub use list::ListTrace;
 pub use trace::{Trace, TraceFailed};
-pub use twin_trace::TwinTrace;

@@ -80,7 +80,7 @@ impl ListTrace {
     }
 }
 
-impl Trace for ListTrace {
+impl Trace<Sample> for ListTrace {
     ghost name = { λ _. 0 };
 
     ghost faults = { λ t. t.faults };

@@ -50,7 +50,7 @@ impl<'a, S: Sink> Receiver<'a, S> {
     }
 }
 
-impl<'a, S: Sink> Trace for Receiver<'a, S> {
+impl<'a, S: Sink> Trace<Sample> for Receiver<'a, S> {
     ghost name = { λ h. h.sink.ghost_name };
 
     ghost faults = { λ h. S.faults h.sink.now };

@@ -51,7 +51,7 @@ impl SpanMeter {
     }
 }
 
-impl Trace for SpanMeter {
+impl Trace<Sample> for SpanMeter {
     ghost name = { λ _. 0 };
 
     ghost faults = { λ _. 0 };

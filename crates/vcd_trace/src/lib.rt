@@ -18,7 +18,7 @@ pub use laws::{
     same_values_have_no_lines, text_only_grows, the_text_ends_with_its_length,
     there_are_88_variables,
 };
-pub use sample_trace::{EdgeTrace, ListTrace, Trace, TraceFailed, TwinTrace};
+pub use sample_trace::{EdgeTrace, ListTrace, Trace, TraceFailed};
 pub use twin_laws::{
     different_pairs_have_lines, each_variable_has_its_own_identifier,
     failing_early_leaves_a_first_part_of_two, repeated_pairs_add_nothing,

@@ -13,7 +13,7 @@ use crate::variable::SECOND;
 use crate::vcd::is_same;
 use block_core::Sample;
 use pio_edge::{Sink, SinkFailed};
-use sample_trace::{TraceFailed, TwinTrace};
+use sample_trace::{Trace, TraceFailed};
 
 /// A trace of two blocks as value-change text, of one unit a clock. Each line is put as one piece, and its faults are
 /// its sink's.
@@ -39,7 +39,7 @@ impl<'a, S: Sink> TwinVcd<'a, S> {
     }
 }
 
-impl<'a, S: Sink> TwinTrace for TwinVcd<'a, S> {
+impl<'a, S: Sink> Trace<(Sample, Sample)> for TwinVcd<'a, S> {
     ghost name = { λ h. h.sink.ghost_name };
 
     ghost faults = { λ h. S.faults h.sink.now };
@@ -65,10 +65,10 @@ impl<'a, S: Sink> TwinTrace for TwinVcd<'a, S> {
 
     // Called in each clock, as that of one block.
     #[inline(never)]
-    fn sample(&mut self, clock: u64, first: &Sample, second: &Sample) -> Result<(), TraceFailed> {
-        match put_samples(self.sink, clock, &self.last, first, second) {
+    fn sample(&mut self, clock: u64, samples: &(Sample, Sample)) -> Result<(), TraceFailed> {
+        match put_samples(self.sink, clock, &self.last, samples) {
             Ok(()) => {
-                self.last = Some((*first, *second));
+                self.last = Some(*samples);
                 Ok(())
             }
             Err(SinkFailed) => {
@@ -107,16 +107,14 @@ fn put_samples<S: Sink>(
     sink: &mut S,
     clock: u64,
     last: &Option<(Sample, Sample)>,
-    first: &Sample,
-    second: &Sample,
+    samples: &(Sample, Sample),
 ) -> Result<(), SinkFailed>
-    ensures bytes { Takes (S.taken sink.old) (added twin_form clock last.now (first.now, second.now))
-        (S.taken sink.new) result }
+    ensures bytes { Takes (S.taken sink.old) (added twin_form clock last.now samples.now) (S.taken sink.new) result }
     ensures cause { PutCounts (S.faults sink.old) (S.faults sink.new) result }
 {
     match last {
-        None => put_twin_dump(sink, first, second),
-        Some(before) => put_step(sink, clock, before, first, second),
+        None => put_twin_dump(sink, &samples.0, &samples.1),
+        Some(before) => put_step(sink, clock, before, samples),
     }
 }
 
@@ -140,24 +138,22 @@ fn put_step<S: Sink>(
     sink: &mut S,
     clock: u64,
     before: &(Sample, Sample),
-    first: &Sample,
-    second: &Sample,
+    now: &(Sample, Sample),
 ) -> Result<(), SinkFailed>
-    ensures bytes { Takes (S.taken sink.old) (twin_step_text clock before.now (first.now, second.now))
-        (S.taken sink.new) result }
+    ensures bytes { Takes (S.taken sink.old) (twin_step_text clock before.now now.now) (S.taken sink.new) result }
     ensures cause { PutCounts (S.faults sink.old) (S.faults sink.new) result }
 {
-    if are_same(before, first, second) {
+    if are_same(before, now) {
         return Ok(());
     }
     put_clock(sink, clock)?;
-    put_changes(sink, 0, &before.0, first)?;
-    put_changes(sink, SECOND, &before.1, second)
+    put_changes(sink, 0, &before.0, &now.0)?;
+    put_changes(sink, SECOND, &before.1, &now.1)
 }
 
 // Whether both samples are those before.
-fn are_same(before: &(Sample, Sample), first: &Sample, second: &Sample) -> bool
-    ensures { result ≡ same_samples before.now (first.now, second.now) }
+fn are_same(before: &(Sample, Sample), now: &(Sample, Sample)) -> bool
+    ensures { result ≡ same_samples before.now now.now }
 {
-    is_same(&before.0, first) && is_same(&before.1, second)
+    is_same(&before.0, &now.0) && is_same(&before.1, &now.1)
 }

@@ -41,7 +41,7 @@ impl<'a, S: Sink> VcdTrace<'a, S> {
     }
 }
 
-impl<'a, S: Sink> Trace for VcdTrace<'a, S> {
+impl<'a, S: Sink> Trace<Sample> for VcdTrace<'a, S> {
     ghost name = { λ h. h.sink.ghost_name };
 
     ghost faults = { λ h. S.faults h.sink.now };

@@ -8,7 +8,7 @@ use super::samples::add_taken;
 use block_core::Sample;
 use pio_edge::{MemSink, Sink};
 use std::alloc::Global;
-use vcd_trace::{Trace, TraceFailed, TwinTrace, TwinVcd, VcdTrace};
+use vcd_trace::{Trace, TraceFailed, TwinVcd, VcdTrace};
 
 /// Adds what a lent sink takes of the samples of the clocks from 0 on; none where others are told.
 pub fn tell_lent(alloc: Global, told: &[(u64, Sample)], end: u64, seen: &mut String) -> Option<()> {
@@ -50,7 +50,7 @@ pub fn tell_lent_to_pairs(
 }
 
 /// Tells the samples of the clocks from 0 on, and their end.
-fn tell_all<T: Trace>(trace: &mut T, samples: &[Sample]) -> Result<(), TraceFailed>
+fn tell_all<T: Trace<Sample>>(trace: &mut T, samples: &[Sample]) -> Result<(), TraceFailed>
     requires { T.has_failed trace.old ≡ false }
     ensures told { OnOk result ((b : Option (List ℕ)) → T.ready trace.old b
         → T.holds trace.new b samples.now true) }
@@ -73,7 +73,10 @@ fn put_text<S: Sink>(sink: &mut S, samples: &[Sample]) -> Result<(), TraceFailed
 }
 
 /// Tells the samples of both blocks from clock 0 on, and their end.
-fn tell_pairs<T: TwinTrace>(trace: &mut T, pairs: &[(Sample, Sample)]) -> Result<(), TraceFailed>
+fn tell_pairs<T: Trace<(Sample, Sample)>>(
+    trace: &mut T,
+    pairs: &[(Sample, Sample)],
+) -> Result<(), TraceFailed>
     requires { T.has_failed trace.old ≡ false }
     ensures told { OnOk result ((b : Option (List ℕ)) → T.ready trace.old b
         → T.holds trace.new b pairs.now true) }
@@ -81,7 +84,7 @@ fn tell_pairs<T: TwinTrace>(trace: &mut T, pairs: &[(Sample, Sample)]) -> Result
 {
     trace.begin()?;
     for (clock, pair) in pairs.iter().enumerate() {
-        trace.sample(clock as u64, &pair.0, &pair.1)?;
+        trace.sample(clock as u64, pair)?;
     }
     trace.end(pairs.len() as u64)
 }

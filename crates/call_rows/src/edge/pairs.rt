@@ -6,7 +6,7 @@ use super::samples::{add_taken, add_text, failure_in, is_lent, number_of, sample
 use block_core::Sample;
 use pio_edge::{MemSink, Sink};
 use std::alloc::Global;
-use vcd_trace::{TraceFailed, TwinTrace, TwinVcd};
+use vcd_trace::{Trace, TraceFailed, TwinVcd};
 
 /// Adds the text that a row says, and the one that is told of its pairs of samples.
 pub fn tell_pairs(
@@ -47,7 +47,7 @@ fn told_to<S: Sink>(sink: &mut S, told: &[(u64, Sample, Sample)], end: u64) -> (
     (passes, trace.failed())
 }
 
-fn tell<T: TwinTrace>(
+fn tell<T: Trace<(Sample, Sample)>>(
     trace: &mut T,
     told: &[(u64, Sample, Sample)],
     end: u64,
@@ -56,7 +56,7 @@ fn tell<T: TwinTrace>(
 {
     trace.begin()?;
     for (clock, first, second) in told {
-        trace.sample(*clock, first, second)?;
+        trace.sample(*clock, &(*first, *second))?;
     }
     trace.end(end)
 }

@@ -47,7 +47,11 @@ fn told_to<S: Sink>(sink: &mut S, told: &[(u64, Sample)], end: u64) -> (bool, bo
     (passes, trace.failed())
 }
 
-fn tell<T: Trace>(trace: &mut T, told: &[(u64, Sample)], end: u64) -> Result<(), TraceFailed>
+fn tell<T: Trace<Sample>>(
+    trace: &mut T,
+    told: &[(u64, Sample)],
+    end: u64,
+) -> Result<(), TraceFailed>
     requires { T.has_failed trace.old ≡ false }
 {
     trace.begin()?;

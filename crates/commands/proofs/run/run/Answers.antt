@@ -23,4 +23,4 @@ returns-clause-asked g c =
     written_asks
     (run_slots c.args.files.source.now (option_map (λ t. t.now) c.args.files.config)
     (option_map (λ t. t.now) c.args.files.stimulus)) _ _ _ _ _ _
-    c.in_ok-setup.ensures.asked c.write_run.ensures.ends
+    c.in_ok-setup.ensures.asked c.write_trace.ensures.ends

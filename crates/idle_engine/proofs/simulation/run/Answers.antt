@@ -13,15 +13,15 @@ on_err : {T E P : Type 0} (r : Result T E) → P → OnErr r P
 on_err (Ok x) p = tt
 on_err (Err e) p = p
 
-pub returns-in_err-open-clause-err : goal.returns-in_err-open-clause-err
-returns-in_err-open-clause-err g c =
+pub returns-in_err-begin-clause-err : goal.returns-in_err-begin-clause-err
+returns-in_err-begin-clause-err g c =
     on_err c.from_residual.result (record {
       count = 0;
       within = omega arith;
       ended = false;
       whole = λ e. cc;
       run = sym c.requires.course.begins;
-      breaks = λ b r. subst (λ (l : List g.row.V.Denot). g.T.Telling.broken c.open.new.self b l false) (sym c.requires.course.samples.none) (c.in_err-open.ensures.err b r);
+      breaks = λ b r. subst (λ (l : List g.row.V.Denot). g.T.Trace.broken c.begin.new.self b l false) (sym c.requires.course.samples.none) (c.in_err-begin.ensures.err b r);
     })
 
 pub clocks-init : goal.clocks-init
@@ -40,7 +40,7 @@ clocks-init g c =
       stirs = λ some. absurd (omega arith);
       working = search rules;
       told = told-none (shown_at k course) course.samples c.requires.course.samples _
-          (λ b r. subst (λ (l : List g.row.V.Denot). g.T.Telling.holds c.open.new.self b l false) (sym c.requires.course.samples.none) (c.in_ok-open.ensures.ok b r));
+          (λ b r. subst (λ (l : List g.row.V.Denot). g.T.Trace.holds c.begin.new.self b l false) (sym c.requires.course.samples.none) (c.in_ok-begin.ensures.ok b r));
       count = search rules;
       name = search rules;
       steps = search rules;
@@ -67,7 +67,7 @@ returns-in_err-tell-clause-err g c =
     let k = g.R.Runs.kind in
     let n = c.clocks.clock in
     let run = course-next k (g.R.Runs.lines c.args.ports.now) (g.R.Runs.lines c.clocks.ports) _ course inv.is_course n _ _ inv.run inv.lines c.step-rests.ensures.run in
-    let s = shown-next k course n _ _ run (c.is_of_its_kind.ensures.shows c.step-rests.new.runs c.step-rests.new.ports) in
+    let s = shown-next k course n _ _ run refl in
     on_err c.from_residual-in_err-tell.result (record {
       count = n + 1;
       within = omega arith;
@@ -75,7 +75,7 @@ returns-in_err-tell-clause-err g c =
       whole = λ e. cc;
       run = run;
       breaks = λ b r.
-          subst (λ (l : List g.row.V.Denot). g.T.Telling.broken c.tell.new.trace b l false)
+          subst (λ (l : List g.row.V.Denot). g.T.Trace.broken c.tell.new.trace b l false)
           (is-told (shown_at k course) course.samples inv.is_course.samples n _ inv.told _ s)
           (c.in_err-tell.ensures.err b (course.samples inv.told.last) (inv.told.told b r) (is-next (shown_at k course) course.samples inv.is_course.samples n _ inv.told));
     })
@@ -103,18 +103,18 @@ run_after g c =
     c.leap-clock.ensures.from c.leap-clock.ensures.until until c.leap-clock.ensures.run c.leap-clock.ensures.calm c.leap-clock.ensures.moves
 
 -- what the trace was told of by then
-told_after : (g : Over) (c : goal.After-leap-clock g) → IsTold (shown_at g.R.Runs.kind (g.R.Runs.kind.course (g.R.Runs.lines c.args.ports.now) (g.R.Runs.hosted c.args.runs.now c.args.ports.now))) (g.R.Runs.kind.course (g.R.Runs.lines c.args.ports.now) (g.R.Runs.hosted c.args.runs.now c.args.ports.now)).samples c.leap-clock.result (λ s. (b : Option (List ℕ)) → g.T.Telling.ready c.args.trace.now b → g.T.Telling.holds c.tell.new.trace b s false)
+told_after : (g : Over) (c : goal.After-leap-clock g) → IsTold (shown_at g.R.Runs.kind (g.R.Runs.kind.course (g.R.Runs.lines c.args.ports.now) (g.R.Runs.hosted c.args.runs.now c.args.ports.now))) (g.R.Runs.kind.course (g.R.Runs.lines c.args.ports.now) (g.R.Runs.hosted c.args.runs.now c.args.ports.now)).samples c.leap-clock.result (λ s. (b : Option (List ℕ)) → g.T.Trace.ready c.args.trace.now b → g.T.Trace.holds c.tell.new.trace b s false)
 told_after g c =
     let course = g.R.Runs.kind.course (g.R.Runs.lines c.args.ports.now) (g.R.Runs.hosted c.args.runs.now c.args.ports.now) in
     let inv = c.clocks.invariant in
     let k = g.R.Runs.kind in
     let n = c.clocks.clock in
     let run = course-next k (g.R.Runs.lines c.args.ports.now) (g.R.Runs.lines c.clocks.ports) _ course inv.is_course n _ _ inv.run inv.lines c.step-rests.ensures.run in
-    let s = shown-next k course n _ _ run (c.is_of_its_kind.ensures.shows c.step-rests.new.runs c.step-rests.new.ports) in
+    let s = shown-next k course n _ _ run refl in
     told-after (shown_at k course) course.samples inv.is_course.samples n c.leap-clock.result _ c.step-rests.result.1 _ _ c.leap-clock.ensures.from (run_after g c).same s
     (λ old some. shows-again k course n _ _ inv.run run (c.step-rests.ensures.sample old) some) inv.told
     (λ tells holds next b r. c.in_ok-tell.ensures.ok tells b (course.samples inv.told.last) (holds b r) next)
-    (λ again l holds b r. subst (λ t. g.T.Telling.holds t b l false) (sym (c.in_ok-tell.ensures.again again)) (holds b r))
+    (λ again l holds b r. subst (λ t. g.T.Trace.holds t b l false) (sym (c.in_ok-tell.ensures.again again)) (holds b r))
 
 pub clocks-preserved : goal.clocks-preserved
 clocks-preserved g c =
@@ -153,8 +153,8 @@ returns-clause-ok g c =
     let at_end : c.clocks.clock ≡ n = omega arith in
     let next = subst (λ (m : ℕ). IsNext (all inv.told.last) m) at_end (is-next at all inv.is_course.samples c.clocks.clock _ inv.told) in
     let held = subst (λ (m : ℕ). held_to m (all inv.told.last) ≡ all m) at_end (is-held at all inv.is_course.samples c.clocks.clock _ inv.told) in
-    on_ok_weaker c.close.result (λ end b r.
-    subst (λ (l : List g.row.V.Denot). g.T.Telling.holds c.close.new.self b l true) held (end b (all inv.told.last) (inv.told.told b r) next)) c.close.ensures.ok
+    on_ok_weaker c.end.result (λ end b r.
+    subst (λ (l : List g.row.V.Denot). g.T.Trace.holds c.end.new.self b l true) held (end b (all inv.told.last) (inv.told.told b r) next)) c.end.ensures.ok
 
 pub returns-clause-err : goal.returns-clause-err
 returns-clause-err g c =
@@ -166,12 +166,12 @@ returns-clause-err g c =
     let at_end : c.clocks.clock ≡ n = omega arith in
     let next = subst (λ (m : ℕ). IsNext (all inv.told.last) m) at_end (is-next at all inv.is_course.samples c.clocks.clock _ inv.told) in
     let held = subst (λ (m : ℕ). held_to m (all inv.told.last) ≡ all m) at_end (is-held at all inv.is_course.samples c.clocks.clock _ inv.told) in
-    on_err_weaker c.close.result (λ end. record {
+    on_err_weaker c.end.result (λ end. record {
       count = n;
       within = omega arith;
       ended = true;
       whole = λ e. refl;
       run = inv.run ∙ ap course.at at_end;
       breaks = λ b r.
-          subst (λ (l : List g.row.V.Denot). g.T.Telling.broken c.close.new.self b l true) held (end b (all inv.told.last) (inv.told.told b r) next);
-    }) c.close.ensures.err
+          subst (λ (l : List g.row.V.Denot). g.T.Trace.broken c.end.new.self b l true) held (end b (all inv.told.last) (inv.told.told b r) next);
+    }) c.end.ensures.err

@@ -18,10 +18,10 @@ invariant-clocks g l = let k = g.R.Runs.kind in
       within : l.clock ≤ l.clocks;
       until : IsUntil (k.acts (g.R.Runs.lines l.fn.ports) (g.R.Runs.hosted l.runs l.ports)) l.clocks l.clock l.until;
       stirs : 0 < l.clock → l.clock < l.clocks → k.stirs (g.R.Runs.lines l.fn.ports) (course.at l.clock) ≡ true;
-      working : g.T.Telling.has_failed l.trace ≡ false;
-      told : IsTold (shown_at k course) course.samples l.clock (λ s. (b : Option (List ℕ)) → g.T.Telling.ready l.fn.trace b → g.T.Telling.holds l.trace b s false);
-      count : g.T.Telling.faults l.trace ≡ g.T.Telling.faults l.fn.trace;
-      name : g.T.Telling.name l.trace ≡ g.T.Telling.name l.fn.trace;
+      working : g.T.Trace.has_failed l.trace ≡ false;
+      told : IsTold (shown_at k course) course.samples l.clock (λ s. (b : Option (List ℕ)) → g.T.Trace.ready l.fn.trace b → g.T.Trace.holds l.trace b s false);
+      count : g.T.Trace.faults l.trace ≡ g.T.Trace.faults l.fn.trace;
+      name : g.T.Trace.name l.trace ≡ g.T.Trace.name l.fn.trace;
       steps : l.steps + g.R.Runs.calls l.fn.runs ≡ l.fn.steps + g.R.Runs.calls l.runs;
       worked : l.steps ≡ l.fn.steps + worked (λ c. k.stirs (g.R.Runs.lines l.fn.ports) (course.at c)) l.clock;
     }

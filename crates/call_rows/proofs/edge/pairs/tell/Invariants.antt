@@ -2,4 +2,4 @@ use Rattle.std.proofs.Common.{◌≡◌, false}
 use Rattle.call_rows.proofs.edge.pairs.tell.Given as goal
 
 abbrev pub invariant-loop-clock : goal.invariant-loop-clock
-invariant-loop-clock g l = g.T.TwinTrace.has_failed l.trace ≡ false
+invariant-loop-clock g l = g.T.Trace.has_failed l.trace ≡ false

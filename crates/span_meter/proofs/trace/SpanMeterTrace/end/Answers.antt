@@ -1,6 +1,0 @@
-use Rattle.std.proofs.Common.{arith}
-use Rattle.span_meter.proofs.Telling.{held_measured}
-use Rattle.span_meter.proofs.trace.SpanMeterTrace.end.Goals as goal
-
-pub returns-clause-ok : goal.returns-clause-ok
-returns-clause-ok c = λ b l h n levels ends e. held_measured levels ends l c.args.self.now c.args._clock (omega arith) n (h levels ends e)
