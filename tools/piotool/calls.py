@@ -65,7 +65,9 @@ def run_script(name: str, work: Callable[[], int]) -> NoReturn:
         status = work()
         sys.stdout.flush()
     except Fault as fault:
-        print(f"{name}: {fault}", file=sys.stderr)
+        # A name of a file may have any byte.
+        told = str(fault).encode("utf-8", "surrogateescape").decode("utf-8", "backslashreplace").replace("\n", "\\n").replace("\r", "\\r")
+        print(f"{name}: {told}", file=sys.stderr)
         status = 1
     except KeyboardInterrupt:
         status = 1
