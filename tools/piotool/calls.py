@@ -24,7 +24,7 @@ def read_text(path: str | Path) -> str:
 def write_text(path: str | Path, text: str) -> None:
     """Writes a file."""
     try:
-        Path(path).write_bytes(text.encode("utf-8"))
+        Path(path).write_bytes(text.encode("utf-8", "surrogateescape"))
     except OSError as fault:
         raise Fault(f"{path}: {fault.strerror}") from None
 

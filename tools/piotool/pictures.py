@@ -2,7 +2,7 @@
 
 from dataclasses import dataclass, field
 from fractions import Fraction
-from itertools import accumulate
+from itertools import accumulate, count
 from typing import Optional, Sequence
 
 from piotool.calls import Fault
@@ -118,7 +118,7 @@ def rows_of(path: str, trace: Trace, names: Optional[str], first: int, last: int
     if names:
         return [Row(name, bit, direction_of(trace, name)) for name, bit in bits_named(path, trace, names).items()]
     pins = [Row(name, bit, direction_of(trace, name)) for name, bit in trace.bits.items() if name[0] in "pq"]
-    moved = [row for row in pins if row.bit.changes(first, last) or row.direction.changes(first, last)]
+    moved = [row for row in pins if row.bit.changes(first, last) or row.direction and row.direction.changes(first, last)]
     if not moved:
         raise Fault(f"{path}: no pin changes in these clocks; --pins says which to draw")
     return moved
@@ -127,7 +127,7 @@ def rows_of(path: str, trace: Trace, names: Optional[str], first: int, last: int
 def step_of(scale: float, last: int) -> int:
     """How much is from one number of the axis to the next: 1, 2 or 5, times a power of ten."""
     room = max(LEAST_STEP, CHARACTER * len(str(last)) + MARGIN)
-    steps = (digit * 10**power for power in range(13) for digit in (1, 2, 5))
+    steps = (digit * 10**power for power in count() for digit in (1, 2, 5))
     return next(step for step in steps if step * scale >= room)
 
 

@@ -97,7 +97,7 @@ def read_names(path: str | Path, lines: list[str]) -> tuple[dict[str, Bit], dict
             if var[1] == "1":
                 bits[names.get(var[3], var[3]) + var[4]] = by_id[var[2]] = Bit()
         elif line.startswith("$scope module "):
-            names = SECOND if line.split()[2] == "pio1" else {}
+            names = SECOND if line.split()[2:3] == ["pio1"] else {}
         elif line == "$enddefinitions $end" and number < len(lines):
             return bits, by_id, number
         elif line not in ("$timescale 1 ns $end", "$upscope $end"):
