@@ -51,13 +51,14 @@ NAMES = ["high", "low", "period", "p0", "p0,p1", "p0,p0", "d0", "q0", "f0,f7", "
 NAMES += ["0=D0", "1=D1", "4=x", "32=D0", "0..100", "10us..20us", "2us..1us", "config.toml:high", ":", "a@3", "squarewave@4", "1:16", "0@10:2"]
 NAMES += ["55 c3", "a0", "5", "zz", "none", "even", "é", "\udcff", "a\nb", "-", "--", "out", "new/out", "absent.file", ".", "/dev/null/x"]
 # Values that are right, by how the usage writes them.
-SMALL = [*map(str, range(9))]
+SMALL = [*map(str, range(9)), *"111222333"]
 RIGHT = {
-    "T": TIMES[:8], "B": ["55 c3", "a0", "100", "400"], "F": ["125", "133", "1.5"], "M": SMALL[:4], "W": ["0x55", "7"], "EDGE": ["p0:rise", "p0:fall:1"],
+    "T": TIMES[:8], "B": ["55 c3", "a0", "100", "400"], "M": SMALL[:4], "W": ["0x55", "7"], "EDGE": ["p0:rise", "p0:fall:1"],
     "CONFIG:NAME": ["config.toml:high", "config.toml:low", "config.toml:period"], "SPAN": ["high", "low", "period"], "NAME": ["high", "low", "main"],
     "P,..": ["p0", "p0,p1", "d0,f0"], "P=NAME": ["0", "0=p0", "0=D0", "1=D1"], "A..B": ["0..100", "10us..20us"], "NAME@AT": ["squarewave@4", "a@3"],
     "[PIN@]T[:W]": ["100", "0@10:2", "1us:5ns"], "N:T": ["0:16", "1:2us"], "X": ["out", "made"], "DIR": ["out", "."], "NS": ["8", "7.5"],
 }  # fmt: skip
+OF_DEST = {"mhz": ["125", "133", "1.5"], "bytes": ["55 c3", "a0", "00ff1234"], "count": ["1", "3", "40"], "size": ["1", "2"], "machine": ["0", "3"]}
 SAID_DEFECT = "a defect of this script"
 
 
@@ -168,7 +169,7 @@ class Maker:
     def words(self, random: Random, script: Script) -> list[str]:
         """The words of a call: mostly those that the script asks for."""
         words = self.words_of(random, script.parser)
-        for _ in range(random.choice([0, 0, 0, 0, 0, 1, 2])):
+        for _ in range(random.choice([0] * 9 + [1, 2])):
             place = random.randrange(len(words) + 1)
             words[place : place + random.randrange(2)] = [random.choice(NUMBERS + TIMES + NAMES + ["--nothing", "--help"])]
         if script.name in ("piotool-break", "piotool-explain"):
@@ -206,19 +207,20 @@ class Maker:
         kind = str(action.metavar)
         if action.choices and random.random() < 0.9:
             return str(random.choice([*action.choices]))
+        if action.dest in OF_DEST and random.random() < 0.9:
+            return random.choice(OF_DEST[action.dest])
         if kind in FILES and random.random() < 0.95:
             return FILES[kind]
         if kind == "T" and action.dest == "stimulus":
             return fuzz_files.STIMULUS
         if random.random() < 0.9:
-            kind = "P" if action.dest == "pin" and kind == "None" else kind
             return random.choice(RIGHT.get(kind, SMALL))
         return random.choice(NUMBERS + TIMES + NAMES)
 
 
 def chance_of(action: argparse.Action, groups: list[list[argparse.Action]]) -> float:
     """How often a word is chosen that needn't be there; of words of which one has to be, another one seldom."""
-    if action.dest in ("help", "join", "keep", "compare") or any(action in group for group in groups):
+    if action.dest in ("help", "join", "keep", "compare", "pair") or any(action in group for group in groups):
         return 0.03
     return 0.97 if action.required else 0.2
 
