@@ -113,12 +113,14 @@ def direction_of(trace: Trace, name: str) -> Optional[Bit]:
     return trace.bits.get({"p": "d", "q": "e"}.get(name[0], "-") + name[1:])
 
 
-def rows_of(path: str, trace: Trace, names: Optional[str], first: int, last: int) -> list[Row]:
-    """The rows: of these names, or of the pins that change."""
+def rows_of(path: str, trace: Trace, names: Optional[str], first: int, last: int, others: Sequence[str] = ()) -> list[Row]:
+    """The rows: of these names, or of the pins that change, or of others where none does."""
     if names:
         return [Row(name, bit, direction_of(trace, name)) for name, bit in bits_named(path, trace, names).items()]
     pins = [Row(name, bit, direction_of(trace, name)) for name, bit in trace.bits.items() if name[0] in "pq"]
     moved = [row for row in pins if row.bit.changes(first, last) or row.direction and row.direction.changes(first, last)]
+    if not moved and others:
+        return rows_of(path, trace, ",".join(dict.fromkeys(others)), first, last)
     if not moved:
         raise Fault(f"{path}: no pin changes in these clocks; --pins says which to draw")
     return moved
