@@ -40,26 +40,35 @@ LEAVES_1 = {"piotool-break", "piotool-compare", "piotool-explain", "piotool-lint
 TRACE, CAPTURE, DUMP, PYTHON, ELF = "run.vcd", "board.vcd", "chip.dump", "board.py", "firmware.elf"
 # The file that a word of a call names, by how the usage writes it.
 FILES = {
-    "SOURCE": fuzz_files.SOURCE, "CONFIG": fuzz_files.CONFIG, "C": fuzz_files.CONFIG, "X.toml": fuzz_files.CONFIG, "S.pio": fuzz_files.SOURCE,
-    "STIMULUS": fuzz_files.STIMULUS, "TRACE": TRACE, "CAPTURE": CAPTURE, "DUMP": DUMP, "FILE.py": PYTHON, "FIRMWARE.elf": ELF, "FILE": CAPTURE,
-    "F": fuzz_files.SENT, "rp2.py": PYTHON,
+    "SOURCE": fuzz_files.SOURCE, "CONFIG": fuzz_files.CONFIG, "C": fuzz_files.CONFIG, "X.toml": fuzz_files.CONFIG,
+    "S.pio": fuzz_files.SOURCE,
+    "STIMULUS": fuzz_files.STIMULUS, "TRACE": TRACE, "CAPTURE": CAPTURE, "DUMP": DUMP, "FILE.py": PYTHON, "FIRMWARE.elf": ELF,
+    "FILE": CAPTURE, "F": fuzz_files.SENT, "rp2.py": PYTHON,
 }  # fmt: skip
 NUMBERS = ["0", "1", "2", "7", "8", "31", "32", "100", "1000", "65535", "500000", "1000001", "4294967295", "4294967296"]
-NUMBERS += ["-1", "1.5", "1e3", "1e999999999", "-1e999999999", "1/3", "1/0", "nan", "inf", "0x10", "9" * 30, "9" * 5000, "²", "1_0", " 1", ""]
+NUMBERS += ["-1", "1.5", "1e3", "1e999999999", "-1e999999999", "1/3", "1/0", "nan", "inf", "0x10", "9" * 30, "9" * 5000]
+NUMBERS += ["²", "1_0", " 1", ""]
 TIMES = ["0", "1", "16", "100", "12ns", "1.5us", "3ms", "2s", "100000000s", "0ns", "1clock", "16clocks", "0.0000001ns", "9" * 30 + "s"]
-NAMES = ["high", "low", "period", "p0", "p0,p1", "p0,p0", "d0", "q0", "f0,f7", "p32", "w0", "p0:rise", "p0:fall:2", "p1:rise:0", "0", "0=p0"]
-NAMES += ["0=D0", "1=D1", "4=x", "32=D0", "0..100", "10us..20us", "2us..1us", "config.toml:high", ":", "a@3", "squarewave@4", "1:16", "0@10:2"]
-NAMES += ["55 c3", "a0", "5", "zz", "none", "even", "é", "\udcff", "a\nb", "-", "--", "out", "new/out", "absent.file", ".", "/dev/null/x"]
+NAMES = ["high", "low", "period", "p0", "p0,p1", "p0,p0", "d0", "q0", "f0,f7", "p32", "w0", "p0:rise", "p0:fall:2", "p1:rise:0"]
+NAMES += ["0", "0=p0", "0=D0", "1=D1", "4=x", "32=D0", "0..100", "10us..20us", "2us..1us", "config.toml:high", ":"]
+NAMES += ["a@3", "squarewave@4", "1:16", "0@10:2", "55 c3", "a0", "5", "zz", "none", "even", "é", "\udcff", "a\nb", "-", "--", "out", "new/out", "absent.file", ".", "/dev/null/x"]
 # Values that are right, by how the usage writes them.
 SMALL = [*map(str, range(9)), *"111222333"]
 RIGHT = {
-    "T": TIMES[:8], "B": ["55 c3", "a0", "100", "400"], "M": SMALL[:4], "W": ["0x55", "7"], "EDGE": ["p0:rise", "p0:fall:1"],
-    "CONFIG:NAME": ["config.toml:high", "config.toml:low", "config.toml:period"], "SPAN": ["high", "low", "period"], "NAME": ["high", "low", "main"],
-    "P,..": ["p0", "p0,p1", "d0,f0"], "P=NAME": ["0", "0=p0", "0=D0", "1=D1"], "A..B": ["0..100", "10us..20us"], "NAME@AT": ["squarewave@4", "a@3"],
+    "T": TIMES[:8], "B": ["55 c3", "a0", "100", "400"], "M": SMALL[:4], "W": ["0x55", "7"],
+    "EDGE": ["p0:rise", "p0:fall:1"], "CONFIG:NAME": ["config.toml:high", "config.toml:low", "config.toml:period"],
+    "SPAN": ["high", "low", "period"], "NAME": ["high", "low", "main"],
+    "P,..": ["p0", "p0,p1", "d0,f0"], "P=NAME": ["0", "0=p0", "0=D0", "1=D1"],
+    "A..B": ["0..100", "10us..20us"], "NAME@AT": ["squarewave@4", "a@3"],
     "[PIN@]T[:W]": ["100", "0@10:2", "1us:5ns"], "N:T": ["0:16", "1:2us"], "X": ["out", "made"], "DIR": ["out", "."], "NS": ["8", "7.5"],
 }  # fmt: skip
-OF_DEST = {"mhz": ["125", "133", "1.5"], "bytes": ["55 c3", "a0", "00ff1234"], "count": ["1", "3", "40"], "size": ["1", "2"], "machine": ["0", "3"]}
+OF_DEST = {"mhz": ["125", "133", "1.5"], "bytes": ["55 c3", "a0", "00ff1234"], "count": ["1", "3", "40"]}
+OF_DEST |= {"size": ["1", "2"], "machine": ["0", "3"]}
 SAID_DEFECT = "a defect of this script"
+
+
+# A call that isn't right: what is wrong, its words, its files, and the script.
+Found = tuple[str, list[str], dict[str, bytes], str]
 
 
 class TooLong(BaseException):
@@ -150,7 +159,8 @@ class Maker:
         dump = ["0x50200000 0x00000001", "0x50200030: 0x0 0x0 0x0 0x0 0x10000"]
         dump.append("0x502000c8: 0x00028000 0x00007200 0x000c0000 0x00000005 0x0000e101 0x04000200")
         self.dumps = ["\n".join(dump).encode() + b"\n"]
-        self.pythons = [b"import rp2\n@rp2.asm_pio(set_init=rp2.PIO.OUT_LOW)\ndef f():\n    set(pins, 1)\nsm = rp2.StateMachine(0, f, set_base=1)\n"]
+        program = b"import rp2\n@rp2.asm_pio(set_init=rp2.PIO.OUT_LOW)\ndef f():\n    set(pins, 1)\n"
+        self.pythons = [program + b"sm = rp2.StateMachine(0, f, set_base=1)\n"]
         self.elfs = [Path("/bin/true").read_bytes()[:4000], b"\x7fELF" + bytes(60), b""]
 
     def files(self, random: Random) -> dict[str, bytes]:
@@ -243,7 +253,8 @@ def what_is_wrong(script: Script, ended: Ended, before: dict[str, bytes]) -> Opt
     if SAID_DEFECT in ended.err:
         return "the script speaks of a defect"
     own = [it for it in lines if it.startswith(f"{script.name}: ")]
-    if ended.status == 2 and not (ended.err.startswith(f"usage: {script.name}") and f"\n{script.name}" in ended.err and ": error: " in ended.err):
+    has_usage = ended.err.startswith(f"usage: {script.name}") and f"\n{script.name}" in ended.err and ": error: " in ended.err
+    if ended.status == 2 and not has_usage:
         return "a wrong call has no usage, or no line that says what is wrong"
     if ended.status == 1 and not (len(lines) == 1 and own or not lines and ended.out and script.name in LEAVES_1):
         return "a bad input hasn't one line on standard error"
@@ -279,7 +290,7 @@ class Caller:
         """Ends a call that takes too much of a processor."""
         raise TooLong
 
-    def do(self, first: int, count: int) -> tuple[Counter[tuple[str, Optional[int]]], Optional[tuple[str, list[str], dict[str, bytes], str]]]:
+    def do(self, first: int, count: int) -> tuple[Counter[tuple[str, Optional[int]]], Optional[Found]]:
         """Some calls: how they ended, and the first that isn't right, with its files."""
         counts: Counter[tuple[str, Optional[int]]] = Counter()
         for number in range(first, first + count):
@@ -311,7 +322,7 @@ def do(first: int, count: int) -> Any:
     return Caller.own.do(first, count)
 
 
-def keep(folder: Optional[Path], seed: int, found: tuple[str, list[str], dict[str, bytes], str]) -> None:
+def keep(folder: Optional[Path], seed: int, found: Found) -> None:
     """Writes the files of a call that isn't right into a folder, and says what it was."""
     told, words, files, name = found
     place = Path(tempfile.mkdtemp(prefix=f"{name}-", dir=folder))

@@ -85,14 +85,16 @@ def man_page(script: Path, version: str) -> str:
         *(".SH DESCRIPTION", *paragraphs(about)),
     ]
     commands = commands_of(usage, items.get("positional arguments", []))
-    shown = {heading: [it for it in rows if it[0] not in commands] for heading, rows in items.items()}
+    # The word for a command says nothing of its own.
+    shown = {heading: [it for it in rows if it[0] not in commands and (it[1] or not commands)] for heading, rows in items.items()}
     if rows := [line for it in shown.values() for line in tagged(it)]:
         lines += [".SH OPTIONS", *rows]
     if commands:
         lines.append(".SH COMMANDS")
     for command, text in commands.items():
         own_usage, own_about, own_items = help_of(script, command)
-        lines += [f".SS {roff(command)}", roff(text), ".PP", f"\\fB{name} {roff(command)}\\fR {roff(own_usage.partition(f' {command} ')[2])}"]
+        own_form = roff(own_usage.partition(f" {command} ")[2])
+        lines += [f".SS {roff(command)}", roff(text), ".PP", f"\\fB{name} {roff(command)}\\fR {own_form}"]
         lines += [".PP", *paragraphs(own_about)] if own_about and own_about != [text] else []
         lines += [line for it in own_items.values() for line in tagged(it)]
     lines.append(".SH EXIT STATUS")

@@ -67,7 +67,8 @@ def causes_of(block: SetUp, machine: Machine, number: int, pin: int, edge: str, 
         if any(pin in it for it in pins.values()):
             found.append(f"p{pin} is in a mapping of machine {number}, and no instruction that it comes to writes it")
         else:
-            found.append(f"p{pin} is in no mapping of machine {number}: {', '.join(f'{name} has {pins_text(it)}' for name, it in pins.items())}")
+            mapped = ", ".join(f"{name} has {pins_text(it)}" for name, it in pins.items())
+            found.append(f"p{pin} is in no mapping of machine {number}: {mapped}")
     unreached = [it for it in block_addresses(block, number) if it not in words and levels_of(machine, block.memory[it], pin)]
     if unreached:
         found.append(f"of the program it never comes to {listed(block, unreached)}")
