@@ -24,7 +24,7 @@ def read_text(path: str | Path) -> str:
 def write_text(path: str | Path, text: str) -> None:
     """Writes a file."""
     try:
-        Path(path).write_bytes(text.encode("utf-8"))
+        Path(path).write_bytes(text.encode("utf-8", "surrogateescape"))
     except OSError as fault:
         raise Fault(f"{path}: {fault.strerror}") from None
 
@@ -65,7 +65,9 @@ def run_script(name: str, work: Callable[[], int]) -> NoReturn:
         status = work()
         sys.stdout.flush()
     except Fault as fault:
-        print(f"{name}: {fault}", file=sys.stderr)
+        # A name of a file may have any byte.
+        told = str(fault).encode("utf-8", "surrogateescape").decode("utf-8", "backslashreplace").replace("\n", "\\n").replace("\r", "\\r")
+        print(f"{name}: {told}", file=sys.stderr)
         status = 1
     except KeyboardInterrupt:
         status = 1

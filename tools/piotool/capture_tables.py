@@ -12,6 +12,7 @@ CHANNELS = re.compile(r";\s*Channels \(\d+/\d+\):\s*(.*)")
 HERTZ = {"Hz": 1, "kHz": 10**3, "MHz": 10**6, "GHz": 10**9}
 SECONDS = re.compile(r"-?\d{1,20}(?:\.\d{1,30})?(?:[eE][+-]?\d{1,2})?")
 PICOSECONDS = 10**12
+MOST_DIGITS = 40  # of a time
 
 
 class Columns:
@@ -90,7 +91,7 @@ def read_rows(path: str, text: str) -> Capture:
 def timed(path: str, number: int, line: str, rows: list[tuple[int, int, str]]) -> tuple[int, str]:
     """The time of a row, and its values."""
     cell, _, row = line.partition(",")
-    if not cell.strip().isdecimal():
+    if not cell.strip().isdecimal() or len(cell) > MOST_DIGITS:
         raise Fault(f"{path}: line {number}: {cell!r} is no time")
     if rows and int(cell) < rows[-1][1]:
         raise Fault(f"{path}: line {number}: time {cell} comes after a later one")
@@ -138,7 +139,7 @@ def read_changes(path: str, text: str) -> Capture:
 def picoseconds(path: str, number: int, cell: str) -> int:
     """A time in seconds, in picoseconds."""
     whole, _, part = cell.strip().partition(".")
-    if part.isdecimal() and len(part) <= 12 and whole.removeprefix("-").isdecimal():
+    if part.isdecimal() and len(part) <= 12 and len(whole) <= 20 and whole.removeprefix("-").isdecimal():
         return int(whole + part.ljust(12, "0"))
     if not SECONDS.fullmatch(cell.strip()):
         raise Fault(f"{path}: line {number}: {cell!r} is no time in seconds")

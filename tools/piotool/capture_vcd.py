@@ -13,6 +13,7 @@ SCALE = re.compile(r"(1|10|100)\s*(fs|ps|ns|us|ms|s)")
 VAR = re.compile(r"\w+\s+(\d+)\s+(\S+)\s+(\S+)(?:\s*(\[[^\]]*\]))?\s*")
 UNITS = {unit: Fraction(10**3) ** place / 10**6 for place, unit in enumerate(("fs", "ps", "ns", "us", "ms", "s"))}
 END = "$enddefinitions"
+MOST_DIGITS = 40  # of a time
 
 
 class Head:
@@ -91,7 +92,7 @@ class Body:
                 tell_clock, tell_value, value = appends[token]
                 tell_clock(now)
                 tell_value(value)
-            elif token[0] == "#" and token[1:].isdecimal():
+            elif token[0] == "#" and token[1:].isdecimal() and len(token) <= MOST_DIGITS:
                 before, now = now, int(token[1:])
                 if now < before:
                     raise self.fault(line, tokens, f"time {now} comes after {before}")

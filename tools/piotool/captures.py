@@ -11,7 +11,7 @@ from piotool.calls import Fault, read_text
 from piotool.traces import Bit
 
 PIN = re.compile(r"(\d+)(?:=(.+))?")
-LAST_NUMBER = re.compile(r".*?(\d+)\]?")
+LAST_NUMBER = re.compile(r"(?:.*\D)?0*(\d{1,9})\]?")
 
 
 @dataclass

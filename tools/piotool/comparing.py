@@ -10,7 +10,7 @@ from piotool.captures import Capture
 from piotool.real_time import shown
 from piotool.traces import Bit, Trace
 
-EDGE = re.compile(r"p(\d+):(rise|fall)(?::(\d+))?")
+EDGE = re.compile(r"p(\d{1,2}):(rise|fall)(?::(\d{1,12}))?")
 Edge = tuple[Fraction, int]  # nanoseconds, and the level from then on
 Pair = tuple[Fraction, Fraction, int]  # the trace's edge, the capture's, the level
 

@@ -1,7 +1,8 @@
 """Draws pins over clocks as a picture (SVG): rows of levels, rows of spans, the clocks below. The same rows give the same picture."""
 
 from dataclasses import dataclass, field
-from itertools import accumulate
+from fractions import Fraction
+from itertools import accumulate, count
 from typing import Optional, Sequence
 
 from piotool.calls import Fault
@@ -14,18 +15,21 @@ MARGIN, CHARACTER, TOP = 12, 7.5, 14
 PITCH, LEVEL = 34, 20
 LANE, ARROW = 40, 22
 LEAST_STEP = 44
+GAP = 6  # between the word of the axis and its first number
 SMALL = ' font-size="11"'
 INK, SOFT, GRID, WAVE, FILL = "#222222", "#8a8a8a", "#e6e6e6", "#1f4e8c", "#d6e4f5"
+OUTSIDE, OUTSIDE_FILL = "#8c4a1f", "#f5e2d6"
 GOOD, BAND, BAD = "#1b6e37", "#bfe6c9", "#c62828"
 
 
 @dataclass
 class Row:
-    """A row of the picture: a value, and the direction of its pin where it is a pin's level."""
+    """A row of the picture: a value, and the direction of its pin where it is a pin's level; or what the outside drives."""
 
     name: str
     bit: Bit
     direction: Optional[Bit] = None
+    is_input: bool = False
 
 
 @dataclass
@@ -44,6 +48,29 @@ Mark = tuple[int, float, float]
 
 
 @dataclass
+class Axis:
+    """How the clocks are written below: as they are, or in nanoseconds of so many MHz."""
+
+    mhz: Optional[Fraction] = None
+
+    @property
+    def word(self) -> str:
+        """What stands before the numbers."""
+        return "clock" if self.mhz is None else "ns"
+
+    def clock(self, number: int) -> float:
+        """The clock that a number stands for."""
+        return number if self.mhz is None else float(number * self.mhz / 1000)
+
+    def marks(self, first: int, last: int, scale: float) -> range:
+        """The numbers that are written, in clocks or nanoseconds."""
+        unit = Fraction(1) if self.mhz is None else 1000 / self.mhz
+        begin, end = -(-first * unit // 1), last * unit // 1
+        step = step_of(float(scale / unit), int(end))
+        return range(-(-begin // step) * step, int(end) + 1, step)
+
+
+@dataclass
 class Sheet:
     """Where clocks are on the picture, and the lines of its text so far."""
 
@@ -51,6 +78,7 @@ class Sheet:
     last: int
     left: float
     scale: float
+    axis: Axis = field(default_factory=Axis)
     lines: list[str] = field(default_factory=list)
 
     def x(self, clock: float) -> float:
@@ -85,31 +113,33 @@ def direction_of(trace: Trace, name: str) -> Optional[Bit]:
     return trace.bits.get({"p": "d", "q": "e"}.get(name[0], "-") + name[1:])
 
 
-def rows_of(path: str, trace: Trace, names: Optional[str], first: int, last: int) -> list[Row]:
-    """The rows: of these names, or of the pins that change."""
+def rows_of(path: str, trace: Trace, names: Optional[str], first: int, last: int, others: Sequence[str] = ()) -> list[Row]:
+    """The rows: of these names, or of the pins that change, or of others where none does."""
     if names:
         return [Row(name, bit, direction_of(trace, name)) for name, bit in bits_named(path, trace, names).items()]
     pins = [Row(name, bit, direction_of(trace, name)) for name, bit in trace.bits.items() if name[0] in "pq"]
-    moved = [row for row in pins if row.bit.changes(first, last) or row.direction.changes(first, last)]
+    moved = [row for row in pins if row.bit.changes(first, last) or row.direction and row.direction.changes(first, last)]
+    if not moved and others:
+        return rows_of(path, trace, ",".join(dict.fromkeys(others)), first, last)
     if not moved:
         raise Fault(f"{path}: no pin changes in these clocks; --pins says which to draw")
     return moved
 
 
 def step_of(scale: float, last: int) -> int:
-    """The clocks from one label of the axis to the next: 1, 2 or 5, times a power of ten."""
+    """How much is from one number of the axis to the next: 1, 2 or 5, times a power of ten."""
     room = max(LEAST_STEP, CHARACTER * len(str(last)) + MARGIN)
-    steps = (digit * 10**power for power in range(13) for digit in (1, 2, 5))
+    steps = (digit * 10**power for power in count() for digit in (1, 2, 5))
     return next(step for step in steps if step * scale >= room)
 
 
 def draw_axis(sheet: Sheet, top: float, bottom: float) -> None:
     """The clocks below, and a faint line up from each."""
-    step = step_of(sheet.scale, sheet.last)
-    for clock in range(-(-sheet.first // step) * step, sheet.last + 1, step):
-        sheet.line(sheet.x(clock), top, sheet.x(clock), bottom, GRID)
-        sheet.text(sheet.x(clock), bottom + 14, SOFT, str(clock), ' text-anchor="middle"')
-    sheet.text(MARGIN, bottom + 14, SOFT, "clock")
+    for number in sheet.axis.marks(sheet.first, sheet.last, sheet.scale):
+        x = sheet.x(sheet.axis.clock(number))
+        sheet.line(x, top, x, bottom, GRID)
+        sheet.text(x, bottom + 14, SOFT, str(number), ' text-anchor="middle"')
+    sheet.text(MARGIN, bottom + 14, SOFT, sheet.axis.word)
 
 
 def pieces_of(row: Row, first: int, last: int) -> list[tuple[float, float, int, bool]]:
@@ -123,26 +153,29 @@ def pieces_of(row: Row, first: int, last: int) -> list[tuple[float, float, int, 
 def draw_row(sheet: Sheet, row: Row, top: int) -> None:
     """A row: its name, its high levels filled, its line; a change takes the line of the piece after it."""
     low, high = top + LEVEL, top
+    wave, fill = (OUTSIDE, OUTSIDE_FILL) if row.is_input else (WAVE, FILL)
     sheet.text(MARGIN, low - 5, INK, row.name)
-    pieces, path = pieces_of(row, sheet.first, sheet.last), {True: "", False: ""}
-    before = None
-    for start, end, level, is_driven in pieces:
+    # A picture of a long trace has a million parts of a path.
+    parts: dict[bool, list[str]] = {True: [], False: []}
+    before: Optional[int] = None
+    for start, end, level, is_driven in pieces_of(row, sheet.first, sheet.last):
         y = high if level else low
         if level and is_driven:
             width = (end - start) * sheet.scale
-            sheet.put(f'<rect x="{at(sheet.x(start))}" y="{high}" width="{at(width)}" height="{LEVEL}" fill="{FILL}"/>')
+            sheet.put(f'<rect x="{at(sheet.x(start))}" y="{high}" width="{at(width)}" height="{LEVEL}" fill="{fill}"/>')
         begin = y if before is None else before
-        path[is_driven] += f"M{at(sheet.x(start))} {begin}" + f"V{y}" * (begin != y) + f"H{at(sheet.x(end))}"
+        parts[is_driven].append(f"M{at(sheet.x(start))} {begin}" + f"V{y}" * (begin != y) + f"H{at(sheet.x(end))}")
         before = y
-    if path[False]:
-        sheet.put(f'<path d="{path[False]}" fill="none" stroke="{SOFT}" stroke-width="1.2" stroke-dasharray="3 3"/>')
-    if path[True]:
-        sheet.put(f'<path d="{path[True]}" fill="none" stroke="{WAVE}" stroke-width="1.6" stroke-linecap="square"/>')
+    if parts[False]:
+        sheet.put(f'<path d="{"".join(parts[False])}" fill="none" stroke="{SOFT}" stroke-width="1.2" stroke-dasharray="3 3"/>')
+    if parts[True]:
+        sheet.put(f'<path d="{"".join(parts[True])}" fill="none" stroke="{wave}" stroke-width="1.6" stroke-linecap="square"/>')
 
 
 def stacked(pairs: list[tuple[int, int]]) -> list[tuple[int, int, int]]:
     """The pairs with a number for each: those of one number don't overlap."""
-    ends, placed = [], []
+    ends: list[int] = []
+    placed: list[tuple[int, int, int]] = []
     for start, end in pairs:
         number = next((number for number, taken in enumerate(ends) if taken <= start), len(ends))
         ends[number:number + 1] = [end]
@@ -155,6 +188,16 @@ def pairs_within(sheet: Sheet, lane: Lane) -> list[tuple[int, int, int]]:
     return stacked([pair for pair in lane.pairs if sheet.first <= pair[0] and pair[1] <= sheet.last])
 
 
+def next_starts(pairs: list[tuple[int, int, int]], last: int) -> list[int]:
+    """For each stacked pair where the next one of its number begins, or the end."""
+    nearest: dict[int, int] = {}
+    found = []
+    for start, _, number in reversed(pairs):
+        found.append(nearest.get(number, last))
+        nearest[number] = start
+    return found[::-1]
+
+
 def height_of(sheet: Sheet, lane: Lane) -> int:
     """The height of a span's row."""
     return LANE + ARROW * max((number for _, _, number in pairs_within(sheet, lane)), default=0)
@@ -165,12 +208,11 @@ def draw_lane(sheet: Sheet, lane: Lane, top: float, edges_at: dict[str, int]) ->
     sheet.text(MARGIN, top + 14, INK, lane.name)
     sheet.text(MARGIN, top + 28, SOFT, lane.bounds, SMALL)
     pairs = pairs_within(sheet, lane)
-    for place, (start, end, number) in enumerate(pairs):
+    for (start, end, number), after in zip(pairs, next_starts(pairs, sheet.last)):
         y = top + 20 + ARROW * number
         for clock, row in ((start, lane.rows[0]), (end, lane.rows[1])):
             sheet.line(sheet.x(clock), edges_at.get(row, top), sheet.x(clock), y + 5, SOFT, ' stroke-dasharray="1 3"')
         if lane.allowed:
-            after = next((it[0] for it in pairs[place + 1 :] if it[2] == number), sheet.last)
             draw_allowed(sheet, start + lane.allowed[0], start + lane.allowed[1], after, y)
         draw_arrow(sheet, start, end, y, is_good(lane, end - start))
 
@@ -209,11 +251,16 @@ def draw_mark(sheet: Sheet, top: float, start: float, end: float) -> None:
     sheet.put(f'<rect x="{at(left)}" y="{at(top - 4)}" width="{at(width)}" height="{PITCH + LEVEL + 8}" fill="{BAD}" fill-opacity="0.45"/>')
 
 
-def sheet_for(rows: list[Row], lanes: list[Lane], first: int, last: int) -> Sheet:
-    """An empty picture of these clocks, with room on the left for the names."""
-    names = ["clock", *(row.name for row in rows), *(text for lane in lanes for text in (lane.name, lane.bounds))]
+def sheet_for(rows: list[Row], lanes: list[Lane], first: int, last: int, axis: Axis) -> Sheet:
+    """An empty picture of these clocks, with room on the left for the names, and between the word of the axis and its first number."""
+    names = [axis.word, *(row.name for row in rows), *(text for lane in lanes for text in (lane.name, lane.bounds))]
     left = MARGIN + CHARACTER * max(map(len, names)) + 1.5 * MARGIN
-    return Sheet(first, last, left, min(MOST_A_CLOCK, MOST_WIDE / (last - first)))
+    sheet = Sheet(first, last, left, min(MOST_A_CLOCK, MOST_WIDE / (last - first)), axis)
+    number = next(iter(axis.marks(first, last, sheet.scale)), None)
+    if number is not None:
+        begins = sheet.x(axis.clock(number)) - CHARACTER * len(str(number)) / 2
+        sheet.left += max(0.0, MARGIN + CHARACTER * len(axis.word) + GAP - begins)
+    return sheet
 
 
 def draw_all(sheet: Sheet, rows: list[Row], lanes: list[Lane], marks: Sequence[Mark]) -> float:
@@ -229,15 +276,22 @@ def draw_all(sheet: Sheet, rows: list[Row], lanes: list[Lane], marks: Sequence[M
         draw_mark(sheet, row_tops[place], start, end)
     for row, top in zip(rows, row_tops):
         draw_row(sheet, row, top)
-    if all(is_driven for row in rows for *_, is_driven in pieces_of(row, sheet.first, sheet.last)):
+    if all(is_always_driven(row, sheet.first, sheet.last) for row in rows):
         return bottom + 24
     sheet.text(sheet.left, bottom + 32, SOFT, "dashed: direction in, the block doesn't drive the pin", SMALL)
     return bottom + 40
 
 
-def picture(title: str, rows: list[Row], lanes: list[Lane], first: int, last: int, marks: Sequence[Mark] = ()) -> str:
+def is_always_driven(row: Row, first: int, last: int) -> bool:
+    """Whether the block drives a row's pin in all these clocks; so does the outside drive its own pins."""
+    return row.direction is None or row.direction.at(first) == 1 and not row.direction.changes(first, last)
+
+
+def picture(
+    title: str, rows: list[Row], lanes: list[Lane], first: int, last: int, marks: Sequence[Mark] = (), axis: Optional[Axis] = None
+) -> str:
     """The whole text of the picture."""
-    sheet = sheet_for(rows, lanes, first, last)
+    sheet = sheet_for(rows, lanes, first, last, axis or Axis())
     width, height = at(sheet.x(last) + 2 * MARGIN), at(draw_all(sheet, rows, lanes, marks))
     head = f'<svg xmlns="http://www.w3.org/2000/svg" width="{width}" height="{height}" viewBox="0 0 {width} {height}"'
     head += ' role="img" font-family="monospace" font-size="12">'

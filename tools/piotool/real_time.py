@@ -4,8 +4,10 @@ import argparse
 import re
 from dataclasses import dataclass
 from fractions import Fraction
+from typing import Optional
 
-TIME = re.compile(r"(\d+(?:\.\d+)?)(ns|us|ms|s|clocks?)?")
+TIME = re.compile(r"([0-9]{1,30}(?:\.[0-9]{1,30})?)(ns|us|ms|s|clocks?)?")
+NUMBER = re.compile(r"[+-]?[0-9]{1,30}(?:\.[0-9]{1,30}|/[0-9]{1,30})?")
 NANOSECONDS = {"ns": 1, "us": 10**3, "ms": 10**6, "s": 10**9}
 
 
@@ -49,12 +51,17 @@ def window_of(text: str) -> tuple[Time, Time]:
     return time_of(first), time_of(last)
 
 
+def number_of(text: str) -> Optional[Fraction]:
+    """A number as a call writes it: with a point, or a fraction. A large exponent would take the memory of its digits."""
+    try:
+        return Fraction(text) if NUMBER.fullmatch(text) else None
+    except ZeroDivisionError:
+        return None
+
+
 def mhz_of(text: str) -> Fraction:
     """A frequency of the system's clock in MHz."""
-    try:
-        mhz = Fraction(text)
-    except (ValueError, ZeroDivisionError):
-        mhz = Fraction(0)
+    mhz = number_of(text) or Fraction(0)
     if not 0 < mhz <= 10_000:
         raise argparse.ArgumentTypeError("a clock has a number of MHz above 0")
     return mhz

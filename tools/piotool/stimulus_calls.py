@@ -13,7 +13,7 @@ from typing import Any, Callable, Optional
 from piotool import devices
 from piotool.calls import Fault
 from piotool.captures import Capture, pin_of, read_capture
-from piotool.real_time import Time, add_mhz, length_of, nearest, shown, time_of, window_of
+from piotool.real_time import Time, add_mhz, length_of, nearest, number_of, shown, time_of, window_of
 from piotool.stimulus_join import joined
 from piotool.waves import Edges, in_clocks, text_of_pins
 
@@ -59,11 +59,8 @@ def stretch_of(text: str) -> tuple[int, Time]:
 
 def ppm_of(text: str) -> Fraction:
     """Millionths as a word of a call."""
-    try:
-        ppm = Fraction(text)
-    except (ValueError, ZeroDivisionError):
-        ppm = Fraction(10**6)
-    if abs(ppm) > 500_000:
+    ppm = number_of(text)
+    if ppm is None or abs(ppm) > 500_000:
         raise argparse.ArgumentTypeError(f"{text!r} is no number of millionths up to 500000")
     return ppm
 

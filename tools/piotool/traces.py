@@ -8,9 +8,8 @@ from pathlib import Path
 from piotool.calls import Fault, read_text
 
 VAR = re.compile(r"\$var wire ([0-9]+) (\S+) ([pdftrws])([0-9]+) \$end")
-BIT = re.compile(r"([01])(\S+)")
 WIDE = re.compile(r"b[01]+ \S+")
-TIME = re.compile(r"#([0-9]+)")
+TIME = re.compile(r"#([0-9]{1,18})")
 # The second block's values have the same names as the first one's in a trace of `pair`; here they have these.
 SECOND = {"p": "q", "d": "e", "f": "g"}
 
@@ -53,13 +52,18 @@ def read_trace(path: str | Path) -> Trace:
     """The trace in a file."""
     lines = read_text(path).splitlines()
     bits, by_id, head = read_names(path, lines)
+    # What a line does to its value is looked up, since there may be millions.
+    moves = {f"{value}{name}": (bit.clocks.append, bit.values.append, value) for name, bit in by_id.items() for value in (0, 1)}
     clock = 0
     for number, line in enumerate(lines[head:], head + 1):
-        if time := TIME.fullmatch(line):
-            clock = int(time[1])
-        elif (bit := BIT.fullmatch(line)) and bit[2] in by_id:
-            by_id[bit[2]].clocks.append(clock)
-            by_id[bit[2]].values.append(int(bit[1]))
+        if line in moves:
+            tell_clock, tell_value, value = moves[line]
+            tell_clock(clock)
+            tell_value(value)
+        elif TIME.fullmatch(line):
+            before, clock = clock, int(line[1:])
+            if clock < before:
+                raise Fault(f"{path}: line {number}: clock {clock} comes after {before}")
         elif line not in ("$dumpvars", "$end") and not WIDE.fullmatch(line):
             raise Fault(f"{path}: line {number}: no line of a trace")
     if not TIME.fullmatch(lines[-1]):
@@ -93,7 +97,7 @@ def read_names(path: str | Path, lines: list[str]) -> tuple[dict[str, Bit], dict
             if var[1] == "1":
                 bits[names.get(var[3], var[3]) + var[4]] = by_id[var[2]] = Bit()
         elif line.startswith("$scope module "):
-            names = SECOND if line.split()[2] == "pio1" else {}
+            names = SECOND if line.split()[2:3] == ["pio1"] else {}
         elif line == "$enddefinitions $end" and number < len(lines):
             return bits, by_id, number
         elif line not in ("$timescale 1 ns $end", "$upscope $end"):
