@@ -219,7 +219,7 @@ def program_of(name: str, emit: Any, program: list[Any]) -> Program:
     rule = {"side_bits": emit.sideset_count - opt, "side_opt": bool(opt), "side_pindirs": bool(control >> 29 & 1)}
     taken: set[str] = {name}
     labels = {symbol(label, taken, "label_"): place for label, place in emit.labels.items() if place < len(words)}
-    return Program(name, None, rule, (control >> 7 & 31, control >> 12 & 31), words, [], labels)
+    return Program(name, None, rule, (control >> 7 & 31, control >> 12 & 31), words, labels)
 
 
 def number_of(pin: Any) -> int | None:
