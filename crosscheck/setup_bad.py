@@ -15,6 +15,8 @@ DUMP = """0x50200000 0x00000001
 0x50200030: 0x0 0x0 0x0 0x0 0x10000
 0x502000c8: 0x00028000 0x00007200 0x000c0000 0x00000005 0x0000e101 0x04000200
 """
+SET_UP = "0x00028000 0x00007200 0x000c0000 0x00000005 0x0000e101 0x04000200"
+RESET = "0x00010000 0x0001f000 0x000c0000 0x00000000 0x00000000 0x14000000"
 RP2 = ("/usr/src/micropython*/ports/rp2/modules/rp2.py",)
 STATEMENTS = "import rp2\n@rp2.asm_pio(set_init=rp2.PIO.OUT_LOW)\ndef f():\n    set(pins, 1)\nsm = rp2.StateMachine(0, f, set_base=1)\n"
 
@@ -48,6 +50,8 @@ def texts(folder: Path) -> dict[str, Path]:
         "raises.py": "import rp2\nx = 1 / 0\n",
         "module.py": "import neopixel_of_mine\n",
         "never.py": STATEMENTS,
+        "waits.py": "import asyncio\n",
+        "idle.dump": DUMP.replace("0x50200000 0x00000001", "0x50200000 0x0").replace(SET_UP, RESET),
         "bad.pio": ".program a\n  jmp nowhere\n",
         "kept.toml": "[[machine]\n",
     }
@@ -64,6 +68,7 @@ def text_rows(file: dict[str, Path], folder: Path) -> list[Bad]:
     dump = [("registers", "holes.dump", "0x502000c8 (SM0_CLKDIV) isn't in it: in gdb, `x/wx 0x50200000`")]
     dump += [("registers", "none.dump", "no line has an address and a value")]
     dump += [("registers", "pads.dump", "no address is a PIO block's")]
+    dump += [("registers", "idle.dump", "no machine is enabled or set up in it: halt the chip after the firmware has done that")]
     dump += [("registers", "other.dump", "machine 0 has the word 0xe100 at address 5, and squarewave has 0xe101 there")]
     dump += [("registers", "wrap.dump", "say which is where by --load NAME@AT")]
     rows = [Bad([way, file[name], *source, *out], told) for way, name, told in dump]
@@ -72,10 +77,11 @@ def text_rows(file: dict[str, Path], folder: Path) -> list[Bad]:
     rows += [Bad(["registers", file["holes.dump"], "--source", file["bad.pio"], *out], "source line 2: V1 nowhere")]
     rows += [Bad(["registers", folder / "missing", *source, *out], "No such file or directory")]
     rows += [Bad(["print", file["kept.toml"], *source], "kept.toml")]
-    if rp2 := rp2_found():
-        python = [("syntax.py", "line 1: SyntaxError"), ("raises.py", "line 2: ZeroDivisionError"), ("module.py", "ModuleNotFoundError")]
-        python += [("never.py", "no machine is enabled: the program ends")]
-        rows += [Bad(["micropython", file[name], "--rp2", rp2, *out], told) for name, told in python]
+    python = [("syntax.py", "line 1: SyntaxError"), ("raises.py", "line 2: ZeroDivisionError")]
+    python += [("module.py", "line 1: ModuleNotFoundError: neopixel_of_mine isn't here: give a copy that sets its machines up without it")]
+    python += [("waits.py", "line 1: ModuleNotFoundError: asyncio isn't here: give a copy that sets its machines up without it")]
+    python += [("never.py", "no machine is enabled: the program ends: a program starts one by active(1)")]
+    rows += [Bad(["micropython", file[name], "--rp2", SHIM / "rp2.py", *out], told) for name, told in python]
     rows += [Bad(["micropython", file["never.py"], "--rp2", file["words.elf"], *out], "is it MicroPython's rp2.py?")]
     return rows
 
@@ -93,6 +99,8 @@ def firmware_rows(file: dict[str, Path], folder: Path) -> list[Bad]:
     later = folder / "bad" / "later.elf"
     flags = ["-mcpu=cortex-m33", "-mthumb", "-nostartfiles", "-I", SHIM, "-T", SHIM / "link.ld"]
     subprocess.run([COMPILER, *flags, other, "-o", later], check=True)
+    big = folder / "bad" / "big.elf"
+    subprocess.run([COMPILER, "-mbig-endian", "-mcpu=cortex-m0plus", *flags[1:], other, "-o", big], check=True)
     empty.write_bytes(b"")
     other_source = TOP / "examples" / "spi" / "spi.pio"
     rows = [
@@ -102,9 +110,10 @@ def firmware_rows(file: dict[str, Path], folder: Path) -> list[Bad]:
         (file["words.elf"], [], "no whole ELF file"),
         (later, [], "for another processor: the RP2040's is an ARMv6-M"),
         (Path(shutil.which("true") or "/bin/true"), [], "for another processor: the RP2040's is an ARMv6-M"),
-        (nothing, [], "no machine is enabled: main returns"),
+        (big, [], "for another processor: the RP2040's is an ARMv6-M"),
+        (nothing, [], "no machine is enabled: main returns: name the function that enables one by --entry"),
         (elf, ["--entry", "start"], "no function is called start: name the one to begin with by --entry"),
-        (elf, ["--instructions", "9"], "no machine is enabled: 9 instructions were run"),
+        (elf, ["--instructions", "9"], ": give more by --instructions"),
         (elf, ["--keep", file["kept.toml"]], "kept.toml"),
         (elf, ["--compare", folder / "missing.toml"], "No such file or directory"),
     ]

@@ -76,6 +76,11 @@ CASES = [
         refused="machine 1 runs square with another place, wrap, side-set or first lines than a machine before it: a configuration can't "
         "say both",
     ),
+    Case(
+        "two_side_sets",
+        refused="machine 1 runs level with another place, wrap, side-set or first lines than a machine before it: a configuration can't say "
+        "both",
+    ),
     Case("one_other_wrap", source="up:\n    set pins, 1\n    set pins, 0\n.wrap\n"),
     Case("wrap_never_passed", {"program": "ends", "at": 2}, {"id": 0, "program": "ends", "set_base": 3, "set_count": 1}, {}),
     Case(
@@ -94,13 +99,18 @@ CASES = [
     Case("enabled_twice", refused="machine 0 is enabled 2 times, each time set up otherwise: say which with --start N, 1 for the first"),
     Case("enabled_twice", options=("--start", "1")),
     Case("enabled_twice", machine=MACHINE | {"divider": 10}, options=("--start", "2")),
+    Case("enabled_twice", options=("--start", "3"), refused="--start 3: no machine is enabled so often, but 2 times at most"),
     Case("stopped_and_gone_on"),
     Case("open_drain", refused="pin 3 has an inverted output enable: give --open-drain, and read the line in its direction, 1 is let go"),
     Case("open_drain", pins={"level": [3], "out": [3]}, options=("--open-drain",)),
     # Pin 8 is pulled up, pin 9 too and inverted, pin 10 is low and inverted, pin 11 is driven by the processor.
     Case("outside", pins={"high": [8, 10, 11], "out": [3], "bypass": [8]}),
     Case("second_block", pins={"high": [4]}),
-    Case("never_enabled", refused="no machine is enabled: main returns"),
-    Case("waits_first", refused="no machine is enabled: the code comes round in waits_first, which waits for PIO0's IRQ"),
+    Case("never_enabled", refused="no machine is enabled: main returns: name the function that enables one by --entry"),
+    Case(
+        "waits_first",
+        refused="no machine is enabled: the code comes round in waits_first, which waits for PIO0's IRQ: name the function that enables one "
+        "by --entry",
+    ),
     Case("changed_while_it_runs", note="Machine 0: while it runs SM0_CLKDIV is written; that isn't in the set-up."),
 ]

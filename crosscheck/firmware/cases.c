@@ -161,6 +161,15 @@ CASE(two_wraps) {
     pio_enable_sm_mask_in_sync(pio0, 3);
     return 0;
 }
+CASE(two_side_sets) {
+    at = pio_add_program(pio0, &level_program);
+    pio_sm_config c = level_program_get_default_config(at);
+    pio_sm_init(pio0, 0, at, &c);
+    sm_config_set_sideset(&c, 1, false, false);
+    pio_sm_init(pio0, 1, at, &c);
+    pio_enable_sm_mask_in_sync(pio0, 3);
+    return 0;
+}
 CASE(one_other_wrap) {
     pio_sm_config c = square();
     sm_config_set_wrap(&c, at, at + 1);

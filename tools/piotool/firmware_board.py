@@ -1,7 +1,7 @@
 """What MicroPython's classes of an RP2040 do to the registers: programs, machines, pins. `firmware_micropython` gives them to a file."""
 
 from dataclasses import dataclass
-from typing import Any
+from typing import Any, ClassVar
 
 from piotool import firmware_map as at
 from piotool.firmware_programs import relocated
@@ -14,7 +14,13 @@ MOST_WORDS = 256
 
 
 class Ended(BaseException):
-    """The recording ends; no `except Exception` of the file takes it."""
+    """The recording ends; no `except Exception` of the file takes it. What a bare `except` takes comes again at the next line."""
+
+    why: ClassVar[list[str]] = []
+
+    def __init__(self, why: str) -> None:
+        super().__init__(why)
+        Ended.why.append(why)
 
 
 @dataclass

@@ -63,6 +63,8 @@ def recorded(path: str, sources: Sources, loads: list[str], hertz: int | None) -
         raise Fault(f"{path}: no address is a PIO block's: {how(0)}")
     for index in found:
         replay_block(path, words, index, sources, forced, recording)
+    if not any(any(block.starts.values()) for block in recording.chip.blocks):
+        raise Fault(f"{path}: no machine is enabled or set up in it: halt the chip after the firmware has done that")
     recording.note(UNREAD)
     return recording
 
@@ -76,7 +78,7 @@ def how(index: int) -> str:
 def load_of(load: str, sources: Sources) -> tuple[str, int]:
     """A program and its address, as the call says them."""
     name, mark, place = load.partition("@")
-    if not mark or not place.isdecimal() or int(place) > 31:
+    if not name or not mark or not place.isdecimal() or int(place) > 31:
         raise Fault(f"--load {load}: it is a program's name, @, and an address from 0 to 31")
     if name not in sources.programs:
         raise Fault(f"--load {load}: no source has a program {name}")

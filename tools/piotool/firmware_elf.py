@@ -61,7 +61,7 @@ def read_firmware(path: str) -> Firmware:
 
 def firmware_of(path: str, elf: Any) -> Firmware:
     """What an ELF has for an RP2040."""
-    if elf.header["e_machine"] != ARM or elf.elfclass != 32 or architecture_of(elf) not in (None, *ARMV6_M):
+    if elf.header["e_machine"] != ARM or elf.elfclass != 32 or not elf.little_endian or architecture_of(elf) not in (None, *ARMV6_M):
         raise Fault(f"{path}: for another processor: the RP2040's is an ARMv6-M (Cortex-M0+)")
     firmware = Firmware(path)
     for segment in elf.iter_segments():

@@ -1,4 +1,4 @@
-"""The stand-in for MicroPython's `machine`: pins, the system clock, registers; all else is there and does nothing."""
+"""Stand-ins for `machine` of MicroPython: pins, the clock, registers, and what is there and does nothing; and for `_thread`."""
 
 import types
 from typing import Any
@@ -95,4 +95,34 @@ def machine_module(board: Board) -> types.ModuleType:
     module.__dict__.update({f"mem{8 * size}": Memory(size) for size in (1, 2, 4)})
     module.__dict__.update({name: Nothing for name in ("Timer", "PWM", "ADC", "I2C", "SoftI2C", "SPI", "SoftSPI", "UART", "RTC", "WDT", "Signal")})
     module.__dict__.update({"unique_id": lambda: bytes(8), "disable_irq": lambda: 0, "enable_irq": lambda state=0: None})
+    return module
+
+class Lock:
+    """A lock that nobody else holds."""
+
+    def acquire(self, *words: Any) -> bool:
+        return True
+
+    def release(self) -> None:
+        pass
+
+    def locked(self) -> bool:
+        return False
+
+    def __enter__(self) -> "Lock":
+        return self
+
+    def __exit__(self, *words: Any) -> None:
+        pass
+
+
+def thread_module(board: Board) -> types.ModuleType:
+    """A `_thread` whose second processor doesn't run."""
+    module = types.ModuleType("_thread")
+
+    def start(*words: Any) -> int:
+        board.recording.note("The second processor isn't run: what it sets up isn't here.")
+        return 1
+
+    module.__dict__.update({"start_new_thread": start, "allocate_lock": Lock, "get_ident": lambda: 0, "exit": lambda: None})
     return module

@@ -1,6 +1,6 @@
 """Runs a program for MicroPython under CPython, over MicroPython's own `rp2.py`, with stand-ins for the modules of the board.
 
-It ends where the program ends, sleeps again at one place, waits for a word, or has done its number of lines.
+It ends where the program ends, sleeps again at one place, waits for a word, or has done its number of steps.
 """
 
 import keyword
@@ -12,13 +12,13 @@ from typing import Any, Callable
 
 from piotool.calls import Fault, read_text
 from piotool.firmware_board import DATA, EXECCTRL, Board, Ended
-from piotool.firmware_machine_module import machine_module
+from piotool.firmware_machine_module import machine_module, thread_module
 from piotool.firmware_programs import Sources
 from piotool.firmware_recording import Recording
 from piotool.programs import Program
 
 PLACES = ("micropython-*/ports/rp2/modules/rp2.py", "/usr/src/micropython*/ports/rp2/modules/rp2.py")
-MOST_LINES = 1_000_000
+MOST_STEPS = 1_000_000
 WORDS_OF_PIOASM = set(
     "nop jmp wait in out push pull mov irq set iffull ifempty block noblock pins pindirs pin gpio x y null isr osr osre exec pc status rel "
     "clear nowait side opt public sideset side_set optional if_full if_empty next prev one zero".split()
@@ -35,6 +35,7 @@ def recorded(path: str, rp2: str | None, hertz: int) -> tuple[Recording, Sources
     try:
         host.install(module, read_text(module))
         recording.ended(host.run(text))
+        recording.advice = ": a program starts one by active(1)"
     finally:
         sys.settrace(None)
         sys.modules.clear()
@@ -67,7 +68,7 @@ class Host:
     """The modules that a program finds, and what it made of programs."""
 
     def __init__(self, path: str, board: Board) -> None:
-        self.path, self.board, self.lines = path, board, 0
+        self.path, self.board, self.steps = path, board, 0
         self.made: list[tuple[str, Any, list[Any]]] = []
         self.taken: set[str] = set()
         self.sleeps: set[int] = set()
@@ -81,7 +82,9 @@ class Host:
         for name in ("alloc_emergency_exception_buf", "opt_level", "mem_info", "kbd_intr"):
             setattr(plain, name, lambda *words: 0)
         clock = self.time_module()
-        sys.modules |= {"micropython": plain, "time": clock, "utime": clock}
+        sys.modules |= {"micropython": plain, "time": clock, "utime": clock, "_thread": thread_module(self.board)}
+        # CPython's own would wait in real time. None makes an import of it a fault of the file.
+        sys.modules |= {name: None for name in ("asyncio", "threading", "socket", "select")}  # type: ignore[dict-item]
         sys.modules |= {"machine": machine_module(self.board), "_rp2": rp2_module(self.board)}
         for name in ("array", "struct", "json", "os", "random", "collections", "binascii", "io", "math", "gc"):
             sys.modules["u" + name] = __import__(name)
@@ -160,16 +163,20 @@ class Host:
         self.board.recording.sleep()
 
     def trace(self, frame: Any, event: str, extra: Any) -> Any:
-        """Counts lines."""
-        self.lines += event == "line"
-        if self.lines > MOST_LINES:
-            raise Ended(f"{MOST_LINES} lines were run, the last one line {frame.f_lineno}")
+        """Counts lines, and in the file all steps, since a loop that is one line has no other event."""
+        frame.f_trace_opcodes = frame.f_code.co_filename == self.path
+        self.steps += event in ("line", "opcode")
+        if Ended.why and event == "line" and frame.f_code.co_filename == self.path:
+            raise Ended(Ended.why[0])
+        if self.steps > MOST_STEPS:
+            raise Ended(f"{MOST_STEPS} steps were run, the last in line {frame.f_lineno}")
         return self.trace
 
     def run(self, text: str) -> str:
         """Runs the program; why it ended."""
         # The board's own first file runs in the same names, and imports these.
         space = {"__name__": "__main__", "__file__": self.path, "machine": sys.modules["machine"], "rp2": sys.modules["rp2"]}
+        space["input"] = no_line
         said, sys.stdout = sys.stdout, Silent()
         try:
             code = compile(text, self.path, "exec")
@@ -182,11 +189,16 @@ class Host:
             return "the program exits"
         except Exception as fault:
             sys.settrace(None)
-            raise Fault(f"{self.path}: line {line_of(fault, self.path)}: {type(fault).__name__}: {fault}") from None
+            raise Fault(f"{self.path}: line {line_of(fault, self.path)}: {told_of(fault)}") from None
         finally:
             sys.settrace(None)
             sys.stdout = said
         return "the program ends"
+
+
+def no_line(*words: Any) -> str:
+    """`input`."""
+    raise Ended("input waits for a line")
 
 
 class Silent:
@@ -198,6 +210,13 @@ class Silent:
 
     def flush(self) -> None:
         """Nothing waits."""
+
+
+def told_of(fault: Exception) -> str:
+    """What a fault of the file is."""
+    if isinstance(fault, ModuleNotFoundError):
+        return f"ModuleNotFoundError: {fault.name} isn't here: give a copy that sets its machines up without it"
+    return f"{type(fault).__name__}: {fault}"
 
 
 def line_of(fault: Exception, path: str) -> int:
@@ -219,7 +238,7 @@ def program_of(name: str, emit: Any, program: list[Any]) -> Program:
     rule = {"side_bits": emit.sideset_count - opt, "side_opt": bool(opt), "side_pindirs": bool(control >> 29 & 1)}
     taken: set[str] = {name}
     labels = {symbol(label, taken, "label_"): place for label, place in emit.labels.items() if place < len(words)}
-    return Program(name, None, rule, (control >> 7 & 31, control >> 12 & 31), words, [], labels)
+    return Program(name, None, rule, (control >> 7 & 31, control >> 12 & 31), words, labels)
 
 
 def number_of(pin: Any) -> int | None:

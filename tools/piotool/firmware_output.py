@@ -53,7 +53,7 @@ def compared(setup: Setup, sources: Sources, wanted: Wanted) -> list[str]:
         lines += [front + line for line in differences(block, read_tables(path), sources, wanted.added)]
     source = own_source(setup)
     if source is not None:
-        beside = first.with_suffix(".pio")
+        beside = Path(f"{wanted.out}.pio")
         if not beside.is_file() or without_comments(read_text(beside)) != without_comments(source):
             lines += [f"source: {why}" for why in setup.wants_source]
     return lines
@@ -120,8 +120,7 @@ def is_foreign(path: Path) -> bool:
 
 def written(texts: Texts, wanted: Wanted) -> list[str]:
     """Writes the files; their names. A stimulus beside a kept configuration is left where somebody else wrote it."""
-    first = texts.configs[0][0]
-    base = first.with_name(first.name.removesuffix(".toml"))
+    base = Path(wanted.out)
     files = list(texts.configs)
     stimulus = base.with_name(base.name + ".stim")
     if texts.stimulus is not None and is_foreign(stimulus) and not wanted.keep:

@@ -19,6 +19,7 @@ class Recording:
     chip: Chip = field(default_factory=Chip)
     notes: list[str] = field(default_factory=list)
     end: str = ""
+    advice: str = ""  # what to do where no machine is enabled
 
     def write(self, address: int, value: int) -> None:
         """A write of 32 bits."""

@@ -256,4 +256,5 @@ def recorded(firmware: Firmware, entry: str, hertz: int, most: int) -> Recording
     if not run.why:
         run.call(first)
     recording.ended(run.why)
+    recording.advice = ": give more by --instructions" if run.done > most else ": name the function that enables one by --entry"
     return recording

@@ -68,7 +68,10 @@ def setup_of(recording: Recording, sources: Sources, options: Options) -> Setup:
     chip, setup = recording.chip, Setup([], recording.chip.clock, list(recording.notes))
     running = [block for block in chip.blocks if any(block.starts.values())]
     if not running:
-        raise Fault(f"no machine is enabled: {recording.end or 'the recording has no such write'}")
+        raise Fault(f"no machine is enabled: {recording.end or 'the recording has no such write'}{recording.advice}")
+    most = max(len(starts) for block in running for starts in block.starts.values())
+    if options.start is not None and options.start > most:
+        raise Fault(f"--start {options.start}: no machine is enabled so often, but {most} times at most")
     chosen = [{number: start_of(number, starts, options) for number, starts in block.starts.items() if starts} for block in running]
     for block, starts in zip(running, chosen):
         setup.blocks.append(block_setup(block, starts, sources, setup, options, len(running) > 1))
