@@ -116,7 +116,8 @@ def onewire(words: Namespace, data: bytes, time: Fraction) -> Waves:
         time += 510 * us
         if not words.no_presence:
             low(120 * us)
-        time += 450 * us
+        # After a reset the line is high for 480 us at least; a first slot at just that time is missed by some.
+        time += 480 * us
     for byte in data:
         for bit in bits_of(byte):
             low((6 if bit else 60) * us)
