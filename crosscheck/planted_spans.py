@@ -256,7 +256,27 @@ other:
     return source, config + "[pins]\nout = [0]\n" + pulse(10, 10)
 
 
+def millions_of_ticks(random):
+    """A pulse lasts for millions of ticks, in which two nested loops count down; it is longer than `max` by one: the run without a stimulus."""
+    turns, inner = random.randrange(200_000, 400_000), random.randrange(2, 8)
+    source = f"""
+.program q
+    set pins, 1
+outer:
+    set y, {inner}
+inner:
+    nop
+    jmp y-- inner
+    jmp x-- outer
+    set pins, 0
+end:
+    jmp end
+"""
+    ticks = 1 + (turns + 1) * (2 + 2 * (inner + 1))
+    return source, SETUP + f"x = {turns}\nset_count = 1\n[pins]\nout = [0]\n" + pulse(0, ticks - 1)
+
+
 KINDS = (
     secret_word, late_frame, pattern_of_pin, deep_fifo, full_fifo, counted_by_data, nested_loops,
-    flag_of_another, jump_by_data, run_by_data, slow_wait, written_by_another,
+    flag_of_another, jump_by_data, run_by_data, slow_wait, written_by_another, millions_of_ticks,
 )  # fmt: skip

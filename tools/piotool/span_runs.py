@@ -1,6 +1,6 @@
 """Runs of a block, also long ones, and whether a span holds in them, from the written rules (docs/SPECIFICATION.md).
 
-A run is the samples of clocks in which something may have changed. Clocks in which only delays, waits and turns of a counted loop go
+A run is the samples of clocks in which something may have changed. Clocks in which only delays, waits and turns of counted loops go
 on are leapt over.
 """
 
@@ -14,6 +14,7 @@ from piotool import trace_text
 from piotool.block_model import Block, Line, System, TickLog
 from piotool.machine_model import Machine, period_of
 from piotool.set_up import SetUp
+from piotool.turns import Turns
 
 
 @dataclass(frozen=True)
@@ -76,6 +77,7 @@ def run_of(
     samples: list[tuple[int, list[int]]] = []
     found = Run(clocks, samples, stepped.ticks)
     before = last = pads_of(stepped)  # the pads of two clocks ago, and of the one before
+    turns = Turns(stepped, own)
     clock = steps = 0
     while clock < clocks:
         if steps >= most_steps or steps % 256 == 0 and process_time() > until:
@@ -86,6 +88,7 @@ def run_of(
             found.marks.append(Mark(clock, (state_of(stepped, clock), before, last)))
         if marks:
             found.places.append((clock, {number: machine.pc for number, machine in stepped.machines.items()}))
+        turns.note(clock)
         stepped.begin(clock)
         now = pads_of(stepped)
         samples.append((clock, stepped.step(clock, before, now)))
@@ -95,7 +98,7 @@ def run_of(
         settled = pads_of(stepped)
         before = last if after == clock + 1 else now if after == clock + 2 else settled
         last = now if after == clock + 1 else settled
-        clock = after
+        clock = after if marks else turns.leap(after, (before, last), samples[-1][1], clocks)
     return found
 
 
