@@ -216,9 +216,10 @@ def of_device(words: argparse.Namespace) -> str:
     for pin, time, width in words.glitch:
         waves.glitch(next(iter(waves.start)) if pin is None else pin, time.clocks(words.mhz), width.clocks(words.mhz))
     lines, dropped = waves.lines()
+    text = text_of_pins(lines, waves.start, called())
     if dropped:
         print(f"piotool-stimulus: {dropped} pulses are shorter than a clock, and left out", file=sys.stderr)
-    return text_of_pins(lines, waves.start, called())
+    return text
 
 
 def of_frames(words: argparse.Namespace) -> str:
