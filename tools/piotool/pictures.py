@@ -1,12 +1,12 @@
-"""Draws pins over clocks as a picture (SVG): rows of levels, rows of spans, the clocks below. The same rows give the same picture."""
+"""Draws a trace as a picture (SVG): rows of levels and of numbers, rows of spans, the clocks below. The same rows give the same picture."""
 
 from dataclasses import dataclass, field
 from fractions import Fraction
 from itertools import accumulate, count
-from typing import Optional, Sequence
+from typing import Callable, Optional, Sequence
 
 from piotool.calls import Fault
-from piotool.traces import Bit, Trace, bits_named
+from piotool.traces import Bit, Trace, values_named
 
 # The width of all clocks at most, and that of one.
 MOST_WIDE, MOST_A_CLOCK = 880, 48
@@ -22,14 +22,19 @@ OUTSIDE, OUTSIDE_FILL = "#8c4a1f", "#f5e2d6"
 GOOD, BAND, BAD = "#1b6e37", "#bfe6c9", "#c62828"
 
 
+# How a number of a row is written.
+Writer = Callable[[int], str]
+
+
 @dataclass
 class Row:
-    """A row of the picture: a value, and the direction of its pin where it is a pin's level; or what the outside drives."""
+    """A row of the picture: a value, and the direction of its pin where it is a pin's level; or what the outside drives; or numbers."""
 
     name: str
     bit: Bit
     direction: Optional[Bit] = None
     is_input: bool = False
+    written: Optional[Writer] = None
 
 
 @dataclass
@@ -113,12 +118,29 @@ def direction_of(trace: Trace, name: str) -> Optional[Bit]:
     return trace.bits.get({"p": "d", "q": "e"}.get(name[0], "-") + name[1:])
 
 
-def rows_of(path: str, trace: Trace, names: Optional[str], first: int, last: int, others: Sequence[str] = ()) -> list[Row]:
-    """The rows: of these names, or of the pins that change, or of others where none does."""
+def row_of(trace: Trace, name: str, bit: Bit, writers: dict[str, Writer]) -> Row:
+    """The row of a value. A number without a writer is written by its digits, counts and levels in ten, all else in sixteen."""
+    if name in trace.bits:
+        return Row(name, bit, direction_of(trace, name), is_input=name[0] == "i")
+    is_count = name.endswith((".pc", "_count")) or name[0] in "tr"
+    return Row(name, bit, written=writers.get(name, str if is_count else hex))
+
+
+def inside_rows(trace: Trace) -> list[str]:
+    """What is shown of each machine whose inside is told: where it is, and whether it waits."""
+    return [f"{machine}.{name}" for machine in trace.machines for name in ("pc", "waits")]
+
+
+def rows_of(
+    path: str, trace: Trace, names: Optional[str], first: int, last: int, others: Sequence[str] = (), writers: Optional[dict[str, Writer]] = None
+) -> list[Row]:
+    """The rows: of these names, or of the pins that change and of what is inside, or of others where there is none."""
     if names:
-        return [Row(name, bit, direction_of(trace, name)) for name, bit in bits_named(path, trace, names).items()]
-    pins = [Row(name, bit, direction_of(trace, name)) for name, bit in trace.bits.items() if name[0] in "pq"]
+        return [row_of(trace, name, bit, writers or {}) for name, bit in values_named(path, trace, names).items()]
+    pins = [row_of(trace, name, bit, {}) for name, bit in trace.bits.items() if name[0] in "pq" and "." not in name]
     moved = [row for row in pins if row.bit.changes(first, last) or row.direction and row.direction.changes(first, last)]
+    if inside := inside_rows(trace):
+        moved += rows_of(path, trace, ",".join(inside), first, last, writers=writers)
     if not moved and others:
         return rows_of(path, trace, ",".join(dict.fromkeys(others)), first, last)
     if not moved:
@@ -150,8 +172,20 @@ def pieces_of(row: Row, first: int, last: int) -> list[tuple[float, float, int, 
     return [(start, end, row.bit.at(start), row.direction is None or row.direction.at(start) == 1) for start, end in pairs]
 
 
+def draw_numbers(sheet: Sheet, row: Row, top: int, written: Writer) -> None:
+    """A row of numbers: its name, and a box for each, with the number where it has room."""
+    sheet.text(MARGIN, top + LEVEL - 5, INK, row.name)
+    for start, end, number, _ in pieces_of(row, sheet.first, sheet.last):
+        left, width, text = sheet.x(start), (end - start) * sheet.scale, written(number)
+        sheet.put(f'<rect x="{at(left)}" y="{top}" width="{at(width)}" height="{LEVEL}" fill="none" stroke="{WAVE}"/>')
+        if width >= CHARACTER * len(text) + 2:
+            sheet.text(left + width / 2, top + LEVEL - 6, INK, text, ' text-anchor="middle"' + SMALL)
+
+
 def draw_row(sheet: Sheet, row: Row, top: int) -> None:
     """A row: its name, its high levels filled, its line; a change takes the line of the piece after it."""
+    if row.written:
+        return draw_numbers(sheet, row, top, row.written)
     low, high = top + LEVEL, top
     wave, fill = (OUTSIDE, OUTSIDE_FILL) if row.is_input else (WAVE, FILL)
     sheet.text(MARGIN, low - 5, INK, row.name)

@@ -1,4 +1,4 @@
-"""Reads the one-bit values of the traces that `piotool run` and `piotool pair` write."""
+"""Reads the values of the traces that `piotool run`, `piotool pair` and `piotool inspect` write."""
 
 import re
 from bisect import bisect_right
@@ -8,7 +8,9 @@ from pathlib import Path
 from piotool.calls import Fault, read_text
 
 VAR = re.compile(r"\$var wire ([0-9]+) (\S+) ([pdftrws])([0-9]+) \$end")
+INSIDE = re.compile(r"\$var wire ([0-9]+) (\S+) ([a-z_]+[0-9]*) \$end")
 WIDE = re.compile(r"b[01]+ \S+")
+SCOPE = re.compile(r"\$scope module (pio[01]?|pads|sm[0-3]) \$end")
 TIME = re.compile(r"#([0-9]{1,18})")
 # The second block's values have the same names as the first one's in a trace of `pair`; here they have these.
 SECOND = {"p": "q", "d": "e", "f": "g"}
@@ -16,7 +18,7 @@ SECOND = {"p": "q", "d": "e", "f": "g"}
 
 @dataclass
 class Bit:
-    """A value of one bit: the clocks in which the trace tells it, in order, and what it is from each of them on."""
+    """A value: the clocks in which the trace tells it, in order, and what it is from each of them on."""
 
     clocks: list[int] = field(default_factory=list)
     values: list[int] = field(default_factory=list)
@@ -42,18 +44,29 @@ class Bit:
 
 @dataclass
 class Trace:
-    """The one-bit values of a trace by name, in its order, and its number of clocks."""
+    """The one-bit values of a trace by name, in its order, its number of clocks, and its values of more bits.
+
+    What is inside a machine has names as sm0.pc and sm0.waits, and what is at the pads i0 to i31. Of two blocks the wide values are
+    the first one's.
+    """
 
     bits: dict[str, Bit]
     clocks: int
+    words: dict[str, Bit] = field(default_factory=dict)
+
+    @property
+    def machines(self) -> list[str]:
+        """The machines of which it tells what is inside: sm0 to sm3."""
+        return [name.removesuffix(".waits") for name in self.bits if name.endswith(".waits")]
 
 
 def read_trace(path: str | Path) -> Trace:
     """The trace in a file."""
     lines = read_text(path).splitlines()
-    bits, by_id, head = read_names(path, lines)
+    bits, words, by_id, head = read_names(path, lines)
     # What a line does to its value is looked up, since there may be millions.
-    moves = {f"{value}{name}": (bit.clocks.append, bit.values.append, value) for name, bit in by_id.items() for value in (0, 1)}
+    narrow = {name: bit for name, bit in by_id.items() if not name.startswith(" ")}
+    moves = {f"{value}{name}": (bit.clocks.append, bit.values.append, value) for name, bit in narrow.items() for value in (0, 1)}
     clock = 0
     for number, line in enumerate(lines[head:], head + 1):
         if line in moves:
@@ -64,11 +77,16 @@ def read_trace(path: str | Path) -> Trace:
             before, clock = clock, int(line[1:])
             if clock < before:
                 raise Fault(f"{path}: line {number}: clock {clock} comes after {before}")
-        elif line not in ("$dumpvars", "$end") and not WIDE.fullmatch(line):
+        elif WIDE.fullmatch(line):
+            digits, _, name = line.partition(" ")
+            if word := by_id.get(" " + name):
+                word.clocks.append(clock)
+                word.values.append(int(digits[1:], 2))
+        elif line not in ("$dumpvars", "$end"):
             raise Fault(f"{path}: line {number}: no line of a trace")
     if not TIME.fullmatch(lines[-1]):
         raise Fault(f"{path}: the trace is cut short: its last line has no clock")
-    return Trace(bits, clock)
+    return Trace(bits, clock, words)
 
 
 def read_values(text: str) -> dict[str, list[tuple[int, int]]]:
@@ -87,22 +105,33 @@ def read_values(text: str) -> dict[str, list[tuple[int, int]]]:
     return found
 
 
-def read_names(path: str | Path, lines: list[str]) -> tuple[dict[str, Bit], dict[str, Bit], int]:
-    """The one-bit values by name and by identifier, and how many lines the head has."""
+def read_names(path: str | Path, lines: list[str]) -> tuple[dict[str, Bit], dict[str, Bit], dict[str, Bit], int]:
+    """The one-bit values and the others by name; all by identifier, with a space before that of a wide one; the lines of the head."""
     bits: dict[str, Bit] = {}
+    words: dict[str, Bit] = {}
     by_id: dict[str, Bit] = {}
-    names: dict[str, str] = {}
+    scope = ""
     for number, line in enumerate(lines, 1):
-        if var := VAR.fullmatch(line):
+        if var := (INSIDE if scope == "pads" or scope.startswith("sm") else VAR).fullmatch(line):
+            name = name_in(scope, "".join(var.groups()[2:]))
             if var[1] == "1":
-                bits[names.get(var[3], var[3]) + var[4]] = by_id[var[2]] = Bit()
-        elif line.startswith("$scope module "):
-            names = SECOND if line.split()[2:3] == ["pio1"] else {}
+                bits[name] = by_id[var[2]] = Bit()
+            elif scope != "pio1":
+                words[name] = by_id[" " + var[2]] = Bit()
+        elif opened := SCOPE.fullmatch(line):
+            scope = opened[1]
         elif line == "$enddefinitions $end" and number < len(lines):
-            return bits, by_id, number
+            return bits, words, by_id, number
         elif line not in ("$timescale 1 ns $end", "$upscope $end"):
             break
     raise Fault(f"{path}: no trace that piotool writes")
+
+
+def name_in(scope: str, name: str) -> str:
+    """What a variable of a scope is called here."""
+    if scope == "pio1":
+        return SECOND.get(name[0], name[0]) + name[1:]
+    return f"{scope}.{name}" if scope.startswith("sm") else name
 
 
 def bits_named(path: str | Path, trace: Trace, names: str) -> dict[str, Bit]:
@@ -111,3 +140,12 @@ def bits_named(path: str | Path, trace: Trace, names: str) -> dict[str, Bit]:
         if name not in trace.bits:
             raise Fault(f"{path}: no value of one bit is called {name!r}")
     return {name: trace.bits[name] for name in names.split(",")}
+
+
+def values_named(path: str | Path, trace: Trace, names: str) -> dict[str, Bit]:
+    """The values of these names, of one bit or of more."""
+    values = trace.words | trace.bits
+    for name in names.split(","):
+        if name not in values:
+            raise Fault(f"{path}: no value is called {name!r}")
+    return {name: values[name] for name in names.split(",")}
