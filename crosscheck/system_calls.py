@@ -40,7 +40,7 @@ def noted(record: Record, line: str) -> None:
         record.files.append(name)
         if how != READ_ONLY:
             record.faults.append(f"opens {name} with {how}")
-        if record.reads.get(number, [0])[-1] != 0:
+        if number in record.reads and not is_read_once(record.reads[number]):
             record.faults.append(f"leaves a file before {name} unread")
         record.reads[number] = []
     elif moved := MOVED.match(line):
