@@ -2,7 +2,7 @@
 use Rattle.std.proofs.Common.{◌≡◌, ℕ, ◌<◌, ◌≤◌, ◌==◌, Bool, true, false, ◌||◌, ◌&&◌, Option, Some, None, List, [], ◌∷◌, ◌++◌, length, refl, sym, ap, subst, ◌∙◌, inl, inr, replicate, arith}
 use Rattle.std.specs.Prelude.{slice_index_or, slice_set, IfSome}
 use Rattle.std.specs.List.{AllByRecursion, list_any}
-use Rattle.std.proofs.lemmas.Bool.{cases_lt, cases_eq}
+use Rattle.std.proofs.lemmas.Bool.{cases_lt, cases_eq, or_parts, or_from}
 use Rattle.std.proofs.lemmas.Bool.Decides.{nat_tests}
 use Rattle.std.proofs.lemmas.List.{get_or-set_same, get_or-set_other, get_or-replicate}
 use Rattle.std.proofs.lemmas.List.Folds.{list_any-append}
@@ -23,10 +23,6 @@ none_later place clock last (l ∷ ls) lt h =
     let low = h.0 in
     let no : (l.clock == clock) ≡ false = grind (arith, nat_tests) in
     ap (λ (b : Bool). (b && is_place place (access_of l.act)) || list_any (is_access place clock) ls) no ∙ none_later place clock last ls lt h.1
-
-or_false : (a b : Bool) → (a || b) ≡ false → (a ≡ false) × (b ≡ false)
-or_false true b e = absurd (cc)
-or_false false b e = (refl, e)
 
 -- a place of a transfer is taken where the file has it
 pub transfer_taken : (o : Option ℕ) (machines : ℕ) (lines : List Line) (clock : ℕ) (transfers accesses : List Bool) → IsDraft machines lines clock transfers accesses → IfSome o (λ p. p < 16) → taken_at o transfers ≡ has_transfer o lines
@@ -113,21 +109,18 @@ access-cons : (o : Option ℕ) (c : ℕ) (k : Line) (ks : List Line) → has_acc
 access-cons None c k ks = refl
 access-cons (Some p) c k ks = sym (parts (is_access p c k) false (list_any (is_access p c) ks))
 
-both_false : (a b : Bool) → a ≡ false → b ≡ false → (a || b) ≡ false
-both_false a b p q = ap (λ (x : Bool). x || b) p ∙ q
-
 -- a line that crowds none of the lines may be after each
 precedes : (ls : List Line) (last : ℕ) (l : Line) → AllByRecursion (λ k. k.clock ≤ last) ls → last ≤ l.clock → is_crowded ls l ≡ false → AllByRecursion (λ k. MayPrecede k l) ls
 precedes [] last l h le e = tt
 precedes (k ∷ ks) last l h le e =
     let t = transfer_of l.act in
     let a = access_of l.act in
-    let both = or_false (has_transfer t (k ∷ ks)) (has_access a l.clock (k ∷ ks)) e in
-    let ts = or_false (has_transfer t (k ∷ [])) (has_transfer t ks) (sym (transfer-cons t k ks) ∙ both.0) in
-    let as' = or_false (has_access a l.clock (k ∷ [])) (has_access a l.clock ks) (sym (access-cons a l.clock k ks) ∙ both.1) in
+    let both = or_parts (has_transfer t (k ∷ ks)) (has_access a l.clock (k ∷ ks)) e in
+    let ts = or_parts (has_transfer t (k ∷ [])) (has_transfer t ks) (sym (transfer-cons t k ks) ∙ both.0) in
+    let as' = or_parts (has_access a l.clock (k ∷ [])) (has_access a l.clock ks) (sym (access-cons a l.clock k ks) ∙ both.1) in
     let low : k.clock ≤ last = h.0 in (
-      record { in_order = omega arith; apart = both_false _ _ ts.0 as'.0 },
-      precedes ks last l h.1 le (both_false _ _ ts.1 as'.1),
+      record { in_order = omega arith; apart = or_from _ _ ts.0 as'.0 },
+      precedes ks last l h.1 le (or_from _ _ ts.1 as'.1),
     )
 
 latest-moved : (ls : List Line) (last clock : ℕ) → last ≤ clock → AllByRecursion (λ k. k.clock ≤ last) ls → AllByRecursion (λ k. k.clock ≤ clock) ls

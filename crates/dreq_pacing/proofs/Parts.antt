@@ -1,22 +1,14 @@
 -- The fields of a line are parted at its first blank, newline or `#`.
-use Rattle.std.proofs.Common.{◌≡◌, refl, ℕ, true, false, List, [], ◌∷◌, ◌++◌, ◌+◌, ◌<◌, ◌≤◌, ◌==◌, ◌||◌, ◌⊎◌, suc, zero, inl, inr, cond, Bool, length, get_or, take, drop, sym, ap, subst, ◌∙◌, arith}
+use Rattle.std.proofs.Common.{◌≡◌, refl, ℕ, true, false, List, [], ◌∷◌, ◌++◌, ◌+◌, ◌<◌, ◌≤◌, ◌==◌, ◌||◌, suc, zero, inl, inr, cond, Bool, length, get_or, take, drop, sym, ap, subst, ◌∙◌, arith}
 use Rattle.std.specs.List.{filter, onto_first, AllByRecursion}
 use Rattle.std.proofs.lemmas.List.{at_drop_more, take-append-drop, take_all, take_more, append-nil, length-take}
-use Rattle.std.proofs.lemmas.Bool.{cases_eq}
+use Rattle.std.proofs.lemmas.Bool.{cases_eq, cases_Bool, or_parts}
 use Rattle.std.proofs.lemmas.Bool.Decides.{nat_tests}
 use Rattle.std.proofs.lemmas.List.Elements.{All-from_recursion}
 use Rattle.std.proofs.lemmas.List.Splits.{slice_split_none, slice_split_at, slice_split-cons_no, slice_split-cons_yes}
 use Rattle.byte_lines.specs.Bytes.{is_blank, newline}
 use Rattle.byte_lines.specs.Lines.{lines_of}
 use Rattle.dreq_pacing.specs.Fields.{Rest, before_comment, before_newline, ends_fields, fields_of, has_bytes, is_over, lines_after, no_fields, number_sign, starts_blank, parted, parts_fields, rest_of, with_field, with_part}
-
-bool_cases : (t : Bool) → (t ≡ true) ⊎ (t ≡ false)
-bool_cases true = inl refl
-bool_cases false = inr refl
-
-or_parts : (s t : Bool) → (s || t) ≡ false → (s ≡ false) × (t ≡ false)
-or_parts true t e = absurd (cc)
-or_parts false t e = (refl, e)
 
 -- no byte of it parts fields
 abbrev pub IsWord : List ℕ → Type 0
@@ -130,7 +122,7 @@ part_ended text i lt e h =
     let b = get_or text i 0 in
     let word = take i text in
     let after = drop (i + 1) text in
-    elim (bool_cases (is_blank b)) [
+    elim (cases_Bool (is_blank b)) [
       | inl found ↦ (
           ap rest_of (opened text i lt)
           ∙ (word-blank word b after h found
@@ -167,7 +159,7 @@ some_field b (part ∷ parts) = refl
 pub over_is : (text : List ℕ) → starts_blank text ≡ false → no_fields (rest_of text).fields ≡ is_over text
 over_is [] some = refl
 over_is (b ∷ bs) some =
-    elim (bool_cases (ends_fields b)) [
+    elim (cases_Bool (ends_fields b)) [
       | inl found ↦ (ap (λ (line : List ℕ). no_fields (parted line)) (over-none b bs found) ∙ sym found)
       | inr none ↦ (
           let word : parts_fields b ≡ false = ap (λ (t : Bool). t || ends_fields b) some ∙ none in
@@ -182,7 +174,7 @@ over_is (b ∷ bs) some =
 pub lines-opened : (text : List ℕ) → lines_of text ≡ before_newline text ∷ lines_after text
 lines-opened [] = refl
 lines-opened (b ∷ bs) =
-    elim (bool_cases (b == newline)) [
+    elim (cases_Bool (b == newline)) [
       | inl found ↦ (slice_split-cons_yes (λ c. c == newline) b bs found
           ∙ sym (ap (λ (t : Bool). cond t [] (b ∷ before_newline bs) ∷ cond t (lines_of bs) (lines_after bs)) found))
       | inr none ↦ (slice_split-cons_no (λ c. c == newline) b bs none

@@ -1,6 +1,7 @@
 -- Clocks without a line and without a move.
-use Rattle.std.proofs.Common.{◌≡◌, ℕ, zero, suc, ◌+◌, ◌-◌, ◌<◌, ◌≤◌, ◌||◌, Bool, true, false, cond, Option, Some, None, List, [], ◌∷◌, drop, refl, sym, ap, subst, ◌∙◌, arith, add-zero, add-suc, add-one}
+use Rattle.std.proofs.Common.{◌≡◌, ℕ, zero, suc, ◌+◌, ◌-◌, ◌<◌, ◌≤◌, ◌||◌, Bool, false, cond, Option, Some, None, List, [], ◌∷◌, drop, refl, sym, ap, subst, ◌∙◌, arith, add-zero, add-suc, add-one}
 use Rattle.std.specs.Prelude.{slice_get, slice_index_or}
+use Rattle.std.proofs.lemmas.Bool.{or_parts}
 use Rattle.dreq_pacing.specs.declared.line.Line.{Line}
 use Rattle.dreq_pacing.specs.declared.due.Requests.{Requests}
 use Rattle.dreq_pacing.specs.declared.transfer.Draining.{Draining}
@@ -10,10 +11,6 @@ use Rattle.dreq_pacing.specs.Due.{quiet, with_lines}
 use Rattle.dreq_pacing.specs.Transfers.{Feeding, Paced, Transfers, feed_moves, fed_word, fed, drain_moves, drained, moved}
 use Rattle.dreq_pacing.specs.Ports.{Ports, acts_in, asked, due_at, due_in, first_ports, transfers_after, transfers_at, moves, moves_in, with_moves, done_in, begun_all, moved_all}
 use Rattle.dreq_pacing.specs.Runs.{LeavesTransfers}
-
-or_false : (a b : Bool) → (a || b) ≡ false → (a ≡ false) × (b ≡ false)
-or_false true b e = absurd (cc)
-or_false false b e = (refl, e)
 
 no_lines : (ls : List Line) → has_lines ls ≡ false → ls ≡ []
 no_lines [] e = refl
@@ -40,7 +37,7 @@ moves_of clock tx rx p = record { word = fed_word clock tx p.feed; read = drain_
 
 still : (clock : ℕ) (tx rx : Bool) (p : Paced) → (feed_moves clock tx p.feed || drain_moves clock rx p.drain) ≡ false → (moved clock tx rx p ≡ p) × (moves_of clock tx rx p ≡ nothing)
 still clock tx rx p e =
-    let both = or_false (feed_moves clock tx p.feed) (drain_moves clock rx p.drain) e in
+    let both = or_parts (feed_moves clock tx p.feed) (drain_moves clock rx p.drain) e in
     let f = fed-still clock tx p.feed both.0 in
     let m : Feeding → Option Draining → Paced = λ x y. record { feed = x; drain = y } in
     let n : Option ℕ → Bool → Moved = λ x y. record { word = x; read = y } in (
@@ -75,9 +72,9 @@ same-four a b c d a' b' c' d' p q r s =
 still-all : (clock : ℕ) (requests : Requests) (t : Transfers) → moves_in clock requests t ≡ false → (done_in clock requests t quiet ≡ quiet) × (moved_all clock requests quiet t ≡ t)
 unfolding four
 still-all clock requests t e =
-    let a = or_false (moves 0 clock requests t.first) _ e in
-    let b = or_false (moves 1 clock requests t.second) _ a.1 in
-    let c = or_false (moves 2 clock requests t.third) (moves 3 clock requests t.fourth) b.1 in
+    let a = or_parts (moves 0 clock requests t.first) _ e in
+    let b = or_parts (moves 1 clock requests t.second) _ a.1 in
+    let c = or_parts (moves 2 clock requests t.third) (moves 3 clock requests t.fourth) b.1 in
     let p = still clock (slice_index_or requests.tx 0 false) (slice_index_or requests.rx 0 false) t.first a.0 in
     let q = still clock (slice_index_or requests.tx 1 false) (slice_index_or requests.rx 1 false) t.second b.0 in
     let r = still clock (slice_index_or requests.tx 2 false) (slice_index_or requests.rx 2 false) t.third c.0 in
@@ -87,14 +84,14 @@ still-all clock requests t e =
 pub quiet_due : (lines : List Line) (clock : ℕ) (requests : Requests) (t : Transfers) → acts_in lines clock requests t ≡ false → due_in lines clock requests t ≡ quiet
 unfolding acts_in due_in
 quiet_due lines clock requests t e =
-    let both = or_false (has_line clock lines) (moves_in clock requests t) e in
+    let both = or_parts (has_line clock lines) (moves_in clock requests t) e in
     ap (λ (ls : List Line). done_in clock requests (begun_all ls t) (with_lines ls quiet)) (no_lines (lines_in clock lines) both.0)
     ∙ (still-all clock requests t both.1).0
 
 pub quiet_transfers : (lines : List Line) (clock : ℕ) (requests : Requests) (t : Transfers) → acts_in lines clock requests t ≡ false → transfers_after lines clock requests t ≡ t
 unfolding acts_in transfers_after
 quiet_transfers lines clock requests t e =
-    let both = or_false (has_line clock lines) (moves_in clock requests t) e in
+    let both = or_parts (has_line clock lines) (moves_in clock requests t) e in
     ap (λ (ls : List Line). moved_all clock requests (with_lines ls quiet) (begun_all ls t)) (no_lines (lines_in clock lines) both.0)
     ∙ (still-all clock requests t both.1).1
 
