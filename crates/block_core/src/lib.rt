@@ -3,6 +3,7 @@
 
 mod block;
 mod following;
+mod inside;
 mod laws;
 mod leaps;
 mod merging;
@@ -19,6 +20,7 @@ pub use following::{
     a_block_sees_its_own_pads, a_pin_of_one_machine, each_place_goes_its_own_way,
     ticks_follow_the_divider_over_any_pads,
 };
+pub use inside::{Inside, MachineInside};
 pub use laws::{
     a_leap_shows_nothing_new, a_stimulus_is_a_system, clocks_are_counted,
     each_pin_gets_the_last_write, pads_are_seen_two_clocks_late, pads_change_until_seen,
