@@ -3,7 +3,9 @@ ghost use Rattle.std.specs.Prelude.{◌≡◌, ◌≤◌, List};
 ghost use Rattle.idle_engine.specs.OneInside.{one_inside};
 
 use crate::kind::Runs;
-use block_core::{Block, Inside, News, Sample, a_leap_changes_nothing_inside};
+use block_core::{
+    Block, Inside, News, Sample, a_leap_changes_nothing_inside, a_leap_shows_nothing_new,
+};
 use dreq_pacing::HostPorts;
 use fifo_pair::Fifo;
 use std::borrow::Cow;
@@ -67,9 +69,11 @@ impl<'a, F: Fifo> Runs<Inside, HostPorts<'a>> for Block<F> {
         <Self as Runs<Sample, HostPorts<'a>>>::moves_after(self, ports, most)
     }
 
-    #[inline(always)]
-    fn leap(&mut self, ports: &HostPorts<'a>, clock: u64, clocks: u64) {
+    #[cold]
+    #[inline(never)]
+    fn leap(&mut self, _ports: &HostPorts<'a>, _clock: u64, clocks: u64) {
+        a_leap_shows_nothing_new();
         a_leap_changes_nothing_inside();
-        <Self as Runs<Sample, HostPorts<'a>>>::leap(self, ports, clock, clocks);
+        Block::leap(self, clocks);
     }
 }
