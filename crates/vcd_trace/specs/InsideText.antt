@@ -21,7 +21,7 @@ unfoldable pub pad_variables : List Variable
 pad_variables = numbered letter_i 1 0 32
 
 -- a variable of this name and width
-abbrev named : List ℕ → ℕ → Variable
+abbrev pub named : List ℕ → ℕ → Variable
 named name width = record { name = name; width = width }
 
 -- What is inside a machine, in the order of its values (RP2040 Datasheet, section 3.2): the address and the word that it is at, its
@@ -58,7 +58,7 @@ first_of_machine place = first_pad + 32 + 10 * place
 
 -- a scope of this first line with these variables (IEEE 1364-2005, section 18.2.3.4), whose identifiers count on from one
 abbrev pub scope_of : List ℕ → ℕ → List Variable → List ℕ
-scope_of opening id declared = opening ++ declarations id declared ++ codes "$upscope $end\n"
+scope_of opening id those = opening ++ declarations id those ++ codes "$upscope $end\n"
 
 -- the scope of the pads
 abbrev pub pads_scope : List ℕ

@@ -9,4 +9,5 @@ pub mod Shows
 pub mod Groups
 pub use Rattle.sample_trace.specs.Edges
 pub mod ClockText
+pub mod InsideGroups
 pub mod InsideTold
