@@ -36,11 +36,7 @@ pub(crate) fn put_twin_dump<S: Sink>(
 }
 
 /// The values of variables whose numbers are so much greater.
-pub(crate) fn put_values<S: Sink>(
-    sink: &mut S,
-    more: u8,
-    sample: &Sample,
-) -> Result<(), SinkFailed>
+pub(crate) fn put_values<S: Sink>(sink: &mut S, more: u8, sample: &Sample) -> Result<(), SinkFailed>
     requires { more ≤ 128 }
     ensures bytes { Takes (S.taken sink.old) (values_over more sample.now) (S.taken sink.new) result }
     ensures cause { PutCounts (S.faults sink.old) (S.faults sink.new) result }

@@ -78,11 +78,7 @@ pub(crate) fn put_twin_header<S: Sink>(sink: &mut S) -> Result<(), SinkFailed>
 }
 
 /// A scope that begins with this line, whose variables have numbers so much greater.
-pub(crate) fn put_scope<S: Sink>(
-    sink: &mut S,
-    opening: &[u8],
-    more: u8,
-) -> Result<(), SinkFailed>
+pub(crate) fn put_scope<S: Sink>(sink: &mut S, opening: &[u8], more: u8) -> Result<(), SinkFailed>
     requires { more ≤ 128 }
     ensures bytes { Takes (S.taken sink.old) (scope_text opening.now more) (S.taken sink.new) result }
     ensures cause { PutCounts (S.faults sink.old) (S.faults sink.new) result }
@@ -107,11 +103,7 @@ fn put_declarations<S: Sink>(sink: &mut S, first: u8) -> Result<(), SinkFailed>
 }
 
 /// The declarations of a group, whose identifiers count on from one.
-pub(crate) fn put_group<S: Sink>(
-    sink: &mut S,
-    first: u8,
-    group: Group,
-) -> Result<(), SinkFailed>
+pub(crate) fn put_group<S: Sink>(sink: &mut S, first: u8, group: Group) -> Result<(), SinkFailed>
     requires ids { first + group.count ≤ 255 }
     requires letter { group.letter < 128 }
     ensures bytes { Takes (S.taken sink.old)
