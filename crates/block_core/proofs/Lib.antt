@@ -18,4 +18,6 @@ pub mod SimpleClocks
 pub mod Simple
 pub mod Rows
 pub mod TwinRows
+pub mod InsideRows
+pub mod Insides
 pub mod Showing

@@ -61,7 +61,7 @@ plain = record {
 }
 
 -- the same over two words, with OUT on pin 0 and autopull
-abbrev pulling : MachineSetup
+abbrev pub pulling : MachineSetup
 pulling = record plain {
   wrap_top = 1;
   wrap_top_in_memory = omega arith;
@@ -70,7 +70,7 @@ pulling = record plain {
 }
 
 -- it alone, over this memory, with these outputs
-abbrev run : (machine : MachineSetup) → (memory : List ℕ) → (out : ℕ) → Run
+abbrev pub run : (machine : MachineSetup) → (memory : List ℕ) → (out : ℕ) → Run
 run machine memory out = record {
   memory = memory;
   clock = 0;

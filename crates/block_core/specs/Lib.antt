@@ -12,3 +12,4 @@ pub mod Stirring
 pub mod Leaps
 pub mod Twin
 pub mod HostedTwin
+pub mod Inside

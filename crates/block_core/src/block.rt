@@ -3,11 +3,13 @@ ghost use Rattle.std.specs.Prelude.{◌≡◌, ℕ, ◌<◌, ◌≤◌, ◌^◌,
 ghost use Rattle.dreq_pacing.specs.Due.{quiet};
 ghost use Rattle.dreq_pacing.specs.Ports.{IsFirst};
 ghost use Rattle.block_core.specs.Block.{first_run, next, pads_in, run_from, wanted_in, uses_fifos_in, level_writes, direction_writes, TakesLastWrites};
+ghost use Rattle.block_core.specs.Inside.{inside_of};
 ghost use Rattle.block_core.specs.Leaps.{leapt};
 ghost use Rattle.block_core.specs.Shown.{sample_of, requests_of, moved_of};
 ghost use Rattle.block_core.specs.Stirring.{moves_on, begins_or_changes};
 
 use crate::Sample;
+use crate::inside::Inside;
 use crate::news::News;
 use crate::running::Running;
 use dreq_pacing::{Due, Requests};
@@ -152,6 +154,14 @@ impl<F: Fifo> Block<F> {
         ensures { result.now ≡ sample_of self.now.run.state }
     {
         self.running.view()
+    }
+
+    /// What is inside the block after the last clock, with the pads of that clock; or what a run begins with.
+    #[inline(always)]
+    pub fn inside(&self) -> Inside
+        ensures { result ≡ inside_of self.now.run }
+    {
+        self.running.inside()
     }
 
     /// How many words paced transfers have moved into a machine's TX and out of its RX; none of a machine that isn't

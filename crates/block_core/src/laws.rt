@@ -15,6 +15,7 @@ ghost use Rattle.block_core.specs.Block.{BlockState, Run, next, run_at, run_from
 ghost use Rattle.block_core.specs.History.{pad_at, last_pad, pad_before, Ticks, OfEach};
 ghost use Rattle.block_core.specs.Slots.{Slot, lined, has_tick, slot_after, slot_intent};
 ghost use Rattle.block_core.specs.Hosted.{hosted_at, host_of, asked_at};
+ghost use Rattle.block_core.specs.Inside.{inside_of, is_of_an_instruction, machine_inside};
 ghost use Rattle.block_core.specs.Leaps.{leapt};
 ghost use Rattle.block_core.specs.Shown.{requests_of, sample_of};
 ghost use Rattle.block_core.specs.Stirring.{pads_change, moves_on, begins_or_changes};
@@ -124,4 +125,24 @@ pub fn what_begins_moves_on()
 pub fn a_leap_shows_nothing_new()
     ensures requests { (r : Run) (n : ℕ) → requests_of (leapt n r).state ≡ requests_of r.state }
     ensures sample { (r : Run) (n : ℕ) → sample_of (leapt n r).state ≡ sample_of r.state }
+{}
+
+/// Nor is anything else inside: each register is what it was, and no delay's count is seen.
+pub fn a_leap_changes_nothing_inside()
+    ensures { (r : Run) (n : ℕ) → inside_of (leapt n r) ≡ inside_of r }
+{}
+
+/// The pads that are inside after a clock are those of the clock, by its history: a machine that bypasses the synchroniser of a pin
+/// saw them in it, and the others see them two clocks later.
+pub fn pads_inside_are_the_clocks_own()
+    ensures { (s : Setup) (host : ℕ → Due) (clock : ℕ) →
+        (inside_of (run_at s host (suc clock))).pads ≡ pad_at s host clock }
+{}
+
+/// Where a machine has a tick of an instruction, it waits after the clock exactly where the instruction stalls in it; without a tick,
+/// and in a delay, it waits where it waited before.
+pub fn a_machine_waits_where_it_stalls()
+    ensures { (memory : List ℕ) (v : View) (d : Due) (s : Slot) →
+        (machine_inside memory (slot_after v d s)).waits
+        ≡ (if is_of_an_instruction (slot_intent v d s).kind then (slot_intent v d s).stalled else (machine_inside memory s).waits) }
 {}

@@ -1,6 +1,7 @@
 //! A place of a block: its machine, where one is configured.
 ghost use Rattle.std.specs.Prelude.{◌≡◌, ◌<◌, ◌||◌, true, false, Some, is_some, option_map, IfOk};
 ghost use Rattle.sm_registers.specs.Intents.{no_wants, wants_of, written_by};
+ghost use Rattle.block_core.specs.Inside.{machine_inside};
 ghost use Rattle.block_core.specs.Kept.{IsInTime};
 ghost use Rattle.block_core.specs.Kept as kept;
 ghost use Rattle.block_core.specs.Merging.{with_intent};
@@ -10,6 +11,7 @@ ghost use Rattle.block_core.specs.Slots as spec;
 ghost use Rattle.block_core.specs.Slots.{doing, first_slot, has_tick, is_simple, place_after, place_intent, place_uses_fifos, slot_after, slot_intent, slot_uses_fifos};
 
 use crate::Sample;
+use crate::inside::MachineInside;
 use crate::merging::Wanted;
 use crate::slot::Slot;
 use dreq_pacing::Due;
@@ -195,6 +197,17 @@ pub(crate) fn shown<F: Fifo>(slot: &Option<Slot<F>>) -> Shown
             got: 0,
             sticky: 0,
         },
+    }
+}
+
+/// What is inside the machine of a place, over this memory.
+#[inline(always)]
+pub(crate) fn inside<F: Fifo>(slot: &Option<Slot<F>>, memory: &[u16; 32]) -> Option<MachineInside>
+    ensures { result ≡ option_map (machine_inside memory.now) slot.now }
+{
+    match slot {
+        Some(slot) => Some(slot.inside(memory)),
+        None => None,
     }
 }
 

@@ -5,6 +5,7 @@ ghost use Rattle.dreq_pacing.specs.Due.{quiet};
 ghost use Rattle.dreq_pacing.specs.Ports.{IsFirst};
 ghost use Rattle.block_core.specs.Block.{first_run_over, next_over, pads_in, wanted_over, uses_fifos_over, level_writes, direction_writes, TakesLastWrites};
 ghost use Rattle.block_core.specs.Block as spec;
+ghost use Rattle.block_core.specs.Inside.{inside_of};
 ghost use Rattle.block_core.specs.Kept.{AreTold, is_simple_over};
 ghost use Rattle.block_core.specs.Leaps.{leapt};
 ghost use Rattle.block_core.specs.Shown.{sample_of, requests_of, moved_of};
@@ -13,10 +14,11 @@ ghost use Rattle.block_core.specs.Stirring.{machines_stir_over, pads_change_over
 ghost use Rattle.block_core.specs.Stirring as spec_stirring;
 
 use crate::Sample;
+use crate::inside::Inside;
 use crate::leaps::{begins_now, leap, sooner};
 use crate::merging::{Wanted, outside_after};
 use crate::news::News;
-use crate::place::{are_empty, moved, shown, simple_step, slot_of, step};
+use crate::place::{are_empty, inside, moved, shown, simple_step, slot_of, step};
 use crate::slot::Slot;
 use dreq_pacing::{Due, Requests};
 use fifo_pair::{Fifo, a_quiet_clock_changes_nothing};
@@ -343,6 +345,25 @@ impl<F: Fifo> Running<F> {
         ensures { result.now ≡ sample_of self.now.state }
     {
         &self.sample
+    }
+
+    /// What is inside it after the last clock, or what a run begins with.
+    #[inline(always)]
+    #[tactic(auto, unfolding(crate::specs::Inside::inside_of))]
+    pub fn inside(&self) -> Inside
+        ensures { result ≡ inside_of self.now }
+    {
+        let memory = &self.shared.memory;
+        Inside {
+            sample: self.sample,
+            pads: self.shared.sync.last_pad(),
+            machines: [
+                inside(&self.first, memory),
+                inside(&self.second, memory),
+                inside(&self.third, memory),
+                inside(&self.fourth, memory),
+            ],
+        }
     }
 
     /// How many words paced transfers have moved into a machine's TX and out of its RX.

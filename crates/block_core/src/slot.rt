@@ -5,11 +5,13 @@ ghost use Rattle.sm_registers.specs.Intents.{no_wants, wants_of, written_by};
 ghost use Rattle.sm_registers.specs.State as spec_shown;
 ghost use Rattle.dreq_pacing.specs.Due.{quiet};
 ghost use Rattle.dreq_pacing.specs.Ports.{IsFirst};
+ghost use Rattle.block_core.specs.Inside.{machine_inside};
 ghost use Rattle.block_core.specs.Leaps.{leapt_slot, stirs_after};
 ghost use Rattle.block_core.specs.Stirring.{begins_now};
 ghost use Rattle.block_core.specs.Slots as spec;
 ghost use Rattle.block_core.specs.Slots.{lined, acted, settled_slot, slot_after, slot_intent, slot_uses_fifos, used_by};
 
+use crate::inside::{MachineInside, word_at};
 use clock_divider::Divider;
 use dreq_pacing::Due;
 use fifo_pair::{Fifo, a_quiet_clock_changes_nothing};
@@ -256,6 +258,27 @@ impl<F: Fifo> Slot<F> {
         ensures { result ≡ spec_shown.shown_of self.now.machine.ports }
     {
         self.machine.shown()
+    }
+
+    /// What is inside it, over this memory.
+    #[inline(always)]
+    #[tactic(auto, unfolding(crate::specs::Inside::machine_inside))]
+    pub fn inside(&self, memory: &[u16; 32]) -> MachineInside
+        ensures { result ≡ machine_inside memory.now self.now }
+    {
+        let registers = self.machine.registers();
+        MachineInside {
+            pc: registers.pc,
+            instruction: word_at(registers, memory),
+            x: registers.x,
+            y: registers.y,
+            isr: registers.isr,
+            osr: registers.osr,
+            isr_count: registers.in_count,
+            osr_count: registers.out_count,
+            waits: registers.begun,
+            enabled: self.enabled,
+        }
     }
 
     /// How many words transfers moved into its TX and out of its RX.

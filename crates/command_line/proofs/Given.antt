@@ -12,7 +12,7 @@ use Rattle.clap.proofs.OnLiterals.{clap_on_literals}
 use Rattle.clap.proofs.WalkLemmas.{both}
 use Rattle.command_line.specs.Given.{GivesNumber, GivesText, GivesWord, IsGiven, TakenWords}
 use Rattle.command_line.specs.Laws.{number_of}
-use Rattle.command_line.specs.Tool.{bit_limit, clock_limit, divider_limit, least_bit, least_divider, pin_limit, seed_limit, side_limit, tool, asm_app, run_app, dis_app, check_app, gen_app, table_app, recheck_app, shares_app, measure_app, receive_app, uart_app, pair_app}
+use Rattle.command_line.specs.Tool.{bit_limit, clock_limit, divider_limit, least_bit, least_divider, pin_limit, seed_limit, side_limit, tool, asm_app, run_app, dis_app, check_app, gen_app, table_app, recheck_app, shares_app, measure_app, receive_app, uart_app, pair_app, inspect_app}
 use Rattle.command_line.specs.Words.{Asked, asked_of, number_at, number_in, subcommand_asked, text_at}
 use Rattle.command_line.proofs.Usual.{in_range}
 use Rattle.command_line.proofs.Spelled.{alone_text, attached_text}
@@ -362,13 +362,26 @@ pair_in = given_in (below_tool pair_app) refl (λ words rows g. (
   number_part _ words refl rows g (codes "clocks") clock_limit refl refl refl (λ v e. only _ e),
 ))
 
+inspect_in : IsGivenIn (below_tool inspect_app)
+unfolding clap_on_literals tool
+inspect_in = given_in (below_tool inspect_app) refl (λ words rows g. (
+  record {
+    programs = record {
+      program = text_part _ words refl rows g (codes "source") refl refl refl;
+      setup = option_part _ words refl rows g (codes "config") refl refl;
+    };
+    lines = option_part _ words refl rows g (codes "stimulus") refl refl;
+  },
+  number_part _ words refl rows g (codes "clocks") clock_limit refl refl refl (λ v e. only _ e),
+))
+
 help_in : IsGivenIn (built_leaf help_shape)
 unfolding clap_on_literals tool
 help_in words name before rest answers help beside e = absurd (not_help name answers help)
 
 each_in : AllByRecursion IsGivenIn (built tool).subs
 unfolding clap_on_literals tool
-each_in = (asm_in, (run_in, (dis_in, (check_in, (gen_in, (table_in, (recheck_in, (shares_in, (measure_in, (receive_in, (uart_in, (pair_in, (help_in, tt)))))))))))))
+each_in = (asm_in, (run_in, (dis_in, (check_in, (gen_in, (table_in, (recheck_in, (shares_in, (measure_in, (receive_in, (uart_in, (pair_in, (inspect_in, (help_in, tt))))))))))))))
 
 -- ---- all words
 

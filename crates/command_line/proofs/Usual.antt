@@ -13,8 +13,8 @@ use Rattle.clap.specs.declared.error.kind.ErrorKind.TheVariants as kind
 use Rattle.clap.proofs.OnLiterals.{clap_on_literals}
 use Rattle.clap.proofs.WalkLemmas.{both}
 use Rattle.command_line.specs.Tool.{bit_limit, clock_limit, divider_limit, least_bit, least_divider, pin_limit, seed_limit, side_limit, tool}
-use Rattle.command_line.specs.Words.{Asked, WordsAreTaken, asm, run, check, table, recheck, shares, gen, dis, measure, receive, uart, pair, asked_of, number_in, has_no_room}
-use Rattle.command_line.specs.Laws.{number_of, asm_words, run_words, check_words, table_words, recheck_words, shares_words, gen_words, dis_words, measure_words, receive_words, uart_words, pair_words, AskWhere, AsmWords, RunWords, CheckWords, TableWords, RecheckWords, SharesWords, GenWords, DisWords, MeasureWords, ReceiveWords, UartWords, PairWords}
+use Rattle.command_line.specs.Words.{Asked, WordsAreTaken, asm, run, check, table, recheck, shares, gen, dis, measure, receive, uart, pair, inspect, asked_of, number_in, has_no_room}
+use Rattle.command_line.specs.Laws.{number_of, asm_words, run_words, check_words, table_words, recheck_words, shares_words, gen_words, dis_words, measure_words, receive_words, uart_words, pair_words, inspect_words, AskWhere, AsmWords, RunWords, CheckWords, TableWords, RecheckWords, SharesWords, GenWords, DisWords, MeasureWords, ReceiveWords, UartWords, PairWords, InspectWords}
 
 -- ---- a number in range
 
@@ -463,3 +463,46 @@ pair_words_law name source config second stimulus clocks = go (is_unsigned_in 0 
         let takes = pair_takes name source config second stimulus clocks e in
         (taken_by _ _ takes asked refl, record { taken = pair_fault name source config second stimulus clocks true e; asked = asked })
     go false e = inl (not_empty _ (pair_fault name source config second stimulus clocks false e))
+
+-- ---- inspect
+
+inspect_asks : (name source : Text) (config stimulus : Option Text) (clocks : Text)
+    → asked_of (inspect_words name source config stimulus clocks) ≡ Some (inspect source config stimulus (min (number_in clocks) clock_limit))
+unfolding clap_on_literals tool asked_of
+inspect_asks name source None None clocks = refl
+inspect_asks name source None (Some stimulus) clocks = refl
+inspect_asks name source (Some config) None clocks = refl
+inspect_asks name source (Some config) (Some stimulus) clocks = refl
+
+inspect_takes : (name source : Text) (config stimulus : Option Text) (clocks : Text) → is_unsigned_in 0 clock_limit clocks ≡ true
+    → takes tool (inspect_words name source config stimulus clocks) ≡ true
+unfolding clap_on_literals tool
+inspect_takes name source None None clocks e = with_the_others _ e
+inspect_takes name source None (Some stimulus) clocks e = with_the_others _ e
+inspect_takes name source (Some config) None clocks e = with_the_others _ e
+inspect_takes name source (Some config) (Some stimulus) clocks e = with_the_others _ e
+
+inspect_computes : (name source : Text) (config stimulus : Option Text) (clocks : Text)
+    → fault_of tool (inspect_words name source config stimulus clocks) ≡ within 5 (fault_where (is_unsigned_in 0 clock_limit clocks))
+unfolding clap_on_literals tool within
+inspect_computes name source None None clocks = refl
+inspect_computes name source None (Some stimulus) clocks = refl
+inspect_computes name source (Some config) None clocks = refl
+inspect_computes name source (Some config) (Some stimulus) clocks = refl
+
+inspect_fault : (name source : Text) (config stimulus : Option Text) (clocks : Text) (b : Bool) → is_unsigned_in 0 clock_limit clocks ≡ b
+    → fault_of tool (inspect_words name source config stimulus clocks) ≡ fault_where b
+inspect_fault name source config stimulus clocks b e =
+    inspect_computes name source config stimulus clocks ∙ within_is 5 _ ∙ ap fault_where e
+
+pub inspect_words_law : InspectWords
+inspect_words_law name source config stimulus clocks = go (is_unsigned_in 0 clock_limit clocks) refl
+  where
+    go : (b : Bool) → is_unsigned_in 0 clock_limit clocks ≡ b
+        → AskWhere b (inspect_words name source config stimulus clocks) (inspect source config stimulus (number_of clocks))
+    go true e =
+        let asked = inspect_asks name source config stimulus clocks
+        ∙ ap (λ n. Some (inspect source config stimulus n)) (range_read clock_limit clocks e) in
+        let takes = inspect_takes name source config stimulus clocks e in
+        (taken_by _ _ takes asked refl, record { taken = inspect_fault name source config stimulus clocks true e; asked = asked })
+    go false e = inl (not_empty _ (inspect_fault name source config stimulus clocks false e))

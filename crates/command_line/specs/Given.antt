@@ -6,7 +6,7 @@ use Rattle.std.specs.Prelude.{◌≡◌, ◌⊎◌, ◌++◌, ℕ, true, Option,
 use Rattle.clap.specs.ValueTests.{is_unsigned_in}
 use Rattle.clap.specs.Walk.{Text}
 use Rattle.command_line.specs.Tool.{bit_limit, clock_limit, divider_limit, least_bit, least_divider, pin_limit, seed_limit, side_limit}
-use Rattle.command_line.specs.Words.{Asked, Asks, asm, check, dis, gen, measure, pair, receive, recheck, run, shares, table, uart}
+use Rattle.command_line.specs.Words.{Asked, Asks, asm, check, dis, gen, inspect, measure, pair, receive, recheck, run, shares, table, uart}
 use Rattle.command_line.specs.Laws.{number_of}
 
 -- the second of these two words comes right after the first
@@ -73,6 +73,7 @@ IsGiven words (uart send divider clocks) =
     GivesText words (codes "send") send × GivesNumber words (codes "divider") least_divider divider_limit divider × GivesClocks words clocks
 IsGiven words (pair source config second stimulus clocks) =
     GivesFiles words source (Some config) stimulus × GivesText words (codes "second") second × GivesClocks words clocks
+IsGiven words (inspect source config stimulus clocks) = GivesFiles words source config stimulus × GivesClocks words clocks
 
 -- whatever words `tool` takes, what they ask for is given
 abbrev pub TakenWords : Type 0

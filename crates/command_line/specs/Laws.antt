@@ -4,7 +4,7 @@ use Rattle.std.specs.Str.Parse.{digits_value, without_leading_plus}
 use Rattle.clap.specs.ValueTests.{is_unsigned_in}
 use Rattle.clap.specs.Walk.{Text}
 use Rattle.command_line.specs.Tool.{bit_limit, clock_limit, divider_limit, least_bit, least_divider, pin_limit, seed_limit, side_limit}
-use Rattle.command_line.specs.Words.{Asked, Asks, WordsAreRefused, WordsAreTaken, asm, check, dis, gen, measure, pair, receive, recheck, run, shares, table, uart}
+use Rattle.command_line.specs.Words.{Asked, Asks, WordsAreRefused, WordsAreTaken, asm, check, dis, gen, inspect, measure, pair, receive, recheck, run, shares, table, uart}
 
 -- the number of decimal digits, where a plus may come first
 abbrev pub number_of : Text → ℕ
@@ -142,6 +142,19 @@ abbrev pub PairWords : Type 0
 PairWords = (name source config second : Text) (stimulus : Option Text) (clocks : Text)
     → AskWhere (is_unsigned_in 0 clock_limit clocks) (pair_words name source config second stimulus clocks)
     (pair source config second stimulus (number_of clocks))
+
+-- `inspect --source=S [--config=C] [--stimulus=T] --clocks=N`, of a program of any name
+abbrev pub inspect_words : Text → Text → Option Text → Option Text → Text → List Text
+inspect_words name source config stimulus clocks =
+    name ∷ codes "inspect" ∷ (codes "--source=" ++ source) ∷ (given (codes "--config=") config
+    ++ given (codes "--stimulus=") stimulus ++ (codes "--clocks=" ++ clocks) ∷ [])
+
+-- they ask for what is inside the block in N clocks of S under C and T, exactly where N is a whole number in range, whatever S, C and T
+-- are
+abbrev pub InspectWords : Type 0
+InspectWords = (name source : Text) (config stimulus : Option Text) (clocks : Text)
+    → AskWhere (is_unsigned_in 0 clock_limit clocks) (inspect_words name source config stimulus clocks)
+    (inspect source config stimulus (number_of clocks))
 
 -- the digit `0`; the others follow it
 abbrev pub digit_0 : ℕ

@@ -175,6 +175,10 @@ uart_app = subcommand (codes "uart") (send_rule ∷ divider_rule ∷ clocks_rule
 unfoldable pub pair_app : App
 pair_app = subcommand (codes "pair") (source_rule ∷ needed_config_rule ∷ second_rule ∷ stimulus_rule ∷ clocks_rule ∷ [])
 
+-- `inspect --source S [--config C] [--stimulus T] --clocks N`
+unfoldable pub inspect_app : App
+inspect_app = subcommand (codes "inspect") (source_rule ∷ config_rule ∷ stimulus_rule ∷ clocks_rule ∷ [])
+
 -- `piotool` with no arguments of its own, which wants a subcommand
 unfoldable pub bare_app : App
 bare_app = record (new_app (codes "piotool")) {
@@ -183,6 +187,6 @@ bare_app = record (new_app (codes "piotool")) {
 
 -- `piotool` with its subcommands; who unfolds it unfolds all that it is made of
 unfoldable pub tool : App
-unfolding taking offering bare_app asm_app run_app dis_app check_app gen_app table_app recheck_app shares_app measure_app receive_app uart_app pair_app file_rule source_rule needed_config_rule config_rule second_rule stimulus_rule clocks_rule seed_rule span_rule table_rule pin_rule bit_rule send_rule divider_rule side_rule opt_rule
+unfolding taking offering bare_app asm_app run_app dis_app check_app gen_app table_app recheck_app shares_app measure_app receive_app uart_app pair_app inspect_app file_rule source_rule needed_config_rule config_rule second_rule stimulus_rule clocks_rule seed_rule span_rule table_rule pin_rule bit_rule send_rule divider_rule side_rule opt_rule
 tool = fold offering bare_app (asm_app ∷ run_app ∷ dis_app ∷ check_app ∷ gen_app ∷ table_app ∷ recheck_app ∷ shares_app
-    ∷ measure_app ∷ receive_app ∷ uart_app ∷ pair_app ∷ [])
+    ∷ measure_app ∷ receive_app ∷ uart_app ∷ pair_app ∷ inspect_app ∷ [])

@@ -11,14 +11,14 @@ use Rattle.clap.specs.Takes.{takes}
 use Rattle.clap.specs.Faults.{fault_of}
 use Rattle.command_line.specs.Tool.{bit_limit, clock_limit, divider_limit, least_bit, least_divider, pin_limit, seed_limit, side_limit, tool}
 use Rattle.command_line.specs.declared.order.Order.{Order}
-use Rattle.command_line.specs.declared.order.Order.TheVariants.{Asm, Run, Check, Table, Recheck, Shares, Gen, Dis, Measure, Receive, Uart, Pair}
+use Rattle.command_line.specs.declared.order.Order.TheVariants.{Asm, Run, Check, Table, Recheck, Shares, Gen, Dis, Measure, Receive, Uart, Pair, Inspect}
 use Rattle.command_line.specs.declared.order.WordsFault.{WordsFault}
 use Rattle.command_line.specs.declared.order.WordsFault.TheVariants.{Usage, Memory}
 
 -- a subcommand with its arguments: file; source, configuration and stimulus if there are some, and clocks; source, and
 -- configuration if there is one; the same with a span's name, and then with a table; seed and clocks; file, side-set bits and whether
 -- their value is optional; the arguments of `run`, alone or with a pin and the clocks of a bit; a file of bytes, a
--- divider and clocks; and source, two configurations, stimulus if there is one, and clocks
+-- divider and clocks; source, two configurations, stimulus if there is one, and clocks; and the arguments of `run` again
 pub data Asked : Type 0 where
   asm : Text → Asked
   run : Text → Option Text → Option Text → ℕ → Asked
@@ -32,6 +32,7 @@ pub data Asked : Type 0 where
   receive : Text → Option Text → Option Text → ℕ → ℕ → ℕ → Asked
   uart : Text → ℕ → ℕ → Asked
   pair : Text → Text → Text → Option Text → ℕ → Asked
+  inspect : Text → Option Text → Option Text → ℕ → Asked
 
 -- what an order asks for
 abbrev pub asked_by : Order → Asked
@@ -50,6 +51,8 @@ asked_by (Receive files clocks line) =
 asked_by (Uart send divider clocks) = uart send.now divider clocks
 asked_by (Pair files clocks) =
     pair files.source.now files.config.now files.second.now (option_map (λ t. t.now) files.stimulus) clocks
+asked_by (Inspect files clocks) =
+    inspect files.source.now (option_map (λ t. t.now) files.config) (option_map (λ t. t.now) files.stimulus) clocks
 
 -- ---- what clap's matches of a subcommand ask for
 
@@ -133,6 +136,12 @@ pair_asked rows =
     pair (text_at (codes "source") rows) (text_at (codes "config") rows) (text_at (codes "second") rows)
     (first_of (codes "stimulus") rows) (number_at clock_limit (codes "clocks") rows)
 
+-- the arguments of `inspect`
+abbrev pub inspect_asked : List Row → Asked
+inspect_asked rows =
+    inspect (text_at (codes "source") rows) (first_of (codes "config") rows) (first_of (codes "stimulus") rows)
+    (number_at clock_limit (codes "clocks") rows)
+
 -- the arguments of the subcommand of this name
 abbrev pub subcommand_asked : Text → List Row → Asked
 subcommand_asked name rows =
@@ -143,7 +152,8 @@ subcommand_asked name rows =
     else if bytes_eq name (codes "measure") then measure_asked rows
     else if bytes_eq name (codes "receive") then receive_asked rows
     else if bytes_eq name (codes "uart") then uart_asked rows
-    else if bytes_eq name (codes "pair") then pair_asked rows else dis_asked rows
+    else if bytes_eq name (codes "pair") then pair_asked rows
+    else if bytes_eq name (codes "inspect") then inspect_asked rows else dis_asked rows
 
 -- what the matches that clap's definition gives for `tool` and the words ask for
 unfoldable pub asked_of : List Text → Option Asked
@@ -159,6 +169,7 @@ IsWithinRange (receive source config stimulus clocks pin bit) =
     (clocks ≤ clock_limit) × (pin ≤ pin_limit) × (least_bit ≤ bit) × (bit ≤ bit_limit)
 IsWithinRange (uart send divider clocks) = (least_divider ≤ divider) × (divider ≤ divider_limit) × (clocks ≤ clock_limit)
 IsWithinRange (pair source config second stimulus clocks) = clocks ≤ clock_limit
+IsWithinRange (inspect source config stimulus clocks) = clocks ≤ clock_limit
 IsWithinRange (dis file side opt) = side + (if opt then 1 else 0) ≤ side_limit
 IsWithinRange _ = ⊤
 
@@ -196,6 +207,7 @@ clocks_asked (measure source config stimulus clocks) = clocks
 clocks_asked (receive source config stimulus clocks pin bit) = clocks
 clocks_asked (uart send divider clocks) = clocks
 clocks_asked (pair source config second stimulus clocks) = clocks
+clocks_asked (inspect source config stimulus clocks) = clocks
 clocks_asked _ = 0
 
 -- how many clocks words ask for at most

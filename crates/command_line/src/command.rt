@@ -5,7 +5,7 @@ ghost use Rattle.command_line.specs.Making.{Gains, IsApp, Offers, TakesArgument}
 ghost use Rattle.command_line.specs.Making.{number_rule, text_rule};
 ghost use Rattle.command_line.specs.Making.{paired_app, sourced_app, spanned_app, timed, traced_app};
 ghost use Rattle.command_line.specs.Tool.{asm_app, bare_app, check_app, clocks_rule, dis_app};
-ghost use Rattle.command_line.specs.Tool.{gen_app, measure_app, pair_app, receive_app, recheck_app};
+ghost use Rattle.command_line.specs.Tool.{gen_app, inspect_app, measure_app, pair_app, receive_app, recheck_app};
 ghost use Rattle.command_line.specs.Tool.{run_app, shares_app, table_app, uart_app};
 ghost use Rattle.command_line.specs.Tool.{tool as tool_app};
 
@@ -72,7 +72,8 @@ pub fn tool<'a>(alloc: Global) -> Result<Command<'a>, AllocError>
     let command = add(command, measure(alloc));
     let command = add(command, receive(alloc));
     let command = add(command, uart(alloc));
-    add(command, pair(alloc))
+    let command = add(command, pair(alloc));
+    add(command, inspect(alloc))
 }
 
 #[tactic(auto, unfolding(crate::specs::Tool::bare_app))]
@@ -251,6 +252,18 @@ fn pair<'a>(alloc: Global) -> Result<Command<'a>, AllocError>
         "Example: piotool pair --source link.pio --config sender.toml --second receiver.toml --clocks 1000",
     );
     with_time(alloc, command)
+}
+
+#[tactic(auto, unfolding(crate::specs::Tool::inspect_app))]
+fn inspect<'a>(alloc: Global) -> Result<Command<'a>, AllocError>
+    ensures { IfOk result (IsApp inspect_app) }
+{
+    traced(
+        alloc,
+        "inspect",
+        "Traces what is inside the block, clock by clock: pads, PC and registers of each machine beside what run traces",
+        "Example: piotool inspect --source uart.pio --config uart.toml --stimulus uart.stim --clocks 100000 > inside.vcd",
+    )
 }
 
 /// A subcommand that takes no arguments yet: its name, and for its help what it writes and an example.

@@ -1,7 +1,7 @@
 //! Laws above clap's definition of a parse: what words as the usage has them ask for, and where what any words ask for stands among
 //! them. The functions do nothing.
 ghost use Rattle.command_line.specs.Given.{TakenWords};
-ghost use Rattle.command_line.specs.Laws.{AsmWords, CheckWords, DisWords, GenWords, MeasureWords, PairWords, ReceiveWords, RecheckWords, RunWords, SharesWords, TableWords, UartWords};
+ghost use Rattle.command_line.specs.Laws.{AsmWords, CheckWords, DisWords, GenWords, InspectWords, MeasureWords, PairWords, ReceiveWords, RecheckWords, RunWords, SharesWords, TableWords, UartWords};
 
 /// `asm -- FILE` asks for the listing of FILE.
 pub fn asm_words()
@@ -66,6 +66,12 @@ pub fn uart_words()
 /// range.
 pub fn pair_words()
     ensures { PairWords }
+{}
+
+/// `inspect --source=S [--config=C] [--stimulus=T] --clocks=N` asks for what is inside the block in N clocks of S under C and T
+/// exactly where N is a whole number in range.
+pub fn inspect_words()
+    ensures { InspectWords }
 {}
 
 /// Whatever words are taken, each text that they ask for is one that they give, as `--name=text`, as `--name` and the

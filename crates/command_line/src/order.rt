@@ -122,6 +122,12 @@ pub enum Order<'a> {
         files: PairFiles<'a>,
         clocks: u64,
     },
+    /// The trace of what is inside the block in so many clocks (0 to 10^12) of the programs in a source, under a configuration
+    /// and beside a stimulus where they are named.
+    Inspect {
+        files: RunFiles<'a>,
+        clocks: u64,
+    },
 }
 
 /// Why words give no order.

@@ -5,7 +5,7 @@ ghost use Rattle.clap.specs.Simple.{subcommand_rows_of};
 ghost use Rattle.clap.specs.Walk.{first_of, rows_of};
 ghost use Rattle.std.specs.Option.{option_map};
 ghost use Rattle.command_line.specs.Asking.{checker_asked, observer_asked};
-ghost use Rattle.command_line.specs.Words.{Asks, IsFaultOfWords, WordsAreTaken, IsWithinRange, asked_by, asm_asked, check_asked, dis_asked, gen_asked, measure_asked, pair_asked};
+ghost use Rattle.command_line.specs.Words.{Asks, IsFaultOfWords, WordsAreTaken, IsWithinRange, asked_by, asm_asked, check_asked, dis_asked, gen_asked, inspect_asked, measure_asked, pair_asked};
 ghost use Rattle.command_line.specs.Words.{has_no_room as has_no_room_of, receive_asked, recheck_asked, run_asked, shares_asked, subcommand_asked, table_asked, text_at, uart_asked};
 
 use crate::getters::{flag, number, option_text, text};
@@ -47,7 +47,8 @@ fn has_no_room(order: Order<'_>) -> bool
         | Order::Measure { .. }
         | Order::Receive { .. }
         | Order::Uart { .. }
-        | Order::Pair { .. } => false,
+        | Order::Pair { .. }
+        | Order::Inspect { .. } => false,
         Order::Dis { side, opt, .. } => u64::from(side) == MOST_SIDE_BITS && opt,
     }
 }
@@ -108,6 +109,8 @@ fn observer_order<'a>(name: &str, matches: &ArgMatches<'a>) -> Order<'a>
         uart_order(matches)
     } else if name == "pair" {
         pair_order(matches)
+    } else if name == "inspect" {
+        inspect_order(matches)
     } else {
         dis_order(matches)
     }
@@ -247,6 +250,15 @@ fn pair_order<'a>(matches: &ArgMatches<'a>) -> Order<'a>
             second: text(matches, "second"),
             stimulus: option_text(matches, "stimulus"),
         },
+        clocks: number(matches, "clocks", MOST_CLOCKS),
+    }
+}
+
+fn inspect_order<'a>(matches: &ArgMatches<'a>) -> Order<'a>
+    ensures { asked_by result ≡ inspect_asked (rows_of (found_of matches.now)) }
+{
+    Order::Inspect {
+        files: run_files(matches),
         clocks: number(matches, "clocks", MOST_CLOCKS),
     }
 }

@@ -13,15 +13,15 @@ use Rattle.block_core.specs.Block.{first_run}
 use Rattle.span_bounds.specs.declared.row.Row.{Row}
 use Rattle.block_shares.specs.Report.{shares_text}
 use Rattle.fault_lines.specs.declared.fault.File.TheVariants.{Send}
-use Rattle.command_line.specs.Words.{Asked, asm, run, check, table, recheck, shares, gen, dis, measure, receive, uart, pair}
+use Rattle.command_line.specs.Words.{Asked, asm, run, check, table, recheck, shares, gen, dis, measure, receive, uart, pair, inspect}
 use Rattle.stages.specs.declared.pair.TwoBlocks.{TwoBlocks}
 use Rattle.stages.specs.Judged.{Judged, right, wrong, and_then, IfRight, read_at, source_at, words_at, prepared_at, span_at, recheck_at, pair_at}
 use Rattle.commands.specs.Outside.{Call}
 use Rattle.commands.specs.Needs.{IsMet, AllRunsHold}
-use Rattle.commands.specs.Tasks.{Task, listing, trace, twin_trace, verdicts, tabled, rechecked, judge, need_of, trace_text, twin_start, twin_trace_text, measured_text, received_text, sent_text}
+use Rattle.commands.specs.Tasks.{Task, listing, trace, twin_trace, verdicts, tabled, rechecked, judge, need_of, trace_text, twin_start, twin_trace_text, measured_text, received_text, inspected_text, sent_text}
 use Rattle.commands.specs.Promise.{Passes, Ends}
 use Rattle.commands.specs.Written.{HasTaken}
-use Rattle.commands.specs.Passed.{Passed, Writing, RunPassed, PairPassed, CheckPassed, TablePassed, RecheckPassed, MeasurePassed, ReceivePassed, UartPassed, SharesPassed, GenPassed, AsmPassed, DisPassed}
+use Rattle.commands.specs.Passed.{Passed, Writing, RunPassed, PairPassed, CheckPassed, TablePassed, RecheckPassed, MeasurePassed, ReceivePassed, InspectPassed, UartPassed, SharesPassed, GenPassed, AsmPassed, DisPassed}
 use Rattle.commands.proofs.Quiet.{of_told, TookText}
 
 -- a command that passed kept its promise
@@ -140,6 +140,13 @@ pub receive_passed : (words : List Text) (c : Call) (f : Files) (source : List �
 unfolding judge received_text
 receive_passed words c f source config stimulus clocks pin bit p =
     let m = made_of c (prepared_at f source config stimulus) (λ prepared. listing (received_text (first_run prepared.0) pin bit prepared.1 clocks)) (done words c f _ p) in
+    record { setup = m.0.0; lines = m.0.1; given = m.1; wrote = writing words c f _ _ p m.2 }
+
+pub inspect_passed : (words : List Text) (c : Call) (f : Files) (source : List ℕ) (config stimulus : Option (List ℕ)) (clocks : ℕ)
+    → Passed words c f (inspect source config stimulus clocks) → InspectPassed c f source config stimulus clocks
+unfolding judge inspected_text
+inspect_passed words c f source config stimulus clocks p =
+    let m = made_of c (prepared_at f source config stimulus) (λ prepared. listing (inspected_text prepared.0 prepared.1 clocks)) (done words c f _ p) in
     record { setup = m.0.0; lines = m.0.1; given = m.1; wrote = writing words c f _ _ p m.2 }
 
 pub uart_passed : (words : List Text) (c : Call) (f : Files) (send : List ℕ) (divider clocks : ℕ)

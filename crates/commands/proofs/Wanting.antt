@@ -4,7 +4,7 @@ use Rattle.std.proofs.lemmas.Bool.{and_left, and_right, ne_eqb}
 use Rattle.clap.specs.Walk.{Text}
 use Rattle.clap.specs.Faults.{fault_of}
 use Rattle.command_line.specs.Tool.{tool, side_limit}
-use Rattle.command_line.specs.Words.{Asked, Asks, WordsAreRefused, IsWithinRange, asm, run, check, table, recheck, shares, gen, dis, measure, receive, uart, pair, asked_of, has_no_room}
+use Rattle.command_line.specs.Words.{Asked, Asks, WordsAreRefused, IsWithinRange, asm, run, check, table, recheck, shares, gen, dis, measure, receive, uart, pair, inspect, asked_of, has_no_room}
 use Rattle.fault_lines.specs.declared.fault.Fault.{Fault}
 use Rattle.fault_lines.specs.declared.fault.Fault.TheVariants.{Usage}
 use Rattle.commands.specs.Outside.{Call, Untouched}
@@ -23,6 +23,7 @@ room_within (shares source config) h = refl
 room_within (gen seed clocks) h = refl
 room_within (measure source config stimulus clocks) h = refl
 room_within (receive source config stimulus clocks pin bit) h = refl
+room_within (inspect source config stimulus clocks) h = refl
 room_within (uart send divider clocks) h = refl
 room_within (pair source config second stimulus clocks) h = refl
 room_within (dis file side false) h = and_right (side == side_limit) false refl

@@ -1,7 +1,7 @@
 -- What a call has done that ended with status 0: a record for each command, over told files. Each is a law from `EndsAs`.
 --   Passed          the words want this command, its files are told, and the call ended without a fault
 --   AsmPassed ..    what the command then read, wrote, and what holds of it
-use Rattle.std.specs.Prelude.{◌≡◌, ℕ, Bool, Option, Some, None, List, Result}
+use Rattle.std.specs.Prelude.{◌≡◌, ℕ, Bool, Option, Some, None, is_some, List, map, Result}
 use Rattle.std.specs.FinMap.{get}
 use Rattle.std.specs.List.{flat_map}
 use Rattle.clap.specs.Walk.{Text}
@@ -16,6 +16,8 @@ use Rattle.dreq_pacing.specs.declared.line.Line.{Line}
 use Rattle.block_core.specs.Block.{first_run}
 use Rattle.block_core.specs.Hosted.{samples}
 use Rattle.block_core.specs.HostedTwin.{twin_samples}
+use Rattle.block_core.specs.Inside.{insides}
+use Rattle.vcd_trace.specs.InsideText.{inside_text}
 use Rattle.vcd_trace.specs.VcdText.{vcd_text}
 use Rattle.vcd_trace.specs.TwinText.{twin_text}
 use Rattle.span_meter.specs.SeenText.{seen_line}
@@ -120,6 +122,14 @@ pub record ReceivePassed (c : Call) (files : Files) (source : List ℕ) (config 
   pub given : prepared_at files source config stimulus ≡ right (setup, lines)
   pub wrote : Writing c (frames_text (frames bit (is_high (first_run setup).state.levels pin)
       (levels_of pin (samples (first_run setup) lines clocks))))
+
+-- `inspect`: the files give this setup and these lines. It wrote the trace of what stepping has inside the block, clock by clock, with a
+-- scope for each configured machine. No span is asked.
+pub record InspectPassed (c : Call) (files : Files) (source : List ℕ) (config stimulus : Option (List ℕ)) (clocks : ℕ) : Type 0 where
+  pub setup : Setup
+  pub lines : List Line
+  pub given : prepared_at files source config stimulus ≡ right (setup, lines)
+  pub wrote : Writing c (inside_text (map is_some setup.machines) (insides (first_run setup) lines clocks))
 
 -- `uart`: these are the bytes of the file. It wrote the line of each byte that is sent to its end within the clocks, in order.
 pub record UartPassed (c : Call) (files : Files) (send : List ℕ) (divider clocks : ℕ) : Type 0 where

@@ -4,12 +4,13 @@
 --   HasText     the text of a task is such; ComesTo: the told files come to a task that is such
 --   need_of     what a task needs of spans, beside its text
 --   inputs_of   what a command reads: its files in order, and when it comes to each; file_in: which one in a role
-use Rattle.std.specs.Prelude.{ℕ, Bool, true, Option, Some, None, IfSome, List, [], ◌++◌}
+use Rattle.std.specs.Prelude.{ℕ, Bool, true, Option, Some, None, is_some, IfSome, List, [], ◌++◌, map}
 use Rattle.std.specs.FinMap.{get}
 use Rattle.std.specs.List.{flat_map}
 use Rattle.pio_edge.specs.Edge.{Files}
 use Rattle.fault_lines.specs.declared.fault.File.{File}
 use Rattle.fault_lines.specs.declared.fault.File.TheVariants.{Source, Words, Table, Send}
+use Rattle.vcd_trace.specs.InsideText.{inside_text}
 use Rattle.vcd_trace.specs.TwinText.{twin_text}
 use Rattle.vcd_trace.specs.VcdText.{vcd_text}
 use Rattle.span_meter.specs.Measured.{ends_in, measured, seen_of}
@@ -23,6 +24,7 @@ use Rattle.dreq_pacing.specs.declared.line.Line.{Line}
 use Rattle.block_core.specs.Block.{Run, first_run}
 use Rattle.block_core.specs.Hosted.{samples}
 use Rattle.block_core.specs.HostedTwin.{twin_samples}
+use Rattle.block_core.specs.Inside.{insides}
 use Rattle.block_core.specs.Twin.{TwinRun, first_twin}
 use Rattle.pin_matrix.specs.declared.setup.Setup.{Setup}
 use Rattle.pin_matrix.specs.declared.span.Span.{Span}
@@ -30,7 +32,7 @@ use Rattle.span_bounds.specs.declared.row.Row.{Row}
 use Rattle.span_bounds.specs.Answers.{IsGoodLeast}
 use Rattle.table_files.specs.Rows.{table_text}
 use Rattle.table_files.specs.FlawLines.{rechecked_line}
-use Rattle.command_line.specs.Words.{Asked, asm, run, check, table, recheck, shares, gen, dis, measure, receive, uart, pair}
+use Rattle.command_line.specs.Words.{Asked, asm, run, check, table, recheck, shares, gen, dis, measure, receive, uart, pair, inspect}
 use Rattle.program_listing.specs.Listing.{listing_text}
 use Rattle.word_file.specs.Listing.{word_lines, rule_for}
 use Rattle.block_shares.specs.Report.{shares_text}
@@ -64,6 +66,11 @@ twin_start p = first_twin p.own p.first p.second
 -- the text of so many clocks of two blocks from a start, beside the lines of each
 unfoldable pub twin_trace_text : TwinRun → (first second : List Line) → ℕ → List ℕ
 twin_trace_text start first second clocks = twin_text (twin_samples start first second clocks)
+
+-- the text of what is inside the block of a setup in so many clocks, beside the lines of a stimulus: it has a scope for each machine that is
+-- configured
+unfoldable pub inspected_text : Setup → List Line → ℕ → List ℕ
+inspected_text s lines clocks = inside_text (map is_some s.machines) (insides (first_run s) lines clocks)
 
 -- what a span measures in so many clocks from a start, beside the lines of a stimulus: before clock 0 the levels are the start's
 abbrev pub seen_in : Run → Span → List Line → ℕ → SeenDistances
@@ -104,6 +111,9 @@ judge files (receive source config stimulus clocks pin bit) =
     (λ prepared. right (listing (received_text (first_run prepared.0) pin bit prepared.1 clocks)))
 judge files (uart send divider clocks) =
     and_then (read_at Send (get files send)) (λ bytes. right (listing (sent_text divider bytes clocks)))
+judge files (inspect source config stimulus clocks) =
+    and_then (prepared_at files source config stimulus)
+    (λ prepared. right (listing (inspected_text prepared.0 prepared.1 clocks)))
 judge files (pair source config second stimulus clocks) =
     and_then (pair_at files source config second stimulus)
     (λ p. right (twin_trace p.first p.second (twin_trace_text (twin_start p) p.first_lines p.second_lines clocks)))
@@ -186,6 +196,7 @@ inputs_of (gen seed clocks) = no_input
 inputs_of (dis name side opt) = one_input Words name
 inputs_of (measure source config stimulus clocks) = run_inputs source config stimulus
 inputs_of (receive source config stimulus clocks pin bit) = run_inputs source config stimulus
+inputs_of (inspect source config stimulus clocks) = run_inputs source config stimulus
 inputs_of (uart send divider clocks) = one_input Send send
 inputs_of (pair source config second stimulus clocks) = pair_inputs source config second stimulus
 

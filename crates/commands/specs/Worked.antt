@@ -17,7 +17,7 @@ use Rattle.load_summary.specs.Summaries.{start_of}
 use Rattle.fault_lines.specs.declared.fault.File.TheVariants.{Send}
 use Rattle.pio_uart.specs.Feeding.{fed}
 use Rattle.pio_uart.specs.OneSetup.{transmitter_of}
-use Rattle.command_line.specs.Words.{Asked, run, gen, measure, receive, uart, pair}
+use Rattle.command_line.specs.Words.{Asked, run, gen, measure, receive, uart, pair, inspect}
 use Rattle.stages.specs.Judged.{Judged, right, wrong, prepared_at, read_at, pair_at}
 use Rattle.stages.specs.declared.pair.TwoBlocks.{TwoBlocks}
 use Rattle.commands.specs.Tasks.{twin_start}
@@ -57,6 +57,7 @@ abbrev pub most_worked : Option Files → Asked → ℕ
 most_worked files (run source config stimulus clocks) = worked_of files source config stimulus clocks
 most_worked files (measure source config stimulus clocks) = worked_of files source config stimulus clocks
 most_worked files (receive source config stimulus clocks pin bit) = worked_of files source config stimulus clocks
+most_worked files (inspect source config stimulus clocks) = worked_of files source config stimulus clocks
 most_worked files (uart send divider clocks) = uart_worked files send divider clocks
 most_worked files (pair source config second stimulus clocks) = twin_worked files source config second stimulus clocks
 most_worked files (gen seed clocks) = stirring (start_of seed) (lines_of seed) clocks + 1

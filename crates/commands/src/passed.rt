@@ -3,7 +3,7 @@ ghost use Rattle.std.specs.Prelude.{ℕ, Bool, List, Option};
 ghost use Rattle.clap.specs.Walk.{Text};
 ghost use Rattle.command_line.specs.Words as asked;
 ghost use Rattle.commands.specs.Outside.{Call};
-ghost use Rattle.commands.specs.Passed.{AsmPassed, CheckPassed, DisPassed, GenPassed, MeasurePassed, PairPassed, Passed};
+ghost use Rattle.commands.specs.Passed.{AsmPassed, CheckPassed, DisPassed, GenPassed, InspectPassed, MeasurePassed, PairPassed, Passed};
 ghost use Rattle.commands.specs.Passed.{ReceivePassed, RecheckPassed, RunPassed, SharesPassed, TablePassed, UartPassed};
 ghost use Rattle.pio_edge.specs.Edge.{Files};
 
@@ -56,6 +56,13 @@ pub fn a_passed_receive_is_its_frames()
         (source : List ℕ) (config stimulus : Option (List ℕ)) (clocks pin bit : ℕ)
         → Passed words c files (asked.receive source config stimulus clocks pin bit)
         → ReceivePassed c files source config stimulus clocks pin bit }
+{}
+
+/// `inspect` wrote the trace of what is inside the block in a run.
+#[tactic(auto, using(crate::proofs::Passing::inspect_passed))]
+pub fn a_passed_inspect_is_its_trace()
+    ensures { (words : List Text) (c : Call) (files : Files) (source : List ℕ) (config stimulus : Option (List ℕ)) (clocks : ℕ)
+        → Passed words c files (asked.inspect source config stimulus clocks) → InspectPassed c files source config stimulus clocks }
 {}
 
 /// `uart` wrote each byte of a file that is sent within the clocks.

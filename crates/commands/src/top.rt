@@ -14,6 +14,7 @@ use crate::asm::asm;
 use crate::check::check;
 use crate::dis::dis;
 use crate::generate::generate;
+use crate::inspect::inspect;
 use crate::measure::measure;
 use crate::pair::pair;
 use crate::receive::receive;
@@ -127,5 +128,6 @@ fn obey<F: Shelf, O: Sink, L: Ledger>(
             clocks,
         } => uart(alloc, send, divider, clocks, shelf, out, steps),
         Order::Pair { files, clocks } => pair(alloc, files, clocks, shelf, out, steps),
+        Order::Inspect { files, clocks } => inspect(alloc, files, clocks, shelf, out, steps),
     }
 }

@@ -6,10 +6,12 @@ use Rattle.block_core.specs.declared.sample.Sample.{Sample}
 use Rattle.block_core.specs.Block.{Run}
 use Rattle.block_core.specs.Hosted.{hosted_at, samples, sample_at}
 use Rattle.block_core.specs.HostedTwin.{hosted_twin_at, twin_samples, twin_sample_at, twin_stirring, twin_stirs_in}
+use Rattle.block_core.specs.Inside.{insides, inside_at}
 use Rattle.block_core.specs.Stirring.{stirring, stirs_in, worked}
 use Rattle.block_core.specs.Twin.{TwinRun}
 use Rattle.idle_engine.specs.Kinds.{AreFirsts, IsCourse}
 use Rattle.idle_engine.specs.One.{one}
+use Rattle.idle_engine.specs.OneInside.{one_inside}
 use Rattle.idle_engine.specs.Two.{two}
 use Rattle.idle_engine.proofs.Growing.{firsts-from}
 use Rattle.idle_engine.proofs.Working.{worked-passing}
@@ -18,6 +20,10 @@ use Rattle.idle_engine.proofs.Working.{worked-passing}
 pub samples-firsts : (start : Run) (lines : List Line) → AreFirsts (sample_at start lines) (samples start lines)
 unfolding samples
 samples-firsts start lines = record { none = refl; more = λ n. refl }
+
+pub insides-firsts : (start : Run) (lines : List Line) → AreFirsts (inside_at start lines) (insides start lines)
+unfolding insides
+insides-firsts start lines = record { none = refl; more = λ n. refl }
 
 pub twin_samples-firsts : (start : TwinRun) (first second : List Line) → AreFirsts (twin_sample_at start first second) (twin_samples start first second)
 unfolding twin_samples
@@ -32,6 +38,11 @@ one-course start lines p fresh first = record {
   goes = λ n. refl;
   samples = samples-firsts start p.lines;
 }
+
+pub inside-course : (start : Run) (lines : List Line) (p : Ports) → start.clock ≡ 0 → p ≡ first_ports lines → IsCourse one_inside p.lines (record { run = start; transfers = p.transfers }) (record { at = hosted_at start p.lines; samples = insides start p.lines })
+inside-course start lines p fresh first =
+    let c = one-course start lines p fresh first in
+    record { fresh = c.fresh; begins = c.begins; goes = c.goes; samples = insides-firsts start p.lines }
 
 pub two-course : (start : TwinRun) (first second : List Line) (p q : Ports) → start.first.clock ≡ 0 → start.second.clock ≡ 0 → p ≡ first_ports first → q ≡ first_ports second → IsCourse two (p.lines, q.lines) (record { own = start.own; first = record { run = start.first; transfers = p.transfers }; second = record { run = start.second; transfers = q.transfers } }) (record { at = hosted_twin_at start p.lines q.lines; samples = twin_samples start p.lines q.lines })
 unfolding hosted_twin_at

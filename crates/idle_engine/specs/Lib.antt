@@ -1,4 +1,5 @@
 pub mod Stops
 pub mod Kinds
 pub mod One
+pub mod OneInside
 pub mod Two

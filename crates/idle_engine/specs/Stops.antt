@@ -1,15 +1,18 @@
 -- Where a run stops whose trace fails.
 --   Stops         a run of any kind, by what it is after so many clocks and what these show
 --   StopsAt       of one block
+--   InsideStopsAt   of one, where the trace is told what is inside it
 --   TwinStopsAt   of two
 --   PartStays     a text whose first parts stay first parts
 use Rattle.std.specs.Prelude.{◌≡◌, ℕ, ◌≤◌, Bool, true, false, Option, List, ◌++◌}
 use Rattle.dreq_pacing.specs.declared.line.Line.{Line}
 use Rattle.pio_edge.specs.Edge.{TakesPrefix}
+use Rattle.block_core.specs.declared.inside.Inside.{Inside}
 use Rattle.block_core.specs.declared.sample.Sample.{Sample}
 use Rattle.block_core.specs.Block.{Run}
 use Rattle.block_core.specs.Hosted.{hosted_at, samples}
 use Rattle.block_core.specs.HostedTwin.{twin_of, hosted_twin_at, twin_samples}
+use Rattle.block_core.specs.Inside.{insides}
 use Rattle.block_core.specs.Twin.{TwinRun}
 
 -- A run stopped within these clocks, after a count of them: at what the clocks up to there show the trace is broken, and at its end
@@ -26,6 +29,11 @@ pub record Stops {R V : Type 0} (after : ℕ → R) (shown : ℕ → List V) (cl
 abbrev pub StopsAt : (start : Run) → (lines : List Line) → (clocks : ℕ) → (now : Run) → (broken : List Sample → Bool → Type 0) → Type 0
 StopsAt start lines clocks now broken =
     Stops (λ n. (hosted_at start lines n).run) (samples start lines) clocks now broken
+
+-- the same where the trace is told what is inside the block
+abbrev pub InsideStopsAt : (start : Run) → (lines : List Line) → (clocks : ℕ) → (now : Run) → (broken : List Inside → Bool → Type 0) → Type 0
+InsideStopsAt start lines clocks now broken =
+    Stops (λ n. (hosted_at start lines n).run) (insides start lines) clocks now broken
 
 -- a run of two blocks from this start, each beside its lines
 abbrev pub TwinStopsAt : (start : TwinRun) → (first second : List Line) → (clocks : ℕ) → (now : TwinRun) → (broken : List (Sample × Sample) → Bool → Type 0) → Type 0

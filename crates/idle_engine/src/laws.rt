@@ -2,12 +2,14 @@
 ghost use Rattle.std.specs.Prelude.{◌≡◌, ℕ, ◌+◌, Bool, true, Option, List, ◌++◌};
 ghost use Rattle.pio_edge.specs.Edge.{TakesPrefix};
 ghost use Rattle.dreq_pacing.specs.declared.line.Line.{Line};
+ghost use Rattle.block_core.specs.declared.inside.Inside.{Inside};
 ghost use Rattle.block_core.specs.declared.sample.Sample.{Sample};
 ghost use Rattle.block_core.specs.Block.{Run};
 ghost use Rattle.block_core.specs.Hosted.{samples};
 ghost use Rattle.block_core.specs.HostedTwin.{twin_samples};
+ghost use Rattle.block_core.specs.Inside.{insides};
 ghost use Rattle.block_core.specs.Twin.{TwinRun};
-ghost use Rattle.idle_engine.specs.Stops.{PartStays, StopsAt, TwinStopsAt};
+ghost use Rattle.idle_engine.specs.Stops.{InsideStopsAt, PartStays, StopsAt, TwinStopsAt};
 
 /// The samples of more clocks are those of fewer and then later ones.
 pub fn later_samples_follow()
@@ -22,6 +24,14 @@ pub fn a_stopped_run_leaves_a_first_part()
         → PartStays before taken text
         → StopsAt start lines clocks now (λ told ended. TakesPrefix before (text told ended) taken)
         → TakesPrefix before (text (samples start lines clocks) true) taken }
+{}
+
+/// The same of a run that shows what is inside its block.
+pub fn a_stopped_inspection_leaves_a_first_part()
+    ensures { (before taken : Option (List ℕ)) (text : List Inside → Bool → List ℕ) (start now : Run) (lines : List Line) (clocks : ℕ)
+        → PartStays before taken text
+        → InsideStopsAt start lines clocks now (λ told ended. TakesPrefix before (text told ended) taken)
+        → TakesPrefix before (text (insides start lines clocks) true) taken }
 {}
 
 /// The same of a run of two blocks.

@@ -2,6 +2,7 @@
 #![tactic(auto)]
 
 mod clocks;
+mod inside;
 mod kind;
 mod laws;
 mod one;
@@ -9,6 +10,7 @@ mod simulation;
 mod two;
 
 pub use laws::{
-    a_stopped_pair_leaves_a_first_part, a_stopped_run_leaves_a_first_part, later_samples_follow,
+    a_stopped_inspection_leaves_a_first_part, a_stopped_pair_leaves_a_first_part,
+    a_stopped_run_leaves_a_first_part, later_samples_follow,
 };
-pub use simulation::{simulate, simulate_twin};
+pub use simulation::{simulate, simulate_inside, simulate_twin};

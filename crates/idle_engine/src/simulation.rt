@@ -3,14 +3,15 @@ ghost use Rattle.std.specs.Prelude.{◌≡◌, ℕ, ◌+◌, ◌≤◌, ◌^◌,
 ghost use Rattle.pio_edge.specs.Edge.{PutCounts};
 ghost use Rattle.block_core.specs.Hosted.{hosted_at, samples};
 ghost use Rattle.block_core.specs.HostedTwin.{twin_of, hosted_twin_at, twin_samples, twin_stirs_in, twin_stirring};
+ghost use Rattle.block_core.specs.Inside.{insides};
 ghost use Rattle.block_core.specs.Stirring.{stirs_in, stirring, worked};
 ghost use Rattle.sample_trace.specs.Told.{IsNext, told_at};
 ghost use Rattle.idle_engine.specs.Kinds.{IsCourse};
-ghost use Rattle.idle_engine.specs.Stops.{Stops, StopsAt, TwinStopsAt};
+ghost use Rattle.idle_engine.specs.Stops.{InsideStopsAt, Stops, StopsAt, TwinStopsAt};
 
 use crate::clocks::{leap, step};
 use crate::kind::Runs;
-use block_core::{Block, Sample, Twin};
+use block_core::{Block, Inside, Sample, Twin};
 use dreq_pacing::{HostPorts, Schedule};
 use fifo_pair::Fifo;
 use sample_trace::{Trace, TraceFailed};
@@ -38,6 +39,38 @@ pub fn simulate<F: Fifo, T: Trace<Sample>, L: Ledger>(
         → T.holds trace.new b (samples block.old.run schedule.now clocks) true) }
     ensures run { OnOk result (block.new.run ≡ (hosted_at block.old.run schedule.now clocks).run) }
     ensures err { OnErr result (StopsAt block.old.run schedule.now clocks block.new.run
+        (λ told ended. (b : Option (List ℕ)) → T.ready trace.old b → T.broken trace.new b told ended)) }
+    ensures failed { T.has_failed trace.new ≡ is_err result }
+    ensures cause { PutCounts (T.faults trace.old) (T.faults trace.new) result }
+    ensures same { T.name trace.new ≡ T.name trace.old }
+    ensures steps { steps.new + block.old.calls ≡ steps.old + block.new.calls }
+    ensures exact { OnOk result (steps.new
+        ≡ steps.old + worked (λ c. stirs_in schedule.now (hosted_at block.old.run schedule.now c)) clocks) }
+    ensures most { steps.new ≤ steps.old + clocks }
+    ensures stirring { steps.new ≤ steps.old + stirring block.old.run schedule.now clocks + 1 }
+{
+    let mut ports = HostPorts::new(schedule);
+    run(block, &mut ports, clocks, trace, steps)
+}
+
+/// Runs a block as `simulate` does, and tells a trace what is inside it after each clock, not its sample alone.
+///
+/// The trace is told after each clock that is worked out, since a register may change where the sample stays, and of no other:
+/// in the others nothing inside changes (`a_leap_changes_nothing_inside`).
+pub fn simulate_inside<F: Fifo, T: Trace<Inside>, L: Ledger>(
+    block: &mut Block<F>,
+    schedule: &Schedule,
+    clocks: u64,
+    trace: &mut T,
+    steps: &mut Steps<L>,
+) -> Result<(), TraceFailed>
+    requires fresh { block.old.run.clock ≡ 0 }
+    requires within { clocks ≤ 10 ^ 12 }
+    requires working { T.has_failed trace.old ≡ false }
+    ensures ok { OnOk result ((b : Option (List ℕ)) → T.ready trace.old b
+        → T.holds trace.new b (insides block.old.run schedule.now clocks) true) }
+    ensures run { OnOk result (block.new.run ≡ (hosted_at block.old.run schedule.now clocks).run) }
+    ensures err { OnErr result (InsideStopsAt block.old.run schedule.now clocks block.new.run
         (λ told ended. (b : Option (List ℕ)) → T.ready trace.old b → T.broken trace.new b told ended)) }
     ensures failed { T.has_failed trace.new ≡ is_err result }
     ensures cause { PutCounts (T.faults trace.old) (T.faults trace.new) result }

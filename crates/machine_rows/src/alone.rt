@@ -106,6 +106,7 @@ fn shown(clock: u64, sample: &Sample) -> Shown<'_> {
     Shown {
         clock,
         sample,
+        inside: None,
         second: None,
         stir: None,
     }

@@ -41,10 +41,11 @@ fn run<F: Fifo>(
     for clock in 0..clocks_of(afters) {
         let due = ports.at(clock, &block.requests());
         block.clock(&due);
-        let sample = *block.view();
+        let inside = block.inside();
         let shown = Shown {
             clock,
-            sample: &sample,
+            sample: &inside.sample,
+            inside: Some(&inside),
             second: None,
             stir: Some(block.next_stir()),
         };

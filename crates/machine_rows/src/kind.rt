@@ -9,6 +9,7 @@
 //! | `5 pin 0 1` | a line of the stimulus |
 //! | `4 see 0x20` | a lone machine sees these pins from clock 4 on; `4 lower 1`: another machine lowers these flags; `4 levels 2`: another machine left these levels in the clock before |
 //! | `after 5: p 1, t0 3` | what is seen after clock 5, named as in a trace; `p`, `d` and `f` are all pins or flags together |
+//! | `after 5: pads 1, sm0.pc 2` | what is inside the block after clock 5, all pads together, and of machine 0, named as in a trace |
 //! | `after 5: only p 1` | the same, and that all else of the sample is 0 |
 //! | `after 5: stir 31` | how many clocks go by before the next one that stirs, if the system does nothing; or `none` |
 //! | `second` | what comes after is of the second block, whose values have a tilde, as `~p` |

@@ -9,7 +9,7 @@ use crate::watch::ClockWatch;
 use block_core::{Block, Twin};
 use dreq_pacing::{Schedule, read_pair_stimulus, read_stimulus};
 use fifo_pair::{Fifo, PlainFifo, RingFifo};
-use idle_engine::{simulate, simulate_twin};
+use idle_engine::{simulate, simulate_inside, simulate_twin};
 use pin_matrix::Setup;
 use std::alloc::Global;
 use std::marker::Brand;
@@ -19,7 +19,8 @@ use step_count::Steps;
 /// The longest run.
 const LONGEST: u64 = 1_000_000_000_000;
 
-/// Adds that a run of a block tells of no other clock, and whether it does, with both kinds of FIFO.
+/// Adds that a run of a block tells of no other clock, and whether it does, with both kinds of FIFO, and once more where it tells
+/// what is inside.
 pub fn tell_leaps(
     alloc: Global,
     lines: &str,
@@ -33,7 +34,9 @@ pub fn tell_leaps(
     let plain = watched::<PlainFifo>(alloc, &setup, &schedule, count, watch_of(alloc, lines)?)?;
     tell_watched(&plain, expected, seen)?;
     let ring = watched::<RingFifo>(alloc, &setup, &schedule, count, watch_of(alloc, lines)?)?;
-    tell_watched(&ring, expected, seen)
+    tell_watched(&ring, expected, seen)?;
+    let inside = watched_inside(alloc, &setup, &schedule, count, watch_of(alloc, lines)?)?;
+    tell_watched(&inside, expected, seen)
 }
 
 /// The same of two blocks, with FIFOs in rings.
@@ -117,6 +120,38 @@ fn has_ended<F: Fifo, L: Ledger>(
     let mut steps = Steps::<L>::new(blank);
     let clocks = clocks.min(LONGEST);
     simulate(block, schedule, clocks, watch, &mut steps).is_ok()
+}
+
+/// The same of a run that tells what is inside the block.
+fn watched_inside(
+    alloc: Global,
+    setup: &Setup,
+    schedule: &Schedule,
+    clocks: u64,
+    watch: ClockWatch,
+) -> Option<ClockWatch> {
+    let mut watch = watch;
+    let mut block: Block<RingFifo> = Block::new(alloc, setup).ok()?;
+    let ends = has_ended_inside::<Brand>(&mut block, schedule, clocks, &mut watch, Blank::new(1));
+    if ends { Some(watch) } else { None }
+}
+
+/// Whether such a run ends.
+fn has_ended_inside<L: Ledger>(
+    block: &mut Block<RingFifo>,
+    schedule: &Schedule,
+    clocks: u64,
+    watch: &mut ClockWatch,
+    blank: Blank,
+) -> bool
+    requires name { blank.name ≡ L.name }
+    requires parts { blank.parts ≡ L.parts }
+    requires whole { blank.parts ≡ 1 }
+    requires fresh { block.old.run.clock ≡ 0 }
+{
+    let mut steps = Steps::<L>::new(blank);
+    let clocks = clocks.min(LONGEST);
+    simulate_inside(block, schedule, clocks, watch, &mut steps).is_ok()
 }
 
 /// A trace after a run of two blocks; none where the run doesn't end.

@@ -82,6 +82,7 @@ fn tell_kept(
         let shown = Shown {
             clock: after.clock,
             sample,
+            inside: None,
             second: None,
             stir: None,
         };

@@ -10,6 +10,7 @@ mod fifo_runs;
 mod fifos;
 mod flags;
 mod idling;
+mod insides;
 mod keys;
 mod kind;
 mod leaps;

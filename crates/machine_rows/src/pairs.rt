@@ -80,6 +80,7 @@ fn run<F: Fifo>(
         let shown = Shown {
             clock,
             sample: &samples.0,
+            inside: None,
             second: Some(&samples.1),
             stir: Some(twin.next_stir()),
         };

@@ -1,8 +1,9 @@
 //! What a row says that is seen after which clocks, and what is seen.
 ghost use Rattle.std.specs.Prelude.{◌≤◌};
 
+use crate::insides::value_inside;
 use crate::lines::{number, up_to};
-use block_core::Sample;
+use block_core::{Inside, Sample};
 use std::alloc::{AllocError, Global};
 
 /// The last clock that a row may look at.
@@ -20,6 +21,8 @@ pub struct After<'a> {
 pub struct Shown<'a> {
     pub clock: u64,
     pub sample: &'a Sample,
+    /// What is inside the block, where that is known.
+    pub inside: Option<&'a Inside>,
     /// The sample of the second block, where there are two.
     pub second: Option<&'a Sample>,
     /// How many clocks go by before the next one that stirs, where that is known.
@@ -163,6 +166,9 @@ fn is_named(list: &str, name: &str) -> bool {
 
 /// The value of a name. A tilde is before one of the second block.
 fn found(name: &str, shown: &Shown) -> Option<u32> {
+    if name == "pads" || name.contains('.') {
+        return value_inside(name, shown.inside?);
+    }
     match name.strip_prefix('~') {
         Some(name) => value_of(name, shown.second?),
         None => value_of(name, shown.sample),

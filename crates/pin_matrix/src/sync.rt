@@ -54,6 +54,14 @@ impl Sync {
         self.pad_1 = pad;
     }
 
+    /// The pads of the clock before this one.
+    #[inline(always)]
+    pub fn last_pad(&self) -> u32
+        ensures { result ≡ self.now.pad_1 }
+    {
+        self.pad_1
+    }
+
     /// Whether the pads are those of both clocks before, so that a machine sees what is there.
     pub fn settled(&self, pad: u32) -> bool
         ensures { IsTrue result ↔ ((pad ≡ self.now.pad_1) × (pad ≡ self.now.pad_2)) }

@@ -73,6 +73,15 @@ impl<F: Fifo> Machine<F> {
         &self.setup
     }
 
+    /// Its registers.
+    #[inline(always)]
+    pub fn registers(&self) -> &Registers
+        ensures value { result.now ≡ self.now.registers }
+        ensures kept { IsKept self.now.setup self.now.registers self.now.ports.fifos }
+    {
+        &self.registers
+    }
+
     /// One tick. Its registers change; what it does outside them, `settle` and the block carry out.
     #[inline(always)]
     pub fn tick(&mut self, view: &View) -> Intent

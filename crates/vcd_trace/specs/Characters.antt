@@ -29,6 +29,10 @@ letter_d = 100
 abbrev pub letter_f : ℕ
 letter_f = 102
 
+-- `i`
+abbrev pub letter_i : ℕ
+letter_i = 105
+
 -- `p`
 abbrev pub letter_p : ℕ
 letter_p = 112

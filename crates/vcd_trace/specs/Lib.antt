@@ -3,8 +3,11 @@ pub use Rattle.sample_trace.specs.Told
 pub mod TextForm
 pub mod VcdText
 pub mod TwinText
+pub mod InsideText
 pub use Rattle.sample_trace.specs.Listing
 pub mod Shows
 pub mod Groups
 pub use Rattle.sample_trace.specs.Edges
 pub mod ClockText
+pub mod InsideGroups
+pub mod InsideTold

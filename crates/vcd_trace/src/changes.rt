@@ -75,9 +75,9 @@ pub(crate) fn put_changes<S: Sink>(
     put_changed_words(sink, VECTOR + more, before, now)
 }
 
-// The low `count` bits, from bit 0 on; the others are 0.
+/// The low `count` bits, from bit 0 on; the others are 0.
 #[inline(always)]
-fn put_changed_bits<S: Sink>(
+pub(crate) fn put_changed_bits<S: Sink>(
     sink: &mut S,
     first: u8,
     count: u8,

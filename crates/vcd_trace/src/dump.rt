@@ -35,8 +35,8 @@ pub(crate) fn put_twin_dump<S: Sink>(
     sink.put(b"$end\n")
 }
 
-// The values of variables whose numbers are so much greater.
-fn put_values<S: Sink>(sink: &mut S, more: u8, sample: &Sample) -> Result<(), SinkFailed>
+/// The values of variables whose numbers are so much greater.
+pub(crate) fn put_values<S: Sink>(sink: &mut S, more: u8, sample: &Sample) -> Result<(), SinkFailed>
     requires { more ≤ 128 }
     ensures bytes { Takes (S.taken sink.old) (values_over more sample.now) (S.taken sink.new) result }
     ensures cause { PutCounts (S.faults sink.old) (S.faults sink.new) result }
@@ -48,8 +48,13 @@ fn put_values<S: Sink>(sink: &mut S, more: u8, sample: &Sample) -> Result<(), Si
     put_vectors(sink, VECTOR + more, &vectors)
 }
 
-// The low `count` bits, from bit 0 on.
-fn put_bits<S: Sink>(sink: &mut S, first: u8, count: u8, mut now: u32) -> Result<(), SinkFailed>
+/// The low `count` bits, from bit 0 on.
+pub(crate) fn put_bits<S: Sink>(
+    sink: &mut S,
+    first: u8,
+    count: u8,
+    mut now: u32,
+) -> Result<(), SinkFailed>
     requires { first + count ≤ 256 }
     ensures bytes { Takes (S.taken sink.old) (bit_lines first count now) (S.taken sink.new) result }
     ensures cause { PutCounts (S.faults sink.old) (S.faults sink.new) result }

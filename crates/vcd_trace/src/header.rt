@@ -12,10 +12,10 @@ use pio_edge::{Sink, SinkFailed};
 
 /// Variables that differ in their number alone.
 #[derive(Clone, Copy)]
-struct Group {
-    letter: u8,
-    width: u8,
-    count: u8,
+pub(crate) struct Group {
+    pub(crate) letter: u8,
+    pub(crate) width: u8,
+    pub(crate) count: u8,
 }
 
 const GROUPS: [Group; 7] = [
@@ -77,8 +77,8 @@ pub(crate) fn put_twin_header<S: Sink>(sink: &mut S) -> Result<(), SinkFailed>
     sink.put(b"$enddefinitions $end\n")
 }
 
-// A scope that begins with this line, whose variables have numbers so much greater.
-fn put_scope<S: Sink>(sink: &mut S, opening: &[u8], more: u8) -> Result<(), SinkFailed>
+/// A scope that begins with this line, whose variables have numbers so much greater.
+pub(crate) fn put_scope<S: Sink>(sink: &mut S, opening: &[u8], more: u8) -> Result<(), SinkFailed>
     requires { more ≤ 128 }
     ensures bytes { Takes (S.taken sink.old) (scope_text opening.now more) (S.taken sink.new) result }
     ensures cause { PutCounts (S.faults sink.old) (S.faults sink.new) result }
@@ -102,7 +102,8 @@ fn put_declarations<S: Sink>(sink: &mut S, first: u8) -> Result<(), SinkFailed>
     Ok(())
 }
 
-fn put_group<S: Sink>(sink: &mut S, first: u8, group: Group) -> Result<(), SinkFailed>
+/// The declarations of a group, whose identifiers count on from one.
+pub(crate) fn put_group<S: Sink>(sink: &mut S, first: u8, group: Group) -> Result<(), SinkFailed>
     requires ids { first + group.count ≤ 255 }
     requires letter { group.letter < 128 }
     ensures bytes { Takes (S.taken sink.old)
@@ -141,8 +142,8 @@ fn put_declaration<S: Sink>(
     sink.put(line.as_str().as_bytes())
 }
 
-// The identifier of a variable.
-fn identifier_of(id: u8) -> ArrayString<2>
+/// The identifier of a variable.
+pub(crate) fn identifier_of(id: u8) -> ArrayString<2>
     ensures { result.bytes ≡ identifier id }
 {
     let mut text = ArrayString::<2>::new();

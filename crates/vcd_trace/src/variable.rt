@@ -20,6 +20,15 @@ pub(crate) const FLAG: u8 = DIRECTION + 32;
 /// The number of the first value of more than one bit.
 pub(crate) const VECTOR: u8 = FLAG + 8;
 
+/// The number of the first pad.
+pub(crate) const PAD: u8 = LEVEL + SECOND;
+
+/// The number of the first value of the machine at place 0.
+pub(crate) const MACHINE: u8 = PAD + 32;
+
+/// How many values a machine has.
+pub(crate) const MACHINE_VALUES: u8 = 10;
+
 /// The values of more than one bit, in the order of their identifiers.
 pub(crate) fn vectors_of(sample: &Sample) -> [u32; 16]
     ensures values { result ≡ vectors_of sample.now }

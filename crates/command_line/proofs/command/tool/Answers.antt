@@ -9,5 +9,5 @@ returns c =
     let table = c.add-command-6.ensures _ _ (c.add-command-5.ensures _ _ check c.generate.ensures) c.table.ensures in
     let shares = c.add-command-8.ensures _ _ (c.add-command-7.ensures _ _ table c.recheck.ensures) c.shares.ensures in
     let receive = c.add-command-10.ensures _ _ (c.add-command-9.ensures _ _ shares c.measure.ensures) c.receive.ensures in
-    let uart = c.add-command-11.ensures _ _ receive c.uart.ensures in
-    c.add.ensures _ _ uart c.pair.ensures
+    let pair = c.add-command-12.ensures _ _ (c.add-command-11.ensures _ _ receive c.uart.ensures) c.pair.ensures in
+    c.add.ensures _ _ pair c.inspect.ensures

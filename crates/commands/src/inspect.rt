@@ -1,0 +1,93 @@
+//! The command `inspect`: the trace of what is inside a block in the first clocks of a run, with the pads and the registers of each machine.
+ghost use Rattle.std.specs.Prelude.{◌≡◌, ◌+◌, ◌≤◌, ◌^◌, is_some, map, option_map};
+ghost use Rattle.block_core.specs.Block.{first_run};
+ghost use Rattle.block_core.specs.Stirring.{stirring};
+ghost use Rattle.command_line.specs.Words.{inspect as inspect_asked};
+ghost use Rattle.commands.specs.Tasks.{inspected_text};
+ghost use Rattle.commands.specs.Outside.{call_by};
+ghost use Rattle.commands.specs.Promise.{CommandAsks, CommandEnds};
+ghost use Rattle.commands.specs.Worked.{most_worked};
+ghost use Rattle.commands.specs.Written.{SinkWrites};
+
+use crate::handing::hand_on;
+use block_core::Block;
+use command_line::RunFiles;
+use dreq_pacing::Schedule;
+use fault_lines::Fault;
+use fifo_pair::RingFifo;
+use idle_engine::{a_stopped_inspection_leaves_a_first_part, simulate_inside};
+use pin_matrix::Setup;
+use pio_edge::{Shelf, Sink};
+use stages::prepare;
+use std::alloc::Global;
+use std::sync::ledger::Ledger;
+use step_count::Steps;
+use vcd_trace::{InsideVcd, failing_early_leaves_a_first_part_of_what_is_inside};
+
+/// Writes the trace of what is inside the block that a source sets up, by a configuration or by default, in so many clocks, beside
+/// a stimulus where one is named. No span is asked. All memory is taken before the first piece is put.
+///
+/// With status 0: `InspectPassed` (`specs/Passed.antt`).
+#[tactic(auto, unfolding(crate::specs::Tasks::judge), using(crate::proofs::Working::worked_by))]
+pub fn inspect<F: Shelf, O: Sink, L: Ledger>(
+    alloc: Global,
+    files: RunFiles,
+    clocks: u64,
+    shelf: &mut F,
+    out: &mut O,
+    steps: &mut Steps<L>,
+) -> Result<(), Fault>
+    requires { clocks ≤ 10 ^ 12 }
+    ensures ends { CommandEnds
+        (inspect_asked files.entry.source.now (option_map (λ t. t.now) files.entry.config)
+        (option_map (λ t. t.now) files.entry.stimulus) clocks)
+        (call_by F.holds F.faults O.taken O.waiting O.faults shelf.old shelf.new out.old out.new) result }
+    ensures asked { CommandAsks
+        (inspect_asked files.entry.source.now (option_map (λ t. t.now) files.entry.config)
+        (option_map (λ t. t.now) files.entry.stimulus) clocks)
+        (F.fetched shelf.old) (F.fetched shelf.new) result }
+    ensures same { F.holds shelf.new ≡ F.holds shelf.old }
+    ensures steps { steps.new ≤ steps.old + clocks }
+    ensures worked { steps.new ≤ steps.old + most_worked (F.holds shelf.old)
+        (inspect_asked files.entry.source.now (option_map (λ t. t.now) files.entry.config)
+        (option_map (λ t. t.now) files.entry.stimulus) clocks) }
+{
+    let (setup, schedule) = prepare(alloc, shelf, files)?;
+    write_inspected(alloc, &setup, &schedule, clocks, out, steps)
+}
+
+/// Writes the text of so many clocks of a setup, or answers want of memory before it has put anything.
+fn write_inspected<O: Sink, L: Ledger>(
+    alloc: Global,
+    setup: &Setup,
+    schedule: &Schedule,
+    clocks: u64,
+    out: &mut O,
+    steps: &mut Steps<L>,
+) -> Result<(), Fault>
+    requires { clocks ≤ 10 ^ 12 }
+    ensures ends { SinkWrites O.taken O.waiting O.faults out.old out.new
+        (inspected_text setup.now schedule.now clocks) result }
+    ensures steps { steps.new ≤ steps.old + clocks }
+    ensures stirring { steps.new ≤ steps.old + stirring (first_run setup.now) schedule.now clocks + 1 }
+{
+    a_stopped_inspection_leaves_a_first_part();
+    failing_early_leaves_a_first_part_of_what_is_inside();
+    let mut block = Block::<RingFifo>::new(alloc, setup)?;
+    let mut trace = InsideVcd::new(out, configured(setup));
+    let put = simulate_inside(&mut block, schedule, clocks, &mut trace, steps);
+    hand_on(out, put)
+}
+
+/// Which machines a setup configures.
+fn configured(setup: &Setup) -> [bool; 4]
+    ensures { result ≡ map is_some setup.now.machines }
+{
+    let [first, second, third, fourth] = &setup.machines;
+    [
+        first.is_some(),
+        second.is_some(),
+        third.is_some(),
+        fourth.is_some(),
+    ]
+}

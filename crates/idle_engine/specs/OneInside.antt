@@ -1,0 +1,22 @@
+-- The run of one block beside a stimulus, which shows what is inside the block.
+use Rattle.std.specs.Prelude.{List}
+use Rattle.dreq_pacing.specs.declared.line.Line.{Line}
+use Rattle.block_core.specs.declared.inside.Inside.{Inside}
+use Rattle.block_core.specs.Hosted.{Hosted, hosted_at}
+use Rattle.block_core.specs.Inside.{inside_of, insides}
+use Rattle.idle_engine.specs.Kinds.{Kind}
+use Rattle.idle_engine.specs.One.{one}
+
+-- the kind of such a run (`Kinds`): it goes as one that shows its sample
+abbrev pub one_inside : Kind Hosted (List Line) Inside
+one_inside = record {
+  in_clock = one.in_clock;
+  acts = one.acts;
+  moves = one.moves;
+  stirs = one.stirs;
+  next = one.next;
+  quiet_next = one.quiet_next;
+  quiet_from = one.quiet_from;
+  shown = λ h. inside_of h.run;
+  course = λ lines h. record { at = hosted_at h.run lines; samples = insides h.run lines };
+}

@@ -1,0 +1,153 @@
+//! The declarations that a trace of what is inside a block begins with (IEEE 1364-2005, section 18.2.3).
+ghost use Rattle.std.specs.Prelude.{◌≡◌, ◌+◌, ◌*◌, ◌≤◌, ◌<◌, [], length, if◌then◌else◌};
+ghost use Rattle.pio_edge.specs.Edge.{Takes, PutCounts};
+ghost use Rattle.vcd_trace.specs.VcdText.{declaration, declarations};
+ghost use Rattle.vcd_trace.specs.InsideText.{first_of_machine, inside_header_text, machine_opening, machine_scope};
+ghost use Rattle.vcd_trace.specs.InsideText.{machine_scopes, machine_variables, named, pads_scope};
+ghost use Rattle.vcd_trace.specs.InsideGroups.{machine_variable};
+
+use crate::header::{Group, identifier_of, put_group, put_scope};
+use crate::variable::{MACHINE, MACHINE_VALUES, PAD};
+use arrayvec::ArrayString;
+use itoa::Buffer;
+use pio_edge::{Sink, SinkFailed};
+
+/// Puts the declarations, each line as one piece, with a scope for each configured machine.
+pub(crate) fn put_inside_header<S: Sink>(
+    sink: &mut S,
+    configured: &[bool; 4],
+) -> Result<(), SinkFailed>
+    ensures bytes { Takes (S.taken sink.old) (inside_header_text configured.now) (S.taken sink.new) result }
+    ensures cause { PutCounts (S.faults sink.old) (S.faults sink.new) result }
+{
+    sink.put(b"$timescale 1 ns $end\n")?;
+    put_scope(sink, b"$scope module pio $end\n", 0)?;
+    put_pads(sink)?;
+    put_machines(sink, configured)?;
+    sink.put(b"$enddefinitions $end\n")
+}
+
+// The scope of the pads.
+fn put_pads<S: Sink>(sink: &mut S) -> Result<(), SinkFailed>
+    ensures bytes { Takes (S.taken sink.old) pads_scope (S.taken sink.new) result }
+    ensures cause { PutCounts (S.faults sink.old) (S.faults sink.new) result }
+{
+    let pads = Group {
+        letter: b'i',
+        width: 1,
+        count: 32,
+    };
+    sink.put(b"$scope module pads $end\n")?;
+    put_group(sink, PAD, pads)?;
+    sink.put(b"$upscope $end\n")
+}
+
+// The scopes of the configured machines.
+fn put_machines<S: Sink>(sink: &mut S, configured: &[bool; 4]) -> Result<(), SinkFailed>
+    ensures bytes { Takes (S.taken sink.old) (machine_scopes 0 configured.now) (S.taken sink.new) result }
+    ensures cause { PutCounts (S.faults sink.old) (S.faults sink.new) result }
+{
+    for place in 0..4 {
+        put_where(sink, place as u8, configured[place])?;
+    }
+    Ok(())
+}
+
+// The scope of the machine at a place, where it is configured.
+fn put_where<S: Sink>(sink: &mut S, place: u8, configured: bool) -> Result<(), SinkFailed>
+    requires { place < 4 }
+    ensures bytes { Takes (S.taken sink.old) (if configured then machine_scope place else []) (S.taken sink.new) result }
+    ensures cause { PutCounts (S.faults sink.old) (S.faults sink.new) result }
+{
+    if configured {
+        put_machine(sink, place)
+    } else {
+        Ok(())
+    }
+}
+
+// The scope of the machine at a place.
+fn put_machine<S: Sink>(sink: &mut S, place: u8) -> Result<(), SinkFailed>
+    requires { place < 4 }
+    ensures bytes { Takes (S.taken sink.old) (machine_scope place) (S.taken sink.new) result }
+    ensures cause { PutCounts (S.faults sink.old) (S.faults sink.new) result }
+{
+    put_machine_opening(sink, place)?;
+    put_machine_variables(sink, MACHINE + MACHINE_VALUES * place)?;
+    sink.put(b"$upscope $end\n")
+}
+
+// The first line of that scope.
+fn put_machine_opening<S: Sink>(sink: &mut S, place: u8) -> Result<(), SinkFailed>
+    requires { place < 4 }
+    ensures bytes { Takes (S.taken sink.old) (machine_opening place) (S.taken sink.new) result }
+    ensures cause { PutCounts (S.faults sink.old) (S.faults sink.new) result }
+{
+    let mut line = *b"$scope module sm0 $end\n";
+    line[16] = b'0' + place;
+    sink.put(&line)
+}
+
+// The declarations of a machine's variables, whose identifiers count on from one.
+fn put_machine_variables<S: Sink>(sink: &mut S, first: u8) -> Result<(), SinkFailed>
+    requires { first + 10 ≤ 256 }
+    ensures bytes { Takes (S.taken sink.old) (declarations first machine_variables) (S.taken sink.new) result }
+    ensures cause { PutCounts (S.faults sink.old) (S.faults sink.new) result }
+{
+    for number in 0..MACHINE_VALUES {
+        put_named(sink, first + number, name_of(number), width_of(number))?;
+    }
+    Ok(())
+}
+
+// The name of a machine's variable.
+fn name_of(number: u8) -> &'static str
+    requires { number < 10 }
+    ensures name { result.now ≡ (machine_variable number).name }
+    ensures short { length result.now ≤ 11 }
+{
+    match number {
+        0 => "pc",
+        1 => "instruction",
+        2 => "x",
+        3 => "y",
+        4 => "isr",
+        5 => "osr",
+        6 => "isr_count",
+        7 => "osr_count",
+        8 => "waits",
+        _ => "enabled",
+    }
+}
+
+// Its width.
+fn width_of(number: u8) -> u8
+    requires { number < 10 }
+    ensures { result ≡ (machine_variable number).width }
+{
+    match number {
+        0 => 5,
+        1 => 16,
+        2 | 3 | 4 | 5 => 32,
+        6 | 7 => 6,
+        _ => 1,
+    }
+}
+
+// The declaration of a variable of this name and width.
+fn put_named<S: Sink>(sink: &mut S, id: u8, name: &str, width: u8) -> Result<(), SinkFailed>
+    requires { length name.now ≤ 11 }
+    ensures bytes { Takes (S.taken sink.old) (declaration id (named name.now width)) (S.taken sink.new) result }
+    ensures cause { PutCounts (S.faults sink.old) (S.faults sink.new) result }
+{
+    let mut digits = Buffer::new();
+    let mut line = ArrayString::<40>::new();
+    line.push_str("$var wire ");
+    line.push_str(digits.format(width));
+    line.push(' ');
+    line.push_str(identifier_of(id).as_str());
+    line.push(' ');
+    line.push_str(name);
+    line.push_str(" $end\n");
+    sink.put(line.as_str().as_bytes())
+}

@@ -1,0 +1,31 @@
+//! The values of a machine by their kind: eight words, and two values of one bit.
+ghost use Rattle.std.specs.Prelude.{◌≡◌, ◌<◌, length};
+ghost use Rattle.vcd_trace.specs.InsideGroups as spec;
+
+use block_core::MachineInside;
+
+/// The values of more than one bit, in the order of their identifiers.
+#[inline(always)]
+pub(crate) fn words_of(machine: &MachineInside) -> [u32; 8]
+    ensures values { result ≡ spec.words_of machine.now }
+{
+    [
+        u32::from(machine.pc),
+        u32::from(machine.instruction),
+        machine.x,
+        machine.y,
+        machine.isr,
+        machine.osr,
+        u32::from(machine.isr_count),
+        u32::from(machine.osr_count),
+    ]
+}
+
+/// Those of one bit, the first in bit 0.
+#[inline(always)]
+pub(crate) fn bits_of(machine: &MachineInside) -> u32
+    ensures value { result ≡ spec.flags_of machine.now }
+    ensures low { result < 4 }
+{
+    u32::from(machine.waits) + 2 * u32::from(machine.enabled)
+}
