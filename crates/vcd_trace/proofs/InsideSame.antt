@@ -8,12 +8,13 @@ use Rattle.block_core.specs.declared.inside.Inside.{Inside}
 use Rattle.block_core.specs.Sample.{bits_of, same_numbers, same_sample}
 use Rattle.pio_edge.specs.Edge.{with_bytes, TakesPrefix}
 use Rattle.vcd_trace.specs.Shows.{AreInside}
-use Rattle.vcd_trace.specs.TextForm.{added, ended, HasPut}
+use Rattle.sample_trace.specs.Told.{IsNext, held_to, told_at}
+use Rattle.vcd_trace.specs.TextForm.{TextForm, added, ended, HasPut}
 use Rattle.vcd_trace.specs.VcdText.{change_lines, changes_over, clock_line}
-use Rattle.vcd_trace.specs.InsideText.{bit_of, first_of_machine, inside_changes_text, inside_form, inside_step_text, machine_changes, machine_values, machine_widths, machine_variables, machines_changes, pad_changes, same_inside, same_machine, same_machines}
+use Rattle.vcd_trace.specs.InsideText.{bit_of, first_of_machine, inside_changes_text, inside_form, inside_open_text, inside_step_text, inside_text_of, machine_changes, machine_values, machine_widths, machine_variables, machines_changes, pad_changes, same_inside, same_machine, same_machines}
 use Rattle.vcd_trace.specs.InsideTold.{added_inside, ended_inside, places_code, taken_code, told_first}
 use Rattle.vcd_trace.specs.Groups.{bit_changes}
-use Rattle.vcd_trace.proofs.FormLaws.{AddsNothing}
+use Rattle.vcd_trace.proofs.FormLaws.{AddsNothing, one_put, one_breaks, end_put, end_breaks}
 use Rattle.vcd_trace.proofs.ToldLaws.{and_true, same_numbers-self, same_sample-self, same_sample-equal}
 use Rattle.vcd_trace.proofs.ChangesLaws.{both_true, length-bits_of, same_numbers-equal}
 use Rattle.vcd_trace.proofs.SilenceLaws.{bits_of-same, change_lines-none, changes_over-some, first_none, last_none, one_false}
@@ -198,3 +199,52 @@ told-known a b s t h =
     let codes : places_code a ≡ places_code b = cc in
     let takens : taken_code s ≡ taken_code t = cc in
     (same_places a b codes, same_taken s t takens)
+
+-- ---- the trace
+
+-- the text before the first clock was put, by a trace that names these machines
+pub begins : (own configured : List Bool) (now taken taken' : Option (List ℕ)) (last : Option Inside) → told_first own now ≡ told_first configured taken
+    → taken' ≡ with_bytes now (inside_open_text own []) → last ≡ None → HasPut (inside_form configured) taken [] false taken' last
+begins own configured now taken taken' last same bytes none =
+    let known = told-known own configured now taken same in
+    let P : List Bool → Type 0 = λ places. taken' ≡ with_bytes now (inside_open_text places []) in
+    let Q : Option (List ℕ) → Type 0 = λ before. taken' ≡ with_bytes before (inside_open_text configured []) in
+    record { text = subst Q known.1 (subst P known.0 bytes); remembered = none }
+
+-- or only a first part of it
+pub begin_breaks : (own configured : List Bool) (now taken taken' : Option (List ℕ)) → told_first own now ≡ told_first configured taken
+    → TakesPrefix now (inside_open_text own []) taken' → TakesPrefix taken (inside_text_of configured [] false) taken'
+begin_breaks own configured now taken taken' same bytes =
+    let known = told-known own configured now taken same in
+    let P : List Bool → Type 0 = λ places. TakesPrefix now (inside_open_text places []) taken' in
+    let Q : Option (List ℕ) → Type 0 = λ before. TakesPrefix before (inside_open_text configured []) taken' in
+    subst Q known.1 (subst P known.0 bytes)
+
+pub one_put_inside : (configured : List Bool) (b : Option (List ℕ)) (l : List Inside) (taken : Option (List ℕ)) (last : Option Inside) (clock : ℕ) (t : Inside) (taken' : Option (List ℕ)) (last' : Option Inside)
+    → HasPut (inside_form configured) b l false taken last → IsNext l clock → taken' ≡ with_bytes taken (added_inside clock last t) → last' ≡ Some t
+    → HasPut (inside_form configured) b (told_at clock t l) false taken' last'
+one_put_inside configured b l taken last clock t taken' last' h n k kept =
+    let f : TextForm Inside = inside_form configured in
+    let P : Option Inside → Type 0 = λ x. HasPut f b (told_at clock t l) false taken' x in
+    subst P (sym kept) (one_put f (inside_repeats_add-nothing configured) b l taken last clock t taken' h n (k ∙ ap (with_bytes taken) (sym (added-inside configured clock last t))))
+
+pub one_breaks_inside : (configured : List Bool) (b : Option (List ℕ)) (l : List Inside) (taken : Option (List ℕ)) (last : Option Inside) (clock : ℕ) (t : Inside) (taken' : Option (List ℕ))
+    → HasPut (inside_form configured) b l false taken last → IsNext l clock → TakesPrefix taken (added_inside clock last t) taken'
+    → TakesPrefix b (inside_text_of configured (told_at clock t l) false) taken'
+one_breaks_inside configured b l taken last clock t taken' h n k =
+    let f : TextForm Inside = inside_form configured in
+    let P : List ℕ → Type 0 = λ x. TakesPrefix taken x taken' in
+    one_breaks f (inside_repeats_add-nothing configured) b l taken last clock t taken' h n (subst P (sym (added-inside configured clock last t)) k)
+
+pub end_put_inside : (configured : List Bool) (b : Option (List ℕ)) (l : List Inside) (taken : Option (List ℕ)) (last : Option Inside) (clock : ℕ) (taken' : Option (List ℕ))
+    → HasPut (inside_form configured) b l false taken last → IsNext l clock → taken' ≡ with_bytes taken (ended_inside clock last)
+    → HasPut (inside_form configured) b (held_to clock l) true taken' last
+end_put_inside configured b l taken last clock taken' h n k =
+    end_put (inside_form configured) (inside_repeats_add-nothing configured) b l taken last clock taken' h n (k ∙ ap (with_bytes taken) (sym (ended-inside configured clock last)))
+
+pub end_breaks_inside : (configured : List Bool) (b : Option (List ℕ)) (l : List Inside) (taken : Option (List ℕ)) (last : Option Inside) (clock : ℕ) (taken' : Option (List ℕ))
+    → HasPut (inside_form configured) b l false taken last → IsNext l clock → TakesPrefix taken (ended_inside clock last) taken'
+    → TakesPrefix b (inside_text_of configured (held_to clock l) true) taken'
+end_breaks_inside configured b l taken last clock taken' h n k =
+    let P : List ℕ → Type 0 = λ x. TakesPrefix taken x taken' in
+    end_breaks (inside_form configured) (inside_repeats_add-nothing configured) b l taken last clock taken' h n (subst P (sym (ended-inside configured clock last)) k)
