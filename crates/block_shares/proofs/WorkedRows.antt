@@ -421,3 +421,18 @@ clear_touches = refl
 jump_touches : touches_of (record block_of_four { memory = 0x00c0 ∷ 0xc031 ∷ 0x0000 ∷ [] ++ replicate 29 0xc001 }) 0 ≡ record { reach = 7; reads = 1; writes = 1; sees = 2; changes = 2 }
 unfolding gathered reach_in any_wild touched_by act_of wait_at in_at push_or_pull_at mov_at irq_at set_at
 jump_touches = refl
+
+-- machine 1 with a pending word: `wait 1 irq 5` waits for flag 5 and lowers it, and leaves the machine at its start
+first_waits : touched_by block_of_four.memory (record shifts { pending = Some 0x20c5 }) ≡ record { reach = 8; reads = 0; writes = 2; sees = 0x20; changes = 0x20 }
+unfolding gathered reach_in any_wild touched_by act_of wait_at in_at push_or_pull_at mov_at irq_at set_at
+first_waits = refl
+
+-- `jmp 3` brings it to its program, and the word at its start isn't reached
+first_jumps : touched_by block_of_four.memory (record shifts { start = 9; pending = Some 3; start_in_memory = omega arith }) ≡ record { reach = 8; reads = 0; writes = 2; sees = 0; changes = 0 }
+unfolding gathered reach_in any_wild touched_by act_of wait_at in_at push_or_pull_at mov_at irq_at set_at
+first_jumps = refl
+
+-- after `out pc, 32` it may be anywhere
+first_wild : touched_by block_of_four.memory (record shifts { pending = Some 0x60a0 }) ≡ record { reach = 0xffffffff; reads = 0xffffffff; writes = 2; sees = 0xff; changes = 0xff }
+unfolding gathered reach_in any_wild touched_by act_of wait_at in_at push_or_pull_at mov_at irq_at set_at
+first_wild = refl
