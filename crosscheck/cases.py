@@ -87,8 +87,9 @@ class Run:
         keys["divider"] = random.choice([1, 1, 1, 1, 2, 3, random.randrange(1, 9)])
         keys["fraction"] = random.choice([0, 0, random.randrange(256)])
         keys["join_rx"] = keys["join_rx"] and not keys["join_tx"]
+        keys |= {"pending": self.word() if random.random() < 0.3 else None}
         self.config += f'[[machine]]\nid = {number}\nprogram = "{self.program}{program}"\nstart = "go"\n'
-        self.config += "".join(f"{key} = {str(value).lower()}\n" for key, value in keys.items())
+        self.config += lines_of(keys)
         self.setups[number] = keys | self.programs[program]
 
     def host(self):
@@ -168,6 +169,11 @@ def observed_spans(random, setups):
     ]
 
 
+def lines_of(keys):
+    """The lines of a table; a key without a value isn't said."""
+    return "".join(f"{key} = {str(value).lower()}\n" for key, value in keys.items() if value is not None)
+
+
 def as_tables(spans):
     """The tables of spans in a configuration."""
     quoted = [{key: f'"{value}"' if isinstance(value, str) else value for key, value in span.items()} for span in spans]
@@ -183,9 +189,8 @@ class SerialLine:
         self.source = ".program q\n.side_set 1 opt\n" + "".join(f".word {word}\n" for word in self.memory[:4])
         keys = {key: False if limits is None else limits[0] for key, limits in MACHINE_KEYS.items()}
         keys |= {"out_base": self.pin, "side_base": self.pin, "out_count": 1, "divider": self.divider, "out_right": True}
-        keys |= {"push_threshold": 32, "pull_threshold": 32}
-        self.config = '[[load]]\nprogram = "q"\n[[machine]]\nid = 0\nprogram = "q"\n'
-        self.config += "".join(f"{key} = {str(value).lower()}\n" for key, value in keys.items())
+        keys |= {"push_threshold": 32, "pull_threshold": 32, "osr_count": 32, "pending": None}
+        self.config = '[[load]]\nprogram = "q"\n[[machine]]\nid = 0\nprogram = "q"\n' + lines_of(keys)
         rule = {"side_bits": 1, "side_opt": 1, "side_pindirs": False, "wrap_bottom": 0, "wrap_top": 3, "start": 0}
         self.setups = {0: keys | rule}
         self.pins = {key: 0 for key in PIN_KEYS} | {"level": random.choice([0, 1]) << self.pin}

@@ -27,6 +27,11 @@ MACHINE_KEYS = {
     "status_n": (0, 15),
     "x": (0, 2**32 - 1),
     "y": (0, 2**32 - 1),
+    "isr": (0, 2**32 - 1),
+    "osr": (0, 2**32 - 1),
+    "isr_count": (0, 32),
+    "osr_count": (0, 32),
+    "pending": (0, 65535),
 }
 SPAN_NUMBERS = {"machine": 3, "from_pin": 31, "to_pin": 31, "min": 16777215, "max": 16777215}
 SPAN_WORDS = {"from_edge": ("rise", "fall"), "to_edge": ("rise", "fall"), "unit": ("ticks", "clocks")}

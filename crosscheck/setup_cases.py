@@ -51,19 +51,12 @@ CASES = [
         {},
         "version 2\n0 disable 0\n0 tx 0 0x1\n1 tx 0 0x2\n2 restart 0\n2 enable 0\n2 feed 0 1 0x3\n",
     ),
-    # The program of two words is at 30; its two lines begin at 28. They leave the pin of side-set low.
-    Case(
-        "isr_filled",
-        {"program": "period", "at": 28},
-        {"id": 0, "program": "period", "set_count": 0, "side_base": 16},
-        {},
-        "version 2\n0 disable 0\n0 tx 0 0xfa\n1 restart 0\n1 enable 0\n",
-        ".side_set 1\n    pull block side 0\n    mov isr, osr side 0\n.wrap_target\n    mov y, isr side 1\nrest:\n",
-    ),
+    # ISR has the word that was put, 250; OSR too, which no instruction reads.
+    Case("isr_filled", {"program": "period", "at": 30}, {"id": 0, "program": "period", "set_count": 0, "side_base": 16, "isr": 250}, {}),
     Case("isr_nobody_reads"),
     Case("isr_cleared", {"program": "period", "at": 30}, {"id": 0, "program": "period", "set_count": 0}, {}),
-    Case("bits_shifted_in", refused="machine 0 starts with 3 bits shifted into ISR: no key says it yet"),
-    Case("pull_waits", refused="machine 0: the word 0x80a0 that is forced on it still waits at the start: no key says it yet"),
+    Case("bits_shifted_in", {"program": "sends"}, {"id": 0, "program": "sends", "set_count": 0, "isr_count": 3}, {}),
+    Case("pull_waits", machine=MACHINE | {"pending": 0x80A0}),
     Case(
         "reads_pins",
         refused="machine 0: the word 0x4001 that is forced on it before the start reads pins, which the firmware alone doesn't say",

@@ -1,7 +1,7 @@
 """Random blocks with spans, as an author of firmware may write them: pulses, delays, counted loops, and some waits."""
 
 from piotool import span_model
-from cases import Run, as_tables
+from cases import Run, as_tables, lines_of
 from config_model import MACHINE_KEYS
 
 MOST = 2**24 - 1  # the greatest bound of a span
@@ -104,10 +104,12 @@ class Timed(Run):
         keys |= {"autopull": random.random() < 0.3, "autopush": random.random() < 0.3, "in_right": True, "out_right": True}
         keys |= {"push_threshold": random.choice([8, 32]), "pull_threshold": random.choice([8, 32])}
         keys |= {"x": random.choice([0, 1, 3, 31, 32, 2**32 - 1]), "y": random.choice([0, 2, 31, 100])}
+        keys |= {"osr": random.getrandbits(32), "osr_count": random.choice([0, 8, 32, 32]), "isr_count": random.choice([0, 0, 24])}
+        keys["pending"] = random.getrandbits(16) if random.random() < 0.03 else None
         keys["divider"] = random.choice([1, 1, 2, 3, 7, 0, 65535])
         keys["fraction"] = random.choice([0, 0, 128, random.randrange(256)]) * (keys["divider"] != 0)
         self.config += f'[[machine]]\nid = {number}\nprogram = "{self.program}{program}"\nstart = "l{start}"\n'
-        self.config += "".join(f"{key} = {str(value).lower()}\n" for key, value in keys.items())
+        self.config += lines_of(keys)
         self.setups[number] = keys | place | {"start": place["at"] + start}
 
     # The spans.

@@ -74,9 +74,14 @@ class AskedMachine:
         """A word under the machine's rule."""
         return read_word(word, *self.side)
 
+    def run(self) -> list[Word]:
+        """The words that it may run: those in reach, and the one that is pending at its start."""
+        pending = self.setup["pending"]
+        return [self.words[address] for address in self.reached] + ([] if pending is None else [self.read(pending)])
+
     def look_into(self) -> None:
         """Which registers and FIFOs the program looks into."""
-        words = [it for it in (self.words[address] for address in self.reached) if not it.is_nothing]
+        words = [it for it in self.run() if not it.is_nothing]
         moves = {it.word & 7 for it in words if it.kind == MOV and (it.high, it.word >> 3 & 3, it.word & 7) != (Y, 0, Y)}
         ins = {it.high for it in words if it.kind == IN}
         tests = {it.high for it in words if it.kind == JMP}
@@ -104,7 +109,7 @@ class AskedMachine:
         """The pins whose levels and whose directions an instruction in reach may write."""
         levels: set[int] = set()
         directions: set[int] = set()
-        for word in (self.words[address] for address in self.reached):
+        for word in self.run():
             if word.side is not None:
                 (directions if self.setup["side_pindirs"] else levels).update(pin for pin, _ in word.side)
             if word.kind == SET and word.high in (PINS, PINDIRS):

@@ -8,8 +8,6 @@ from piotool.firmware_map import DEFAULTS, PINS
 from piotool.firmware_programs import Sources
 from piotool.firmware_setup import BlockSetup, settled
 
-START_DEFAULTS: dict[str, Any] = {"isr": 0, "isr_count": 0, "osr": 0, "osr_count": 32, "pending": None}
-
 
 def differences(block: BlockSetup, kept: dict[str, Any], sources: Sources, added: set[int]) -> list[str]:
     """What differs between a block and the tables of a kept configuration; the machines in `added` aren't the firmware's."""
@@ -40,7 +38,7 @@ def difference(what: str, recorded: object, kept: object) -> list[str]:
 
 def shown(value: object) -> str:
     """A value as a configuration has it."""
-    return str(value).lower() if isinstance(value, bool) else str(value)
+    return str(value).lower() if isinstance(value, bool) or value is None else str(value)
 
 
 def machine_differences(block: BlockSetup, number: int, table: dict[str, Any] | None, sources: Sources) -> list[str]:
@@ -61,9 +59,7 @@ def machine_differences(block: BlockSetup, number: int, table: dict[str, Any] | 
     kept = settled({key: table.get(key, default) for key, default in DEFAULTS.items()}, int(machine.placed.program.rule["side_bits"]))
     for key in DEFAULTS:
         lines += difference(f"machine {number} {key}", machine.keys[key], kept[key])
-    for key, default in START_DEFAULTS.items():
-        lines += difference(f"machine {number} {key}", machine.keys.get(key, default), table.get(key, default))
-    return lines
+    return lines + difference(f"machine {number} pending", machine.keys.get("pending"), table.get("pending"))
 
 
 def kept_text(path: str, text: str, block: BlockSetup, added: set[int]) -> str:

@@ -81,6 +81,10 @@ DEFAULTS: dict[str, int | bool] = {
     "status_n": 0,
     "x": 0,
     "y": 0,
+    "isr": 0,
+    "osr": 0,
+    "isr_count": 0,
+    "osr_count": 32,
 }
 PULL_UP, FUNCTION_OF_BLOCK = 1 << 3, (6, 7)
 PAD_AFTER_RESET, CONTROL_AFTER_RESET = 0x56, 0x1F

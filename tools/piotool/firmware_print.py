@@ -87,7 +87,7 @@ def machine_registers(table: dict[str, Any], placed: Placed, memory: Memory) -> 
     }
     fields["wrap_bottom"], fields["wrap_top"] = placed.wrap()
     start = placed.at + (program.labels[table["start"]] if "start" in table else 0)
-    values = at.registers_of(fields) | {"ADDR": start, "INSTR": memory[start] or 0}
+    values = at.registers_of(fields) | {"ADDR": start, "INSTR": table.get("pending", memory[start] or 0)}
     lines = []
     for register in sorted(values, key=lambda it: at.PLACES[it]):
         told = ", ".join(f"{key} {str(fields[key]).lower()}" for key in at.FIELDS.get(register, ()) if key in table)

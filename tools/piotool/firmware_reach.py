@@ -32,9 +32,9 @@ def goes_by_data(word: int) -> bool:
     return kind == OUT and high in (TO_PC, OUT_EXEC) or kind == MOV and high in (TO_PC, MOV_EXEC)
 
 
-def reach_of(memory: Memory, start: int, wrap: tuple[int, int]) -> Reach:
-    """What a machine can come to from its start. A word that isn't loaded leads nowhere."""
-    found, falls, ahead, wild = {start}, set(), [start], False
+def reach_of(memory: Memory, start: int, wrap: tuple[int, int], pending: int | None = None) -> Reach:
+    """What a machine can come to from its start. A word that isn't loaded leads nowhere; a pending one that waits doesn't jump."""
+    found, falls, ahead, wild = {start}, set(), [start], pending is not None and goes_by_data(pending)
     while ahead:
         address = ahead.pop()
         word = memory[address]

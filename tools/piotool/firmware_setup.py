@@ -4,17 +4,15 @@ from dataclasses import dataclass, field, replace
 
 from piotool.calls import Fault
 from piotool.firmware_chip import Block, Start
-from piotool.firmware_forced import rotated_left
+from piotool.firmware_forced import Machine
 from piotool.firmware_map import DEFAULTS
 from piotool.firmware_pins import pins_of
 from piotool.firmware_programs import Memory, Placed, Rule, Sources, memory_of, placed_for, placements, with_label
 from piotool.firmware_reach import Reach, is_read, reach_of
 from piotool.firmware_recording import Recording
-from piotool.firmware_start_keys import State, said_by_lines
 
-# The keys of a machine's start that the program knows. Where all of `isr`, `isr_count`, `osr`, `osr_count` and `pending` are here
-# they are written as keys, and no lines of a program are made for them.
-START_KEYS: tuple[str, ...] = ()
+# What IN and IRQ have done in their first tick, they would do again as a pending word of the start.
+IN, IRQ = 2, 6
 
 
 @dataclass
@@ -155,6 +153,9 @@ def refuse_what_no_key_says(number: int, start: Start, fields: dict[str, int | b
         raise Fault(f"machine {number} has a side-set of {fields['side_count']} bits with SIDE_EN {int(fields['side_opt'])}: no program has it")
     if fields["set_count"] > 5 or fields["out_count"] > 32:
         raise Fault(f"machine {number} has a mapping of more pins than there are: set_count is at most 5, out_count 32")
+    it = start.machine
+    if it.pending is not None and it.begun and it.pending >> 13 in (IN, IRQ):
+        raise Fault(f"machine {number}: the word {it.pending:#06x} that is forced on it still waits after its first tick: a configuration can't say it")
     if start.machine.unsaid:
         raise Fault(f"machine {number}: {start.machine.unsaid[0]}, which the firmware alone doesn't say")
 
@@ -169,15 +170,15 @@ def machine_setup(number: int, start: Start, found: list[Placed], setup: Setup, 
     placed = placed_for(number, state.pc, wrap, rule, found, last.names)
     placed = Placed(placed.program, placed.at)
     memory = memory_of(found)
-    reach = reach_of(memory, state.pc, wrap)
+    reach = reach_of(memory, state.pc, wrap, state.pending)
     stay_inside(number, placed, reach, wrap)
     fit_wrap(number, placed, reach, wrap, setup)
     fit_rule(number, placed, rule, setup)
-    keys = {name: fields[name] for name in DEFAULTS if name in fields} | {"x": state.x, "y": state.y}
+    keys = {name: fields.get(name, default) for name, default in DEFAULTS.items()} | {"x": state.x, "y": state.y}
     machine = MachineSetup(number, placed, None, settled(keys, rule.bits), [*state.tx, *state.waiting])
     machine.later, machine.is_drained = list(start.later), start.is_drained or state.is_drained
     fit_start(machine, state.pc - placed.at, setup)
-    fit_state(machine, start, memory, wrap, rule, last, setup)
+    fit_state(machine, memory, wrap, state)
     note_words(number, start, setup)
     return machine
 
@@ -229,29 +230,15 @@ def fit_start(machine: MachineSetup, place: int, setup: Setup) -> None:
         machine.placed.program = program
 
 
-def fit_state(
-    machine: MachineSetup, start: Start, memory: Memory, wrap: tuple[int, int], rule: Rule, last: Start, setup: Setup
-) -> None:
-    """What ISR, OSR and a pending word need: keys, or lines of the program's own, or nothing where nobody reads them."""
-    it, autopull = start.machine, bool(machine.keys["autopull"])
-    needs_isr = (it.isr, it.isr_count) != (0, 0) and is_read(memory, it.pc, wrap, "isr")
-    reads_osr = autopull or is_read(memory, it.pc, wrap, "osr")
-    needs_osr = (it.osr, it.osr_count) != (0, 32) and reads_osr
-    if not (needs_isr or needs_osr or it.pending is not None):
-        return
-    if START_KEYS:
-        isr = {"isr": it.isr, "isr_count": it.isr_count} if needs_isr else {}
-        osr = {"osr": it.osr, "osr_count": it.osr_count} if needs_osr else {}
-        machine.keys |= isr | osr | ({"pending": it.pending} if it.pending is not None else {})
-        return
-    driven = last.pins.directions if rule.pindirs else last.pins.levels
-    side = rotated_left(driven, -int(machine.keys["side_base"]) % 32) & (1 << rule.bits) - 1
-    state = State(it.isr, it.isr_count, it.osr, it.osr_count, it.pending, needs_isr, reads_osr, side)
-    made = said_by_lines(machine.number, state, machine.placed, machine.start_place, machine.keys)
-    machine.placed, machine.start, machine.before = made.placed, None, made.words + machine.before
-    if len(machine.before) > (8 if machine.keys["join_tx"] else 4):
-        raise Fault(f"machine {machine.number} has ISR or OSR filled and TX full at the start: no key says it yet")
-    setup.wants_source.append(f"machine {machine.number} starts with ISR or OSR filled: {made.count} lines at the program's start fill them")
+def fit_state(machine: MachineSetup, memory: Memory, wrap: tuple[int, int], it: Machine) -> None:
+    """What ISR and OSR have, where the program may read it, and the word that still waits."""
+    waits = it.pending is not None
+    if waits or is_read(memory, it.pc, wrap, "isr"):
+        machine.keys |= {"isr": it.isr, "isr_count": it.isr_count}
+    if waits or machine.keys["autopull"] or is_read(memory, it.pc, wrap, "osr"):
+        machine.keys |= {"osr": it.osr, "osr_count": it.osr_count}
+    if it.pending is not None:
+        machine.keys["pending"] = it.pending
 
 
 def note_words(number: int, start: Start, setup: Setup) -> None:

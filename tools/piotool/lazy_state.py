@@ -21,10 +21,10 @@ class MachineState:
         self.number, self.pc = machine.number, setup["start"]
         self.x: Value = setup["x"]
         self.y: Value = setup["y"]
-        self.isr: Value = 0
-        self.osr: Value = 0
-        self.in_count, self.out_count, self.delay, self.tick = 0, 32, 0, 0
-        self.pending: Optional[int] = None
+        self.isr: Value = setup["isr"]
+        self.osr: Value = setup["osr"]
+        self.in_count, self.out_count, self.delay, self.tick = setup["isr_count"], setup["osr_count"], 0, 0
+        self.pending: Optional[int] = setup["pending"]
         self.begun = False
         self.tx_low = self.tx_high = self.rx_low = self.rx_high = self.taken = self.pushed = 0
 

@@ -17,6 +17,7 @@ from piotool.span_model import Machine, is_move
 JMP, WAIT, IN, OUT, PUSH_PULL, MOV, IRQ, SET = range(8)
 PINS, PINDIRS, ISR, OSR = 0, 4, 6, 7
 MOST_PINS = range(32)
+NOWHERE = -1  # the address of the word that is pending at the start
 
 
 @dataclass(frozen=True)
@@ -73,6 +74,8 @@ class Reached:
         self.number, self.setup, self.memory = number, setup, memory
         self.touched = Touched(number, setup, memory)
         self.ops = [Op(address, memory[address]) for address in sorted(self.touched.reach)]
+        if setup["pending"] is not None:
+            self.ops.append(Op(NOWHERE, setup["pending"]))
         self.executes = any(it.is_out(7) or it.is_mov(4) for it in self.ops)
         self.out = pins_from(setup["out_base"], setup["out_count"])
         self.set = pins_from(setup["set_base"], setup["set_count"])
@@ -110,7 +113,8 @@ class Reached:
 
     def fills_osr(self) -> bool:
         """Whether something may fill its OSR."""
-        return self.executes or self.setup["autopull"] or any(it.is_pull() or it.is_mov(OSR) for it in self.ops)
+        fills = any(it.is_pull() or it.is_mov(OSR) for it in self.ops)
+        return self.executes or self.setup["autopull"] or self.setup["osr"] != 0 or fills
 
     def takes_isr(self) -> bool:
         """Whether something may take its ISR."""

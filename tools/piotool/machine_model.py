@@ -66,9 +66,10 @@ class Machine:
     def __init__(self, setup: Setup) -> None:
         self.setup = setup
         self.pc, self.x, self.y = setup["start"], setup["x"], setup["y"]
-        self.isr = self.osr = self.in_count = self.delay = self.sticky = self.got = self.restarted = 0
-        self.out_count = 32
-        self.pending: Optional[int] = None
+        self.isr, self.in_count = setup["isr"], setup["isr_count"]
+        self.osr, self.out_count = setup["osr"], setup["osr_count"]
+        self.pending: Optional[int] = setup["pending"]
+        self.delay = self.sticky = self.got = self.restarted = 0
         self.begun, self.enabled = False, True
         self.has_turned = False  # whether the last instruction was a turn of a counted loop of one instruction
         self.tx: list[int] = []

@@ -14,7 +14,8 @@ Tables = dict[str, Any]
 MACHINE = {
     "divider": 1, "fraction": 0, "in_base": 0, "out_base": 0, "set_base": 0, "side_base": 0, "jmp_pin": 0, "out_count": 0,
     "set_count": 5, "in_right": True, "out_right": True, "autopush": False, "autopull": False, "join_tx": False, "join_rx": False,
-    "status_rx": False, "push_threshold": 32, "pull_threshold": 32, "status_n": 0, "x": 0, "y": 0,
+    "status_rx": False, "push_threshold": 32, "pull_threshold": 32, "status_n": 0, "x": 0, "y": 0, "isr": 0, "osr": 0, "isr_count": 0,
+    "osr_count": 32, "pending": None,
 }  # fmt: skip
 PINS = ("high", "level", "out", "bypass")
 

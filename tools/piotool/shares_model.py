@@ -24,12 +24,13 @@ class Touched:
         self.writes |= pins_from(setup["set_base"], setup["set_count"])
         self.is_wild = False
         reach: set[int] = set()
-        ahead = [setup["start"]]
+        word = setup["pending"]
+        ahead = [setup["start"]] if word is None else self.feel(word, setup["start"])
         while ahead:
             address = ahead.pop()
             if address not in reach:
                 reach.add(address)
-                ahead += self.feel(address, memory[address])
+                ahead += self.feel(memory[address], self.after(address))
         self.reach = set(range(32)) if self.is_wild else reach
         if self.is_wild:
             self.reads, self.sees, self.changes = set(range(32)), set(range(8)), set(range(8))
@@ -38,11 +39,14 @@ class Touched:
         """The number of the flag that an index means."""
         return low & 4 | (low + self.number) & 3 if low & 16 else low & 7
 
-    def feel(self, address: int, word: int) -> list[int]:
-        """Takes what a word touches, and gives the addresses after it."""
+    def after(self, address: int) -> int:
+        """The address that follows one."""
+        return int(self.setup["wrap_bottom"]) if address == self.setup["wrap_top"] else (address + 1) % 32
+
+    def feel(self, word: int, after: int) -> list[int]:
+        """Takes what a word touches that this address follows on, and gives the addresses after it."""
         kind, high, low = word >> 13, word >> 5 & 7, word & 31
         setup = self.setup
-        after = setup["wrap_bottom"] if address == setup["wrap_top"] else (address + 1) % 32
         if kind == 0:
             if high == 6:
                 self.reads.add(setup["jmp_pin"])

@@ -211,8 +211,10 @@ class Machine:
         return None
 
     def addresses_after(self, word: int, context: Context) -> list[Optional[int]]:
-        """The addresses that may come next; None where none is known."""
+        """The addresses that may come next; None where none is known, as of a machine that begins with a pending word."""
         kind, high = word >> 13, word >> 5 & 7
+        if self.setup["pending"] is not None:
+            return [None]
         if kind == OUT and high in (TO_PC, OUT_EXEC) or kind == MOV and high in (TO_PC, MOV_EXEC) and is_move(word):
             return [None]
         bottom, top = self.setup["wrap_bottom"], self.setup["wrap_top"]

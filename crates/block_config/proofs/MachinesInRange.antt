@@ -7,7 +7,7 @@ use Rattle.block_config.specs.Answer.{ConfigRefusal}
 use Rattle.setup_keys.specs.Block.{MachineKeys}
 use Rattle.setup_keys.specs.InRange.{IsMachine, ArePlaced}
 use Rattle.block_config.specs.declared.path.Section.TheVariants.{Machine}
-use Rattle.block_config.specs.Machines.{id_key, clock_keys, pin_keys, flag_keys, status_key, count_keys, ClockKeys, clock_keys_of, divides, clock_at, PinKeys, pin_keys_of, pins_at, FlagKeys, flag_keys_of, joins_one_way, flags_at, CountKeys, count_keys_of, counts_at, free_at, id_at, named_load, load_at, start_of, start_at, RunKeys, run_at, machine_keys_of, machine_of_table, machine_names, machine_in, machines_from}
+use Rattle.block_config.specs.Machines.{id_key, clock_keys, pin_keys, flag_keys, status_key, count_keys, shift_keys, ClockKeys, clock_keys_of, divides, clock_at, PinKeys, pin_keys_of, pins_at, FlagKeys, flag_keys_of, joins_one_way, flags_at, CountKeys, count_keys_of, counts_at, FirstKeys, first_keys_of, pending_at, first_at, free_at, id_at, named_load, load_at, start_of, start_at, RunKeys, run_at, machine_keys_of, machine_of_table, machine_names, machine_in, machines_from}
 use Rattle.block_config.specs.Programs.{Loaded}
 use Rattle.block_config.specs.Tables.{and_then, number_at, flag_at, each_at}
 use Rattle.block_config.specs.Values.{text_of}
@@ -29,6 +29,10 @@ record Shifts (k : CountKeys) : Type 0 where
   pulls_some : 1 ≤ k.pull_threshold
   pulls_a_word : k.pull_threshold ≤ 32
   status : k.status_n < 16
+
+record Begins (k : FirstKeys) : Type 0 where
+  isr_count : k.isr_count ≤ 32
+  osr_count : k.osr_count ≤ 32
 
 record ArePins (k : PinKeys) : Type 0 where
   in_base : k.in_base < 32
@@ -123,9 +127,17 @@ shifts t k e =
     } in
     subst Shifts (ok_same (count_keys_of read.value) k read.rest) out
 
-parts_in_range : (run : RunKeys) (clock : ClockKeys) (pins : PinKeys) (flags : FlagKeys) (counts : CountKeys) → Runs run → (not (clock.int == 0) || clock.frac == 0) ≡ true → ArePins pins
-    → not (flags.join_tx && flags.join_rx) ≡ true → Shifts counts → IsMachine (machine_keys_of run clock pins flags counts)
-parts_in_range run clock pins flags counts r c p f s =
+begins : (t : Members) (k : FirstKeys) → first_at t ≡ Ok k → Begins k
+begins t k e =
+    let read = goes_on (each_at (number_at t) shift_keys) (λ values. and_then (pending_at t) (λ pending. Ok (first_keys_of values pending))) k e in
+    let pending = goes_on (pending_at t) (λ pending. Ok (first_keys_of read.value pending)) k read.rest in
+    let w = all_within t shift_keys read.value [] 0 (all_defaulted shift_keys refl) refl read.found in
+    let out : Begins (first_keys_of read.value pending.value) = record { isr_count = w.2.2.1; osr_count = w.2.2.2.1 } in
+    subst Begins (ok_same (first_keys_of read.value pending.value) k pending.rest) out
+
+parts_in_range : (run : RunKeys) (clock : ClockKeys) (pins : PinKeys) (flags : FlagKeys) (counts : CountKeys) (first : FirstKeys) → Runs run → (not (clock.int == 0) || clock.frac == 0) ≡ true → ArePins pins
+    → not (flags.join_tx && flags.join_rx) ≡ true → Shifts counts → Begins first → IsMachine (machine_keys_of run clock pins flags counts first)
+parts_in_range run clock pins flags counts first r c p f s b =
     let within : run.load.address + length run.load.program.words ≤ 32 = r.load.within in
     let bottom : run.load.program.wrap_bottom < length run.load.program.words = r.load.program.bottom in
     let top : run.load.program.wrap_top < length run.load.program.words = r.load.program.top in
@@ -133,6 +145,8 @@ parts_in_range run clock pins flags counts r c p f s =
     record {
       id_in_block = r.id;
       start_in_memory = r.start;
+      isr_has_bits = b.isr_count;
+      osr_has_bits = b.osr_count;
       divides = c;
       wrap_bottom_in_memory = omega arith;
       wrap_top_in_memory = omega arith;
@@ -157,8 +171,8 @@ machine_in_range : (machines : List (Option MachineKeys)) (loads : List Loaded) 
 machine_in_range machines loads t m fit e =
     let parts = machine_parts machines loads t m e in
     subst IsMachine parts.whole
-    (parts_in_range parts.run parts.clock parts.pins parts.flags parts.counts (runs machines loads t parts.run fit parts.run_found) (clock_divides t parts.clock parts.clock_found) (are_pins t parts.pins parts.pins_found)
-    (joined_one_way t parts.flags parts.flags_found) (shifts t parts.counts parts.counts_found))
+    (parts_in_range parts.run parts.clock parts.pins parts.flags parts.counts parts.first (runs machines loads t parts.run fit parts.run_found) (clock_divides t parts.clock parts.clock_found) (are_pins t parts.pins parts.pins_found)
+    (joined_one_way t parts.flags parts.flags_found) (shifts t parts.counts parts.counts_found) (begins t parts.first parts.first_found))
 
 kept_rest : (place : ℕ) (o : Option MachineKeys) (rest : List (Option MachineKeys)) → ArePlaced place (o ∷ rest) → ArePlaced (place + 1) rest
 kept_rest place None rest h = h

@@ -62,6 +62,8 @@ default_machine p address is within =
     record {
       id_in_block = omega arith;
       start_in_memory = omega arith;
+      isr_has_bits = omega arith;
+      osr_has_bits = omega arith;
       divides = refl;
       wrap_bottom_in_memory = omega arith;
       wrap_top_in_memory = omega arith;

@@ -12,14 +12,20 @@ use Rattle.setup_keys.specs.Block.{MachineKeys, BlockKeys}
 use Rattle.block_config.specs.SetupOf.{setup_of}
 use Rattle.block_config.specs.Memory.{fits_at, loaded, no_words}
 
--- A machine with all at its default: it starts at the program's first word and wraps as the program says, ticks in each clock,
--- sets pins 0 to 4, side-sets as many pins from 0 on as the program has bits, and shifts whole words to the right.
+-- A machine with all at its default: it starts at the program's first word and wraps as the program says, with no word pending
+-- and an empty OSR, ticks in each clock, sets pins 0 to 4, side-sets as many pins from 0 on as the program has bits, and shifts
+-- whole words to the right.
 abbrev pub machine_keys : ℕ → ℕ → Assembled → MachineKeys
 machine_keys id address p = record {
   id = id;
   start = address;
   x = 0;
   y = 0;
+  isr = 0;
+  osr = 0;
+  isr_count = 0;
+  osr_count = 32;
+  pending = None;
   int = 1;
   frac = 0;
   side_rule = p.side;

@@ -3,9 +3,10 @@ use Rattle.block_config.specs.declared.machines.PinValues.{PinValues}
 use Rattle.block_config.specs.declared.machines.ClockValues.{ClockValues}
 use Rattle.block_config.specs.declared.machines.FlagValues.{FlagValues}
 use Rattle.block_config.specs.declared.machines.CountValues.{CountValues}
+use Rattle.block_config.specs.declared.machines.FirstValues.{FirstValues}
 use Rattle.block_config.specs.declared.machines.MachineRun.{MachineRun}
 use Rattle.block_config.specs.Loads.{loaded_of}
-use Rattle.block_config.specs.Machines.{RunKeys, PinKeys, ClockKeys, FlagKeys, CountKeys}
+use Rattle.block_config.specs.Machines.{RunKeys, PinKeys, ClockKeys, FlagKeys, CountKeys, FirstKeys}
 
 -- the machine's number, its load and its start
 abbrev pub run_view : MachineRun → RunKeys
@@ -42,3 +43,7 @@ flags_view f = record {
 -- the thresholds and the registers
 abbrev pub counts_view : CountValues → CountKeys
 counts_view c = record { push_threshold = c.push_threshold; pull_threshold = c.pull_threshold; status_n = c.status_n; x = c.x; y = c.y }
+
+-- the shift registers at the start, and the word that is executed first
+abbrev pub first_view : FirstValues → FirstKeys
+first_view f = record { isr = f.isr; osr = f.osr; isr_count = f.isr_count; osr_count = f.osr_count; pending = f.pending }

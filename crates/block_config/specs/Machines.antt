@@ -1,8 +1,8 @@
 -- The tables of machines: the keys of one in order, the machine that it says, and all machines (choice of this profile; the fields
 -- are those of the RP2040 Datasheet, section 3.7).
---   clock_keys, pin_keys, flag_keys, count_keys   its keys in order, after `id`, `program` and `start`
+--   clock_keys, pin_keys, flag_keys, count_keys, shift_keys   its keys in order, after `id`, `program` and `start`
 --   machine_names    every key of such a table
---   ClockKeys, PinKeys, FlagKeys, CountKeys       their values by name
+--   ClockKeys, PinKeys, FlagKeys, CountKeys, FirstKeys        their values by name
 --   machine_of_table the machine of a table
 --   machine_in       the machine of the table at a place
 --   machines_from    the machines of the tables from a place on
@@ -11,7 +11,7 @@ use Rattle.toml.specs.Data.{Data, Items, no_items, item, Members, get_member, as
 use Rattle.block_config.specs.declared.fault.ConfigKind.{ConfigKind}
 use Rattle.setup_keys.specs.Block.{MachineKeys}
 use Rattle.block_config.specs.Programs.{Loaded, find_loaded, label_of}
-use Rattle.block_config.specs.Values.{or_fault, text_of}
+use Rattle.block_config.specs.Values.{or_fault, text_of, word_of}
 use Rattle.block_config.specs.declared.fault.ConfigKind.TheVariants.{Divider, BothJoins, MachineTwice, Missing, NoProgram, NoLabel}
 use Rattle.block_config.specs.declared.path.Section.TheVariants.{Machine}
 use Rattle.block_config.specs.Answer.{ConfigRefusal, refused}
@@ -60,11 +60,17 @@ count_keys =
     number (codes "push_threshold") 1 32 32 ∷ number (codes "pull_threshold") 1 32 32 ∷ number (codes "status_n") 0 15 0
     ∷ number (codes "x") 0 4294967295 0 ∷ number (codes "y") 0 4294967295 0 ∷ []
 
+-- the keys of the shift registers at the start
+abbrev pub shift_keys : List Numbered
+shift_keys =
+    number (codes "isr") 0 4294967295 0 ∷ number (codes "osr") 0 4294967295 0 ∷ number (codes "isr_count") 0 32 0
+    ∷ number (codes "osr_count") 0 32 32 ∷ []
+
 -- every key of a machine's table
 abbrev pub machine_names : List (List ℕ)
 machine_names =
     id_key.name ∷ codes "program" ∷ codes "start" ∷ map (λ k. k.name) (clock_keys ++ pin_keys) ++ map (λ k. k.name) flag_keys
-    ++ status_key.name ∷ map (λ k. k.name) count_keys
+    ++ status_key.name ∷ map (λ k. k.name) (count_keys ++ shift_keys) ++ codes "pending" ∷ []
 
 -- the divider
 pub record ClockKeys : Type 0 where
@@ -163,6 +169,33 @@ count_keys_of values = record {
 abbrev pub counts_at : Members → Result CountKeys ConfigRefusal
 counts_at t = and_then (each_at (number_at t) count_keys) (λ values. Ok (count_keys_of values))
 
+-- the shift registers at the start, and the word that the machine executes first, if any
+pub record FirstKeys : Type 0 where
+  pub isr : ℕ
+  pub osr : ℕ
+  pub isr_count : ℕ
+  pub osr_count : ℕ
+  pub pending : Option ℕ
+
+-- the shift registers by name, beside that word
+abbrev pub first_keys_of : List ℕ → Option ℕ → FirstKeys
+first_keys_of values pending = record {
+  isr = slice_index values 0;
+  osr = slice_index values 1;
+  isr_count = slice_index values 2;
+  osr_count = slice_index values 3;
+  pending = pending;
+}
+
+-- the word of a table that the machine executes first
+abbrev pub pending_at : Members → Result (Option ℕ) ConfigRefusal
+pending_at t = on_key (codes "pending") (word_of (get_member (codes "pending") t))
+
+-- the shift registers of a table, and that word
+abbrev pub first_at : Members → Result FirstKeys ConfigRefusal
+first_at t =
+    and_then (each_at (number_at t) shift_keys) (λ values. and_then (pending_at t) (λ pending. Ok (first_keys_of values pending)))
+
 -- the machine's number, which no table before has
 abbrev pub free_at : List (Option MachineKeys) → ℕ → Result ℕ ConfigRefusal
 free_at machines id = if is_some (slice_index_or machines id None) then refused (codes "id") MachineTwice else Ok id
@@ -207,12 +240,17 @@ run_at machines loads t =
     Ok (record { id = id; load = load; start = start }))))
 
 -- a machine of its parts
-abbrev pub machine_keys_of : RunKeys → ClockKeys → PinKeys → FlagKeys → CountKeys → MachineKeys
-machine_keys_of run clock pins flags counts = record {
+abbrev pub machine_keys_of : RunKeys → ClockKeys → PinKeys → FlagKeys → CountKeys → FirstKeys → MachineKeys
+machine_keys_of run clock pins flags counts first = record {
   id = run.id;
   start = run.start;
   x = counts.x;
   y = counts.y;
+  isr = first.isr;
+  osr = first.osr;
+  isr_count = first.isr_count;
+  osr_count = first.osr_count;
+  pending = first.pending;
   int = clock.int;
   frac = clock.frac;
   side_rule = run.load.program.side;
@@ -241,7 +279,8 @@ machine_keys_of run clock pins flags counts = record {
 -- the machine of a table that runs there, with this divider and these pins
 abbrev pub machine_with_pins : Members → RunKeys → ClockKeys → PinKeys → Result MachineKeys ConfigRefusal
 machine_with_pins t run clock pins =
-    and_then (flags_at t) (λ flags. and_then (counts_at t) (λ counts. Ok (machine_keys_of run clock pins flags counts)))
+    and_then (flags_at t) (λ flags. and_then (counts_at t) (λ counts. and_then (first_at t) (λ first.
+    Ok (machine_keys_of run clock pins flags counts first))))
 
 -- the machine of a table that runs there
 abbrev pub machine_running : Members → RunKeys → Result MachineKeys ConfigRefusal

@@ -35,6 +35,11 @@ abbrev pub number_of : Numbered → Option Data → Result ℕ ConfigKind
 number_of k None = or_fault Missing k.default
 number_of k (Some d) = number_in k.low k.high d
 
+-- the word of a key that may be absent
+abbrev pub word_of : Option Data → Result (Option ℕ) ConfigKind
+word_of None = Ok None
+word_of (Some d) = map_ok Some (number_in 0 65535 d)
+
 -- the flag of a key
 abbrev pub flag_of : Flagged → Option Data → Result Bool ConfigKind
 flag_of k None = Ok k.default

@@ -90,8 +90,18 @@ pub const X: &str = "x";
 
 pub const Y: &str = "y";
 
+pub const ISR: &str = "isr";
+
+pub const OSR: &str = "osr";
+
+pub const ISR_COUNT: &str = "isr_count";
+
+pub const OSR_COUNT: &str = "osr_count";
+
+pub const PENDING: &str = "pending";
+
 /// All keys of a machine.
-pub const MACHINE_KEYS: [&str; 24] = [
+pub const MACHINE_KEYS: [&str; 29] = [
     ID,
     PROGRAM,
     START,
@@ -116,6 +126,11 @@ pub const MACHINE_KEYS: [&str; 24] = [
     STATUS_N,
     X,
     Y,
+    ISR,
+    OSR,
+    ISR_COUNT,
+    OSR_COUNT,
+    PENDING,
 ];
 
 /// A machine's number.
@@ -222,7 +237,7 @@ pub const STATUS_KEY: FlagKey = FlagKey {
     default: false,
 };
 
-/// A machine's thresholds and registers.
+/// A machine's thresholds, X and Y.
 pub const COUNT_KEYS: [NumberKey; 5] = [
     NumberKey {
         name: PUSH_THRESHOLD,
@@ -253,6 +268,34 @@ pub const COUNT_KEYS: [NumberKey; 5] = [
         low: 0,
         high: 4_294_967_295,
         default: Some(0),
+    },
+];
+
+/// A machine's shift registers at the start. `PENDING`, which has no default, comes after them.
+pub const SHIFT_KEYS: [NumberKey; 4] = [
+    NumberKey {
+        name: ISR,
+        low: 0,
+        high: 4_294_967_295,
+        default: Some(0),
+    },
+    NumberKey {
+        name: OSR,
+        low: 0,
+        high: 4_294_967_295,
+        default: Some(0),
+    },
+    NumberKey {
+        name: ISR_COUNT,
+        low: 0,
+        high: 32,
+        default: Some(0),
+    },
+    NumberKey {
+        name: OSR_COUNT,
+        low: 0,
+        high: 32,
+        default: Some(32),
     },
 ];
 

@@ -15,7 +15,7 @@ use crate::keys;
 use crate::path::{Section, fault_at, fault_of_key, fault_of_section};
 use crate::programs::{LoadedProgram, label_of};
 use crate::table::{Lack, are_known, flag_at, flags_at, number_at, numbers_at, value_at};
-use crate::value::text_of;
+use crate::value::{text_of, word_of};
 use pin_matrix::{MachineSetup, Mapping, Setup};
 use std::alloc::Global;
 use toml::{Table, Value};
@@ -103,7 +103,7 @@ pub struct MachineRun<'a> {
 }
 
 impl<'a> MachineRun<'a> {
-    ghost use Rattle.block_config.specs.MachineView.{clock_view, counts_view, flags_view, pins_view, run_view};
+    ghost use Rattle.block_config.specs.MachineView.{clock_view, counts_view, first_view, flags_view, pins_view, run_view};
 
     /// The first keys of a machine's table.
     fn read(
@@ -215,7 +215,8 @@ impl<'a> MachineRun<'a> {
     {
         let flags = FlagValues::read(table)?;
         let counts = CountValues::read(table)?;
-        Ok(self.setup(clock, pins, &flags, &counts))
+        let first = FirstValues::read(table)?;
+        Ok(self.setup(clock, pins, &flags, &counts, &first))
     }
 
     /// A machine of its parts.
@@ -225,10 +226,11 @@ impl<'a> MachineRun<'a> {
         pins: &PinValues,
         flags: &FlagValues,
         counts: &CountValues,
+        first: &FirstValues,
     ) -> MachineSetup
         ensures { keys_of_machine result
             ≡ spec.machine_keys_of (run_view self.now) (clock_view clock.now) (pins_view pins.now)
-            (flags_view flags.now) (counts_view counts.now) }
+            (flags_view flags.now) (counts_view counts.now) (first_view first.now) }
     {
         let address = self.load.address;
         let program = self.load.program;
@@ -237,6 +239,11 @@ impl<'a> MachineRun<'a> {
             start: self.start,
             x: counts.x,
             y: counts.y,
+            isr: first.isr,
+            osr: first.osr,
+            isr_count: first.isr_count,
+            osr_count: first.osr_count,
+            pending: first.pending,
             int: clock.int,
             frac: clock.frac,
             side_rule: program.side,
@@ -382,7 +389,7 @@ impl FlagValues {
     }
 }
 
-/// The thresholds and the registers of a machine.
+/// The thresholds of a machine, X and Y.
 #[derive(Clone, Copy)]
 pub struct CountValues {
     pub push_threshold: u8,
@@ -400,7 +407,7 @@ pub struct CountValues {
 impl CountValues {
     ghost use Rattle.block_config.specs.MachineView.{counts_view};
 
-    /// The thresholds and the registers of a machine's table.
+    /// The thresholds of a machine's table, X and Y.
     #[tactic(auto, unfolding(crate::specs::Tables::each_at))]
     fn read(table: &Table) -> Result<Self, Lack>
         ensures { seen counts_view result ≡ spec.counts_at (table_view table.now) }
@@ -413,6 +420,50 @@ impl CountValues {
             status_n: counts[2] as u8,
             x: counts[3],
             y: counts[4],
+        })
+    }
+}
+
+/// The shift registers of a machine at the start, and the word that it executes first.
+#[derive(Clone, Copy)]
+pub struct FirstValues {
+    pub isr: u32,
+    pub osr: u32,
+    pub isr_count: u8,
+    pub osr_count: u8,
+    pub pending: Option<u16>,
+    pub ghost isr_has_bits: { isr_count ≤ 32 },
+    pub ghost osr_has_bits: { osr_count ≤ 32 },
+}
+
+impl FirstValues {
+    ghost use Rattle.block_config.specs.MachineView.{first_view};
+
+    /// The shift registers of a machine's table, and the word that it executes first.
+    #[tactic(auto, unfolding(crate::specs::Tables::each_at))]
+    fn read(table: &Table) -> Result<Self, Lack>
+        ensures { seen first_view result ≡ spec.first_at (table_view table.now) }
+    {
+        let numbers = numbers_at(table, &keys::SHIFT_KEYS)?;
+        let shifts = numbers.as_slice();
+        let pending = Self::pending(table)?;
+        Ok(FirstValues {
+            isr: shifts[0],
+            osr: shifts[1],
+            isr_count: shifts[2] as u8,
+            osr_count: shifts[3] as u8,
+            pending,
+        })
+    }
+
+    /// The word of a table that the machine executes first.
+    fn pending(table: &Table) -> Result<Option<u16>, Lack>
+        ensures { seen (λ w. w) result ≡ spec.pending_at (table_view table.now) }
+    {
+        let word = word_of(value_at(table, keys::PENDING));
+        word.map_err(|kind| Lack {
+            key: keys::PENDING,
+            kind,
         })
     }
 }

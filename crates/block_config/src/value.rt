@@ -46,6 +46,19 @@ fn in_range(low: u32, high: u32, number: i64) -> Result<u32, ConfigKind>
     }
 }
 
+/// A word; `None` where it is absent.
+pub fn word_of(value: Option<&Value>) -> Result<Option<u16>, ConfigKind>
+    ensures { result ≡ spec.word_of (option_map (λ v. view v.now) value.entry) }
+{
+    match value {
+        Some(value) => {
+            let word = number_in(0, 65_535, value)?;
+            Ok(Some(word as u16))
+        }
+        None => Ok(None),
+    }
+}
+
 /// A flag, or its default where it is absent.
 pub fn flag_of(key: &FlagKey, value: Option<&Value>) -> Result<bool, ConfigKind>
     ensures { result

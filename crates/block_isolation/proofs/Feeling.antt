@@ -1,5 +1,5 @@
 -- A machine that is among its words reads only its pins and flags, changes only its flags, and writes only its pins.
-use Rattle.std.proofs.Common.{◌≡◌, ◌∙◌, ℕ, ◌^◌, ◌<◌, nat_lt, bit_or, Bool, true, false, not, ◌||◌, cond, Option, Some, None, List, slice_index, refl, sym, ap, inl, inr, arith}
+use Rattle.std.proofs.Common.{◌≡◌, ◌∙◌, ℕ, ◌^◌, ◌<◌, nat_lt, bit_or, Bool, true, false, not, ◌||◌, cond, Option, Some, None, ◌⊎◌, List, slice_index, refl, sym, ap, subst, inl, inr, arith}
 use Rattle.std.proofs.lemmas.Bool.{cases_Bool, or_parts}
 use Rattle.std.specs.Int.{bit_at}
 use Rattle.std.specs.List.{AllByRecursion}
@@ -19,11 +19,11 @@ use Rattle.sm_registers.specs.Rules.{holds}
 use Rattle.sm_registers.specs.Tick.{word_at, current_word, tick_delay, tick_by, tick_word, tick_of}
 use Rattle.block_shares.specs.declared.touched.Touches.{Touches}
 use Rattle.block_shares.specs.Acts.{has, reads_of, sees_of, changes_of}
-use Rattle.block_shares.specs.Reach.{act_at, reach_of}
+use Rattle.block_shares.specs.Reach.{act_at, of_first, gathered, reach_of}
 use Rattle.block_shares.specs.Shares.{pins_of, writes_by, touched_wildly, touched_by}
-use Rattle.block_isolation.proofs.Bits.{bit_down, has_ones, has_or, has_zero}
+use Rattle.block_isolation.proofs.Bits.{bit_down, has_ones, has_or, has_or_left, has_or_right, has_zero}
 use Rattle.block_isolation.proofs.Changing.{IsAmong, changes_among}
-use Rattle.block_isolation.proofs.Homes.{IsHome, Runs, runs_memory}
+use Rattle.block_isolation.proofs.Homes.{IsHome, IsAtFirst, runs_memory, runs_first, home_there}
 use Rattle.block_isolation.proofs.Premises.{TickLaws, PinLaws}
 use Rattle.block_isolation.proofs.Ranged.{ranged_word}
 use Rattle.block_isolation.proofs.Reaching.{gathered_has}
@@ -35,18 +35,50 @@ pub record SeemsSame (t : Touches) (v w : View) : Type 0 where
   pub words : (a : ℕ) → a < 32 → has t.reach a ≡ true → slice_index v.memory a ≡ slice_index w.memory a
   pub sees : SeesSame t.reads t.sees v w
 
--- what a word at home reads and waits for is the machine's
-own_reads : (memory : List ℕ) (s : MachineSetup) (a i : ℕ) → IsTame memory s → a < 32 → has (reach_of memory s) a ≡ true → has (reads_of (act_at memory a) s) i ≡ true → has (touched_by memory s).reads i ≡ true
-own_reads memory s a i tame inside reached h =
-    ap (λ (t : Touches). has t.reads i) tame.is ∙ gathered_has (λ b act. reads_of act s) memory (reach_of memory s) 32 a i inside reached h
+-- what an instruction reads, waits for and changes is the machine's
+record IsOwnAct (t : Touches) (s : MachineSetup) (act : Act) : Type 0 where
+  reads : (i : ℕ) → has (reads_of act s) i ≡ true → has t.reads i ≡ true
+  sees : (i : ℕ) → has (sees_of act s) i ≡ true → has t.sees i ≡ true
+  changes : (i : ℕ) → has (changes_of act s) i ≡ true → has t.changes i ≡ true
 
-own_sees : (memory : List ℕ) (s : MachineSetup) (a i : ℕ) → IsTame memory s → a < 32 → has (reach_of memory s) a ≡ true → has (sees_of (act_at memory a) s) i ≡ true → has (touched_by memory s).sees i ≡ true
-own_sees memory s a i tame inside reached h =
-    ap (λ (t : Touches). has t.sees i) tame.is ∙ gathered_has (λ b act. sees_of act s) memory (reach_of memory s) 32 a i inside reached h
+-- what a reached instruction has is among what is joined
+reached_has : (f : Act → ℕ) (memory : List ℕ) (s : MachineSetup) (a i : ℕ) → a < 32 → has (reach_of memory s) a ≡ true → has (f (act_at memory a)) i ≡ true
+    → has (bit_or (of_first f s.pending) (gathered (λ b act. f act) memory (reach_of memory s) 32)) i ≡ true
+reached_has f memory s a i inside reached h =
+    has_or_right (of_first f s.pending) (gathered (λ b act. f act) memory (reach_of memory s) 32) i (gathered_has (λ b act. f act) memory (reach_of memory s) 32 a i inside reached h)
 
-own_changes : (memory : List ℕ) (s : MachineSetup) (a i : ℕ) → IsTame memory s → a < 32 → has (reach_of memory s) a ≡ true → has (changes_of (act_at memory a) s) i ≡ true → has (touched_by memory s).changes i ≡ true
-own_changes memory s a i tame inside reached h =
-    ap (λ (t : Touches). has t.changes i) tame.is ∙ gathered_has (λ b act. changes_of act s) memory (reach_of memory s) 32 a i inside reached h
+-- and so is what the word has that is executed first
+first_has : (f : Act → ℕ) (memory : List ℕ) (s : MachineSetup) (word i : ℕ) → s.pending ≡ Some word → has (f (act_of word)) i ≡ true
+    → has (bit_or (of_first f s.pending) (gathered (λ b act. f act) memory (reach_of memory s) 32)) i ≡ true
+first_has f memory s word i is h =
+    has_or_left (of_first f s.pending) (gathered (λ b act. f act) memory (reach_of memory s) 32) i (ap (λ (p : Option ℕ). has (of_first f p) i) is ∙ h)
+
+own_word : (memory : List ℕ) (s : MachineSetup) (a : ℕ) → IsTame memory s → a < 32 → has (reach_of memory s) a ≡ true → IsOwnAct (touched_by memory s) s (act_at memory a)
+own_word memory s a tame inside reached = record {
+  reads = λ i h. ap (λ (t : Touches). has t.reads i) tame.is ∙ reached_has (λ act. reads_of act s) memory s a i inside reached h;
+  sees = λ i h. ap (λ (t : Touches). has t.sees i) tame.is ∙ reached_has (λ act. sees_of act s) memory s a i inside reached h;
+  changes = λ i h. ap (λ (t : Touches). has t.changes i) tame.is ∙ reached_has (λ act. changes_of act s) memory s a i inside reached h;
+}
+
+own_first : (memory : List ℕ) (s : MachineSetup) (word : ℕ) → IsTame memory s → s.pending ≡ Some word → IsOwnAct (touched_by memory s) s (act_of word)
+own_first memory s word tame is = record {
+  reads = λ i h. ap (λ (t : Touches). has t.reads i) tame.is ∙ first_has (λ act. reads_of act s) memory s word i is h;
+  sees = λ i h. ap (λ (t : Touches). has t.sees i) tame.is ∙ first_has (λ act. sees_of act s) memory s word i is h;
+  changes = λ i h. ap (λ (t : Touches). has t.changes i) tame.is ∙ first_has (λ act. changes_of act s) memory s word i is h;
+}
+
+-- what a machine runs that is at home, where it isn't wild
+own_act : (memory : List ℕ) (s : MachineSetup) (v : View) (r : Registers) → v.memory ≡ memory → IsHome memory s r
+    → (touched_by memory s ≡ touched_wildly s) ⊎ IsOwnAct (touched_by memory s) s (act_of (current_word v r))
+own_act memory s v r same home =
+    elim (wild_or_tame memory s) [
+      | inl wild ↦ inl wild
+      | inr tame ↦ elim (home_there memory s r tame home) [
+        | inl (inl at) ↦ inr (subst (IsOwnAct (touched_by memory s) s) (sym (runs_memory memory v r same at.pending)) (own_word memory s r.pc tame home.placed.pc at.reached))
+        | inl (inr at) ↦ inr (subst (IsOwnAct (touched_by memory s) s) (sym (runs_first s v r at)) (own_first memory s at.word tame at.first))
+        | inr wild ↦ inl wild
+      ]
+    ]
 
 -- what an instruction reads is the machine's: of any, where it is wild
 narrowed : (t : Touches) (pins flags : ℕ) (v w : View) → SeesSame t.reads t.sees v w → ((i : ℕ) → i < 32 → has pins i ≡ true → has t.reads i ≡ true) → ((i : ℕ) → i < 8 → has flags i ≡ true → has t.sees i ≡ true) → SeesSame pins flags v w
@@ -57,40 +89,27 @@ narrowed t pins flags v w h p f = record {
   other = h.other;
 }
 
-act_runs : (memory : List ℕ) (v : View) (r : Registers) → Runs memory v r → act_of (current_word v r) ≡ act_at memory r.pc
-act_runs memory v r runs = ap act_of runs.word
-
 reads_alike : PinLaws → (memory : List ℕ) (s : MachineSetup) (r : Registers) (v w : View) → v.memory ≡ memory → IsHome memory s r → SeesSame (touched_by memory s).reads (touched_by memory s).sees v w → read_of (act_of (current_word v r)) s r v ≡ read_of (act_of (current_word v r)) s r w
 reads_alike laws memory s r v w same home sees =
     let act = act_of (current_word v r) in
     let range = (ranged_word (current_word v r)).range in
     let t = touched_by memory s in
-    let wildly : t ≡ touched_wildly s → read_of act s r v ≡ read_of act s r w = λ wild.
-    reads_same laws act s r v w range (narrowed t (reads_of act s) (sees_of act s) v w sees
-    (λ i inside k. ap (λ (u : Touches). has u.reads i) wild ∙ has_ones 32 i inside)
-    (λ i inside k. ap (λ (u : Touches). has u.sees i) wild ∙ has_ones 8 i inside)) in
-    elim (wild_or_tame memory s) [
-      | inl wild ↦ wildly wild
-      | inr tame ↦ elim home.pending [
-        | inr wild ↦ wildly wild
-        | inl none ↦
-            let reached : has (reach_of memory s) r.pc ≡ true = ap (λ (u : Touches). has u.reach r.pc) (sym tame.is) ∙ home.reached in
-            let at : act ≡ act_at memory r.pc = act_runs memory v r (runs_memory memory v r same none) in
-            reads_same laws act s r v w range (narrowed t (reads_of act s) (sees_of act s) v w sees
-            (λ i inside k. own_reads memory s r.pc i tame home.placed.pc reached (ap (λ (a : Act). has (reads_of a s) i) (sym at) ∙ k))
-            (λ i inside k. own_sees memory s r.pc i tame home.placed.pc reached (ap (λ (a : Act). has (sees_of a s) i) (sym at) ∙ k)))
-      ]
+    elim (own_act memory s v r same home) [
+      | inl wild ↦ reads_same laws act s r v w range (narrowed t (reads_of act s) (sees_of act s) v w sees
+      (λ i inside k. ap (λ (u : Touches). has u.reads i) wild ∙ has_ones 32 i inside)
+      (λ i inside k. ap (λ (u : Touches). has u.sees i) wild ∙ has_ones 8 i inside))
+      | inr own ↦ reads_same laws act s r v w range (narrowed t (reads_of act s) (sees_of act s) v w sees (λ i inside k. own.reads i k) (λ i inside k. own.sees i k))
     ]
 
 -- the word that it runs is the same
-word_alike : (p : Option ℕ) (v w : View) (pc : ℕ) → slice_index v.memory pc ≡ slice_index w.memory pc → word_at p v pc ≡ word_at p w pc
-word_alike None v w pc h = h
+word_alike : (p : Option ℕ) (v w : View) (pc : ℕ) → (p ≡ None → slice_index v.memory pc ≡ slice_index w.memory pc) → word_at p v pc ≡ word_at p w pc
+word_alike None v w pc h = h refl
 word_alike (Some word) v w pc h = refl
 
 pub tick_same : TickLaws → PinLaws → (memory : List ℕ) (s : MachineSetup) (v w : View) (q : Queues) (r : Registers) → v.memory ≡ memory → IsHome memory s r → SeemsSame (touched_by memory s) v w → tick_of s v q r ≡ tick_of s w q r
 tick_same laws pins memory s v w q r same home seems =
     laws.sees s v w q r (record {
-      word = word_alike r.pending v w r.pc (seems.words r.pc home.placed.pc home.reached);
+      word = word_alike r.pending v w r.pc (λ none. seems.words r.pc home.placed.pc (home.reached none));
       reads = reads_alike pins memory s r v w same home seems.sees;
     })
 
@@ -133,18 +152,9 @@ act_reading s v r = refl
 pub changes_own : (memory : List ℕ) (s : MachineSetup) (v : View) (q : Queues) (r : Registers) → v.memory ≡ memory → IsHome memory s r → ChangesOwn (touched_by memory s) (tick_of s v q r).1
 changes_own memory s v q r same home =
     let t = touched_by memory s in
-    let wildly : t ≡ touched_wildly s → ChangesOwn t (tick_of s v q r).1 = λ wild.
-    changes_tick t s v q r (λ f inside k. absurd (let up : has t.changes f ≡ true = ap (λ (u : Touches). has u.changes f) wild ∙ has_ones 8 f inside in cc)) in
-    elim (wild_or_tame memory s) [
-      | inl wild ↦ wildly wild
-      | inr tame ↦ elim home.pending [
-        | inr wild ↦ wildly wild
-        | inl none ↦
-            let reached : has (reach_of memory s) r.pc ≡ true = ap (λ (u : Touches). has u.reach r.pc) (sym tame.is) ∙ home.reached in
-            let at : (reading_of (current_word v r) s.side_rule).act ≡ act_at memory r.pc = act_reading s v r ∙ act_runs memory v r (runs_memory memory v r same none) in
-            changes_tick t s v q r (λ f inside k. ap (λ (a : Act). has (changes_of a s) f) at
-            ∙ within_not (changes_of (act_at memory r.pc) s) t.changes f (λ i up. own_changes memory s r.pc i tame home.placed.pc reached up) k)
-      ]
+    elim (own_act memory s v r same home) [
+      | inl wild ↦ changes_tick t s v q r (λ f inside k. absurd (let up : has t.changes f ≡ true = ap (λ (u : Touches). has u.changes f) wild ∙ has_ones 8 f inside in cc))
+      | inr own ↦ changes_tick t s v q r (λ f inside k. ap (λ (a : Act). has (changes_of a s) f) (act_reading s v r) ∙ within_not (changes_of (act_of (current_word v r)) s) t.changes f own.changes k)
     ]
 
 -- the pins that a tick writes are the machine's

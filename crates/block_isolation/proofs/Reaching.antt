@@ -1,13 +1,18 @@
 -- 32 rounds come to all addresses that a program can come to; and what a reached instruction has is among what is joined.
-use Rattle.std.proofs.Common.{◌≡◌, ◌∙◌, ℕ, zero, suc, ◌+◌, ◌^◌, ◌<◌, ◌≤◌, Bool, true, false, cond, ◌&&◌, ◌||◌, ◌⊎◌, List, slice_index, refl, sym, ap, inl, inr, arith, bit_or}
+use Rattle.std.proofs.Common.{◌≡◌, ◌∙◌, ℕ, zero, suc, ◌+◌, ◌^◌, ◌<◌, ◌≤◌, Bool, true, false, cond, ◌&&◌, ◌||◌, ◌⊎◌, Option, Some, None, List, slice_index, refl, sym, ap, inl, inr, arith, bit_or}
 use Rattle.std.proofs.lemmas.Bool.{cases_lt, or_parts}
 use Rattle.pio_encode.specs.declared.act.Act.{Act}
+use Rattle.pio_encode.specs.declared.act.Act.TheVariants.{Jmp, Wait, In, Out, Push, Pull, Mov, Irq, Set, Nothing}
+use Rattle.pio_encode.specs.declared.act.Condition.{Condition}
+use Rattle.pio_encode.specs.declared.act.Condition.TheVariants as condition
+use Rattle.pio_encode.specs.Ranges.{IsInRange}
 use Rattle.pio_encode.specs.Word.{act_of}
 use Rattle.pin_matrix.specs.declared.machine.MachineSetup.{MachineSetup}
-use Rattle.block_shares.specs.Acts.{has, leads_to, is_wild}
-use Rattle.block_shares.specs.Reach.{next_after, act_at, gathered, leads_from, after_these, one_round, reach_in, reach_of, any_wild}
+use Rattle.block_shares.specs.Acts.{has, jump_leads_to, leads_to, is_wild}
+use Rattle.block_shares.specs.Reach.{next_after, act_at, gathered, leads_from, after_these, one_round, first_in, reach_in, reach_of, any_wild}
 use Rattle.block_isolation.proofs.Bits.{has_or, has_or_left, has_or_right, has_own}
 use Rattle.block_isolation.proofs.Counting.{count, Within, count-le, count_same, count_some}
+use Rattle.block_isolation.proofs.Ranged.{ranged_word}
 
 or_same : (a b : Bool) → (b ≡ true → a ≡ true) → a ≡ (a || b)
 or_same true b h = refl
@@ -26,9 +31,45 @@ round_more : (memory : List ℕ) (s : MachineSetup) (n i : ℕ) → i < 32 → h
 unfolding reach_in
 round_more memory s n i inside h = has_or_left (reach_in memory s n) (after_these memory s (reach_in memory s n)) i h
 
-begins : (memory : List ℕ) (s : MachineSetup) → has (reach_in memory s 0) s.start ≡ true
+-- the first addresses are reached
+begins : (memory : List ℕ) (s : MachineSetup) (i : ℕ) → has (first_in s.pending s.start) i ≡ true → has (reach_in memory s 0) i ≡ true
 unfolding reach_in
-begins memory s = has_own s.start
+begins memory s i h = h
+
+-- a set of addresses has one
+pub record HasOne (set : ℕ) : Type 0 where
+  one : ℕ
+  inside : one < 32
+  there : has set one ≡ true
+
+jump_has_one : (c : Condition) (address next : ℕ) → address < 32 → next < 32 → HasOne (jump_leads_to c address next)
+jump_has_one condition.Always address next a n = record { one = address; inside = a; there = has_own address }
+jump_has_one condition.XZero address next a n = record { one = next; inside = n; there = has_or_left (2 ^ next) (2 ^ address) next (has_own next) }
+jump_has_one condition.XDecrement address next a n = record { one = next; inside = n; there = has_or_left (2 ^ next) (2 ^ address) next (has_own next) }
+jump_has_one condition.YZero address next a n = record { one = next; inside = n; there = has_or_left (2 ^ next) (2 ^ address) next (has_own next) }
+jump_has_one condition.YDecrement address next a n = record { one = next; inside = n; there = has_or_left (2 ^ next) (2 ^ address) next (has_own next) }
+jump_has_one condition.XNotY address next a n = record { one = next; inside = n; there = has_or_left (2 ^ next) (2 ^ address) next (has_own next) }
+jump_has_one condition.Pin address next a n = record { one = next; inside = n; there = has_or_left (2 ^ next) (2 ^ address) next (has_own next) }
+jump_has_one condition.OsrNotEmpty address next a n = record { one = next; inside = n; there = has_or_left (2 ^ next) (2 ^ address) next (has_own next) }
+
+next_has_one : (next : ℕ) → next < 32 → HasOne (2 ^ next)
+next_has_one next n = record { one = next; inside = n; there = has_own next }
+
+leads_has_one : (act : Act) (next : ℕ) → IsInRange act → next < 32 → HasOne (leads_to act next)
+leads_has_one (Jmp c address) next range n = jump_has_one c address next range n
+leads_has_one (Wait polarity source index) next range n = next_has_one next n
+leads_has_one (In source count) next range n = next_has_one next n
+leads_has_one (Out destination count) next range n = next_has_one next n
+leads_has_one (Push if_full block) next range n = next_has_one next n
+leads_has_one (Pull if_empty block) next range n = next_has_one next n
+leads_has_one (Mov destination operation source) next range n = next_has_one next n
+leads_has_one (Irq clear waits index) next range n = next_has_one next n
+leads_has_one (Set destination value) next range n = next_has_one next n
+leads_has_one Nothing next range n = next_has_one next n
+
+first_has_one : (pending : Option ℕ) (start : ℕ) → start < 32 → HasOne (first_in pending start)
+first_has_one None start below = next_has_one start below
+first_has_one (Some word) start below = leads_has_one (act_of word) start (ranged_word word).range below
 
 -- what an instruction of the set has is among what is joined
 pub gathered_has : (f : ℕ → Act → ℕ) (memory : List ℕ) (set n a i : ℕ) → a < n → has set a ≡ true → has (f a (act_at memory a)) i ≡ true → has (gathered f memory set n) i ≡ true
@@ -91,7 +132,9 @@ closed_now memory s set few i inside h =
 -- after n rounds it is closed, or n addresses and more were got
 closed_or_more : (memory : List ℕ) (s : MachineSetup) (n : ℕ) → IsClosed memory s (reach_in memory s n) ⊎ (n < count 32 (reach_in memory s n))
 unfolding reach_in
-closed_or_more memory s zero = inr (let h : 1 ≤ count 32 (2 ^ s.start) = count_some 32 (2 ^ s.start) s.start s.start_in_memory (has_own s.start) in omega (arith, h))
+closed_or_more memory s zero = inr (
+    let first = first_has_one s.pending s.start s.start_in_memory in
+    let h : 1 ≤ count 32 (first_in s.pending s.start) = count_some 32 (first_in s.pending s.start) first.one first.inside first.there in omega (arith, h))
 closed_or_more memory s (suc n) =
     elim (closed_or_more memory s n) [
       | inl closed ↦ inl (closed_on memory s (reach_in memory s n) closed)
@@ -121,9 +164,9 @@ reach_grows memory s n (suc k) i inside h =
     let e : n + suc k ≡ suc (n + k) = omega arith in
     ap (λ (m : ℕ). has (reach_in memory s m) i) e ∙ round_more memory s (n + k) i inside (reach_grows memory s n k i inside h)
 
--- the start is reached
-pub reach_starts : (memory : List ℕ) (s : MachineSetup) → has (reach_of memory s) s.start ≡ true
-reach_starts memory s = reach_grows memory s 0 32 s.start s.start_in_memory (begins memory s)
+-- the first addresses are reached
+pub reach_starts : (memory : List ℕ) (s : MachineSetup) (i : ℕ) → i < 32 → has (first_in s.pending s.start) i ≡ true → has (reach_of memory s) i ≡ true
+reach_starts memory s i inside h = reach_grows memory s 0 32 i inside (begins memory s i h)
 
 -- no reached instruction is wild
 pub wild_none : (memory : List ℕ) (set n a : ℕ) → any_wild memory set n ≡ false → a < n → has set a ≡ true → is_wild (act_at memory a) ≡ false

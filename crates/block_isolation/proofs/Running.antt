@@ -1,5 +1,5 @@
 -- What is true in each clock of one run: its numbers are words, its setups stay, and each machine is among its words.
-use Rattle.std.proofs.Common.{◌≡◌, ◌∙◌, ℕ, zero, suc, ◌+◌, ◌^◌, ◌<◌, ◌==◌, true, Option, Some, None, option_map, IfSome, List, [], ◌∷◌, slice_index_or, refl, sym, ap, subst, inl, arith}
+use Rattle.std.proofs.Common.{◌≡◌, ◌∙◌, ℕ, zero, suc, ◌+◌, ◌^◌, ◌<◌, ◌==◌, true, Option, Some, None, option_map, IfSome, ◌⊎◌, List, [], ◌∷◌, slice_index_or, refl, sym, ap, subst, inl, inr, arith}
 use Rattle.std.proofs.lemmas.Bool.{and_parts}
 use Rattle.std.proofs.lemmas.Bool.Decides.{nat_tests}
 use Rattle.std.proofs.Math.ListN.{get_or-map}
@@ -8,6 +8,9 @@ use Rattle.pin_matrix.specs.Setups.{ids_are_places}
 use Rattle.pin_matrix.specs.declared.machine.MachineSetup.{MachineSetup}
 use Rattle.pin_matrix.specs.declared.setup.Setup.{Setup}
 use Rattle.sm_registers.specs.declared.intent.Intent.{Intent}
+use Rattle.sm_registers.specs.State.{first_registers}
+use Rattle.block_shares.specs.Acts.{has}
+use Rattle.block_shares.specs.Reach.{first_in}
 use Rattle.dreq_pacing.specs.declared.due.Due.{Due}
 use Rattle.dreq_pacing.specs.declared.line.Line.{Line}
 use Rattle.dreq_pacing.specs.Due.{quiet, with_lines}
@@ -23,6 +26,8 @@ use Rattle.block_isolation.proofs.Dues.{says_lines}
 use Rattle.block_isolation.proofs.Lining.{clock_lines, lines_write}
 use Rattle.block_isolation.proofs.Places.{HomeSlot, setups_of, each_after, home_after, setups_after, all_writes, levels_write, directions_write}
 use Rattle.block_isolation.proofs.Premises.{TickLaws, PinLaws, LineLaws}
+use Rattle.block_isolation.proofs.Bits.{has_own}
+use Rattle.block_isolation.proofs.Homes.{IsAtFirst}
 use Rattle.block_isolation.proofs.Reaching.{reach_starts}
 use Rattle.block_isolation.proofs.Touching.{reach_within}
 
@@ -75,11 +80,15 @@ home_first : (memory : List ℕ) (s : Option MachineSetup) → IfSome (option_ma
 home_first memory None = tt
 home_first memory (Some s) = record {
   home = record {
-    placed = record { pc = s.start_in_memory; in_count = omega arith; out_count = omega arith; delay = omega arith };
-    reached = reach_within memory s 32 (omega arith) s.start s.start_in_memory (reach_starts memory s);
-    pending = inl refl;
+    placed = record { pc = s.start_in_memory; in_count = s.isr_has_bits; out_count = s.osr_has_bits; delay = omega arith };
+    reached = λ none. reach_within memory s 32 (omega arith) s.start s.start_in_memory
+      (reach_starts memory s s.start s.start_in_memory (ap (λ (p : Option ℕ). has (first_in p s.start) s.start) none ∙ has_own s.start));
+    pending = inl (begins_pending s s.pending refl);
   };
-}
+} where
+  begins_pending : (s : MachineSetup) (p : Option ℕ) → s.pending ≡ p → (s.pending ≡ None) ⊎ IsAtFirst s (first_registers s)
+  begins_pending s None e = inl e
+  begins_pending s (Some word) e = inr (record { word = word; first = e; pending = e; pc = refl })
 
 pub running_first : PinLaws → (s : Setup) → HasWords s → (lines : List Line) → IsRunning s 0 (hosted_at (first_run s) lines 0)
 unfolding hosted_at

@@ -35,6 +35,11 @@ low_4 = record {
   start = 0;
   x = 0;
   y = 0;
+  isr = 0;
+  osr = 0;
+  isr_count = 0;
+  osr_count = 32;
+  pending = None;
   int = 1;
   frac = 0;
   side_rule = record { bits = 0; opt = false; pindirs = false; fits = omega arith };
@@ -57,6 +62,8 @@ low_4 = record {
   status_n = 0;
   id_in_block = omega arith;
   start_in_memory = omega arith;
+  isr_has_bits = omega arith;
+  osr_has_bits = omega arith;
   divides = refl;
   wrap_bottom_in_memory = omega arith;
   wrap_top_in_memory = omega arith;
@@ -78,6 +85,11 @@ high_4 = record {
   start = 1;
   x = 0;
   y = 0;
+  isr = 0;
+  osr = 0;
+  isr_count = 0;
+  osr_count = 32;
+  pending = None;
   int = 1;
   frac = 0;
   side_rule = record { bits = 0; opt = false; pindirs = false; fits = omega arith };
@@ -100,6 +112,8 @@ high_4 = record {
   status_n = 0;
   id_in_block = omega arith;
   start_in_memory = omega arith;
+  isr_has_bits = omega arith;
+  osr_has_bits = omega arith;
   divides = refl;
   wrap_bottom_in_memory = omega arith;
   wrap_top_in_memory = omega arith;
@@ -156,6 +170,11 @@ sends = record {
   start = 0;
   x = 0;
   y = 0;
+  isr = 0;
+  osr = 0;
+  isr_count = 0;
+  osr_count = 32;
+  pending = None;
   int = 1;
   frac = 0;
   side_rule = record { bits = 0; opt = false; pindirs = false; fits = omega arith };
@@ -178,6 +197,8 @@ sends = record {
   status_n = 0;
   id_in_block = omega arith;
   start_in_memory = omega arith;
+  isr_has_bits = omega arith;
+  osr_has_bits = omega arith;
   divides = refl;
   wrap_bottom_in_memory = omega arith;
   wrap_top_in_memory = omega arith;
@@ -199,6 +220,11 @@ shifts = record {
   start = 3;
   x = 0;
   y = 0;
+  isr = 0;
+  osr = 0;
+  isr_count = 0;
+  osr_count = 32;
+  pending = None;
   int = 1;
   frac = 0;
   side_rule = record { bits = 0; opt = false; pindirs = false; fits = omega arith };
@@ -221,6 +247,8 @@ shifts = record {
   status_n = 0;
   id_in_block = omega arith;
   start_in_memory = omega arith;
+  isr_has_bits = omega arith;
+  osr_has_bits = omega arith;
   divides = refl;
   wrap_bottom_in_memory = omega arith;
   wrap_top_in_memory = omega arith;
@@ -242,6 +270,11 @@ samples = record {
   start = 4;
   x = 0;
   y = 0;
+  isr = 0;
+  osr = 0;
+  isr_count = 0;
+  osr_count = 32;
+  pending = None;
   int = 1;
   frac = 0;
   side_rule = record { bits = 0; opt = false; pindirs = false; fits = omega arith };
@@ -264,6 +297,8 @@ samples = record {
   status_n = 0;
   id_in_block = omega arith;
   start_in_memory = omega arith;
+  isr_has_bits = omega arith;
+  osr_has_bits = omega arith;
   divides = refl;
   wrap_bottom_in_memory = omega arith;
   wrap_top_in_memory = omega arith;
@@ -285,6 +320,11 @@ answers = record {
   start = 7;
   x = 0;
   y = 0;
+  isr = 0;
+  osr = 0;
+  isr_count = 0;
+  osr_count = 32;
+  pending = None;
   int = 1;
   frac = 0;
   side_rule = record { bits = 0; opt = false; pindirs = false; fits = omega arith };
@@ -307,6 +347,8 @@ answers = record {
   status_n = 0;
   id_in_block = omega arith;
   start_in_memory = omega arith;
+  isr_has_bits = omega arith;
+  osr_has_bits = omega arith;
   divides = refl;
   wrap_bottom_in_memory = omega arith;
   wrap_top_in_memory = omega arith;
@@ -379,3 +421,18 @@ clear_touches = refl
 jump_touches : touches_of (record block_of_four { memory = 0x00c0 ∷ 0xc031 ∷ 0x0000 ∷ [] ++ replicate 29 0xc001 }) 0 ≡ record { reach = 7; reads = 1; writes = 1; sees = 2; changes = 2 }
 unfolding gathered reach_in any_wild touched_by act_of wait_at in_at push_or_pull_at mov_at irq_at set_at
 jump_touches = refl
+
+-- machine 1 with a pending word: `wait 1 irq 5` waits for flag 5 and lowers it, and leaves the machine at its start
+first_waits : touched_by block_of_four.memory (record shifts { pending = Some 0x20c5 }) ≡ record { reach = 8; reads = 0; writes = 2; sees = 0x20; changes = 0x20 }
+unfolding gathered reach_in any_wild touched_by act_of wait_at in_at push_or_pull_at mov_at irq_at set_at
+first_waits = refl
+
+-- `jmp 3` brings it to its program, and the word at its start isn't reached
+first_jumps : touched_by block_of_four.memory (record shifts { start = 9; pending = Some 3; start_in_memory = omega arith }) ≡ record { reach = 8; reads = 0; writes = 2; sees = 0; changes = 0 }
+unfolding gathered reach_in any_wild touched_by act_of wait_at in_at push_or_pull_at mov_at irq_at set_at
+first_jumps = refl
+
+-- after `out pc, 32` it may be anywhere
+first_wild : touched_by block_of_four.memory (record shifts { pending = Some 0x60a0 }) ≡ record { reach = 0xffffffff; reads = 0xffffffff; writes = 2; sees = 0xff; changes = 0xff }
+unfolding gathered reach_in any_wild touched_by act_of wait_at in_at push_or_pull_at mov_at irq_at set_at
+first_wild = refl

@@ -10,7 +10,7 @@ use Rattle.pin_matrix.specs.declared.mapping.Mapping.{Mapping}
 use Rattle.pin_matrix.specs.declared.setup.Setup.{Setup}
 use Rattle.block_shares.specs.declared.touched.Touches.{Touches}
 use Rattle.block_shares.specs.Acts.{all_32, all_flags, pins_in, reads_of, sees_of, changes_of}
-use Rattle.block_shares.specs.Reach.{gathered, reach_of, any_wild}
+use Rattle.block_shares.specs.Reach.{of_first, gathered, reach_of, runs_wild}
 
 -- the pins of a mapping
 abbrev pub pins_of : Mapping → ℕ
@@ -32,23 +32,23 @@ sees_in memory s set n = gathered (λ a act. sees_of act s) memory set n
 abbrev pub changes_in : (memory : List ℕ) → MachineSetup → (set n : ℕ) → ℕ
 changes_in memory s set n = gathered (λ a act. changes_of act s) memory set n
 
--- a machine whose words come from data may run any word: it is taken to reach and to feel all
+-- a machine whose words or addresses come from data may run any word: it is taken to reach and to feel all
 abbrev pub touched_wildly : MachineSetup → Touches
 touched_wildly s = record { reach = all_32; reads = all_32; writes = writes_by s; sees = all_flags; changes = all_flags }
 
--- what the words at these addresses touch
+-- what the words at these addresses touch, and the word that the machine executes first
 abbrev pub touched_within : (memory : List ℕ) → MachineSetup → (set : ℕ) → Touches
 touched_within memory s set = record {
   reach = set;
-  reads = reads_in memory s set 32;
+  reads = bit_or (of_first (λ act. reads_of act s) s.pending) (reads_in memory s set 32);
   writes = writes_by s;
-  sees = sees_in memory s set 32;
-  changes = changes_in memory s set 32;
+  sees = bit_or (of_first (λ act. sees_of act s) s.pending) (sees_in memory s set 32);
+  changes = bit_or (of_first (λ act. changes_of act s) s.pending) (changes_in memory s set 32);
 }
 
 -- what a machine touches whose program comes to these addresses
 abbrev pub touched_from : (memory : List ℕ) → MachineSetup → (set : ℕ) → Touches
-touched_from memory s set = if any_wild memory set 32 then touched_wildly s else touched_within memory s set
+touched_from memory s set = if runs_wild memory s set then touched_wildly s else touched_within memory s set
 
 -- what a machine touches
 unfoldable pub touched_by : (memory : List ℕ) → MachineSetup → Touches

@@ -5,7 +5,7 @@ ghost use Rattle.block_shares.specs.Reach as reach;
 ghost use Rattle.block_shares.specs.Shares as spec;
 
 use crate::acts::{changes_of, has, pins_of, reads_of, sees_of};
-use crate::reach::{act_at, any_wild, reach_of};
+use crate::reach::{act_at, act_of, reach_of, runs_wild};
 use crate::touched::Touches;
 use pin_matrix::{MachineSetup, Setup};
 
@@ -51,7 +51,7 @@ fn touched_by(memory: &[u16; 32], setup: &MachineSetup) -> Touches
     ensures { result ≡ spec.touched_by memory.now setup.now }
 {
     let reach = reach_of(memory, setup);
-    if any_wild(memory, setup, reach) {
+    if runs_wild(memory, setup, reach) {
         return Touches {
             reach: u32::MAX,
             reads: u32::MAX,
@@ -63,16 +63,46 @@ fn touched_by(memory: &[u16; 32], setup: &MachineSetup) -> Touches
     touched_within(memory, setup, reach)
 }
 
-/// What the instructions at these addresses touch, none of which is wild.
+/// What the instructions at these addresses touch, none of which is wild, and the word that the machine executes first.
 fn touched_within(memory: &[u16; 32], setup: &MachineSetup, set: u32) -> Touches
     ensures { result ≡ spec.touched_within memory.now setup.now set }
 {
     Touches {
         reach: set,
-        reads: reads_in(memory, setup, set),
+        reads: first_reads(setup) | reads_in(memory, setup, set),
         writes: writes_by(setup),
-        sees: sees_in(memory, setup, set),
-        changes: changes_in(memory, setup, set),
+        sees: first_sees(setup) | sees_in(memory, setup, set),
+        changes: first_changes(setup) | changes_in(memory, setup, set),
+    }
+}
+
+/// The pins that the word reads which the machine executes first.
+fn first_reads(setup: &MachineSetup) -> u32
+    ensures { result ≡ reach.of_first (λ act. acts.reads_of act setup.now) setup.now.pending }
+{
+    match setup.pending {
+        Some(word) => reads_of(&act_of(word, setup), setup),
+        None => 0,
+    }
+}
+
+/// The flags that it waits for.
+fn first_sees(setup: &MachineSetup) -> u8
+    ensures { result ≡ reach.of_first (λ act. acts.sees_of act setup.now) setup.now.pending }
+{
+    match setup.pending {
+        Some(word) => sees_of(&act_of(word, setup), setup),
+        None => 0,
+    }
+}
+
+/// The flags that it raises or lowers.
+fn first_changes(setup: &MachineSetup) -> u8
+    ensures { result ≡ reach.of_first (λ act. acts.changes_of act setup.now) setup.now.pending }
+{
+    match setup.pending {
+        Some(word) => changes_of(&act_of(word, setup), setup),
+        None => 0,
     }
 }
 

@@ -13,7 +13,7 @@ use Rattle.drawn_load.specs.SettingUp.{SetsUp, EachSetsUp, IsLoad, rows_of}
 
 row_keys : (r : MachineRow) (m : MachineSetup) → SetsUp r m → keys_of_machine m ≡ machine_keys r
 row_keys r m h =
-    cc (h.id, h.start, h.x, h.y, h.int, h.frac, h.side_rule, h.wrap_bottom, h.wrap_top, h.in_base, h.jmp_pin, h.out.0, h.out.1, h.set.0, h.set.1, h.side.0, h.side.1, h.in_right, h.out_right, h.autopush, h.autopull, h.push_threshold, h.pull_threshold, h.join_tx, h.join_rx, h.status_rx, h.status_n)
+    cc (h.id, h.start, h.x, h.y, h.isr, h.osr, h.isr_count, h.osr_count, h.pending, h.int, h.frac, h.side_rule, h.wrap_bottom, h.wrap_top, h.in_base, h.jmp_pin, h.out.0, h.out.1, h.set.0, h.set.1, h.side.0, h.side.1, h.in_right, h.out_right, h.autopush, h.autopull, h.push_threshold, h.pull_threshold, h.join_tx, h.join_rx, h.status_rx, h.status_n)
 
 -- the setups that follow some rows say what the rows do
 rows_keys : (rows : List MachineRow) (ms : List (Option MachineSetup)) → EachSetsUp rows ms

@@ -16,6 +16,11 @@ pub record SetsUp (r : MachineRow) (m : MachineSetup) : Type 0 where
   pub start : m.start ≡ r.first
   pub x : m.x ≡ 0
   pub y : m.y ≡ 0
+  pub isr : m.isr ≡ 0
+  pub osr : m.osr ≡ 0
+  pub isr_count : m.isr_count ≡ 0
+  pub osr_count : m.osr_count ≡ 32
+  pub pending : m.pending ≡ None
   pub int : m.int ≡ r.int
   pub frac : m.frac ≡ r.frac
   pub side_rule : m.side_rule ≡ no_side_set

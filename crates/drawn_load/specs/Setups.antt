@@ -2,7 +2,7 @@
 --   machine_keys  what the setup of a machine says by its row, with all else at its default
 --   load_keys     what the setup of the block says
 --   setup_of      the setup that says it
-use Rattle.std.specs.Prelude.{ℕ, true, false, Some, [], ◌∷◌}
+use Rattle.std.specs.Prelude.{ℕ, true, false, Some, None, [], ◌∷◌}
 use Rattle.pin_matrix.specs.declared.setup.Setup.{Setup}
 use Rattle.setup_keys.specs.Block.{MachineKeys, BlockKeys}
 use Rattle.setup_keys.proofs.Making.{a_setup_says}
@@ -18,6 +18,11 @@ machine_keys r = record {
   start = r.first;
   x = 0;
   y = 0;
+  isr = 0;
+  osr = 0;
+  isr_count = 0;
+  osr_count = 32;
+  pending = None;
   int = r.int;
   frac = r.frac;
   side_rule = no_side_set;

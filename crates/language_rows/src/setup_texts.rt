@@ -63,9 +63,18 @@ fn tell_machine(m: &MachineSetup, text: &mut String) -> Result<(), AllocError> {
     )?;
     write!(
         text,
-        " join {} {} status {} {} x {} y {} ",
+        " join {} {} status {} {} x {} y {}",
         m.join_tx, m.join_rx, m.status_rx, m.status_n, m.x, m.y
-    )
+    )?;
+    write!(
+        text,
+        " isr {:x}+{} osr {:x}+{} first ",
+        m.isr, m.isr_count, m.osr, m.osr_count
+    )?;
+    match m.pending {
+        Some(word) => write!(text, "{word:04x} "),
+        None => text.push_str("none "),
+    }
 }
 
 fn tell_span(span: &Span, text: &mut String) -> Result<(), AllocError> {

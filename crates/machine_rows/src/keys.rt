@@ -12,6 +12,11 @@ pub struct Keys {
     start: u8,
     x: u32,
     y: u32,
+    isr: u32,
+    osr: u32,
+    isr_count: u8,
+    osr_count: u8,
+    pending: Option<u16>,
     divider: u16,
     fraction: u8,
     side_bits: u8,
@@ -38,13 +43,18 @@ pub struct Keys {
 
 impl Keys {
     /// The keys of a machine where no line says another thing: SET on pins 0 to 4, words of 32 bits to the right, nothing
-    /// automatic, a tick in each clock.
+    /// automatic, a tick in each clock, an empty OSR, no word pending.
     pub fn new(id: u8) -> Keys {
         Keys {
             id,
             start: 0,
             x: 0,
             y: 0,
+            isr: 0,
+            osr: 0,
+            isr_count: 0,
+            osr_count: 32,
+            pending: None,
             divider: 1,
             fraction: 0,
             side_bits: 0,
@@ -144,7 +154,22 @@ impl Keys {
             "push_threshold" => self.push_threshold = up_to(32, value)?,
             "pull_threshold" => self.pull_threshold = up_to(32, value)?,
             "status_n" => self.status_n = up_to(15, value)?,
+            "isr" | "osr" | "isr_count" | "osr_count" | "pending" => {
+                return self.set_first(name, value);
+            }
             _ => return self.set_pins(name, value),
+        }
+        Some(())
+    }
+
+    fn set_first(&mut self, name: &str, value: &str) -> Option<()> {
+        match name {
+            "isr" => self.isr = number(value)?,
+            "osr" => self.osr = number(value)?,
+            "isr_count" => self.isr_count = up_to(32, value)?,
+            "osr_count" => self.osr_count = up_to(32, value)?,
+            "pending" => self.pending = Some(u16::try_from(number(value)?).ok()?),
+            _ => return None,
         }
         Some(())
     }
@@ -180,6 +205,11 @@ impl Keys {
             start: self.start.min(31),
             x: self.x,
             y: self.y,
+            isr: self.isr,
+            osr: self.osr,
+            isr_count: self.isr_count.min(32),
+            osr_count: self.osr_count.min(32),
+            pending: self.pending,
             int: self.divider,
             frac: if self.divider == 0 { 0 } else { self.fraction },
             side_rule: self.rule(),

@@ -20,6 +20,11 @@ pub record IsDefault (number : ℕ) (rule : SideRule) (m : MachineSetup) : Type 
   pub start : m.start ≡ 0
   pub x : m.x ≡ 0
   pub y : m.y ≡ 0
+  pub isr : m.isr ≡ 0
+  pub osr : m.osr ≡ 0
+  pub isr_count : m.isr_count ≡ 0
+  pub osr_count : m.osr_count ≡ 32
+  pub pending : m.pending ≡ None
   pub int : m.int ≡ 1
   pub frac : m.frac ≡ 0
   pub side_rule : m.side_rule ≡ rule

@@ -15,6 +15,16 @@ pub struct MachineSetup {
     pub x: u32,
     /// Y at the start.
     pub y: u32,
+    /// The ISR at the start.
+    pub isr: u32,
+    /// The OSR at the start.
+    pub osr: u32,
+    /// How many bits count as shifted into the ISR at the start: 0 to 32.
+    pub isr_count: u8,
+    /// How many bits count as shifted out of the OSR at the start: 0 to 32, with 32 for an empty one.
+    pub osr_count: u8,
+    /// The word that it executes first, as after a write of SMx_INSTR before it is enabled.
+    pub pending: Option<u16>,
     /// The divider's whole part; 0 means 65,536.
     pub int: u16,
     /// The divider's fraction in 1/256; 0 where the whole part is 0.
@@ -57,6 +67,8 @@ pub struct MachineSetup {
     pub status_n: u8,
     pub ghost id_in_block: { id < 4 },
     pub ghost start_in_memory: { start < 32 },
+    pub ghost isr_has_bits: { isr_count ≤ 32 },
+    pub ghost osr_has_bits: { osr_count ≤ 32 },
     pub ghost divides: { IsTrue (not (int == 0) || frac == 0) },
     pub ghost wrap_bottom_in_memory: { wrap_bottom < 32 },
     pub ghost wrap_top_in_memory: { wrap_top < 32 },
@@ -75,8 +87,8 @@ impl MachineSetup {
     ghost use Rattle.pin_matrix.specs.Setups.{IsDefault};
 
     /// A machine of this number and side-set rule with all else at its default: every clock a tick, the program from address
-    /// 0 on and wrapped at 31 to 0, SET to pins 0 to 4, side-set to as many pins from 0 on as the rule has bits, shifts to
-    /// the right and whole words.
+    /// 0 on and wrapped at 31 to 0, no word pending, an empty OSR, SET to pins 0 to 4, side-set to as many pins from 0 on as
+    /// the rule has bits, shifts to the right and whole words.
     pub fn of(id: u8, side_rule: SideRule) -> MachineSetup
         requires { id < 4 }
         ensures { IsDefault id side_rule result }
@@ -86,6 +98,11 @@ impl MachineSetup {
             start: 0,
             x: 0,
             y: 0,
+            isr: 0,
+            osr: 0,
+            isr_count: 0,
+            osr_count: 32,
+            pending: None,
             int: 1,
             frac: 0,
             side_rule,

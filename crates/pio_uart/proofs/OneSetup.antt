@@ -39,7 +39,7 @@ one_rule rule h =
 same_machine : (int : ℕ) (m : MachineSetup) → IsUartMachine int m → keys_of_machine m ≡ machine_keys int
 same_machine int m h =
     let rule = one_rule m.side_rule h.rule in
-    cc (h.id, h.start, h.x, h.y, h.divider, h.frac, rule, h.wrap_bottom, h.wrap_top, h.in_base, h.jmp_pin, h.out.0, h.out.1, h.set.0, h.set.1, h.side.0, h.side.1, h.in_right, h.out_right, h.autopush, h.autopull, h.push_threshold, h.pull_threshold, h.join_tx, h.join_rx, h.status_rx, h.status_n)
+    cc (h.id, h.start, h.x, h.y, h.isr, h.osr, h.isr_count, h.osr_count, h.pending, h.divider, h.frac, rule, h.wrap_bottom, h.wrap_top, h.in_base, h.jmp_pin, h.out.0, h.out.1, h.set.0, h.set.1, h.side.0, h.side.1, h.in_right, h.out_right, h.autopush, h.autopull, h.push_threshold, h.pull_threshold, h.join_tx, h.join_rx, h.status_rx, h.status_n)
 
 same_block : (int : ℕ) (u : Setup) → IsTransmitter int u → keys_of_block u ≡ block_keys int
 same_block int u h =

@@ -85,7 +85,7 @@ module _ (int : ℕ) (s : MachineSetup) (h : IsUartMachine int s) (v : View) (me
 
 -- it begins at phase 0
 pub begins_there : (int : ℕ) (s : MachineSetup) → IsUartMachine int s → IsOnCourse (first_registers s)
-begins_there int s h = pulls (record { pc = h.start; delay = refl; pending = refl })
+begins_there int s h = pulls (record { pc = h.start; delay = refl; pending = h.pending })
 
 pub begins_at_0 : (int : ℕ) (s : MachineSetup) → IsUartMachine int s → phase_of (first_registers s) ≡ 0
 begins_at_0 int s h = phase-0 (first_registers s) 0 h.start refl

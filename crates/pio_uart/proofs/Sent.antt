@@ -101,7 +101,7 @@ module _ (told : AreTold) (int : ℕ) (some : 1 ≤ int) (u : Setup) (t : IsTran
 
   pub ready_at_first : IsReady (regs_in u lines t.machine (int * 0)) (level_in u lines 0 (int * 0))
   ready_at_first = record {
-    at = subst IsPulling (sym goes.first_regs) (record { pc = t.is_set_up.start; delay = refl; pending = refl });
+    at = subst IsPulling (sym goes.first_regs) (record { pc = t.is_set_up.start; delay = refl; pending = t.is_set_up.pending });
     level_is = λ b. high_at_first;
   }
 

@@ -25,12 +25,17 @@ pub record IsUartRule (rule : SideRule) : Type 0 where
   pub pindirs : rule.pindirs ≡ false
 
 -- Machine 0 with a tick every so many clocks, which begins at address 0 and wraps from address 3 to it, with OUT and
--- side-set on pin 0. All else is as it is by default.
+-- side-set on pin 0. All else is as it is by default: no word is pending.
 pub record IsUartMachine (int : ℕ) (s : MachineSetup) : Type 0 where
   pub id : s.id ≡ 0
   pub start : s.start ≡ 0
   pub x : s.x ≡ 0
   pub y : s.y ≡ 0
+  pub isr : s.isr ≡ 0
+  pub osr : s.osr ≡ 0
+  pub isr_count : s.isr_count ≡ 0
+  pub osr_count : s.osr_count ≡ 32
+  pub pending : s.pending ≡ None
   pub divider : s.int ≡ int
   pub frac : s.frac ≡ 0
   pub rule : IsUartRule s.side_rule

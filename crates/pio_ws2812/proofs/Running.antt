@@ -96,8 +96,8 @@ module _ (told : AreTold) (mapped : AreMapped) (int : ℕ) (some : 1 ≤ int) (p
 
   pub ready : IsReady (regs_in u lines t.machine (int * 0)) (level_in u lines pin (int * 0)) []
   ready = subst (λ r. IsReady r (level_in u lines pin (int * 0)) []) (sym goes.first_regs) (record {
-    at = record { pc = t.is_set_up.start; delay = refl; pending = refl };
-    holds = record { word = omega arith; bits_are = sym (none 0 0) };
+    at = record { pc = t.is_set_up.start; delay = refl; pending = t.is_set_up.pending };
+    holds = record { word = t.is_set_up.osr; bits_are = sym (rw t.is_set_up.osr_count (none t.machine.osr 0)) };
     low = λ b. absurd (never b);
   }) where
     never : false ≡ true → ⊥

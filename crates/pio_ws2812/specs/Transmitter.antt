@@ -25,10 +25,13 @@ pub record IsLightRule (rule : SideRule) : Type 0 where
   pub pindirs : rule.pindirs ≡ false
 
 -- What the program needs of its machine: number 0, a tick every so many clocks, the program from address 0 to 3, side-set on the pin,
--- and a new word after 24 bits, which are shifted out to the left.
+-- and a new word after 24 bits, which are shifted out to the left; at the start an empty OSR, whatever is in it, and no word pending.
 pub record IsLightMachine (int pin : ℕ) (s : MachineSetup) : Type 0 where
   pub id : s.id ≡ 0
   pub start : s.start ≡ 0
+  pub osr : s.osr < 2 ^ 32
+  pub osr_count : s.osr_count ≡ 32
+  pub pending : s.pending ≡ None
   pub divider : s.int ≡ int
   pub frac : s.frac ≡ 0
   pub rule : IsLightRule s.side_rule

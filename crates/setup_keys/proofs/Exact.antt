@@ -47,11 +47,13 @@ machine_kept k place f is =
     let out : k.out_base % 32 ≡ k.out_base = mod-eq_of_lt f.out_base_is_a_pin in
     let sets : k.set_base % 32 ≡ k.set_base = mod-eq_of_lt f.set_base_is_a_pin in
     let side : k.side_base % 32 ≡ k.side_base = mod-eq_of_lt f.side_base_is_a_pin in
+    let isrs : min k.isr_count 32 ≡ k.isr_count = omega (arith, f.isr_has_bits) in
+    let osrs : min k.osr_count 32 ≡ k.osr_count = omega (arith, f.osr_has_bits) in
     let outs : min k.out_count 32 ≡ k.out_count = omega (arith, f.out_count_fits) in
     let setss : min k.set_count 5 ≡ k.set_count = omega (arith, f.sets_five_at_most) in
     let sides : min k.side_count 32 ≡ k.side_count = omega (arith, f.side_count_fits) in
     let status : k.status_n % 16 ≡ k.status_n = mod-eq_of_lt f.status_in_field in
-    rw (id, start, bottom, top, in_base, jmp, out, sets, side, outs, setss, sides, status, frac_in (k.int == 0) k.frac f.divides, join_in k.join_tx k.join_rx f.joins_one_way, bits_in k.push_threshold f.pushes_some f.pushes_a_word, bits_in k.pull_threshold f.pulls_some f.pulls_a_word) refl
+    rw (id, start, isrs, osrs, bottom, top, in_base, jmp, out, sets, side, outs, setss, sides, status, frac_in (k.int == 0) k.frac f.divides, join_in k.join_tx k.join_rx f.joins_one_way, bits_in k.push_threshold f.pushes_some f.pushes_a_word, bits_in k.pull_threshold f.pulls_some f.pulls_a_word) refl
 
 span_kept : (k : SpanKeys) → IsSpan k → clipped_span k ≡ k
 span_kept k f =

@@ -21,6 +21,8 @@ machine_in_range : (place : ℕ) (k : MachineKeys) → IsMachine (clipped_machin
 machine_in_range place k = record {
   id_in_block = below_4 place;
   start_in_memory = below_32 k.start;
+  isr_has_bits = at_most k.isr_count 32;
+  osr_has_bits = at_most k.osr_count 32;
   divides = divides_at (k.int == 0) k.frac;
   wrap_bottom_in_memory = below_32 k.wrap_bottom;
   wrap_top_in_memory = below_32 k.wrap_top;

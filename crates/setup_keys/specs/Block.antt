@@ -14,6 +14,11 @@ pub record MachineKeys : Type 0 where
   pub start : ℕ
   pub x : ℕ
   pub y : ℕ
+  pub isr : ℕ
+  pub osr : ℕ
+  pub isr_count : ℕ
+  pub osr_count : ℕ
+  pub pending : Option ℕ
   pub int : ℕ
   pub frac : ℕ
   pub side_rule : SideRule
@@ -68,6 +73,11 @@ keys_of_machine m = record {
   start = m.start;
   x = m.x;
   y = m.y;
+  isr = m.isr;
+  osr = m.osr;
+  isr_count = m.isr_count;
+  osr_count = m.osr_count;
+  pending = m.pending;
   int = m.int;
   frac = m.frac;
   side_rule = m.side_rule;

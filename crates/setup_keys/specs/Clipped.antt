@@ -9,12 +9,14 @@ use Rattle.setup_keys.specs.Block.{MachineKeys, SpanKeys, BlockKeys}
 abbrev pub bits_of : ℕ → ℕ
 bits_of n = suc ((n - 1) % 32)
 
--- The numbers of the machine at a place: pins and addresses below 32, SET writes five pins at most, a divider of 0 has no
--- fraction, and no machine's FIFOs are joined both ways.
+-- The numbers of the machine at a place: pins and addresses below 32, the counts of ISR and OSR 32 at most, SET writes five
+-- pins at most, a divider of 0 has no fraction, and no machine's FIFOs are joined both ways.
 abbrev pub clipped_machine : ℕ → MachineKeys → MachineKeys
 clipped_machine place k = record k {
   id = place % 4;
   start = k.start % 32;
+  isr_count = min k.isr_count 32;
+  osr_count = min k.osr_count 32;
   frac = if k.int == 0 then 0 else k.frac;
   wrap_bottom = k.wrap_bottom % 32;
   wrap_top = k.wrap_top % 32;

@@ -9,6 +9,8 @@ use Rattle.setup_keys.specs.Block.{MachineKeys, SpanKeys, BlockKeys}
 pub record IsMachine (k : MachineKeys) : Type 0 where
   pub id_in_block : k.id < 4
   pub start_in_memory : k.start < 32
+  pub isr_has_bits : k.isr_count ≤ 32
+  pub osr_has_bits : k.osr_count ≤ 32
   pub divides : (not (k.int == 0) || k.frac == 0) ≡ true
   pub wrap_bottom_in_memory : k.wrap_bottom < 32
   pub wrap_top_in_memory : k.wrap_top < 32

@@ -28,18 +28,20 @@ pub record MachineState : Type 0 where
   pub registers : Registers
   pub ports : MachinePorts
 
--- at the start PC, X and Y are the setup's, and the OSR counts as empty (choice of this profile: all else is 0)
+-- At the start PC, X, Y, the shift registers with their counts and the pending word are the setup's. A word that is pending there is
+-- as one that was written to SMx_INSTR before the machine is enabled (RP2040 Datasheet, section 3.7; choice of this profile: all
+-- else is 0).
 abbrev pub first_registers : MachineSetup → Registers
 first_registers s = record {
   pc = s.start;
   x = s.x;
   y = s.y;
-  isr = 0;
-  osr = 0;
-  in_count = 0;
-  out_count = 32;
+  isr = s.isr;
+  osr = s.osr;
+  in_count = s.isr_count;
+  out_count = s.osr_count;
   delay = 0;
-  pending = None;
+  pending = s.pending;
   begun = false;
 }
 

@@ -39,8 +39,8 @@ pub use laws::{
 };
 pub use machine::Machine;
 pub use order_laws::{
-    a_pending_word_leaves_pc, a_taken_jump_does_not_wrap, an_exec_leaves_no_delay,
-    irq_with_wait_stalls_first, side_set_is_written_once,
+    a_pending_word_is_the_first, a_pending_word_leaves_pc, a_taken_jump_does_not_wrap,
+    an_exec_leaves_no_delay, irq_with_wait_stalls_first, side_set_is_written_once,
 };
 pub use outputs::Outputs;
 pub use registers::Registers;

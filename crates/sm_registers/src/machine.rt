@@ -254,12 +254,12 @@ fn first_registers(setup: &MachineSetup) -> Registers
         pc: setup.start,
         x: setup.x,
         y: setup.y,
-        isr: 0,
-        osr: 0,
-        in_count: 0,
-        out_count: 32,
+        isr: setup.isr,
+        osr: setup.osr,
+        in_count: setup.isr_count,
+        out_count: setup.osr_count,
         delay: 0,
-        pending: None,
+        pending: setup.pending,
         begun: false,
     }
 }

@@ -1,5 +1,5 @@
 //! Laws of the order in which a machine works: side-set, PC, pending words, delay. Each is on a function that does nothing.
-ghost use Rattle.std.specs.Prelude.{◌≡◌, ◌≢◌, ℕ, ◌+◌, ◌%◌, ◌^◌, ◌<◌, Bool, true, false, Some, None, is_some, if◌then◌else◌};
+ghost use Rattle.std.specs.Prelude.{◌≡◌, ◌≢◌, ℕ, ◌+◌, ◌%◌, ◌^◌, ◌<◌, Bool, true, false, Some, None, is_some, slice_index, if◌then◌else◌};
 ghost use Rattle.irq_flags.specs.Flags.{flag_of};
 ghost use Rattle.pin_matrix.specs.Pins.{writes_of};
 ghost use Rattle.pin_matrix.specs.declared.machine.MachineSetup as setup;
@@ -9,6 +9,7 @@ ghost use Rattle.pio_encode.specs.declared.act.Condition as condition;
 ghost use Rattle.sm_registers.specs.Effects.{is_up, jumps};
 ghost use Rattle.sm_registers.specs.Queues as queues;
 ghost use Rattle.sm_registers.specs.Rules.{HasSideSet, current_act, is_exec, writes_pc};
+ghost use Rattle.sm_registers.specs.State.{first_registers};
 ghost use Rattle.sm_registers.specs.Tick.{current_word, tick_of};
 ghost use Rattle.sm_registers.specs.declared.registers.Registers as registers;
 ghost use Rattle.sm_registers.specs.View as view;
@@ -41,6 +42,15 @@ pub fn a_taken_jump_does_not_wrap()
         → r.pending ≡ None → r.delay ≡ 0 → (tick_of s v q r).1.stalled ≡ false
         → writes_pc (current_act v r) s v r ≡ false → r.pc ≢ s.wrap_top
         → (tick_of s v q r).0.pc ≡ (r.pc + 1) % 32 }
+{}
+
+/// The first instruction of a machine is the word that is pending in its setup, as after a write of SMx_INSTR before it is
+/// enabled; else it is memory's at its start (section 3.7).
+pub fn a_pending_word_is_the_first()
+    ensures pending { (s : setup.MachineSetup) (v : view.View) (word : ℕ) → s.pending ≡ Some word
+        → current_word v (first_registers s) ≡ word }
+    ensures memory { (s : setup.MachineSetup) (v : view.View) → s.pending ≡ None
+        → current_word v (first_registers s) ≡ slice_index v.memory s.start }
 {}
 
 /// After a pending word, unless it wrote PC, comes the instruction at the PC that it left, also where that is `wrap_top`;

@@ -19,7 +19,7 @@ pub struct Registers {
     pub out_count: u8,
     /// How many ticks of delay are left: 0 to 31.
     pub delay: u8,
-    /// The word of an OUT EXEC or MOV EXEC, which is the next instruction.
+    /// The word of an OUT EXEC or MOV EXEC, or that of the setup at the start, which is the next instruction.
     pub pending: Option<u16>,
     /// Whether the current instruction stalled in a tick before.
     pub begun: bool,

@@ -40,7 +40,8 @@ pub record Laws : Type 0 where
   pub room : (u : Setup) (sp : Span) (rows : Context → Option Ages) (s : MachineSetup) (r : Registers) (w : Watch)
       → slice_index_or u.machines sp.machine None ≡ Some s → IsSoundTable u sp rows → ((address : ℕ) → is_named sp address ≡ false)
       → IsUnderWay u sp rows s (flow_of r) w → (n : ℕ) → InAges n w.ages → n + 1 ≤ (bounds_of sp s).1
-  pub begins : (u : Setup) (sp : Span) (rows : Context → Option Ages) (s : MachineSetup) (k : Context) → IsContextOf k (flow_of (first_registers s))
+  pub begins : (u : Setup) (sp : Span) (rows : Context → Option Ages) (s : MachineSetup) (k : Context)
+      → slice_index_or u.machines sp.machine None ≡ Some s → IsSoundTable u sp rows → IsContextOf k (flow_of (first_registers s))
       → IsInRow Empty (rows k) → IsUnderWay u sp rows s (flow_of (first_registers s)) (start k Empty)
   pub levels : (p : ℕ) (writes : List (ℕ × ℕ)) (old : ℕ) → level_after p writes (old == 1) ≡ (last_of p old writes == 1)
   -- of span_bounds: each entry is that of a row

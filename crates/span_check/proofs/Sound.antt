@@ -166,7 +166,7 @@ module _ (laws : Laws) (u : Setup) (sp : Span) (s : MachineSetup) (configured : 
         start = record {
           slot = first-place;
           setup = refl;
-          under_way = laws.begins u sp (rows_of rows) s k (start-agrees u sp s) row;
+          under_way = laws.begins u sp (rows_of rows) s k configured sound (start-agrees u sp s) row;
           from = rw begins refl;
           to = rw begins refl;
         };

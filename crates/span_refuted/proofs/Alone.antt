@@ -134,9 +134,9 @@ run_alone runs u sp s configured alone = record {
 }
 
 -- it begins with the first visit
-starts_there : AreRuns → (u : Setup) (sp : Span) (s : MachineSetup) (marks : ℕ → Mark) → slice_index_or u.machines sp.machine None ≡ Some s → IsAtVisit u sp s marks (state_beside u []) 0
+starts_there : AreRuns → (u : Setup) (sp : Span) (s : MachineSetup) (marks : ℕ → Mark) → slice_index_or u.machines sp.machine None ≡ Some s → s.pending ≡ None → IsAtVisit u sp s marks (state_beside u []) 0
 unfolding visit start_context hosted_at
-starts_there runs u sp s marks configured = rw configured (record {
+starts_there runs u sp s marks configured none = rw configured (record {
   clock = 0;
   at = record {
     m = first_slot s;
@@ -144,7 +144,7 @@ starts_there runs u sp s marks configured = rw configured (record {
     setup = refl;
     enabled = refl;
     running = refl;
-    rest = record { pc = refl; left = refl; pending = refl; begun = refl };
+    rest = record { pc = refl; left = refl; pending = none; begun = refl };
     from = refl;
     to = refl;
     exact = tt;
@@ -162,4 +162,4 @@ bad_visit_is_broken runs levels tested stays u sp ticks c alone b = record { clo
 
   broken : IsBrokenBy sp.min sp.max (marks_over sp u.memory (seen_beside u []) (host_of (first_run u) []) (state_beside u []))
   broken = subst (λ (x : ℕ × ℕ). IsBrokenBy x.0 x.1 (marks_over sp u.memory (seen_beside u []) (host_of (first_run u) []) (state_beside u []))) bounds
-      (bad_visit_breaks levels tested u sp c.machine (seen_beside u []) (host_of (first_run u) []) (state_beside u []) (run_alone runs u sp c.machine c.configured alone) (λ i. (each_visit stays u sp c i).single) (starts_there runs u sp c.machine _ c.configured) b)
+      (bad_visit_breaks levels tested u sp c.machine (seen_beside u []) (host_of (first_run u) []) (state_beside u []) (run_alone runs u sp c.machine c.configured alone) (λ i. (each_visit stays u sp c i).single) (starts_there runs u sp c.machine _ c.configured c.begins) b)

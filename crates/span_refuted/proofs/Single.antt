@@ -47,10 +47,10 @@ course s sp op o = prompt (side_of s sp op.side) o op.delay
 abbrev pub end : MachineSetup → Span → Op → ContextOutcome → Context → Ages → Watch
 end s sp op o k a = followed (rules_of s sp k.address) (course s sp op o) (start k a)
 
-step_ended : (s : MachineSetup) (sp : Span) (op : Op) (k : Context) (a : Ages) → is_settled op.act ≡ true → may_stall op.act s ≡ false
+step_ended : (s : MachineSetup) (sp : Span) (op : Op) (k : Context) (a : Ages) → s.pending ≡ None → is_settled op.act ≡ true → may_stall op.act s ≡ false
     → (h : HasOutcome op.act s sp k) → step_by s sp op k a ≡ ended (next_address s k.address) h.outcome (end s sp op h.outcome k a)
 unfolding step_by visit_of with_outcome with_end courses
-step_ended s sp op k a settled quick h = rw (settled_tame op.act settled, h.only, quick) refl
+step_ended s sp op k a begins settled quick h = rw (settled_tame op.act settled, begins, h.only, quick) refl
 
 two : (a b : Bool) → (a && not b) ≡ true → (a ≡ true) × (b ≡ false)
 two true false h = (refl, refl)
@@ -70,10 +70,10 @@ pub record IsSingle (u : Setup) (sp : Span) (s : MachineSetup) (k : Context) : T
   pub goes : address_after outcome.jump (next_address s k.address) ≡ goes_to (instruction_at u s k.address).act (next_address s k.address)
   pub step : (a : Ages) → context_steps u sp k a ≡ ended (next_address s k.address) outcome (end s sp (instruction_at u s k.address) outcome k a)
 
-pub single : (u : Setup) (sp : Span) (s : MachineSetup) (k : Context) → slice_index_or u.machines sp.machine None ≡ Some s
+pub single : (u : Setup) (sp : Span) (s : MachineSetup) (k : Context) → slice_index_or u.machines sp.machine None ≡ Some s → s.pending ≡ None
     → has_one_way (instruction_at u s k.address).act s ≡ true → IsSingle u sp s k
 unfolding context_steps
-single u sp s k e h =
+single u sp s k e begins h =
     let t = two _ (may_stall (instruction_at u s k.address).act s) h in
     let o = settled_outcome (instruction_at u s k.address).act s sp k t.0 in
     record {
@@ -82,5 +82,5 @@ single u sp s k e h =
       quick = t.1;
       only = o.only;
       goes = o.goes (next_address s k.address);
-      step = λ a. rw e (step_ended s sp (instruction_at u s k.address) k a t.0 t.1 o);
+      step = λ a. rw e (step_ended s sp (instruction_at u s k.address) k a begins t.0 t.1 o);
     }

@@ -30,6 +30,11 @@ machine = record {
   start = 0;
   x = 0;
   y = 0;
+  isr = 0;
+  osr = 0;
+  isr_count = 0;
+  osr_count = 32;
+  pending = None;
   int = 1;
   frac = 0;
   side_rule = record { bits = 0; opt = false; pindirs = false; fits = omega arith };
@@ -52,6 +57,8 @@ machine = record {
   status_n = 0;
   id_in_block = omega arith;
   start_in_memory = omega arith;
+  isr_has_bits = omega arith;
+  osr_has_bits = omega arith;
   divides = refl;
   wrap_bottom_in_memory = omega arith;
   wrap_top_in_memory = omega arith;
@@ -152,6 +159,7 @@ unfolding blink
 blink-choice-row = record {
   machine = machine;
   configured = refl;
+  begins = refl;
   one_way = λ i. elim (in_turn i) [ inl e ↦ way_at i 0 e ways.0 | inr e ↦ way_at i 1 e ways.1 ];
 }
 

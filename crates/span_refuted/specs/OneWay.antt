@@ -81,9 +81,10 @@ reached u s zero = s.start
 reached u s (suc i) =
     goes_to (instruction_at u s (reached u s i)).act (next_address s (reached u s i))
 
--- The span's machine is configured, and each instruction that it comes to has one way: no JMP with a condition, nothing that may
--- stall, nothing that writes levels of pins from data, and no PC or EXEC from data.
+-- The span's machine is configured and begins with no pending word, and each instruction that it comes to has one way: no JMP with a
+-- condition, nothing that may stall, nothing that writes levels of pins from data, and no PC or EXEC from data.
 pub record LeavesNoChoice (u : Setup) (sp : Span) : Type 0 where
   pub machine : MachineSetup
   pub configured : slice_index_or u.machines sp.machine None ≡ Some machine
+  pub begins : machine.pending ≡ None
   pub one_way : (i : ℕ) → has_one_way (instruction_at u machine (reached u machine i)).act machine ≡ true

@@ -11,6 +11,7 @@ pub struct Keys<'a> {
     pub wrap_top: u8,
     pub x: u32,
     pub y: u32,
+    pub pending: Option<u16>,
     pub divider: u16,
     pub fraction: u8,
     pub autopush: bool,
@@ -46,6 +47,7 @@ impl<'a> Keys<'a> {
             wrap_top: 31,
             x: 0,
             y: 0,
+            pending: None,
             divider: 1,
             fraction: 0,
             autopush: false,
@@ -83,6 +85,7 @@ impl<'a> Keys<'a> {
         match key {
             "side_set" => self.take_side_set(value)?,
             "start" => self.start = value.parse().ok()?,
+            "pending" => self.pending = Some(value.parse().ok()?),
             "wrap_top" => self.wrap_top = value.parse().ok()?,
             "divider" => self.divider = value.parse().ok()?,
             "fraction" => self.fraction = value.parse().ok()?,

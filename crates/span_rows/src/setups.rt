@@ -20,6 +20,7 @@ pub fn machine_of(id: u8, keys: &Keys) -> Option<MachineSetup> {
     machine.wrap_top = keys.wrap_top;
     machine.x = keys.x;
     machine.y = keys.y;
+    machine.pending = keys.pending;
     machine.int = keys.divider;
     machine.frac = keys.fraction;
     machine.autopush = keys.autopush;

@@ -12,7 +12,7 @@ use Rattle.span_step.specs.declared.stepped.Stepped.{Stepped}
 use Rattle.span_step.specs.Contexts.{Context}
 use Rattle.span_step.specs.Outcomes.{ContextOutcome, outcomes, is_wild}
 use Rattle.span_step.specs.Courses.{Rules, watched, start, followed, prompt, delayed, courses, delay_ticks, older, with_fresh, after_edges, joined, no_causes, tick_causes}
-use Rattle.span_step.specs.Steps.{Visit, visit_of, rules_of, with_end, end_of, with_outcome, nothing_found, wild_step, step_by}
+use Rattle.span_step.specs.Steps.{Visit, visit_of, rules_of, with_end, end_of, with_outcome, nothing_found, wild_step, step_by, is_lost}
 use Rattle.pin_matrix.specs.declared.machine.MachineSetup.{MachineSetup}
 use Rattle.pin_matrix.specs.declared.span.Span.{Span}
 use Rattle.pio_encode.specs.declared.op.Op.{Op}
@@ -135,7 +135,7 @@ Together-step_by s sp op c S R C a b k h =
     let v : Visit = visit_of s sp op c a in
     let none : Together R C nothing_found nothing_found = record { nexts = tt; causes = k.none; from_edge = refl } in
     let wild : Together R C wild_step wild_step = record { nexts = tt; causes = k.wild; from_edge = refl } in
-    elim (is_wild op.act) as (λ z. Together R C (cond z wild_step (fold (with_outcome (visit_of s sp op c a)) nothing_found (outcomes op.act s sp c))) (cond z wild_step (fold (with_outcome (visit_of s sp op c b)) nothing_found (outcomes op.act s sp c)))) [
+    elim (is_lost s op) as (λ z. Together R C (cond z wild_step (fold (with_outcome (visit_of s sp op c a)) nothing_found (outcomes op.act s sp c))) (cond z wild_step (fold (with_outcome (visit_of s sp op c b)) nothing_found (outcomes op.act s sp c)))) [
       | true ↦ wild
       | false ↦ fold_along (with_outcome (visit_of s sp op c a)) (with_outcome (visit_of s sp op c b)) (Together R C) (λ x y o. Together-with_outcome (rules_of s sp c.address) S R C k v a b refl h x y o) _ _ (outcomes op.act s sp c) none
     ]

@@ -1,6 +1,7 @@
 -- Ages above the most that is right are bad by U1 at any row, but for one after which no address is known.
-use Rattle.std.proofs.Common.{◌≡◌, ℕ, Bool, true, false, ◌||◌, cond, if◌then◌else◌, IsSome, slice_index_or, slice_index, Option, Some, None, List, [], ◌∷◌, ◌++◌, map, fold, refl, sym, ◌∙◌, arith}
+use Rattle.std.proofs.Common.{◌≡◌, ℕ, Bool, true, false, ◌||◌, cond, if◌then◌else◌, IsSome, slice_index_or, slice_index, Option, Some, None, is_some, List, [], ◌∷◌, ◌++◌, map, fold, refl, sym, ◌∙◌, arith}
 use Rattle.std.specs.List.{flat_map}
+use Rattle.std.proofs.lemmas.Bool.{or_parts}
 use Rattle.std.proofs.lemmas.Bool.Decides.{nat_tests}
 use Rattle.std.proofs.lemmas.List.Folds.{fold_along}
 use Rattle.pin_matrix.specs.declared.machine.MachineSetup.{MachineSetup}
@@ -26,7 +27,7 @@ use Rattle.span_step.specs.declared.stepped.Stepped.{Stepped}
 use Rattle.span_step.specs.Contexts.{Context}
 use Rattle.span_step.specs.Outcomes.{ContextOutcome, outcomes, ways, either_level, unknown_levels, holds, is_wild, taken, after_count}
 use Rattle.span_step.specs.Courses.{Rules, older, watched, start, followed, prompt, courses, delay_ticks, is_above}
-use Rattle.span_step.specs.Steps.{Visit, visit_of, with_end, end_of, with_outcome, nothing_found, machine_steps, context_steps, rules_of, step_by}
+use Rattle.span_step.specs.Steps.{Visit, visit_of, with_end, end_of, with_outcome, nothing_found, machine_steps, context_steps, rules_of, step_by, is_lost}
 use Rattle.span_step.specs.Laws.{ReachesAge, most_of, most_on, first_cause}
 
 -- a list has an element
@@ -129,10 +130,10 @@ outcome_u1 v found o h = by v.stalls where
   by true = or_left _ _ (or_right found.causes.u1 _ (prompt_u1 v.rules v.context v.ages v.side o v.delay h))
   by false = or_right found.causes.u1 _ (prompt_u1 v.rules v.context v.ages v.side o v.delay h)
 
-pub step_u1 : (s : MachineSetup) (sp : Span) (op : Op) (k : Context) (a : Ages) → is_wild op.act ≡ false → ReachesAge (most_on (Some s) sp) a → (step_by s sp op k a).causes.u1 ≡ true
+pub step_u1 : (s : MachineSetup) (sp : Span) (op : Op) (k : Context) (a : Ages) → is_lost s op ≡ false → ReachesAge (most_on (Some s) sp) a → (step_by s sp op k a).causes.u1 ≡ true
 unfolding step_by visit_of rules_of
 step_u1 s sp op k a e h = rw e
-    (fold_made (with_outcome (visit_of s sp op k a)) (λ t. t.causes.u1 ≡ true) (λ t o. outcome_u1 (visit_of s sp op k a) t o h) nothing_found (outcomes op.act s sp k) (outcomes_filled op.act s sp k e))
+    (fold_made (with_outcome (visit_of s sp op k a)) (λ t. t.causes.u1 ≡ true) (λ t o. outcome_u1 (visit_of s sp op k a) t o h) nothing_found (outcomes op.act s sp k) (outcomes_filled op.act s sp k (or_parts (is_wild op.act) (is_some s.pending) e).0))
 
 first_with_u1 : (c : Causes) → c.u1 ≡ true → first_cause c ≡ Some U1
 first_with_u1 c e = rw e refl
@@ -142,12 +143,12 @@ none_is_none e = cc
 
 -- the cause for which a row is bad whose ages are above the bound
 abbrev overdue_cause : Bool → Cause
-overdue_cause wild = if wild then U4 else U1
+overdue_cause lost = if lost then U4 else U1
 
-step_first : (s : MachineSetup) (sp : Span) (op : Op) (k : Context) (a : Ages) → ReachesAge (most_on (Some s) sp) a → first_cause (step_by s sp op k a).causes ≡ Some (overdue_cause (is_wild op.act))
+step_first : (s : MachineSetup) (sp : Span) (op : Op) (k : Context) (a : Ages) → ReachesAge (most_on (Some s) sp) a → first_cause (step_by s sp op k a).causes ≡ Some (overdue_cause (is_lost s op))
 unfolding step_by
-step_first s sp op k a h = on (is_wild op.act) refl where
-  on : (z : Bool) → is_wild op.act ≡ z → first_cause (step_by s sp op k a).causes ≡ Some (overdue_cause z)
+step_first s sp op k a h = on (is_lost s op) refl where
+  on : (z : Bool) → is_lost s op ≡ z → first_cause (step_by s sp op k a).causes ≡ Some (overdue_cause z)
   on true e = rw e refl
   on false e = first_with_u1 _ (step_u1 s sp op k a e h)
 

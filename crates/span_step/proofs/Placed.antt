@@ -29,7 +29,7 @@ use Rattle.span_step.specs.declared.stepped.Stepped.{Stepped}
 use Rattle.span_step.specs.Contexts.{Context, is_small, is_placed}
 use Rattle.span_step.specs.Outcomes.{ContextOutcome, outcomes, is_wild, ways, taken, after_count, counted_down, copied, nothing_done, unknown_levels}
 use Rattle.span_step.specs.Courses.{courses}
-use Rattle.span_step.specs.Steps.{Visit, visit_of, next_address, address_after, with_end, end_of, with_outcome, nothing_found, wild_step, machine_steps, context_steps, step_by}
+use Rattle.span_step.specs.Steps.{Visit, visit_of, next_address, address_after, with_end, end_of, with_outcome, nothing_found, wild_step, machine_steps, context_steps, step_by, is_lost}
 use Rattle.span_step.specs.Laws.{AllPlaced}
 
 -- the address of a JMP and the value of a SET are below 32
@@ -228,7 +228,7 @@ following_small s a = on (a == s.wrap_top) where
 
 placed_step : (s : MachineSetup) (sp : Span) (op : Op) (k : Context) (a : Ages) → SmallAct op.act → is_small k.x ≡ true → is_small k.y ≡ true → AllPlaced (step_by s sp op k a).nexts
 unfolding step_by visit_of
-placed_step s sp op k a h x y = elim (is_wild op.act) as (λ z. AllPlaced (cond z wild_step (fold (with_outcome (visit_of s sp op k a)) nothing_found (outcomes op.act s sp k))).nexts) [
+placed_step s sp op k a h x y = elim (is_lost s op) as (λ z. AllPlaced (cond z wild_step (fold (with_outcome (visit_of s sp op k a)) nothing_found (outcomes op.act s sp k))).nexts) [
   | true ↦ tt
   | false ↦ placed_all (visit_of s sp op k a) nothing_found (outcomes op.act s sp k) (fine_outcomes s sp k (next_address s k.address) (following_small s k.address) x y op.act h) tt
 ]

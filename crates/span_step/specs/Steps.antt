@@ -4,9 +4,10 @@
 --   side_of          what side-set writes to the two pins
 --   Visit            what all courses of a row share
 --   with_outcome     what is found with one more outcome, by each of its courses
+--   is_lost          no address is known after a row
 --   step_by          the step of a machine's row
 --   context_steps    the step of a span's row
-use Rattle.std.specs.Prelude.{ℕ, ◌+◌, ◌-◌, ◌*◌, ◌/◌, ◌%◌, ◌==◌, Bool, true, false, ◌||◌, if◌then◌else◌, Option, Some, None, List, [], ◌∷◌, ◌++◌, fold, slice_index, slice_index_or}
+use Rattle.std.specs.Prelude.{ℕ, ◌+◌, ◌-◌, ◌*◌, ◌/◌, ◌%◌, ◌==◌, Bool, true, false, ◌||◌, if◌then◌else◌, Option, Some, None, List, [], ◌∷◌, ◌++◌, fold, is_some, slice_index, slice_index_or}
 use Rattle.std.specs.List.{list_any}
 use Rattle.pio_encode.specs.declared.op.Op.{Op}
 use Rattle.pio_encode.specs.Word.{reading_of}
@@ -122,14 +123,19 @@ with_outcome v found o = fold (λ t ticks. with_end v o t (end_of v ticks)) foun
 abbrev pub nothing_found : Stepped
 nothing_found = record { nexts = []; causes = no_causes; from_edge = false }
 
--- no address is known after the row
+-- nothing is found but U4
 abbrev pub wild_step : Stepped
 wild_step = record { nexts = []; causes = record no_causes { u4 = true }; from_edge = false }
+
+-- No address is known after a row: its instruction sets PC, or the next instruction, from data; or the machine begins with a pending
+-- word, which isn't followed.
+abbrev pub is_lost : MachineSetup → Op → Bool
+is_lost s op = is_wild op.act || is_some s.pending
 
 -- the step of a row whose instruction this is: U4 alone where no address is known after it, else what its outcomes give
 unfoldable pub step_by : MachineSetup → Span → Op → Context → Ages → Stepped
 step_by s sp op k ages =
-    if is_wild op.act
+    if is_lost s op
     then wild_step
     else fold (with_outcome (visit_of s sp op k ages)) nothing_found (outcomes op.act s sp k)
 

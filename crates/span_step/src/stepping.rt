@@ -34,7 +34,7 @@ pub fn step(setup: &Setup, span: &Span, context: &Context, ages: &Ages) -> Stepp
     }
 }
 
-/// The step of a row whose instruction this is.
+/// The step of a row whose instruction this is. The word that a machine begins with isn't followed.
 #[tactic(auto, unfolding(crate::specs::Steps::step_by))]
 fn step_by(machine: &MachineSetup, span: &Span, op: &Op, context: &Context, ages: Ages) -> Stepped
     requires { IsInRange op.now.act }
@@ -45,7 +45,7 @@ fn step_by(machine: &MachineSetup, span: &Span, op: &Op, context: &Context, ages
         causes: Causes::none(),
         from_edge: false,
     };
-    if is_wild(op.act) {
+    if is_wild(op.act) || machine.pending.is_some() {
         found.causes.u4 = true;
         return found;
     }

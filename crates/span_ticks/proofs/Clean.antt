@@ -30,11 +30,11 @@ clean_of c h = let p = clean_by c.u1 c.u2 c.u3 c.u4 h in record { u1 = p.u1; u2 
 pub none_of : (c : Causes) → IsClean c → first_cause c ≡ None
 none_of c h = rw (h.u1, h.u2, h.u3, h.u4) refl
 
-none_left : (a b : Bool) → (a || b) ≡ false → a ≡ false
+pub none_left : (a b : Bool) → (a || b) ≡ false → a ≡ false
 none_left true b h = cc
 none_left false b h = refl
 
-none_right : (a b : Bool) → (a || b) ≡ false → b ≡ false
+pub none_right : (a b : Bool) → (a || b) ≡ false → b ≡ false
 none_right true b h = cc
 none_right false b h = h
 

@@ -1,5 +1,5 @@
 -- A sound row's courses end in rows: taken from the step's fold to each outcome.
-use Rattle.std.proofs.Common.{◌≡◌, Bool, true, false, Option, Some, None, List, [], ◌∷◌, ◌++◌, fold, slice_index_or, cond, refl, sym, ap, ◌∙◌}
+use Rattle.std.proofs.Common.{◌≡◌, ℕ, Bool, true, false, Option, Some, None, List, [], ◌∷◌, ◌++◌, fold, is_some, slice_index_or, cond, refl, sym, ap, ◌∙◌}
 use Rattle.std.specs.List.{AllByRecursion}
 use Rattle.pin_matrix.specs.declared.machine.MachineSetup.{MachineSetup}
 use Rattle.pin_matrix.specs.declared.setup.Setup.{Setup}
@@ -12,10 +12,10 @@ use Rattle.span_step.specs.Contexts.{Context, is_placed}
 use Rattle.span_step.specs.Outcomes.{ContextOutcome, outcomes, is_wild}
 use Rattle.span_step.specs.Courses.{courses, prompt, delayed}
 use Rattle.span_step.specs.Laws.{AllPlaced, first_cause}
-use Rattle.span_step.specs.Steps.{Visit, visit_of, next_of, with_end, end_of, with_outcome, nothing_found, wild_step, step_by, machine_steps, context_steps}
+use Rattle.span_step.specs.Steps.{Visit, visit_of, next_of, with_end, end_of, with_outcome, nothing_found, wild_step, is_lost, step_by, machine_steps, context_steps}
 use Rattle.span_ticks.specs.Rows.{IsInRow, HasRow, IsSoundRow}
 use Rattle.span_ticks.specs.UnderWay.{Watch, op_at}
-use Rattle.span_ticks.proofs.Clean.{IsClean, clean_of, clean_left, clean_right}
+use Rattle.span_ticks.proofs.Clean.{IsClean, clean_of, none_left, none_right, clean_left, clean_right}
 
 -- a course ends in a row, at a context in range, without cause
 pub record EndsWell (rows : Context → Option Ages) (v : Visit) (o : ContextOutcome) (w : Watch) : Type 0 where
@@ -85,7 +85,24 @@ known_row u sp rows s k a configured sound placed =
     let closed : AllByRecursion (HasRow rows) (step_by s sp op k a).nexts = rw (← same) sound.closed in
     let good : first_cause (step_by s sp op k a).causes ≡ None = rw (← same) sound.good in
     let within : AllPlaced (step_by s sp op k a).nexts = rw (← same) placed in
-    by (is_wild op.act) refl (record { nexts = closed; placed = within; clean = clean_of _ good }) where
-      by : (z : Bool) → is_wild (op_at u s k.address).act ≡ z → IsFine rows (cond z wild_step (fold (with_outcome (visit_of s sp (op_at u s k.address) k a)) nothing_found (outcomes (op_at u s k.address).act s sp k))) → IsKnownRow u sp rows s k a
+    by (is_lost s op) refl (record { nexts = closed; placed = within; clean = clean_of _ good }) where
+      by : (z : Bool) → is_lost s (op_at u s k.address) ≡ z → IsFine rows (cond z wild_step (fold (with_outcome (visit_of s sp (op_at u s k.address) k a)) nothing_found (outcomes (op_at u s k.address).act s sp k))) → IsKnownRow u sp rows s k a
       by true e h = absurd (let x : true ≡ false = h.clean.u4 in cc)
-      by false e h = record { tame = e; ends = (fine_outcomes rows (visit_of s sp (op_at u s k.address) k a) nothing_found _ h).1 }
+      by false e h = record { tame = none_left _ _ e; ends = (fine_outcomes rows (visit_of s sp (op_at u s k.address) k a) nothing_found _ h).1 }
+
+-- a row of a sound table isn't lost: the machine begins with no pending word
+none_pending : (o : Option ℕ) → is_some o ≡ false → o ≡ None
+none_pending None h = refl
+none_pending (Some word) h = cc
+
+pub begins_plain : (u : Setup) (sp : Span) (rows : Context → Option Ages) (s : MachineSetup) (k : Context) (a : Ages)
+    → slice_index_or u.machines sp.machine None ≡ Some s → IsSoundRow u sp rows k a → s.pending ≡ None
+unfolding context_steps step_by
+begins_plain u sp rows s k a configured sound =
+    let op : Op = op_at u s k.address in
+    let same : context_steps u sp k a ≡ step_by s sp op k a = ap (λ m. machine_steps m u.memory sp k a) configured in
+    let good : first_cause (step_by s sp op k a).causes ≡ None = rw (← same) sound.good in
+    none_pending s.pending (none_right (is_wild op.act) _ (by (is_lost s op) refl good)) where
+      by : (z : Bool) → is_lost s (op_at u s k.address) ≡ z → first_cause (cond z wild_step (fold (with_outcome (visit_of s sp (op_at u s k.address) k a)) nothing_found (outcomes (op_at u s k.address).act s sp k))).causes ≡ None → is_lost s (op_at u s k.address) ≡ false
+      by true e h = cc
+      by false e h = e

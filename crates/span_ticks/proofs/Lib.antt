@@ -6,4 +6,5 @@ pub mod Stalls
 pub mod Opened
 pub mod Resting
 pub mod Joined
+pub mod Starting
 pub mod Levels

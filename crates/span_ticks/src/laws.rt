@@ -44,9 +44,11 @@ pub fn open_ages_have_room()
     next_contexts_are_in_range();
 }
 
-/// At its start a machine is under way in any context that agrees with it and has a row. No age is open.
+/// At its start a machine is under way in any context of a sound table that agrees with it and has a row. No age is open. A machine
+/// that begins with a pending word has no sound table with a row.
 pub fn a_start_is_under_way()
     ensures { (u : block.Setup) (sp : span.Span) (rows : Context → Option Ages) (s : setup.MachineSetup) (k : Context)
+        → slice_index_or u.machines sp.machine None ≡ Some s → IsSoundTable u sp rows
         → IsContextOf k (flow_of (first_registers s)) → IsInRow variants.Empty (rows k)
         → IsUnderWay u sp rows s (flow_of (first_registers s)) (start k variants.Empty) }
 {}

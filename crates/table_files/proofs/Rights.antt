@@ -13,7 +13,7 @@ use Rattle.span_step.specs.declared.stepped.Stepped.{Stepped}
 use Rattle.span_step.specs.Contexts.{Context}
 use Rattle.span_step.specs.Courses.{Rules, start, delay_tick, older, with_fresh, after_edges, watched, followed, courses}
 use Rattle.span_step.specs.Outcomes.{ContextOutcome, outcomes, is_wild}
-use Rattle.span_step.specs.Steps.{Visit, visit_of, with_end, end_of, with_outcome, nothing_found, wild_step, step_by, machine_steps, context_steps}
+use Rattle.span_step.specs.Steps.{Visit, visit_of, with_end, end_of, with_outcome, nothing_found, wild_step, step_by, machine_steps, context_steps, is_lost}
 
 -- the type of a value
 abbrev type_of : {W : Type 0} → W → Type 0
@@ -92,7 +92,7 @@ choice_right false x y h k = k
 op_right : (s : MachineSetup) (sp : Span) (op : Op) (k : Context) (a : Ages) → IsRight a → AllRight (step_by s sp op k a).nexts
 unfolding step_by
 op_right s sp op k a h =
-    choice_right (is_wild op.act) wild_step _ tt (outcomes_right (visit_of s sp op k a) (outcomes op.act s sp k) (visit_right s sp op k a h))
+    choice_right (is_lost s op) wild_step _ tt (outcomes_right (visit_of s sp op k a) (outcomes op.act s sp k) (visit_right s sp op k a h))
 
 machine_right : (m : Option MachineSetup) (memory : List ℕ) (sp : Span) (k : Context) (a : Ages) → IsRight a → AllRight (machine_steps m memory sp k a).nexts
 machine_right None memory sp k a h = tt
