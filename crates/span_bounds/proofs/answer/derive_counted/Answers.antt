@@ -7,7 +7,7 @@ swept-requires-clause-missing g c = c.in_ok-missing.ensures.items_if_clones_equa
 
 pub returns-in-Some-clause-answer : goal.returns-in-Some-clause-answer
 returns-in-Some-clause-answer g c =
-    rw c.context_at.ensures (IsFirstBad-ends _ _ _ _ _ c.swept.ensures.taken c.requires c.in-Some.ensures.value)
+    rw c.context_at.ensures (IsFirstBad-ends _ _ _ _ _ c.swept.ensures.settled.taken c.swept.ensures.settled.bounded c.requires c.in-Some.ensures.value)
 
 pub returns-in-None-clause-answer : goal.returns-in-None-clause-answer
-returns-in-None-clause-answer g c = rw c.of.ensures (IsGoodLeast-ends _ _ _ _ c.swept.ensures.taken c.requires c.in-None.ensures.value)
+returns-in-None-clause-answer g c = rw c.of.ensures (IsGoodLeast-ends _ _ _ _ c.swept.ensures.settled.taken c.requires c.swept.ensures.settled.bounded c.in-None.ensures.value)
