@@ -1,7 +1,5 @@
 -- The rows that the third sweep leaves have the age at which ages stop in every closed table.
-use Rattle.std.proofs.Common.{◌≡◌, ◌≢◌, ℕ, zero, suc, ◌+◌, ◌*◌, ◌-◌, ◌<◌, ◌≤◌, ◌==◌, ◌⊎◌, min, max, nat_le, Bool, true, false, ◌&&◌, IsSome, MatchBool, Option, Some, None, List, [], ◌∷◌, ◌++◌, length, get_or, take, sum_by, refl, sym, ap, ◌∙◌, subst, inl, inr, arith}
-use Rattle.std.proofs.Math.ListN.{set}
-use Rattle.std.proofs.lemmas.Bool.{cases_lt}
+use Rattle.std.proofs.Common.{◌≡◌, ℕ, ◌<◌, ◌≤◌, ◌==◌, Bool, true, false, ◌&&◌, List, [], ◌∷◌, length, refl, sym, ◌∙◌, inl, inr, arith}
 use Rattle.std.proofs.lemmas.Bool.Decides.{nat_tests}
 use Rattle.pin_matrix.specs.declared.setup.Setup.{Setup}
 use Rattle.pin_matrix.specs.declared.span.Span.{Span}
@@ -15,15 +13,12 @@ use Rattle.span_step.proofs.Alike.{OpenAlike-context_steps}
 use Rattle.span_bounds.specs.declared.entry.Entry.{Entry}
 use Rattle.span_bounds.specs.declared.entry.Entry.TheVariants.{Absent, Present}
 use Rattle.span_bounds.specs.Tables.{LiesAt}
-use Rattle.span_bounds.specs.Edges.{at, nexts_at, spot, EachNext, AllLie, IsClosedAt, Among}
-use Rattle.span_bounds.specs.Reach.{IsHeldBy, Below, AreHeld, IsReach}
-use Rattle.span_bounds.specs.Sums.{passages, one_if, open_at, join_into}
-use Rattle.span_bounds.specs.Take.{IsFresh, IsTaken, IsSettled, ages_or_none}
-use Rattle.span_bounds.proofs.Nexts.{EachNext-at, EachNext-more, same_or_not, Among-push, Among-pop}
-use Rattle.span_bounds.proofs.Reaching.{at_same, at_other}
-use Rattle.span_bounds.proofs.Joins.{joined_at, lies_at_join, lies_still, IsUnder-join, closed_lies}
+use Rattle.span_bounds.specs.Edges.{at, nexts_at, spot, EachNext, AllLie, IsClosedAt}
+use Rattle.span_bounds.specs.Reach.{IsHeldBy, AreHeld, IsReach}
+use Rattle.span_bounds.specs.Sums.{passages, one_if, open_at}
+use Rattle.span_bounds.specs.Take.{IsFresh, IsTaken}
+use Rattle.span_bounds.proofs.Joins.{joined_at, lies_still, IsUnder-join}
 use Rattle.span_bounds.proofs.Counts.{but_still}
-use Rattle.span_bounds.proofs.Takes.{all_still}
 use Rattle.span_bounds.proofs.Ends.{ReachesAt, left_above, nexts_reach}
 use Rattle.span_bounds.proofs.Filled.{capped}
 
@@ -120,4 +115,3 @@ left_capped u sp l x t f c i m o = both (f i) (left_above u sp l x t f c (cap_of
   both Absent h k = absurd h
   both (Present Empty) h k = absurd h
   both (Present (Between lo hi)) h k = (k, h)
-

@@ -13,7 +13,6 @@ use Rattle.span_bounds.specs.declared.entry.Entry.TheVariants.{Absent}
 use Rattle.span_bounds.specs.declared.row.Row.{Row}
 use Rattle.span_bounds.specs.Numbers.{number_of, context_at}
 use Rattle.span_bounds.specs.Tables.{entry_at, IsTableFrom, IsLeast, first_bad}
-use Rattle.span_bounds.specs.Edges.{at}
 use Rattle.span_bounds.specs.Take.{IsTaken}
 use Rattle.span_bounds.specs.Answers.{cause_by, cause_at, IsBadAt, AreGoodBelow, IsFirstBad}
 use Rattle.span_bounds.proofs.Placing.{context_at-number_of}

@@ -1,34 +1,27 @@
 -- The fourth sweep keeps what it says of its rows.
-use Rattle.std.proofs.Common.{◌≡◌, ◌≢◌, ℕ, zero, suc, ◌+◌, ◌*◌, ◌-◌, ◌<◌, ◌≤◌, ◌==◌, ◌⊎◌, min, max, nat_le, Bool, true, false, ◌&&◌, IsSome, MatchBool, Option, Some, None, List, [], ◌∷◌, ◌++◌, length, get_or, take, sum_by, refl, sym, ap, ◌∙◌, subst, inl, inr, arith}
+use Rattle.std.proofs.Common.{◌≡◌, ◌≢◌, ℕ, ◌+◌, ◌<◌, ◌≤◌, ◌⊎◌, Bool, true, false, MatchBool, List, [], ◌∷◌, length, get_or, take, sum_by, refl, sym, ap, ◌∙◌, subst, inl, inr, arith}
 use Rattle.std.proofs.Math.ListN.{set}
-use Rattle.std.proofs.lemmas.Bool.{cases_lt}
-use Rattle.std.proofs.lemmas.Bool.Decides.{nat_tests}
-use Rattle.std.proofs.lemmas.List.{length-set, length_push, take_more, take_all}
-use Rattle.std.proofs.lemmas.List.Sums.{sum_by-set, sum_by_push, sum_by-cons}
+use Rattle.std.proofs.lemmas.List.{length-set, take_more, take_all}
+use Rattle.std.proofs.lemmas.List.Sums.{sum_by_push}
 use Rattle.pin_matrix.specs.declared.setup.Setup.{Setup}
 use Rattle.pin_matrix.specs.declared.span.Span.{Span}
 use Rattle.span_step.specs.declared.ages.Ages.{Ages}
 use Rattle.span_step.specs.declared.ages.Ages.TheVariants.{Empty, Between}
 use Rattle.span_step.specs.declared.stepped.Next.{Next}
-use Rattle.span_step.specs.Contexts.{IsInside, is_open}
-use Rattle.span_step.specs.Laws.{AreAlike, GoesLike, AreInside, OpenAlike, AllReach, ReachesAge, AreUpTo, cap_of}
-use Rattle.span_step.proofs.Wider.{IsNarrower-context_steps}
-use Rattle.span_step.proofs.Alike.{OpenAlike-context_steps}
+use Rattle.span_step.specs.Laws.{AreUpTo, cap_of}
 use Rattle.span_bounds.specs.declared.entry.Entry.{Entry}
 use Rattle.span_bounds.specs.declared.entry.Entry.TheVariants.{Absent, Present}
 use Rattle.span_bounds.specs.Tables.{LiesAt}
 use Rattle.span_bounds.specs.Edges.{at, nexts_at, spot, EachNext, AllLie, IsClosedAt, Among}
-use Rattle.span_bounds.specs.Reach.{IsHeldBy, Below, AreHeld, IsReach}
-use Rattle.span_bounds.specs.Sums.{passages, one_if, open_at, join_into}
+use Rattle.span_bounds.specs.Reach.{IsHeldBy, AreHeld}
+use Rattle.span_bounds.specs.Sums.{one_if, open_at, join_into}
 use Rattle.span_bounds.specs.Queues.{IsMore}
 use Rattle.span_bounds.specs.Take.{IsFresh, IsTaken, IsSettled, ages_or_none}
-use Rattle.span_bounds.specs.Settle.{is_inside, lies, one_waiting, slack, ease_left, Eased, BegunAt, Settle, SettleRow, Begun, IsBegun, IsSettling, SettlesRow}
-use Rattle.span_bounds.proofs.Nexts.{EachNext-at, EachNext-more, same_or_not, Among-push, Among-pop}
+use Rattle.span_bounds.specs.Settle.{lies, one_waiting, slack, ease_left, Eased, BegunAt, Settle, SettleRow, Begun, IsBegun, IsSettling, SettlesRow}
+use Rattle.span_bounds.proofs.Nexts.{EachNext-at, EachNext-more, same_or_not}
 use Rattle.span_bounds.proofs.Reaching.{at_same, at_other}
-use Rattle.span_bounds.proofs.Joins.{joined_at, lies_at_join, lies_still, IsUnder-join, closed_lies}
-use Rattle.span_bounds.proofs.Counts.{but_still}
+use Rattle.span_bounds.proofs.Joins.{joined_at, lies_at_join, lies_still, closed_lies}
 use Rattle.span_bounds.proofs.Takes.{all_still}
-use Rattle.span_bounds.proofs.Ends.{ReachesAt, left_above, nexts_reach}
 use Rattle.span_bounds.proofs.Filled.{capped}
 use Rattle.span_bounds.proofs.Slack.{lies_from, table_slack, more_wait, fewer_wait, all_wait, length_front}
 use Rattle.span_bounds.proofs.Capped.{IsFresh-join, reach_holds, left_capped}
@@ -283,9 +276,9 @@ SettlesRow-step u sp l l' x x' w w' i a items k n ie lk q b bi t r = on (lies n.
         (λ j h. elim (c.1.of_these j h) [ inl e ↦ rw e b | inr m ↦ s.near j m ])
         (λ j m o. queued j m o (same_or_not j (spot n)))
         (omega (arith, s.few, more_wait l (spot n) inside_l y, c.1.size))) where
-      queued : (j : ℕ) → j < 139392 → open_at (at (set l (spot n) (Present (Between 0 0))) j) ≡ true → (j ≡ spot n) ⊎ (j ≢ spot n) → Among j w'
-      queued j m o (inl e) = c.1.all j (inl e)
-      queued j m o (inr d) = c.1.all j (inr (s.queued j m (rw (at_other l (spot n) j (Present (Between 0 0)) d) at o)))
+          queued : (j : ℕ) → j < 139392 → open_at (at (set l (spot n) (Present (Between 0 0))) j) ≡ true → (j ≡ spot n) ⊎ (j ≢ spot n) → Among j w'
+          queued j m o (inl e) = c.1.all j (inl e)
+          queued j m o (inr d) = c.1.all j (inr (s.queued j m (rw (at_other l (spot n) j (Present (Between 0 0)) d) at o)))
 
 -- all nexts are done
 pub SettlesRow-ends : (u : Setup) (sp : Span) (l x : List Entry) (w : List ℕ) (i : ℕ) (a : Ages) → SettlesRow u sp l x w i a (nexts_at u sp i a) → IsSettling u sp l x w

@@ -1,23 +1,19 @@
 -- How often the entries of a table may still be widened, and how many rows wait.
-use Rattle.std.proofs.Common.{◌≡◌, ◌≢◌, ℕ, zero, suc, ◌+◌, ◌*◌, ◌-◌, ◌<◌, ◌≤◌, ◌==◌, ◌⊎◌, min, max, nat_le, Bool, true, false, ◌&&◌, IsSome, MatchBool, Option, Some, None, List, [], ◌∷◌, ◌++◌, length, get_or, take, sum_by, refl, sym, ap, ◌∙◌, subst, inl, inr, arith}
+use Rattle.std.proofs.Common.{◌≡◌, ℕ, zero, suc, ◌+◌, ◌-◌, ◌<◌, ◌≤◌, ◌⊎◌, min, max, nat_le, Bool, true, false, ◌&&◌, List, [], ◌∷◌, length, take, sum_by, refl, inl, inr, arith}
 use Rattle.std.proofs.Math.ListN.{set}
 use Rattle.std.proofs.lemmas.Bool.{cases_lt}
 use Rattle.std.proofs.lemmas.Bool.Decides.{nat_tests}
-use Rattle.std.proofs.lemmas.List.{length-set, length_push, take_more, take_all}
-use Rattle.std.proofs.lemmas.List.Sums.{sum_by-set, sum_by_push, sum_by-cons}
+use Rattle.std.proofs.lemmas.List.Sums.{sum_by-set, sum_by-cons}
 use Rattle.span_step.specs.declared.ages.Ages.{Ages}
 use Rattle.span_step.specs.declared.ages.Ages.TheVariants.{Empty, Between}
-use Rattle.span_step.specs.Contexts.{IsInside, is_open}
 use Rattle.span_bounds.specs.declared.entry.Entry.{Entry}
 use Rattle.span_bounds.specs.declared.entry.Entry.TheVariants.{Absent, Present}
 use Rattle.span_bounds.specs.Tables.{LiesAt}
-use Rattle.span_bounds.specs.Edges.{at, nexts_at, spot, EachNext, AllLie, IsClosedAt, Among}
-use Rattle.span_bounds.specs.Sums.{passages, one_if, open_at, join_into}
-use Rattle.span_bounds.proofs.Nexts.{EachNext-at, EachNext-more, same_or_not, Among-push, Among-pop}
-use Rattle.span_bounds.proofs.Reaching.{at_same, at_other}
-use Rattle.span_bounds.proofs.Joins.{joined_at, lies_at_join, lies_still, IsUnder-join, closed_lies}
+use Rattle.span_bounds.specs.Edges.{at}
+use Rattle.span_bounds.specs.Sums.{one_if, open_at, join_into}
+use Rattle.span_bounds.proofs.Joins.{joined_at}
 use Rattle.span_step.specs.Laws.{AreUpTo}
-use Rattle.span_bounds.specs.Settle.{is_inside, lies, one_waiting, slack}
+use Rattle.span_bounds.specs.Settle.{lies, one_waiting, slack}
 
 clash : {b : Bool} → b ≡ true → b ≡ false → ⊥
 clash p q = cc
@@ -85,5 +81,3 @@ pub length_front : (n : ℕ) (l : List Entry) → length (take n l) ≤ n
 length_front zero l = omega arith
 length_front (suc n) [] = omega arith
 length_front (suc n) (e ∷ l) = let h = length_front n l in omega (arith, h)
-
-

@@ -6,7 +6,7 @@
 --   Settle           the sweep on its way, with the rows that wait
 --   SettleRow        the same while the nexts of a row are looked at
 --   Begun            before it, with so many rows looked at
-use Rattle.std.specs.Prelude.{◌≡◌, ℕ, ◌+◌, ◌*◌, ◌-◌, ◌<◌, ◌≤◌, ◌⊎◌, nat_le, Bool, true, false, ◌&&◌, MatchBool, List, [], ◌∷◌, ◌++◌, length, slice_set, sum_by, take}
+use Rattle.std.specs.Prelude.{◌≡◌, ℕ, ◌+◌, ◌*◌, ◌-◌, ◌<◌, ◌≤◌, ◌⊎◌, nat_le, Bool, true, false, ◌&&◌, MatchBool, List, length, slice_set, sum_by, take}
 use Rattle.pin_matrix.specs.declared.setup.Setup.{Setup}
 use Rattle.pin_matrix.specs.declared.span.Span.{Span}
 use Rattle.span_step.specs.declared.ages.Ages.{Ages}
@@ -53,8 +53,8 @@ Eased n x new_x l new_l w new_w = MatchBool (lies n.ages (at x (spot n)))
     ((new_x ≡ x) × ((new_l ≡ l) × (new_w ≡ w)))
     ((new_x ≡ slice_set x (spot n) (Present (join_into n.ages (at x (spot n)))))
     × MatchBool (open_at (at l (spot n)))
-        ((new_l ≡ l) × (new_w ≡ w))
-        ((new_l ≡ slice_set l (spot n) (Present (Between 0 0))) × IsMore (spot n) w new_w))
+    ((new_l ≡ l) × (new_w ≡ w))
+    ((new_l ≡ slice_set l (spot n) (Present (Between 0 0))) × IsMore (spot n) w new_w))
 
 -- what is left of a row before the sweep: one that the third sweep left waits, with the age at which ages stop
 abbrev pub BegunAt : (c i : ℕ) → (l x new_x : List Entry) (w new_w : List ℕ) → Type 0

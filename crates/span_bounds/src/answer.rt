@@ -68,8 +68,7 @@ fn derive_counted<L: Ledger>(
     let mut left = Marks::new(alloc)?;
     let mut missing = vec![in alloc; 0; CONTEXTS]?;
     let mut stack = Stack::new(alloc)?;
-    let room = if span.max.is_none() { 278_784 } else { 0 };
-    let mut queue = Queue::new(alloc, room)?;
+    let mut queue = Queue::new(alloc, queue_room(span))?;
     match swept(
         setup,
         span,
@@ -86,6 +85,13 @@ fn derive_counted<L: Ledger>(
         }),
         None => Ok(Derived::Closed(Table::of(table))),
     }
+}
+
+/// How many numbers may wait in the fourth sweep, which a span with a greatest bound doesn't need.
+fn queue_room(span: &Span) -> usize
+    ensures { span.now.max ≡ None → result ≡ 278784 }
+{
+    if span.max.is_none() { 278_784 } else { 0 }
 }
 
 /// The sweeps, over grids that say nothing yet, and then the first bad row.

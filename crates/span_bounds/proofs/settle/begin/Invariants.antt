@@ -1,4 +1,4 @@
-use Rattle.std.proofs.Common.{◌≡◌, ◌*◌}
+use Rattle.std.proofs.Common.{◌≡◌}
 use Rattle.span_bounds.specs.Settle.{IsBegun}
 use Rattle.span_bounds.proofs.settle.begin.Given as goal
 

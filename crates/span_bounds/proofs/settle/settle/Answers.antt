@@ -1,6 +1,6 @@
-use Rattle.std.proofs.Common.{◌∷◌, refl, inl, ap, ◌∙◌, arith}
+use Rattle.std.proofs.Common.{◌∷◌, refl, inl, ◌∙◌}
 use Rattle.span_bounds.specs.Settle.{IsSettling}
-use Rattle.span_bounds.proofs.Settling.{IsSettling-pop, IsSettled-ends}
+use Rattle.span_bounds.proofs.Settling.{IsSettling-pop}
 use Rattle.span_bounds.proofs.settle.settle.Goals as goal
 
 pub settle_number-requires-clause-number : goal.settle_number-requires-clause-number

@@ -1,4 +1,4 @@
-use Rattle.std.proofs.Common.{◌≡◌, ◌*◌}
+use Rattle.std.proofs.Common.{◌≡◌}
 use Rattle.span_step.specs.Laws.{cap_of}
 use Rattle.span_bounds.specs.Settle.{IsSettling, ease_left}
 use Rattle.span_bounds.proofs.settle.settle.Given as goal

@@ -1,4 +1,4 @@
-use Rattle.std.proofs.Common.{◌≡◌, true, sym, ap, ◌∙◌, arith}
+use Rattle.std.proofs.Common.{◌≡◌, true, sym, ap, ◌∙◌}
 use Rattle.span_bounds.specs.Edges.{at}
 use Rattle.span_bounds.specs.Sums.{open_at}
 use Rattle.span_bounds.proofs.Settling.{SettlesRow-begins, IsSettling-skip, waiting_ages}

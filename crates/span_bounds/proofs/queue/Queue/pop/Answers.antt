@@ -1,7 +1,5 @@
-use Rattle.std.proofs.Common.{◌≡◌, List, ℕ, map, rules}
 use Rattle.std.proofs.lemmas.List.Sorted.{IsPermutation-sym}
-use Rattle.span_bounds.specs.Queues.{IsMore}
-use Rattle.span_bounds.proofs.Queues.{more_of, no_numbers}
+use Rattle.span_bounds.proofs.Queues.{more_of}
 use Rattle.span_bounds.proofs.queue.Queue.pop.Goals as goal
 
 pub returns-clause-items : goal.returns-clause-items

@@ -1,5 +1,3 @@
-use Rattle.std.proofs.Common.{◌≡◌, List, ℕ, map, rules}
-use Rattle.span_bounds.specs.Queues.{IsMore}
 use Rattle.span_bounds.proofs.Queues.{more_of}
 use Rattle.span_bounds.proofs.queue.Queue.push.Goals as goal
 
