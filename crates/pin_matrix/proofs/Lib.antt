@@ -4,3 +4,4 @@ pub mod Mapped
 pub mod Merging
 pub mod PadLaws
 pub mod Placed
+pub mod Greatest

@@ -1,5 +1,6 @@
 //! A span between two edges of pins, with its bounds.
 ghost use Rattle.std.specs.Prelude.{◌≡◌, ◌<◌, ◌≤◌, ◌||◌, ◌==◌, ◌^◌, length, IsTrue};
+ghost use Rattle.std.specs.Option.{ForSome};
 ghost use Rattle.pin_matrix.specs.Spans as spec;
 ghost use Rattle.pin_matrix.specs.Spans.{is_in_ticks, is_span_name};
 
@@ -108,18 +109,19 @@ pub struct Span {
     /// A rise, else a fall.
     pub to_rise: bool,
     pub unit: SpanUnit,
-    /// The least that is right; at most `max`.
+    /// The least that is right: up to 16,777,215, and at most `max` where there is one.
     pub min: u32,
-    /// The most that is right: up to 16,777,215.
-    pub max: u32,
+    /// The most that is right: up to 16,777,215. `None` where there is no greatest bound.
+    pub max: Option<u32>,
     /// Empty for a span in clocks.
     pub stalls: Stalls,
     pub ghost named: { IsTrue (is_span_name name) },
     pub ghost machine_in_block: { machine < 4 },
     pub ghost from_pin_is_a_pin: { from_pin < 32 },
     pub ghost to_pin_is_a_pin: { to_pin < 32 },
-    pub ghost ordered: { min ≤ max },
-    pub ghost bounded: { max < 2 ^ 24 },
+    pub ghost ordered: { ForSome max (λ m. min ≤ m) },
+    pub ghost min_fits: { min < 2 ^ 24 },
+    pub ghost bounded: { ForSome max (λ m. m < 2 ^ 24) },
     pub ghost stalls_in_ticks: { IsTrue (is_in_ticks unit || length stalls == 0) },
 }
 

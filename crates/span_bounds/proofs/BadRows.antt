@@ -1,11 +1,12 @@
 -- Rows of what is bad in every closed table, worked by hand: a table that is closed but not good counts.
-use Rattle.std.proofs.Common.{◌≡◌, Bool, true, false, Some, None, List, [], ◌∷◌, replicate, refl, subst, arith}
+use Rattle.std.proofs.Common.{◌≡◌, ◌<◌, ◌≤◌, ◌^◌, Bool, true, false, Some, None, List, [], ◌∷◌, replicate, refl, subst, arith}
 use Rattle.pio_encode.specs.Word.{reading_of, act_of, delay_of, side_of, set_at}
 use Rattle.pin_matrix.specs.declared.mapping.Mapping.{Mapping}
 use Rattle.pin_matrix.specs.declared.machine.MachineSetup.{MachineSetup}
 use Rattle.pin_matrix.specs.declared.setup.Setup.{Setup}
 use Rattle.pin_matrix.specs.declared.span.Span.{Span}
 use Rattle.pin_matrix.specs.declared.span.SpanUnit.TheVariants.{Ticks}
+use Rattle.pin_matrix.proofs.Greatest.{of_some}
 use Rattle.span_step.specs.declared.ages.Ages.{Ages}
 use Rattle.span_step.specs.declared.ages.Ages.TheVariants.{Empty, Between}
 use Rattle.span_step.specs.declared.cause.Cause.TheVariants.{U1, U2}
@@ -97,14 +98,15 @@ two_ticks = record {
   to_rise = false;
   unit = Ticks;
   min = 2;
-  max = 2;
+  max = Some 2;
   stalls = [];
   named = refl;
   machine_in_block = omega arith;
   from_pin_is_a_pin = omega arith;
   to_pin_is_a_pin = omega arith;
-  ordered = omega arith;
-  bounded = omega arith;
+  ordered = of_some (λ m. 2 ≤ m) 2 (omega arith);
+  min_fits = omega arith;
+  bounded = of_some (λ m. m < 2 ^ 24) 2 (omega arith);
   stalls_in_ticks = refl;
 }
 

@@ -1,14 +1,10 @@
 -- What the three sweeps come to: the least closed table, or a row that is bad in each.
-use Rattle.std.proofs.Common.{◌≡◌, ℕ, zero, suc, ◌+◌, ◌-◌, ◌^◌, ◌*◌, ◌<◌, ◌≤◌, ◌==◌, ◌⊎◌, min, Bool, true, false, ◌&&◌, if◌then◌else◌, IsSome, Option, Some, None, List, [], ◌∷◌, length, refl, sym, ap, ◌∙◌, subst, inl, inr, arith}
+use Rattle.std.proofs.Common.{◌≡◌, ℕ, zero, suc, ◌+◌, ◌-◌, ◌^◌, ◌<◌, ◌≤◌, ◌==◌, ◌⊎◌, min, Bool, true, false, ◌&&◌, if◌then◌else◌, IsSome, Option, Some, None, List, [], ◌∷◌, length, refl, sym, ap, ◌∙◌, subst, inl, inr, arith}
 use Rattle.std.proofs.lemmas.Bool.Decides.{nat_tests}
 use Rattle.std.proofs.lemmas.Bool.{cases_lt}
 use Rattle.std.proofs.lemmas.List.{get_or_past}
-use Rattle.std.proofs.Math.Nat.{div-le_self}
-use Rattle.pin_matrix.specs.declared.machine.MachineSetup.{MachineSetup}
 use Rattle.pin_matrix.specs.declared.setup.Setup.{Setup}
 use Rattle.pin_matrix.specs.declared.span.Span.{Span}
-use Rattle.pin_matrix.specs.declared.span.SpanUnit.{SpanUnit}
-use Rattle.pin_matrix.specs.declared.span.SpanUnit.TheVariants.{Ticks, Clocks}
 use Rattle.span_step.specs.declared.ages.Ages.{Ages}
 use Rattle.span_step.specs.declared.ages.Ages.TheVariants.{Empty, Between}
 use Rattle.span_step.specs.declared.cause.Cause.{Cause}
@@ -16,10 +12,11 @@ use Rattle.span_step.specs.declared.cause.Cause.TheVariants.{U1, U2, U3, U4}
 use Rattle.span_step.specs.declared.cause.Causes.{Causes}
 use Rattle.span_step.specs.declared.stepped.Next.{Next}
 use Rattle.span_step.specs.Contexts.{Context, IsInside}
-use Rattle.span_step.specs.Laws.{AllImplied, AllReach, ReachesAge, most_of, most_on, first_cause}
-use Rattle.span_step.specs.Steps.{context_steps, bounds_of, bounds_in, period_of}
+use Rattle.span_step.specs.Laws.{AllImplied, AllReach, ReachesAge, most_of, first_cause}
+use Rattle.span_step.specs.Steps.{context_steps}
 use Rattle.span_step.proofs.Wider.{IsNarrower-context_steps}
 use Rattle.span_step.proofs.Aging.{AllReach-context_steps}
+use Rattle.span_step.proofs.Periods.{most_small}
 use Rattle.span_step.proofs.Overdue.{overdue_alike, overdue_bad, IsConfigured}
 use Rattle.span_bounds.specs.declared.entry.Entry.{Entry}
 use Rattle.span_bounds.specs.declared.entry.Entry.TheVariants.{Absent, Present}
@@ -64,12 +61,12 @@ passed_on n v f (m ∷ ms) h r l = on m.passes (spot m == v) refl refl (λ k. pa
       let none : one_if (m.passes && spot m == v) ≡ 0 = rw p refl in
       later (omega arith)
 
-nexts_reach : (u : Setup) (sp : Span) (i : ℕ) (a : Ages) (n : ℕ) → ReachesAge n a → AllReach (min n (most_of u sp) + 1) (nexts_at u sp i a)
+pub nexts_reach : (u : Setup) (sp : Span) (i : ℕ) (a : Ages) (n : ℕ) → ReachesAge n a → AllReach (min n (most_of u sp) + 1) (nexts_at u sp i a)
 unfolding nexts_at
 nexts_reach u sp i a n h = AllReach-context_steps u sp _ a n h
 
--- each row that is left reaches an age above the bound in every closed table: were the least of their ages below it, the row
--- that passes to that row would be younger still
+-- each row that is left reaches the age at which ages stop in every closed table: were the least of their ages below it, the
+-- row that passes to that row would be younger still
 pub left_above : (u : Setup) (sp : Span) (l x : List Entry) → IsTaken u sp l x → (f : ℕ → Entry) → IsClosedAt u sp f → (n : ℕ) → n ≤ most_of u sp + 1 → (i : ℕ) → i < 139392 → open_at (at l i) ≡ true → ReachesAt n (f i)
 left_above u sp l x t f c zero b i m o = by (f i) (t.reached.sweep.least f c i m) where
   opens : (e : Entry) → open_at e ≡ true → (g : Entry) → Below e g → ReachesAt 0 g
@@ -95,17 +92,9 @@ left_above u sp l x t f c (suc n) b i m o = on (f w.0) refl (left_above u sp l x
   on Absent q h = absurd h
   on (Present a) q h = subst (λ y. ReachesAt y (f i)) same (passed_on _ i f (nexts_at u sp w.0 a) (w.1.1.1 a) (nexts_reach u sp w.0 a n h) (c.steps w.0 a w.1.0 q))
 
-bounds_fit : (v : SpanUnit) (sp : Span) (period : ℕ) → sp.max < 2 ^ 24 → (bounds_in v sp period).1 + 1 ≤ 2 ^ 32 - 1
-bounds_fit Ticks sp period h = omega arith
-bounds_fit Clocks sp period h = omega (arith, div-le_self (256 * sp.max) period)
-
--- one above the span's most in ticks is a number of 32 bits
+-- the age at which ages stop is a number of 32 bits
 pub cap_fits : (u : Setup) (sp : Span) → most_of u sp + 1 ≤ 2 ^ 32 - 1
-unfolding most_of bounds_of
-cap_fits u sp = on _ where
-  on : (m : Option MachineSetup) → most_on m sp + 1 ≤ 2 ^ 32 - 1
-  on None = omega arith
-  on (Some s) = bounds_fit sp.unit sp (period_of s) sp.bounded
+cap_fits u sp = omega (arith, most_small u sp)
 
 pub most_fits : (u : Setup) (sp : Span) → most_of u sp ≤ 2 ^ 32 - 1
 most_fits u sp = omega (arith, cap_fits u sp)
@@ -165,6 +154,10 @@ each_row_at P g e h = each_row P 0 g (λ i a l q. subst (λ y. P (record { conte
   zero_plus : (i : ℕ) → 0 + i ≡ i
   zero_plus i = omega arith
 
+-- only a span with a greatest bound has rows that are left
+abbrev pub LeftAreBounded : Span → List Entry → Type 0
+LeftAreBounded sp l = (i : ℕ) → i < 139392 → open_at (at l i) ≡ true → IsSome sp.max
+
 some_none : {A : Type 0} {o : Option A} → IsSome o → o ≡ None → ⊥
 some_none {A} {o} h e = bad (rw e at h) where
   bad : false ≡ true → ⊥
@@ -172,8 +165,8 @@ some_none {A} {o} h e = bad (rw e at h) where
 
 module _ (u : Setup) (sp : Span) (l x : List Entry) (t : IsTaken u sp l x) (ready : IsConfigured u sp) where
   -- a row that is left is bad by ages above any bound
-  left_bad : (i : ℕ) → i < 139392 → open_at (at l i) ≡ true → IsSome (cause_at u sp l x i)
-  left_bad i m o = rw o (overdue_bad u sp (context_at i) (Between 0 (2 ^ 32 - 1)) ready (most_fits u sp))
+  left_bad : LeftAreBounded sp l → (i : ℕ) → i < 139392 → open_at (at l i) ≡ true → IsSome (cause_at u sp l x i)
+  left_bad bounded i m o = rw o (overdue_bad u sp (context_at i) (Between 0 (2 ^ 32 - 1)) ready (bounded i m o) (most_fits u sp))
 
   pub starts : LiesAt Empty (at x (number_of (start_context u sp)))
   starts = on (at t.reach (number_of (start_context u sp))) refl (cases_lt (number_of (start_context u sp)) 139392) t.reached.sweep.begins where
@@ -185,11 +178,11 @@ module _ (u : Setup) (sp : Span) (l x : List Entry) (t : IsTaken u sp l x) (read
     on (Present a) q (inl m) h = t.keeps.rows (number_of (start_context u sp)) a m q
     on (Present a) q (inr m) h = absurd (present (sym q ∙ get_or_past t.reach (number_of (start_context u sp)) Absent (rw t.reached.sweep.size m)))
 
-  module _ (good : AreGoodBelow u sp l x 139392) where
+  module _ (bounded : LeftAreBounded sp l) (good : AreGoodBelow u sp l x 139392) where
     not_left : (i : ℕ) → i < 139392 → open_at (at l i) ≡ false
     not_left i m = on (open_at (at l i)) refl where
       on : (z : Bool) → open_at (at l i) ≡ z → open_at (at l i) ≡ false
-      on true o = absurd (some_none (left_bad i m o) (good.good i m))
+      on true o = absurd (some_none (left_bad bounded i m o) (good.good i m))
       on false o = o
 
     table_closed : IsClosed u sp (rows_from 0 x)
@@ -234,15 +227,15 @@ has_more U3 c d h e = h.u3 e
 has_more U4 c d h e = h.u4 e
 
 -- the first bad row is bad in every closed table
-pub IsBadEverywhere-ends : (u : Setup) (sp : Span) (l x : List Entry) (n : ℕ) (k : Cause) → IsTaken u sp l x → IsConfigured u sp → n < 139392 → cause_at u sp l x n ≡ Some k → IsBadEverywhere u sp (context_at n) k
-IsBadEverywhere-ends u sp l x n k t ready m e = record { bad = λ others o c. rw (number_of-context_at n) (by (entry_at others) (closed_at u sp others o c) (open_at (at l n)) refl) } where
+pub IsBadEverywhere-ends : (u : Setup) (sp : Span) (l x : List Entry) (n : ℕ) (k : Cause) → IsTaken u sp l x → LeftAreBounded sp l → IsConfigured u sp → n < 139392 → cause_at u sp l x n ≡ Some k → IsBadEverywhere u sp (context_at n) k
+IsBadEverywhere-ends u sp l x n k t bounded ready m e = record { bad = λ others o c. rw (number_of-context_at n) (by (entry_at others) (closed_at u sp others o c) (open_at (at l n)) refl) } where
   less : (a : Ages) (v : ℕ) → ReachesAge (v + 1) a → ReachesAge v a
   less Empty v h = h
   less (Between lo hi) v h = omega arith
 
-  at_left : (f : ℕ → Entry) → first_cause (context_steps u sp (context_at n) (Between 0 (2 ^ 32 - 1))).causes ≡ Some k → (g : Entry) → f n ≡ g → ReachesAt (most_of u sp + 1) g → (a : Ages) × ((f n ≡ Present a) × HasCause k (context_steps u sp (context_at n) a).causes)
-  at_left f w Absent q h = absurd h
-  at_left f w (Present b) q h = (b, (q, first_has _ k (overdue_alike u sp (context_at n) b (Between 0 (2 ^ 32 - 1)) ready (less b (most_of u sp) h) (most_fits u sp) ∙ w)))
+  at_left : IsSome sp.max → (f : ℕ → Entry) → first_cause (context_steps u sp (context_at n) (Between 0 (2 ^ 32 - 1))).causes ≡ Some k → (g : Entry) → f n ≡ g → ReachesAt (most_of u sp + 1) g → (a : Ages) × ((f n ≡ Present a) × HasCause k (context_steps u sp (context_at n) a).causes)
+  at_left s f w Absent q h = absurd h
+  at_left s f w (Present b) q h = (b, (q, first_has _ k (overdue_alike u sp (context_at n) b (Between 0 (2 ^ 32 - 1)) ready s (less b (most_of u sp) h) (most_fits u sp) ∙ w)))
 
   at_row : (f : ℕ → Entry) (a : Ages) → first_cause (context_steps u sp (context_at n) a).causes ≡ Some k → (g : Entry) → f n ≡ g → LiesAt a g → (a : Ages) × ((f n ≡ Present a) × HasCause k (context_steps u sp (context_at n) a).causes)
   at_row f a w Absent q h = absurd h
@@ -256,5 +249,5 @@ IsBadEverywhere-ends u sp l x n k t ready m e = record { bad = λ others o c. rw
   in_table f c (Present a) q o = at_row f a (rw (o, q) at e) (f n) refl (rw q at (t.keeps.under.least f c n m))
 
   by : (f : ℕ → Entry) → IsClosedAt u sp f → (z : Bool) → open_at (at l n) ≡ z → (a : Ages) × ((f n ≡ Present a) × HasCause k (context_steps u sp (context_at n) a).causes)
-  by f c true o = at_left f (rw o at e) (f n) refl (left_above u sp l x t f c (most_of u sp + 1) (omega arith) n m o)
+  by f c true o = at_left (bounded n m o) f (rw o at e) (f n) refl (left_above u sp l x t f c (most_of u sp + 1) (omega arith) n m o)
   by f c false o = in_table f c (at x n) refl o

@@ -1,5 +1,5 @@
 -- The entries by which the rows are judged are a closed table, and every least closed table has the same first causes.
-use Rattle.std.proofs.Common.{◌≡◌, ℕ, zero, suc, ◌+◌, ◌-◌, ◌^◌, ◌<◌, ◌≤◌, ◌&&◌, Bool, true, false, List, [], ◌∷◌, length, refl, ap, ◌∙◌, arith}
+use Rattle.std.proofs.Common.{◌≡◌, ℕ, zero, suc, ◌+◌, ◌-◌, ◌^◌, ◌<◌, ◌≤◌, ◌&&◌, Bool, true, false, IsSome, List, [], ◌∷◌, length, refl, ap, ◌∙◌, arith}
 use Rattle.pin_matrix.specs.declared.setup.Setup.{Setup}
 use Rattle.pin_matrix.specs.declared.span.Span.{Span}
 use Rattle.span_step.specs.declared.ages.Ages.{Ages}
@@ -24,7 +24,7 @@ use Rattle.span_bounds.proofs.Nexts.{EachNext-both}
 use Rattle.span_bounds.proofs.Joins.{beside}
 use Rattle.span_bounds.proofs.Placing.{number_of-context_at}
 use Rattle.span_bounds.proofs.Grids.{entry_at-rows_from, IsTable-rows_from}
-use Rattle.span_bounds.proofs.Ends.{ReachesAt, left_above, cap_fits, most_fits, row_at, in_lie, closed_at, each_row_at, starts}
+use Rattle.span_bounds.proofs.Ends.{LeftAreBounded, ReachesAt, left_above, cap_fits, most_fits, row_at, in_lie, closed_at, each_row_at, starts}
 
 -- the entries by which the rows are judged
 pub filled_all : List Entry → List Entry → List Entry
@@ -48,7 +48,7 @@ at-filled_all (l ∷ ls) (x ∷ xs) e (suc i) = at-filled_all ls xs (omega arith
 
 full : (n : ℕ) (a : Ages) → n ≤ 2 ^ 32 - 1 → AreUpTo n a → IsInside a (Between 0 (2 ^ 32 - 1))
 full n Empty l h = tt
-full n (Between lo hi) l h = (omega arith, omega arith)
+full n (Between lo hi) l h = (omega arith, omega (arith, h.1))
 
 each_up_to : (n : ℕ) (ns : List Next) → AllUpTo n ns → EachNext (λ m. AreUpTo n m.ages) ns
 each_up_to n [] h = tt
@@ -157,12 +157,12 @@ module _ (u : Setup) (sp : Span) (l x : List Entry) (t : IsTaken u sp l x) (read
           rw (p, q, both_inside b a k h') refl
 
     -- every least closed table has the same first causes
-    pub same_first : (i : ℕ) → i < 139392 → cause_by u sp i (entry_at rows i) ≡ cause_at u sp l x i
-    same_first i m = on (open_at (at l i)) refl where
-      by : (e : Entry) → ReachesAt (most_of u sp + 1) e → cause_by u sp i e ≡ first_cause (context_steps u sp (context_at i) (Between 0 (2 ^ 32 - 1))).causes
-      by Absent h = absurd h
-      by (Present b) h = overdue_alike u sp (context_at i) b (Between 0 (2 ^ 32 - 1)) ready (less_reached b (most_of u sp) h) (most_fits u sp)
+    pub same_first : LeftAreBounded sp l → (i : ℕ) → i < 139392 → cause_by u sp i (entry_at rows i) ≡ cause_at u sp l x i
+    same_first bounded i m = on (open_at (at l i)) refl where
+      by : IsSome sp.max → (e : Entry) → ReachesAt (most_of u sp + 1) e → cause_by u sp i e ≡ first_cause (context_steps u sp (context_at i) (Between 0 (2 ^ 32 - 1))).causes
+      by s Absent h = absurd h
+      by s (Present b) h = overdue_alike u sp (context_at i) b (Between 0 (2 ^ 32 - 1)) ready s (less_reached b (most_of u sp) h) (most_fits u sp)
 
       on : (z : Bool) → open_at (at l i) ≡ z → cause_by u sp i (entry_at rows i) ≡ cause_at u sp l x i
-      on true o = rw o (by (entry_at rows i) (left_above u sp l x t (entry_at rows) closed (most_of u sp + 1) (omega arith) i m o))
+      on true o = rw o (by (bounded i m o) (entry_at rows i) (left_above u sp l x t (entry_at rows) closed (most_of u sp + 1) (omega arith) i m o))
       on false o = rw (o, same_entry i m o) refl

@@ -13,11 +13,10 @@ use Rattle.span_bounds.specs.declared.entry.Entry.TheVariants.{Absent}
 use Rattle.span_bounds.specs.declared.row.Row.{Row}
 use Rattle.span_bounds.specs.Numbers.{number_of, context_at}
 use Rattle.span_bounds.specs.Tables.{entry_at, IsTableFrom, IsLeast, first_bad}
-use Rattle.span_bounds.specs.Edges.{at}
 use Rattle.span_bounds.specs.Take.{IsTaken}
 use Rattle.span_bounds.specs.Answers.{cause_by, cause_at, IsBadAt, AreGoodBelow, IsFirstBad}
 use Rattle.span_bounds.proofs.Placing.{context_at-number_of}
-use Rattle.span_bounds.proofs.Ends.{IsBadEverywhere-ends}
+use Rattle.span_bounds.proofs.Ends.{LeftAreBounded, IsBadEverywhere-ends}
 use Rattle.span_bounds.proofs.Filled.{same_first}
 use Rattle.span_bounds.proofs.Least.{least_rows}
 
@@ -75,14 +74,14 @@ AreGoodBelow-more u sp l x n h e = record {
 }
 
 -- the first bad row of the least closed table
-pub IsFirstBad-ends : (u : Setup) (sp : Span) (l x : List Entry) (f : ℕ × Cause) → IsTaken u sp l x → IsConfigured u sp → IsBadAt u sp l x f → IsFirstBad u sp (context_at f.0) f.1
-IsFirstBad-ends u sp l x f t ready b = on (least_rows u sp) where
+pub IsFirstBad-ends : (u : Setup) (sp : Span) (l x : List Entry) (f : ℕ × Cause) → IsTaken u sp l x → LeftAreBounded sp l → IsConfigured u sp → IsBadAt u sp l x f → IsFirstBad u sp (context_at f.0) f.1
+IsFirstBad-ends u sp l x f t bounded ready b = on (least_rows u sp) where
   on : (rows : List Row) × IsLeast u sp rows → IsFirstBad u sp (context_at f.0) f.1
   on w = record {
     rows = w.0;
     least = w.1;
     first = first_at u sp f.0 f.1 0 w.0 w.1.table
-        (λ i o m. same_first u sp l x t ready w.0 w.1 i (omega (arith, b.below)) ∙ b.first.good i m)
-        (same_first u sp l x t ready w.0 w.1 f.0 b.below ∙ b.cause);
-    everywhere = IsBadEverywhere-ends u sp l x f.0 f.1 t ready b.below b.cause;
+        (λ i o m. same_first u sp l x t ready w.0 w.1 bounded i (omega (arith, b.below)) ∙ b.first.good i m)
+        (same_first u sp l x t ready w.0 w.1 bounded f.0 b.below ∙ b.cause);
+    everywhere = IsBadEverywhere-ends u sp l x f.0 f.1 t bounded ready b.below b.cause;
   }

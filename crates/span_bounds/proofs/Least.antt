@@ -12,7 +12,7 @@ use Rattle.pin_matrix.specs.declared.span.Span.{Span}
 use Rattle.span_step.specs.declared.ages.Ages.{Ages}
 use Rattle.span_step.specs.declared.ages.Ages.TheVariants.{Empty, Between}
 use Rattle.span_step.specs.declared.stepped.Next.{Next}
-use Rattle.span_step.specs.Contexts.{IsInside, is_small, is_placed}
+use Rattle.span_step.specs.Contexts.{is_small, is_placed}
 use Rattle.span_step.specs.Laws.{most_of, AreUpTo, AllPlaced}
 use Rattle.span_step.proofs.Placed.{AllPlaced-context_steps}
 use Rattle.span_bounds.specs.declared.entry.Entry.{Entry}
@@ -22,7 +22,7 @@ use Rattle.span_bounds.specs.Numbers.{number_of, context_at}
 use Rattle.span_bounds.specs.Tables.{LiesAt, entry_at, rows_from, known_of, started, start_context, IsLeast}
 use Rattle.span_bounds.specs.Edges.{at, nexts_at, spot, EachNext, AllLie, IsClosedAt}
 use Rattle.span_bounds.specs.Reach.{rises_left, room}
-use Rattle.span_bounds.specs.Sums.{join, join_into}
+use Rattle.span_bounds.specs.Sums.{join_into}
 use Rattle.span_bounds.specs.Count.{EntryIn}
 use Rattle.span_bounds.proofs.Placing.{number_of-context_at, is_placed-context_at}
 use Rattle.span_bounds.proofs.Members.{number_below}

@@ -15,4 +15,8 @@ pub mod Members
 pub mod Prefix
 pub mod Pushed
 pub mod Marked
+pub mod Queues
+pub mod Slack
+pub mod Capped
+pub mod Settling
 mod BadRows

@@ -36,7 +36,7 @@ different p q = cc
 all_but_false : (f : ℕ → Entry) (ns : List Next) → LieBut false f ns → AllLie f ns
 all_but_false f ns h = EachNext-map (λ n. (false && n.passes) ≡ false → LiesAt n.ages (f (spot n))) (λ n. LiesAt n.ages (f (spot n))) (λ n k. k refl) ns h
 
-all_still : (x : List Entry) (p : ℕ) (a : Ages) (ns : List Next) → p < length x → AllLie (at x) ns → AllLie (at (joined_at x p a)) ns
+pub all_still : (x : List Entry) (p : ℕ) (a : Ages) (ns : List Next) → p < length x → AllLie (at x) ns → AllLie (at (joined_at x p a)) ns
 all_still x p a ns l h = EachNext-map (λ n. LiesAt n.ages (at x (spot n))) (λ n. LiesAt n.ages (at (joined_at x p a) (spot n))) (λ n k. lies_still x p a n.ages (spot n) l k) ns h
 
 -- the third sweep begins with the first's grid and the second's table and numbers

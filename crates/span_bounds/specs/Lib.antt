@@ -7,3 +7,5 @@ pub mod Count
 pub mod Take
 pub mod Answers
 pub mod Marks
+pub mod Queues
+pub mod Settle

@@ -2,7 +2,8 @@
 --   Take             the sweep on its way, with the rows that may be ready
 --   Taking           the same while the nexts of a row are looked at
 --   IsTaken          its end
-use Rattle.std.specs.Prelude.{◌≡◌, ℕ, zero, suc, ◌+◌, ◌-◌, ◌<◌, ◌≤◌, ◌==◌, Bool, true, false, ◌&&◌, if◌then◌else◌, MatchBool, List, [], ◌∷◌, ◌++◌, length, slice_index, slice_set, sum_by, take}
+--   IsSettled        the end of all sweeps
+use Rattle.std.specs.Prelude.{◌≡◌, ℕ, zero, suc, ◌+◌, ◌-◌, ◌<◌, ◌≤◌, ◌==◌, Bool, true, false, ◌&&◌, if◌then◌else◌, MatchBool, List, [], ◌∷◌, ◌++◌, IsSome, length, slice_index, slice_set, sum_by, take}
 use Rattle.pin_matrix.specs.declared.setup.Setup.{Setup}
 use Rattle.pin_matrix.specs.declared.span.Span.{Span}
 use Rattle.span_step.specs.declared.ages.Ages.{Ages}
@@ -69,6 +70,11 @@ pub record IsTaken (u : Setup) (sp : Span) (l x : List Entry) : Type 0 where
   pub stays : (w : ℕ) (b : Ages) → w < 139392 → open_at (at l w) ≡ true → PassToLeft l (nexts_at u sp w b)
   pub blocked : (i : ℕ) → i < 139392 → open_at (at l i) ≡ true → (w : ℕ) × ((w < 139392) × ((open_at (at l w) ≡ true) × ((b : Ages) → 1 ≤ passages i (nexts_at u sp w b))))
   pub done : (i : ℕ) (a : Ages) → i < 139392 → open_at (at l i) ≡ false → at x i ≡ Present a → AllLie (at x) (nexts_at u sp i a)
+
+-- The end of all sweeps: rows are left only where the span has a greatest bound.
+pub record IsSettled (u : Setup) (sp : Span) (l x : List Entry) : Type 0 where
+  pub taken : IsTaken u sp l x
+  pub bounded : (i : ℕ) → i < 139392 → open_at (at l i) ≡ true → IsSome sp.max
 
 -- the third sweep on its way after some first sweep
 pub record IsTaking (u : Setup) (sp : Span) (l x : List Entry) (m ready : List ℕ) : Type 0 where

@@ -2,7 +2,7 @@
 ghost use Rattle.std.specs.Prelude.{◌≡◌, ◌+◌, ◌*◌, ◌<◌, ◌≤◌, [], IfOk, IsSome, MatchOption, OnErr, None, replicate, slice_index_or};
 ghost use Rattle.span_bounds.specs.Answers as spec;
 ghost use Rattle.span_bounds.specs.Answers.{IsAnswer, IsBadAt, AreGoodBelow, cause_at};
-ghost use Rattle.span_bounds.specs.Take.{IsTaken};
+ghost use Rattle.span_bounds.specs.Take.{IsSettled};
 ghost use Rattle.span_bounds.specs.declared.entry.Entry.TheVariants.{Absent};
 
 use crate::count::count;
@@ -11,8 +11,10 @@ use crate::entry::Entry;
 use crate::grid::Grid;
 use crate::marks::Marks;
 use crate::number::{CONTEXTS, context_at};
+use crate::queue::Queue;
 use crate::reach::reach;
 use crate::row_step::row_step;
+use crate::settle::settle;
 use crate::stack::Stack;
 use crate::table::Table;
 use crate::take::{is_open, take};
@@ -49,8 +51,8 @@ fn counted<L: Ledger>(
     derive_counted(alloc, setup, span, &mut steps)
 }
 
-/// The answer by the three sweeps, in at most five row steps for each of the 139,392 contexts, whatever the bounds. Want of
-/// memory comes before the first of them.
+/// The answer by the sweeps. Of a span with a greatest bound it takes at most five row steps for each of the 139,392 contexts,
+/// whatever the bounds. Want of memory comes before the first of them.
 fn derive_counted<L: Ledger>(
     alloc: Global,
     setup: &Setup,
@@ -59,13 +61,14 @@ fn derive_counted<L: Ledger>(
 ) -> Result<Derived, AllocError>
     requires { IsSome (slice_index_or setup.now.machines span.now.machine None) }
     ensures answer { IfOk result (λ derived. IsAnswer setup.now span.now derived) }
-    ensures steps { steps.new ≤ steps.old + 5 * 139392 }
+    ensures steps { IsSome span.now.max → steps.new ≤ steps.old + 5 * 139392 }
     ensures early { OnErr result (steps.new ≤ steps.old) }
 {
     let mut table = Grid::new(alloc)?;
     let mut left = Marks::new(alloc)?;
     let mut missing = vec![in alloc; 0; CONTEXTS]?;
     let mut stack = Stack::new(alloc)?;
+    let mut queue = Queue::new(alloc, queue_room(span))?;
     match swept(
         setup,
         span,
@@ -73,6 +76,7 @@ fn derive_counted<L: Ledger>(
         &mut table,
         &mut missing,
         &mut stack,
+        &mut queue,
         steps,
     ) {
         Some((number, cause)) => Ok(Derived::Bad {
@@ -83,7 +87,14 @@ fn derive_counted<L: Ledger>(
     }
 }
 
-/// The three sweeps, over grids that say nothing yet, and then the first bad row.
+/// How many numbers may wait in the fourth sweep, which a span with a greatest bound doesn't need.
+fn queue_room(span: &Span) -> usize
+    ensures { span.now.max ≡ None → result ≡ 278784 }
+{
+    if span.max.is_none() { 278_784 } else { 0 }
+}
+
+/// The sweeps, over grids that say nothing yet, and then the first bad row.
 fn swept<L: Ledger>(
     setup: &Setup,
     span: &Span,
@@ -91,6 +102,7 @@ fn swept<L: Ledger>(
     table: &mut Grid,
     missing: &mut Vec<u32>,
     stack: &mut Stack,
+    queue: &mut Queue,
     steps: &mut Steps<L>,
 ) -> Option<(usize, Cause)>
     requires configured { IsSome (slice_index_or setup.now.machines span.now.machine None) }
@@ -98,14 +110,17 @@ fn swept<L: Ledger>(
     requires table { table.old ≡ replicate 139392 Absent }
     requires missing { missing.old.items ≡ replicate 139392 0 }
     requires stack { stack.old ≡ [] }
-    ensures taken { IsTaken setup.now span.now left.new table.new }
+    requires queue { queue.old.numbers ≡ [] }
+    requires room { span.now.max ≡ None → queue.old.room ≡ 278784 }
+    ensures settled { IsSettled setup.now span.now left.new table.new }
     ensures value { MatchOption result (AreGoodBelow setup.now span.now left.new table.new 139392)
         (λ found. IsBadAt setup.now span.now left.new table.new found) }
-    ensures steps { steps.new ≤ steps.old + 5 * 139392 }
+    ensures steps { IsSome span.now.max → steps.new ≤ steps.old + 5 * 139392 }
 {
     reach(setup, span, left, stack, steps);
     count(setup, span, left, table, missing, steps);
     take(setup, span, left, table, missing, stack, steps);
+    settle(setup, span, left, table, queue, steps);
     first_bad(setup, span, left, table, steps)
 }
 

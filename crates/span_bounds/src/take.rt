@@ -142,7 +142,7 @@ fn take_row<L: Ledger>(
 }
 
 /// The ages of a number's row, none where there is no row.
-fn ages_at(table: &Grid, number: usize) -> Ages
+pub(crate) fn ages_at(table: &Grid, number: usize) -> Ages
     requires { number < 139392 }
     ensures { result ≡ spec.ages_or_none (at table.now number) }
 {

@@ -1,11 +1,12 @@
 -- Rows of what it means that a span holds, worked by hand on the marks of some clocks, and of which lines break one.
-use Rattle.std.proofs.Common.{◌≡◌, ℕ, zero, suc, ◌<◌, ◌==◌, Bool, true, false, [], ◌∷◌, map, refl, arith}
+use Rattle.std.proofs.Common.{◌≡◌, ℕ, zero, suc, ◌-◌, ◌<◌, ◌≤◌, ◌==◌, Bool, true, false, Some, None, IsSome, [], ◌∷◌, map, refl, sym, subst, arith}
+use Rattle.std.proofs.lemmas.Bool.Decides.{nat_tests}
 use Rattle.pin_matrix.specs.declared.span.SpanUnit.TheVariants.{Ticks, Clocks}
 use Rattle.dreq_pacing.specs.declared.due.Due.{Due}
 use Rattle.dreq_pacing.specs.declared.line.LineAct.TheVariants.{Pin, Tx, Rx, Feed, Drain, Enable, Disable, Restart}
 use Rattle.dreq_pacing.specs.Due.{quiet}
 use Rattle.span_check.specs.Marks.{Mark, is_broken}
-use Rattle.span_check.specs.Holding.{counted, IsQuiet, IsFirstToEdge, IsUnbroken, Holds}
+use Rattle.span_check.specs.Holding.{counted, IsQuiet, IsFirstToEdge, IsUnbroken, Holds, HoldsFrom}
 use Rattle.span_check.specs.Runs.{is_breaking}
 
 -- The from-edge comes in clock 2, and the to-edge in clock 4. Each clock has a tick that counts. These clocks have a line that breaks
@@ -40,21 +41,21 @@ none_between (suc (suc (suc zero))) after before = refl
 none_between (suc (suc (suc (suc zero)))) after before = refl
 none_between (suc (suc (suc (suc (suc c))))) after before = absurd (omega (arith, before))
 
-early_in_clocks : Holds Clocks 3 9 early 5 → ⊥
+early_in_clocks : Holds Clocks 3 (Some 9) early 5 → ⊥
 early_in_clocks holds = omega (arith, (holds 2 (omega arith) refl).least 4 (first_row _ _) (omega arith) none_between)
 
 -- with at most 1 neither
-early_in_clocks_late : Holds Clocks 0 1 early 5 → ⊥
+early_in_clocks_late : Holds Clocks 0 (Some 1) early 5 → ⊥
 early_in_clocks_late holds = omega (arith, (holds 2 (omega arith) refl).most 4 (first_row _ _) (omega arith) none_between)
 
 -- a line breaks clock 3, while the span is open: in ticks it is spoken of all the same
 abbrev disturbed : ℕ → Mark
 disturbed = marks (λ c. c == 3) nowhere
 
-disturbed_in_ticks : Holds Ticks 3 9 disturbed 5 → ⊥
+disturbed_in_ticks : Holds Ticks 3 (Some 9) disturbed 5 → ⊥
 disturbed_in_ticks holds = omega (arith, (holds 2 (omega arith) refl).least 4 (first_row _ _) (omega arith) tt, two_row (λ c. c == 3) nowhere)
 
-disturbed_in_ticks_late : Holds Ticks 0 1 disturbed 5 → ⊥
+disturbed_in_ticks_late : Holds Ticks 0 (Some 1) disturbed 5 → ⊥
 disturbed_in_ticks_late holds = omega (arith, (holds 2 (omega arith) refl).most 4 (first_row _ _) (omega arith) tt, two_row (λ c. c == 3) nowhere)
 
 -- in clocks nothing is said of it
@@ -68,12 +69,68 @@ straying = marks nowhere (λ c. c == 3)
 quiet_before_3 : IsQuiet straying 2 3
 quiet_before_3 c after before = absurd (omega (arith, after, before))
 
-straying_in_ticks : (min max : ℕ) → Holds Ticks min max straying 5 → ⊥
-straying_in_ticks min max holds = let e = (holds 2 (omega arith) refl).strays 3 (omega arith) (omega arith) quiet_before_3 tt in cc
+straying_in_ticks : (min max : ℕ) → Holds Ticks min (Some max) straying 5 → ⊥
+straying_in_ticks min max holds = let e = (holds 2 (omega arith) refl).strays refl 3 (omega arith) (omega arith) quiet_before_3 tt in cc
 
-straying_in_clocks : (min max : ℕ) → Holds Clocks min max straying 5 → ⊥
+straying_in_clocks : (min max : ℕ) → Holds Clocks min (Some max) straying 5 → ⊥
 straying_in_clocks min max holds =
-    let e = (holds 2 (omega arith) refl).strays 3 (omega arith) (omega arith) quiet_before_3 (λ c after before. refl) in cc
+    let e = (holds 2 (omega arith) refl).strays refl 3 (omega arith) (omega arith) quiet_before_3 (λ c after before. refl) in cc
+
+-- Without a greatest bound it holds with at least 2, in both units: neither the wait nor a longer time is amiss.
+no_bound : IsSome {T = ℕ} None → ⊥
+no_bound e = cc
+
+same : (n m : ℕ) → (n == m) ≡ true → m ≡ n
+same n m e = grind (arith, nat_tests)
+
+straying_freely_in_ticks : Holds Ticks 2 None straying 5
+straying_freely_in_ticks s below from = subst (HoldsFrom Ticks 2 None straying 5) (same s 2 from) (record {
+  least = λ e ends inside spoken. subst (λ k. 2 ≤ counted straying 2 (suc k)) (same e 4 ends.edge) (omega (arith, two_row nowhere (λ c. c == 3)));
+  most = λ e ends inside spoken. tt;
+  unclosed = λ quiet spoken. tt;
+  strays = λ some. absurd (no_bound some);
+})
+
+straying_freely_in_clocks : Holds Clocks 2 None straying 5
+straying_freely_in_clocks s below from = subst (HoldsFrom Clocks 2 None straying 5) (same s 2 from) (record {
+  least = λ e ends inside spoken. subst (λ k. 2 ≤ suc k - 1 - 2) (same e 4 ends.edge) (omega arith);
+  most = λ e ends inside spoken. tt;
+  unclosed = λ quiet spoken. tt;
+  strays = λ some. absurd (no_bound some);
+})
+
+-- with at least 3 it doesn't: a to-edge still comes too early
+early_in_ticks_freely : Holds Ticks 3 None straying 5 → ⊥
+early_in_ticks_freely holds = omega (arith, (holds 2 (omega arith) refl).least 4 (first_row _ _) (omega arith) tt, two_row nowhere (λ c. c == 3))
+
+early_in_clocks_freely : Holds Clocks 3 None straying 5 → ⊥
+early_in_clocks_freely holds = omega (arith, (holds 2 (omega arith) refl).least 4 (first_row _ _) (omega arith) (λ c after before. refl))
+
+-- The from-edge comes in clock 2, and no to-edge. Up to any clock this holds without a greatest bound, whatever the least; with at
+-- most 2 it doesn't up to clock 6, when three ticks and clocks have gone by.
+abbrev endless : ℕ → Mark
+endless c = record { from = c == 2; to = false; counts = true; strays = false; breaks = false }
+
+never_true : false ≡ true → ⊥
+never_true e = cc
+
+endless_freely : (min n : ℕ) → Holds Ticks min None endless n
+endless_freely min n s below from = record {
+  least = λ e ends inside spoken. absurd (never_true ends.edge);
+  most = λ e ends inside spoken. tt;
+  unclosed = λ quiet spoken. tt;
+  strays = λ some. absurd (no_bound some);
+}
+
+three_row : counted endless 2 6 ≡ 3
+unfolding counted
+three_row = refl
+
+endless_in_ticks : Holds Ticks 0 (Some 2) endless 6 → ⊥
+endless_in_ticks holds = omega (arith, (holds 2 (omega arith) refl).unclosed (λ c after before. refl) tt, three_row)
+
+endless_in_clocks : Holds Clocks 0 (Some 2) endless 6 → ⊥
+endless_in_clocks holds = omega (arith, (holds 2 (omega arith) refl).unclosed (λ c after before. refl) (λ c after before. refl))
 
 -- of the lines that name machine 1 a disable and a restart break its spans, and no other line does
 kinds_row : map (is_breaking 1) (Pin 1 true ∷ Tx 1 1 ∷ Rx 1 ∷ Feed 1 1 (1 ∷ []) ∷ Drain 1 1 ∷ Enable 1 ∷ Disable 1 ∷ Restart 1 ∷ [])

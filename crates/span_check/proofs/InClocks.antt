@@ -1,7 +1,8 @@
 -- A span in clocks.
-use Rattle.std.proofs.Common.{◌≡◌, ◌==◌, ℕ, zero, suc, ◌+◌, ◌-◌, ◌*◌, ◌/◌, ◌<◌, ◌≤◌, true, false, ◌||◌, cond, Option, List, [], ◌∷◌, length, refl, ap, sym, subst, ◌∙◌, arith}
+use Rattle.std.proofs.Common.{◌≡◌, ◌==◌, ℕ, zero, suc, ◌+◌, ◌-◌, ◌*◌, ◌/◌, ◌<◌, ◌≤◌, true, false, ◌||◌, cond, Option, Some, None, is_some, List, [], ◌∷◌, length, refl, ap, sym, subst, ◌∙◌, arith}
 use Rattle.std.proofs.lemmas.Bool.Decides.{nat_tests}
 use Rattle.std.specs.List.{list_any}
+use Rattle.std.specs.Option.{option_map}
 use Rattle.pin_matrix.specs.declared.machine.MachineSetup.{MachineSetup}
 use Rattle.pin_matrix.specs.declared.setup.Setup.{Setup}
 use Rattle.pin_matrix.specs.declared.span.Span.{Span}
@@ -11,9 +12,9 @@ use Rattle.dreq_pacing.specs.declared.due.Due.{Due}
 use Rattle.block_core.specs.Block.{BlockState}
 use Rattle.span_step.specs.declared.ages.Ages.{Ages}
 use Rattle.span_step.specs.Contexts.{Context}
-use Rattle.span_step.specs.Steps.{bounds_of, bounds_in, period_of}
+use Rattle.span_step.specs.Steps.{bounds_of, bounds_in, is_bounded, least_ticks, most_or, most_ticks, period_of}
 use Rattle.span_check.specs.Marks.{Mark, names}
-use Rattle.span_check.specs.Holding.{counted, IsQuiet, IsUnbroken, Holds}
+use Rattle.span_check.specs.Holding.{counted, IsQuiet, IsUnbroken, Holds, IsUpTo}
 use Rattle.span_check.specs.Runs.{marks_over}
 use Rattle.span_check.proofs.Counting.{counted-suc, AreOpen}
 use Rattle.span_check.proofs.Periods.{no-more, no-less}
@@ -47,29 +48,35 @@ not-early sp period min s c marks b long p enough =
     let less = no-less period p.first (counted marks s c) min long enough in
     omega (arith, p.between.last, p.start, less)
 
+-- no more than the greatest bound, if there is one
+up_to_each : (max : Option ℕ) (n : ℕ) → ((most : ℕ) → max ≡ Some most → n ≤ most) → IsUpTo max n
+up_to_each None n h = tt
+up_to_each (Some most) n h = h most refl
+
 pub holds-clocks : (laws : Laws) (u : Setup) (sp : Span) (rows : Context → Option Ages) (s : MachineSetup) (seen : ℕ → ℕ) (host : ℕ → Due) (states : ℕ → BlockState) → IsBeside u sp rows s seen host states → IsRun sp (period_of s) u.memory seen host states → sp.unit ≡ Clocks → (n : ℕ) → Holds Clocks sp.min sp.max (marks_over sp u.memory seen host states) n
 unfolding bounds_of
 holds-clocks laws u sp rows s seen host states b run unit n =
     let period : ℕ = period_of s in
     let marks : ℕ → Mark = marks_over sp u.memory seen host states in
-    let bounds : bounds_of sp s ≡ ((256 * sp.min + period - 1) / period, 256 * sp.max / period) = ap (λ k. bounds_in k sp period) unit in
+    let bounds : bounds_of sp s ≡ (least_ticks sp.min period, most_or (least_ticks sp.min period) (option_map (most_ticks period) sp.max)) = ap (λ k. bounds_in k sp period) unit in
     let long = period-long s in
     let none = none-named sp unit in
     let at_pace : (f c : ℕ) → f < c → (marks f).from ≡ true → IsUnbroken marks f c → IsPaced sp period marks f (states c) c =
     paced laws sp period long none u.memory seen host states run in
-    let open_room : (c : ℕ) → AreOpen marks (λ f. counted marks f c + 1 ≤ 256 * sp.max / period) c = λ c f below edge quiet.
+    let open_room : (most : ℕ) → sp.max ≡ Some most → (c : ℕ) → AreOpen marks (λ f. counted marks f c + 1 ≤ most_ticks period most) c = λ most is c f below edge quiet.
     let at = there laws u sp rows s seen host states b c in
-    subst (λ (x : ℕ × ℕ). counted marks f c + 1 ≤ x.1) bounds
-    (laws.room u sp rows s at.m.machine.registers at.w b.configured b.sound none at.going.under_way _ (at.ages f below edge quiet).0) in
-    let within : (f c : ℕ) → f < c → (marks f).from ≡ true → IsQuiet marks f c → IsUnbroken marks f c → c ≤ f + sp.max = λ f c below edge quiet unbroken.
-    in-time sp period sp.max f c n marks (states c) long (at_pace f c below edge unbroken) (open_room c f below edge quiet) in
-    let each : (c : ℕ) → AreOpen marks (λ f. IsFine (bounds_of sp s).0 (bounds_of sp s).1 (marks c) (counted marks f c)) c = fine laws u sp rows s seen host states b in
+    let room : counted marks f c + 1 ≤ most_or (least_ticks sp.min period) (option_map (most_ticks period) sp.max) = subst (λ (x : ℕ × ℕ). counted marks f c + 1 ≤ x.1) bounds
+    (laws.room u sp rows s at.m.machine.registers at.w b.configured b.sound (ap is_some is) none at.going.under_way _ (at.ages f below edge quiet).0) in
+    subst (λ (x : Option ℕ). counted marks f c + 1 ≤ most_or (least_ticks sp.min period) (option_map (most_ticks period) x)) is room in
+    let within : (most : ℕ) → sp.max ≡ Some most → (f c : ℕ) → f < c → (marks f).from ≡ true → IsQuiet marks f c → IsUnbroken marks f c → c ≤ f + most = λ most is f c below edge quiet unbroken.
+    in-time sp period most f c n marks (states c) long (at_pace f c below edge unbroken) (open_room most is c f below edge quiet) in
+    let each : (c : ℕ) → AreOpen marks (λ f. IsFine (is_bounded sp) (bounds_of sp s).0 (bounds_of sp s).1 (marks c) (counted marks f c)) c = fine laws u sp rows s seen host states b in
     λ f below edge. record {
       least = λ e ends inside spoken.
           let enough : (256 * sp.min + period - 1) / period ≤ counted marks f (suc e) = subst (λ (x : ℕ × ℕ). x.0 ≤ counted marks f (suc e)) bounds
           (subst (λ k. (bounds_of sp s).0 ≤ k) (sym (counted-suc marks f e ends.after)) ((each e f ends.after edge ends.first).least ends.edge)) in
           omega (arith, not-early sp period sp.min f (suc e) marks (states (suc e)) long (at_pace f (suc e) (omega (arith, ends.after)) edge spoken) enough);
-      most = λ e ends inside spoken. omega (arith, ends.after, within f e ends.after edge ends.first (λ c after less. spoken c after (omega arith)));
-      unclosed = λ quiet spoken. omega (arith, below, within f n below edge quiet spoken);
-      strays = λ c after inside quiet spoken. (each c f after edge quiet).strays;
+      most = λ e ends inside spoken. up_to_each sp.max _ (λ most is. omega (arith, ends.after, within most is f e ends.after edge ends.first (λ c after less. spoken c after (omega arith))));
+      unclosed = λ quiet spoken. up_to_each sp.max _ (λ most is. omega (arith, below, within most is f n below edge quiet spoken));
+      strays = λ some c after inside quiet spoken. (each c f after edge quiet).strays some;
     }

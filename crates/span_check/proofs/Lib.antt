@@ -4,6 +4,7 @@ pub mod Breaking
 pub mod Counting
 pub mod Levels
 pub mod Premises
+pub mod Asking
 pub mod Steps
 pub mod Walk
 pub mod Paired

@@ -1,6 +1,6 @@
 -- Rows of spans that don't hold in a run, worked by hand: of one block beside a stimulus that disturbs it, and of two blocks, of which
 -- the second owns pin 0.
-use Rattle.std.proofs.Common.{◌≡◌, ℕ, true, false, [], ◌∷◌, refl, arith}
+use Rattle.std.proofs.Common.{◌≡◌, ℕ, true, false, Some, [], ◌∷◌, refl, arith}
 use Rattle.clock_divider.specs.Ticks.{is_tick}
 use Rattle.fifo_pair.specs.Fifos.{settled}
 use Rattle.pio_encode.specs.Word.{reading_of, act_of, push_or_pull_at, delay_of, side_of, mov_at, set_at}
@@ -38,7 +38,7 @@ at_least_two : Span
 at_least_two = span_of true false 2 9 (omega arith) (omega arith) []
 
 -- a pulse of one tick, from clock 0 on, is too short
-too_short : (m : ℕ → Mark) → (m 0).from ≡ true → (m 1).to ≡ true → counted m 0 2 ≡ 1 → Holds Ticks 2 9 m 2 → ⊥
+too_short : (m : ℕ → Mark) → (m 0).from ≡ true → (m 1).to ≡ true → counted m 0 2 ≡ 1 → Holds Ticks 2 (Some 9) m 2 → ⊥
 too_short m from to count holds =
     omega (arith, count, (holds 0 (omega arith) from).least 1 (record { after = omega arith; first = λ c after before. absurd (omega (arith, after, before)); edge = to }) (omega arith) tt)
 

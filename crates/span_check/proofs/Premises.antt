@@ -23,7 +23,7 @@ use Rattle.span_step.specs.declared.ages.Ages.{Ages}
 use Rattle.span_step.specs.declared.ages.Ages.TheVariants.{Empty}
 use Rattle.span_step.specs.Contexts.{Context, is_placed}
 use Rattle.span_step.specs.Courses.{start}
-use Rattle.span_step.specs.Steps.{bounds_of, is_named}
+use Rattle.span_step.specs.Steps.{bounds_of, is_bounded, is_named}
 use Rattle.span_bounds.specs.declared.entry.Entry.TheVariants.{Present}
 use Rattle.span_bounds.specs.declared.row.Row.{Row}
 use Rattle.span_bounds.specs.Numbers.{number_of}
@@ -38,8 +38,8 @@ pub record Laws : Type 0 where
       → slice_index_or u.machines sp.machine None ≡ Some s → IsSoundTable u sp rows → v.memory ≡ u.memory
       → IsUnderWay u sp rows s (flow_of r) w → IsFollowed u sp rows s r.pc w (tick_of s v q r)
   pub room : (u : Setup) (sp : Span) (rows : Context → Option Ages) (s : MachineSetup) (r : Registers) (w : Watch)
-      → slice_index_or u.machines sp.machine None ≡ Some s → IsSoundTable u sp rows → ((address : ℕ) → is_named sp address ≡ false)
-      → IsUnderWay u sp rows s (flow_of r) w → (n : ℕ) → InAges n w.ages → n + 1 ≤ (bounds_of sp s).1
+      → slice_index_or u.machines sp.machine None ≡ Some s → IsSoundTable u sp rows → is_bounded sp ≡ true → ((address : ℕ) → is_named sp address ≡ false)
+      → IsUnderWay u sp rows s (flow_of r) w → (n : ℕ) → InAges (is_bounded sp) n w.ages → n + 1 ≤ (bounds_of sp s).1
   pub begins : (u : Setup) (sp : Span) (rows : Context → Option Ages) (s : MachineSetup) (k : Context)
       → slice_index_or u.machines sp.machine None ≡ Some s → IsSoundTable u sp rows → IsContextOf k (flow_of (first_registers s))
       → IsInRow Empty (rows k) → IsUnderWay u sp rows s (flow_of (first_registers s)) (start k Empty)

@@ -20,7 +20,7 @@ use Rattle.block_core.specs.Block.{BlockState, view_of}
 use Rattle.block_core.specs.Following.{place_at, intent_in}
 use Rattle.span_step.specs.declared.ages.Ages.{Ages}
 use Rattle.span_step.specs.Contexts.{Context}
-use Rattle.span_step.specs.Steps.{bounds_of}
+use Rattle.span_step.specs.Steps.{bounds_of, is_bounded}
 use Rattle.span_ticks.specs.Rows.{IsSoundTable}
 use Rattle.span_ticks.specs.UnderWay.{Watch, IsUnderWay, flow_of}
 use Rattle.span_ticks.specs.Following.{InAges, level_after, is_late, opens, closes, IsFollowed}
@@ -30,17 +30,17 @@ use Rattle.span_check.proofs.Counting.{one_if}
 use Rattle.span_check.proofs.Premises.{Laws}
 use Rattle.span_check.proofs.Levels.{level-none, changes-is_edge, no-edge, of-tick}
 
--- a number of ticks is one of the ages and no more than the most
-abbrev pub Fits : (max n : ℕ) → Ages → Type 0
-Fits max n ages = InAges n ages × (n ≤ max)
+-- a number of ticks is one of the ages, and no more than the greatest bound where there is one
+abbrev pub Fits : (bounded : Bool) → (max n : ℕ) → Ages → Type 0
+Fits bounded max n ages = InAges bounded n ages × (bounded ≡ true → n ≤ max)
 
 -- what a clock with such a mark makes of open from-edges, whose ages are these before it and those after it
-pub record Goes (min max : ℕ) (from to counting stray : Bool) (before after : Ages) : Type 0 where
-  pub most : (n : ℕ) → Fits max n before → n + one_if counting ≤ max
-  pub least : (n : ℕ) → Fits max n before → to ≡ true → min ≤ n + one_if counting
-  pub stays : (n : ℕ) → Fits max n before → to ≡ false → Fits max (n + one_if counting) after
-  pub strays : (n : ℕ) → Fits max n before → stray ≡ false
-  pub fresh : from ≡ true → Fits max 0 after
+pub record Goes (bounded : Bool) (min max : ℕ) (from to counting stray : Bool) (before after : Ages) : Type 0 where
+  pub most : (n : ℕ) → Fits bounded max n before → bounded ≡ true → n + one_if counting ≤ max
+  pub least : (n : ℕ) → Fits bounded max n before → to ≡ true → min ≤ n + one_if counting
+  pub stays : (n : ℕ) → Fits bounded max n before → to ≡ false → Fits bounded max (n + one_if counting) after
+  pub strays : (n : ℕ) → Fits bounded max n before → bounded ≡ true → stray ≡ false
+  pub fresh : from ≡ true → Fits bounded max 0 after
 
 -- what a machine does in a clock, with a tick or without, by the watch before it
 record IsStep (u : Setup) (sp : Span) (rows : Context → Option Ages) (s : MachineSetup) (address : ℕ) (w : Watch) (act : Registers × Intent) : Type 0 where
@@ -48,7 +48,7 @@ record IsStep (u : Setup) (sp : Span) (rows : Context → Option Ages) (s : Mach
   under_way : IsUnderWay u sp rows s (flow_of act.0) after
   from : after.from ≡ level_after sp.from_pin (two_writes act.1.level) w.from
   to : after.to ≡ level_after sp.to_pin (two_writes act.1.level) w.to
-  goes : Goes (bounds_of sp s).0 (bounds_of sp s).1 (opens sp w after) (closes sp w after) (counts act.1.kind (names sp address)) (strays act.1.kind (names sp address)) w.ages after.ages
+  goes : Goes (is_bounded sp) (bounds_of sp s).0 (bounds_of sp s).1 (opens sp w after) (closes sp w after) (counts act.1.kind (names sp address)) (strays act.1.kind (names sp address)) w.ages after.ages
 
 -- how a tick counts, by its kind
 record CountsAs (kind : Kind) (named : Bool) (level : List (ℕ × ℕ)) : Type 0 where
@@ -87,7 +87,7 @@ pub record GoesOn (u : Setup) (sp : Span) (rows : Context → Option Ages) (s : 
   pub m : Slot
   pub w : Watch
   pub going : IsGoing u sp rows s after m w
-  pub goes : Goes (bounds_of sp s).0 (bounds_of sp s).1 k.from k.to k.counts k.strays ages w.ages
+  pub goes : Goes (is_bounded sp) (bounds_of sp s).0 (bounds_of sp s).1 k.from k.to k.counts k.strays ages w.ages
 
 -- beside a sound table
 module _ (laws : Laws) (u : Setup) (sp : Span) (rows : Context → Option Ages) (s : MachineSetup) (configured : slice_index_or u.machines sp.machine None ≡ Some s) (sound : IsSoundTable u sp rows) where
@@ -103,11 +103,11 @@ module _ (laws : Laws) (u : Setup) (sp : Span) (rows : Context → Option Ages) 
         from = f.from ∙ ap (λ writes. level_after sp.from_pin writes w.from) (sym kinds.two);
         to = f.to ∙ ap (λ writes. level_after sp.to_pin writes w.to) (sym kinds.two);
         goes = record {
-          most = λ n h. rw kinds.older (f.ages n h.0).most;
+          most = λ n h b. rw kinds.older ((f.ages n h.0).most b);
           least = λ n h e. rw kinds.older ((f.ages n h.0).least e);
           stays = λ n h e. rw kinds.older ((f.ages n h.0).stays e, (f.ages n h.0).most);
-          strays = λ n h. kinds.stray (f.ages n h.0).named;
-          fresh = λ e. (f.fresh e, omega arith);
+          strays = λ n h b. kinds.stray ((f.ages n h.0).named b);
+          fresh = λ e. (f.fresh e, λ b. omega arith);
         };
       }
 
@@ -119,10 +119,10 @@ module _ (laws : Laws) (u : Setup) (sp : Span) (rows : Context → Option Ages) 
     from = sym (level-none sp.from_pin w.from);
     to = sym (level-none sp.to_pin w.to);
     goes = record {
-      most = λ n h. omega (arith, h.1);
+      most = λ n h b. omega (arith, h.1 b);
       least = λ n h e. absurd (never (sym (no-edge sp.to_rise w.to) ∙ e));
-      stays = λ n h e. subst (λ k. Fits (bounds_of sp s).1 k w.ages) (still n) h;
-      strays = λ n h. refl;
+      stays = λ n h e. subst (λ k. Fits (is_bounded sp) (bounds_of sp s).1 k w.ages) (still n) h;
+      strays = λ n h b. refl;
       fresh = λ e. absurd (never (sym (no-edge sp.from_rise w.from) ∙ e));
     };
   } where

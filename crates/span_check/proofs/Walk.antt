@@ -1,5 +1,5 @@
 -- A run beside the checker's table, clock by clock.
-use Rattle.std.proofs.Common.{◌≡◌, ℕ, zero, suc, ◌+◌, ◌≤◌, true, false, Option, Some, None, slice_index_or, sym, subst, arith}
+use Rattle.std.proofs.Common.{◌≡◌, ℕ, zero, suc, ◌+◌, ◌≤◌, Bool, true, false, Option, Some, None, slice_index_or, sym, subst, arith}
 use Rattle.pin_matrix.specs.declared.machine.MachineSetup.{MachineSetup}
 use Rattle.pin_matrix.specs.declared.setup.Setup.{Setup}
 use Rattle.pin_matrix.specs.declared.span.Span.{Span}
@@ -8,7 +8,7 @@ use Rattle.block_core.specs.Slots.{Slot}
 use Rattle.block_core.specs.Block.{BlockState}
 use Rattle.span_step.specs.declared.ages.Ages.{Ages}
 use Rattle.span_step.specs.Contexts.{Context}
-use Rattle.span_step.specs.Steps.{bounds_of}
+use Rattle.span_step.specs.Steps.{bounds_of, is_bounded}
 use Rattle.span_ticks.specs.Rows.{IsSoundTable}
 use Rattle.span_ticks.specs.UnderWay.{Watch}
 use Rattle.span_check.specs.Marks.{Mark}
@@ -32,13 +32,13 @@ pub record IsThere (u : Setup) (sp : Span) (rows : Context → Option Ages) (s :
   pub m : Slot
   pub w : Watch
   pub going : IsGoing u sp rows s b m w
-  pub ages : AreOpen marks (λ from. Fits (bounds_of sp s).1 (counted marks from c) w.ages) c
+  pub ages : AreOpen marks (λ from. Fits (is_bounded sp) (bounds_of sp s).1 (counted marks from c) w.ages) c
 
 -- what a clock is for a from-edge since which so many ticks counted
-pub record IsFine (min max : ℕ) (k : Mark) (n : ℕ) : Type 0 where
-  pub most : n + one_if k.counts ≤ max
+pub record IsFine (bounded : Bool) (min max : ℕ) (k : Mark) (n : ℕ) : Type 0 where
+  pub most : bounded ≡ true → n + one_if k.counts ≤ max
   pub least : k.to ≡ true → min ≤ n + one_if k.counts
-  pub strays : k.strays ≡ false
+  pub strays : bounded ≡ true → k.strays ≡ false
 
 module _ (laws : Laws) (u : Setup) (sp : Span) (rows : Context → Option Ages) (s : MachineSetup) (seen : ℕ → ℕ) (host : ℕ → Due) (states : ℕ → BlockState) (b : IsBeside u sp rows s seen host states) where
   next_clock : (c : ℕ) → (there : IsThere u sp rows s (marks_over sp u.memory seen host states) (states c) c) → GoesOn u sp rows s (states (suc c)) (marks_over sp u.memory seen host states c) there.w.ages
@@ -48,15 +48,16 @@ module _ (laws : Laws) (u : Setup) (sp : Span) (rows : Context → Option Ages) 
   there_after : (c : ℕ) → IsThere u sp rows s (marks_over sp u.memory seen host states) (states c) c → IsThere u sp rows s (marks_over sp u.memory seen host states) (states (suc c)) (suc c)
   there_after c there =
       let marks : ℕ → Mark = marks_over sp u.memory seen host states in
+      let bounded : Bool = is_bounded sp in
       let max : ℕ = (bounds_of sp s).1 in
       let next = next_clock c there in
       record {
         m = next.m;
         w = next.w;
         going = next.going;
-        ages = open-after marks (λ from. Fits max (counted marks from c) there.w.ages) (λ from. Fits max (counted marks from (suc c)) next.w.ages) c
-            (λ from earlier quiet h. subst (λ k. Fits max k next.w.ages) (sym (counted-suc marks from c earlier)) (next.goes.stays (counted marks from c) h quiet))
-            (λ edge. subst (λ k. Fits max k next.w.ages) (sym (counted-none marks c (suc c) (omega arith))) (next.goes.fresh edge))
+        ages = open-after marks (λ from. Fits bounded max (counted marks from c) there.w.ages) (λ from. Fits bounded max (counted marks from (suc c)) next.w.ages) c
+            (λ from earlier quiet h. subst (λ k. Fits bounded max k next.w.ages) (sym (counted-suc marks from c earlier)) (next.goes.stays (counted marks from c) h quiet))
+            (λ edge. subst (λ k. Fits bounded max k next.w.ages) (sym (counted-none marks c (suc c) (omega arith))) (next.goes.fresh edge))
             there.ages;
       }
 
@@ -65,7 +66,7 @@ module _ (laws : Laws) (u : Setup) (sp : Span) (rows : Context → Option Ages) 
   there (suc c) = there_after c (there c)
 
   -- each clock is fine for each from-edge that is open
-  pub fine : (c : ℕ) → let marks = marks_over sp u.memory seen host states in AreOpen marks (λ from. IsFine (bounds_of sp s).0 (bounds_of sp s).1 (marks c) (counted marks from c)) c
+  pub fine : (c : ℕ) → let marks = marks_over sp u.memory seen host states in AreOpen marks (λ from. IsFine (is_bounded sp) (bounds_of sp s).0 (bounds_of sp s).1 (marks c) (counted marks from c)) c
   fine c from below edge quiet =
       let at = there c in
       let fits = at.ages from below edge quiet in

@@ -1,5 +1,6 @@
 -- Worked rows: what the definitions give for runs that were worked out by hand.
-use Rattle.std.proofs.Common.{◌≡◌, ℕ, zero, suc, ◌<◌, ◌≤◌, Bool, true, false, [], ◌∷◌, refl, subst, arith}
+use Rattle.std.proofs.Common.{◌≡◌, ℕ, zero, suc, ◌<◌, ◌≤◌, Bool, true, false, Some, None, IsSome, [], ◌∷◌, refl, subst, inl, inr, arith}
+use Rattle.std.proofs.lemmas.Bool.{cases_lt}
 use Rattle.pin_matrix.specs.declared.setup.Setup.{Setup}
 use Rattle.pin_matrix.specs.declared.span.SpanUnit.TheVariants.{Ticks, Clocks}
 use Rattle.dreq_pacing.specs.declared.line.LineAct.TheVariants.{Tx, Restart, Disable, Enable}
@@ -18,7 +19,7 @@ use Rattle.block_core.specs.Slots.{acted, settled_slot}
 use Rattle.span_check.specs.Marks.{Mark, mark_of}
 use Rattle.span_check.specs.Holding.{counted, measured, IsQuiet, IsFirstToEdge, IsSpokenOf, HoldsFrom}
 use Rattle.span_check.specs.Runs.{marks_in}
-use Rattle.span_check.proofs.WorkedSetups.{plain_machine, pulling, side_one, side_one_opt, pin_0, block_of, span_of}
+use Rattle.span_check.proofs.WorkedSetups.{plain_machine, pulling, side_one, side_one_opt, pin_0, block_of, span_of, span_from}
 
 -- a UART transmitter: `pull side 1 [7]`, `set x, 7 side 0 [7]`, `out pins, 1`, `jmp x-- 2 [6]`
 uart : Setup
@@ -62,6 +63,48 @@ waiting-row : ((named 0).from ≡ true) × ((named 7).to ≡ true) × (counted n
 unfolding waiting named unnamed mark_of counted hosted_at hosted_next next stepped acted settled_slot is_tick settled merged reading_of act_of push_or_pull_at delay_of side_of set_at mov_at effect_of jmp_effect out_effect pull_effect set_effect mov_effect settled_ports tick_of tick_delay tick_word tick_by after_effect due_in transfers_after requests_of
 waiting-row = (refl, refl, refl, refl, refl, refl)
 
+-- the same stall without a greatest bound
+freely : ℕ → Mark
+freely = marks_in (span_from true false 7 (omega arith) []) waiting (record { clock = 5; act = Tx 0 7 } ∷ [])
+
+freely-row : ((freely 0).from ≡ true) × ((freely 1).strays ≡ true) × ((freely 7).to ≡ true) × (counted freely 0 8 ≡ 7) × ((freely 1).to ≡ false) × ((freely 2).to ≡ false) × ((freely 3).to ≡ false) × ((freely 4).to ≡ false) × ((freely 5).to ≡ false) × ((freely 6).to ≡ false)
+unfolding waiting freely mark_of counted hosted_at hosted_next next stepped acted settled_slot is_tick settled merged reading_of act_of push_or_pull_at delay_of side_of set_at mov_at effect_of jmp_effect out_effect pull_effect set_effect mov_effect settled_ports tick_of tick_delay tick_word tick_by after_effect due_in transfers_after requests_of
+freely-row = (refl, refl, refl, refl, refl, refl, refl, refl, refl, refl)
+
+never : {b : Bool} → b ≡ true → b ≡ false → ⊥
+never h k = cc
+
+high_before_7 : IsQuiet freely 0 7
+high_before_7 zero after before = absurd (omega (arith, after))
+high_before_7 (suc zero) after before = freely-row.4
+high_before_7 (suc (suc zero)) after before = freely-row.5
+high_before_7 (suc (suc (suc zero))) after before = freely-row.6
+high_before_7 (suc (suc (suc (suc zero)))) after before = freely-row.7
+high_before_7 (suc (suc (suc (suc (suc zero))))) after before = freely-row.8
+high_before_7 (suc (suc (suc (suc (suc (suc zero)))))) after before = freely-row.9
+high_before_7 (suc (suc (suc (suc (suc (suc (suc c))))))) after before = absurd (omega (arith, before))
+
+first_at_7 : (e : ℕ) → IsFirstToEdge freely 0 e → e < 8 → 7 ≡ e
+first_at_7 e ends inside = elim (cases_lt e 7) [
+  | inl early ↦ absurd (never ends.edge (high_before_7 e ends.after early))
+  | inr late ↦ omega (arith, late, inside)
+]
+
+no_bound : IsSome {T = ℕ} None → ⊥
+no_bound e = cc
+
+-- its late ticks count, and are not amiss: with at least 7 it holds, and with at least 8 it doesn't
+freely-holds : HoldsFrom Ticks 7 None freely 8 0
+freely-holds = record {
+  least = λ e ends inside spoken. subst (λ k. 7 ≤ counted freely 0 (suc k)) (first_at_7 e ends inside) (omega (arith, freely-row.3));
+  most = λ e ends inside spoken. tt;
+  unclosed = λ quiet spoken. tt;
+  strays = λ some. absurd (no_bound some);
+}
+
+freely-early : HoldsFrom Ticks 8 None freely 8 0 → ⊥
+freely-early h = omega (arith, freely-row.3, h.least 7 (record { after = omega arith; first = high_before_7; edge = freely-row.2 }) (omega arith) tt)
+
 -- `set pins, 1`, `set pins, 0`, with a divider of 2.5
 square : Setup
 square = block_of (record plain_machine { int = 2; frac = 128; wrap_top = 1; wrap_top_in_memory = omega arith; divides = refl }) refl (57345 ∷ 57344 ∷ []) 0
@@ -101,11 +144,8 @@ high_until_5 : (IsFirstToEdge disabled 2 5) × (counted disabled 2 6 ≡ 1)
 unfolding fast disabled mark_of counted hosted_at hosted_next next stepped acted settled_slot is_tick settled merged reading_of act_of push_or_pull_at delay_of side_of set_at mov_at effect_of jmp_effect out_effect pull_effect set_effect mov_effect settled_ports tick_of tick_delay tick_word tick_by after_effect due_in transfers_after requests_of
 high_until_5 = (record { after = omega arith; first = two_clocks disabled refl refl; edge = refl }, refl)
 
-disabled-in-ticks : HoldsFrom Ticks 2 2 disabled 6 2 → ⊥
+disabled-in-ticks : HoldsFrom Ticks 2 (Some 2) disabled 6 2 → ⊥
 disabled-in-ticks h = omega (arith, h.least 5 high_until_5.0 (omega arith) tt, high_until_5.1)
-
-never : {b : Bool} → b ≡ true → b ≡ false → ⊥
-never h k = cc
 
 -- of a span in clocks nothing is said
 disabled-in-clocks : IsSpokenOf Clocks disabled 2 6 → ⊥
@@ -143,14 +183,14 @@ undisturbed-spoken : IsSpokenOf Clocks undisturbed 0 4
 undisturbed-spoken = three_clocks (λ c. (undisturbed c).breaks ≡ false) undisturbed-row.4 undisturbed-row.5 undisturbed-row.6
 
 -- with at least 4, or at most 2, it doesn't hold
-undisturbed-early : HoldsFrom Clocks 4 4 undisturbed 4 0 → ⊥
+undisturbed-early : HoldsFrom Clocks 4 (Some 4) undisturbed 4 0 → ⊥
 undisturbed-early h = omega (arith, h.least 3 high_until_3 (omega arith) undisturbed-spoken)
 
-undisturbed-late : HoldsFrom Clocks 0 2 undisturbed 4 0 → ⊥
+undisturbed-late : HoldsFrom Clocks 0 (Some 2) undisturbed 4 0 → ⊥
 undisturbed-late h = omega (arith, h.most 3 high_until_3 (omega arith) undisturbed-spoken)
 
 -- nor up to clock 3, where no to-edge came, with at most 1
-undisturbed-unclosed : HoldsFrom Clocks 0 1 undisturbed 3 0 → ⊥
+undisturbed-unclosed : HoldsFrom Clocks 0 (Some 1) undisturbed 3 0 → ⊥
 undisturbed-unclosed h = omega (arith, h.unclosed high_before_3 (λ c after before. undisturbed-spoken c after (omega (arith, before))))
 
 -- `set pins, 1`, `out pins, 1` with autopull, which waits for one tick: its late tick, in clock 2, is that of the to-edge
@@ -167,8 +207,8 @@ one_clock (suc zero) after before = late_fall-row.1
 one_clock (suc (suc c)) after before = absurd (omega (arith, before))
 
 -- a late tick in the clock of the to-edge is one too many
-late_fall-breaks : HoldsFrom Ticks 0 9 late_fall 3 0 → ⊥
-late_fall-breaks h = never late_fall-row.4 (h.strays 2 (omega arith) (omega arith) one_clock tt)
+late_fall-breaks : HoldsFrom Ticks 0 (Some 9) late_fall 3 0 → ⊥
+late_fall-breaks h = never late_fall-row.4 (h.strays refl 2 (omega arith) (omega arith) one_clock tt)
 
 -- `out pins, 1` with autopull, which waits for two ticks, and `set pins, 0`: its last late tick, in clock 2, is that of the from-edge
 late_rise : ℕ → Mark
@@ -182,12 +222,12 @@ between : (P : ℕ → Type 0) → P 3 → (c : ℕ) → 2 < c → c < 4 → P c
 between P three c after before = let e : 3 ≡ c = omega (arith, after, before) in subst P e three
 
 -- a late tick in the clock of the from-edge isn't
-late_rise-holds : HoldsFrom Ticks 1 1 late_rise 4 2
+late_rise-holds : HoldsFrom Ticks 1 (Some 1) late_rise 4 2
 late_rise-holds = record {
   least = λ e to before spoken. between (λ c. 1 ≤ counted late_rise 2 (suc c)) (omega (arith, late_rise-row.4)) e to.after before;
   most = λ e to before spoken. between (λ c. counted late_rise 2 (suc c) ≤ 1) (omega (arith, late_rise-row.4)) e to.after before;
   unclosed = λ quiet spoken. absurd (never late_rise-row.2 (quiet 3 (omega arith) (omega arith)));
-  strays = λ c after before quiet spoken. between (λ k. (late_rise k).strays ≡ false) late_rise-row.3 c after before;
+  strays = λ some c after before quiet spoken. between (λ k. (late_rise k).strays ≡ false) late_rise-row.3 c after before;
 }
 
 -- `set pins, 1 [2]`, `set pins, 0`: from a rise to the next one, which is both an end and a new begin

@@ -7,6 +7,7 @@ use Rattle.pin_matrix.specs.declared.setup.Setup.{Setup}
 use Rattle.pin_matrix.specs.Setups.{ids_are_places}
 use Rattle.pin_matrix.specs.declared.span.Span.{Span}
 use Rattle.pin_matrix.specs.declared.span.SpanUnit.TheVariants.{Ticks}
+use Rattle.pin_matrix.proofs.Greatest.{of_some, of_none}
 
 -- no side-set
 abbrev pub no_side : SideRule
@@ -104,13 +105,37 @@ span_of from_rise to_rise min max ordered bounded stalls = record {
   to_rise = to_rise;
   unit = Ticks;
   min = min;
-  max = max;
+  max = Some max;
   stalls = stalls;
   named = refl;
   machine_in_block = omega arith;
   from_pin_is_a_pin = omega arith;
   to_pin_is_a_pin = omega arith;
-  ordered = ordered;
-  bounded = bounded;
+  ordered = of_some (λ m. min ≤ m) max ordered;
+  min_fits = omega (arith, ordered, bounded);
+  bounded = of_some (λ m. m < 2 ^ 24) max bounded;
+  stalls_in_ticks = refl;
+}
+
+-- the same without a greatest bound
+abbrev pub span_from : (from_rise to_rise : Bool) → (min : ℕ) → min < 2 ^ 24 → (stalls : List ℕ) → Span
+span_from from_rise to_rise min fits stalls = record {
+  name = 97 ∷ [];
+  machine = 0;
+  from_pin = 0;
+  from_rise = from_rise;
+  to_pin = 0;
+  to_rise = to_rise;
+  unit = Ticks;
+  min = min;
+  max = None;
+  stalls = stalls;
+  named = refl;
+  machine_in_block = omega arith;
+  from_pin_is_a_pin = omega arith;
+  to_pin_is_a_pin = omega arith;
+  ordered = of_none (λ m. min ≤ m);
+  min_fits = fits;
+  bounded = of_none (λ m. m < 2 ^ 24);
   stalls_in_ticks = refl;
 }

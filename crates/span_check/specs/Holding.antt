@@ -4,9 +4,10 @@
 --   IsQuiet          no to-edge comes between two clocks
 --   IsFirstToEdge    the first to-edge comes
 --   IsSpokenOf       what a span in clocks says nothing of
+--   IsUpTo           a number is no more than a greatest bound
 --   HoldsFrom        what is asked from one from-edge on
 --   Holds            from each
-use Rattle.std.specs.Prelude.{◌≡◌, ℕ, zero, suc, ◌+◌, ◌-◌, ◌<◌, ◌≤◌, nat_lt, true, false, ◌&&◌, if◌then◌else◌}
+use Rattle.std.specs.Prelude.{◌≡◌, ℕ, zero, suc, ◌+◌, ◌-◌, ◌<◌, ◌≤◌, nat_lt, true, false, ◌&&◌, if◌then◌else◌, Option, Some, None, IsSome}
 use Rattle.pin_matrix.specs.declared.span.SpanUnit.{SpanUnit}
 use Rattle.pin_matrix.specs.declared.span.SpanUnit.TheVariants.{Ticks, Clocks}
 use Rattle.span_check.specs.Marks.{Mark}
@@ -40,15 +41,20 @@ abbrev pub IsSpokenOf : SpanUnit → (ℕ → Mark) → (s end : ℕ) → Type 0
 IsSpokenOf Ticks m s end = Unit {0}
 IsSpokenOf Clocks m s end = IsUnbroken m s end
 
+-- a number is no more than the greatest bound, if there is one
+abbrev pub IsUpTo : Option ℕ → ℕ → Type 0
+IsUpTo None n = Unit {0}
+IsUpTo (Some most) n = n ≤ most
+
 -- What is asked from the from-edge in clock s on, in the clocks before clock n. Where a to-edge comes, the count up to the
--- first one is within the bounds; where none comes, the count so far is no more than the most. Up to there no late tick comes at
--- an address that the span doesn't name.
-pub record HoldsFrom (unit : SpanUnit) (min max : ℕ) (m : ℕ → Mark) (n s : ℕ) : Type 0 where
+-- first one is within the bounds; where none comes, the count so far is no more than the greatest. Up to there no late tick comes
+-- at an address that the span doesn't name, where there is a greatest bound: without one a wait only lengthens the time.
+pub record HoldsFrom (unit : SpanUnit) (min : ℕ) (max : Option ℕ) (m : ℕ → Mark) (n s : ℕ) : Type 0 where
   pub least : (e : ℕ) → IsFirstToEdge m s e → e < n → IsSpokenOf unit m s (suc e) → min ≤ measured unit m s (suc e)
-  pub most : (e : ℕ) → IsFirstToEdge m s e → e < n → IsSpokenOf unit m s (suc e) → measured unit m s (suc e) ≤ max
-  pub unclosed : IsQuiet m s n → IsSpokenOf unit m s n → measured unit m s n ≤ max
-  pub strays : (c : ℕ) → s < c → c < n → IsQuiet m s c → IsSpokenOf unit m s (suc c) → (m c).strays ≡ false
+  pub most : (e : ℕ) → IsFirstToEdge m s e → e < n → IsSpokenOf unit m s (suc e) → IsUpTo max (measured unit m s (suc e))
+  pub unclosed : IsQuiet m s n → IsSpokenOf unit m s n → IsUpTo max (measured unit m s n)
+  pub strays : IsSome max → (c : ℕ) → s < c → c < n → IsQuiet m s c → IsSpokenOf unit m s (suc c) → (m c).strays ≡ false
 
 -- so it is from each from-edge before clock n on
-abbrev pub Holds : SpanUnit → (min max : ℕ) → (ℕ → Mark) → (n : ℕ) → Type 0
+abbrev pub Holds : SpanUnit → (min : ℕ) → (max : Option ℕ) → (ℕ → Mark) → (n : ℕ) → Type 0
 Holds unit min max m n = (s : ℕ) → s < n → (m s).from ≡ true → HoldsFrom unit min max m n s

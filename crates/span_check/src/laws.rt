@@ -1,10 +1,14 @@
 //! Laws of the timing checker, each on a function that does nothing.
-ghost use Rattle.std.specs.Prelude.{◌≡◌, ℕ, IsSome, List, None, slice_index_or};
+ghost use Rattle.std.specs.Prelude.{◌≡◌, ◌↔◌, ℕ, IsSome, List, None, Some, slice_index_or};
 ghost use Rattle.pin_matrix.specs.declared.setup.Setup.{Setup};
 ghost use Rattle.pin_matrix.specs.declared.span.Span.{Span};
+ghost use Rattle.pin_matrix.specs.declared.span.SpanUnit.{SpanUnit};
 ghost use Rattle.dreq_pacing.specs.declared.line.Line.{Line};
 ghost use Rattle.span_bounds.specs.Tables.{IsProvable};
 ghost use Rattle.span_verdict.specs.Sharing.{IsUnshared};
+ghost use Rattle.span_check.specs.Asked.{HoldsBetween, IsNeverEarly};
+ghost use Rattle.span_check.specs.Holding.{Holds};
+ghost use Rattle.span_check.specs.Marks.{Mark};
 ghost use Rattle.span_check.specs.Proved.{HoldsInEveryRun};
 ghost use Rattle.span_check.specs.Runs.{has_breaking, marks_in};
 
@@ -44,3 +48,15 @@ pub fn only_a_disable_or_a_restart_breaks_a_span()
     a_stimulus_is_a_system();
     clocks_are_counted();
 }
+
+/// What a span asks. With a greatest bound it asks all that both bounds ask (`bounded`); without one it asks of a first to-edge alone
+/// that it doesn't come too early (`unbounded`), however long it takes and wherever the machine waits. So with a greatest bound it
+/// asks more (`more`).
+pub fn what_a_span_asks()
+    ensures bounded { (unit : SpanUnit) (min max : ℕ) (m : ℕ → Mark) (n : ℕ)
+        → Holds unit min (Some max) m n ↔ HoldsBetween unit min max m n }
+    ensures unbounded { (unit : SpanUnit) (min : ℕ) (m : ℕ → Mark) (n : ℕ)
+        → Holds unit min None m n ↔ IsNeverEarly unit min m n }
+    ensures more { (unit : SpanUnit) (min max : ℕ) (m : ℕ → Mark) (n : ℕ)
+        → Holds unit min (Some max) m n → Holds unit min None m n }
+{}

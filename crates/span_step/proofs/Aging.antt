@@ -21,11 +21,11 @@ UpTo n p a b = AreUpTo n a
 
 up_to_older : (m : ℕ) (a : Ages) → AreUpTo (m + 1) (older m a)
 up_to_older m Empty = tt
-up_to_older m (Between lo hi) = omega arith
+up_to_older m (Between lo hi) = (omega arith, omega arith)
 
 up_to_fresh : (m : ℕ) (a : Ages) → AreUpTo (m + 1) a → AreUpTo (m + 1) (with_fresh a)
-up_to_fresh m Empty h = omega arith
-up_to_fresh m (Between lo hi) h = h
+up_to_fresh m Empty h = (omega arith, omega arith)
+up_to_fresh m (Between lo hi) h = (omega arith, h.1)
 
 Keeps-up_to : (r : Rules) → Keeps r AnyAges (UpTo (r.max + 1)) AnyCauses
 Keeps-up_to r = record {

@@ -1,4 +1,5 @@
 pub mod Kept
+pub mod Periods
 pub mod Wider
 pub mod Alike
 pub mod Aging

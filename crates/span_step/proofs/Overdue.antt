@@ -1,4 +1,4 @@
--- Ages above the most that is right are bad by U1 at any row, but for one after which no address is known.
+-- Ages above the greatest bound are bad by U1 at any row, but for one after which no address is known.
 use Rattle.std.proofs.Common.{◌≡◌, ℕ, Bool, true, false, ◌||◌, cond, if◌then◌else◌, IsSome, slice_index_or, slice_index, Option, Some, None, is_some, List, [], ◌∷◌, ◌++◌, map, fold, refl, sym, ◌∙◌, arith}
 use Rattle.std.specs.List.{flat_map}
 use Rattle.std.proofs.lemmas.Bool.{or_parts}
@@ -114,26 +114,26 @@ watched_u1 : (r : Rules) (w : Watch) (t : Tick) → w.causes.u1 ≡ true → (wa
 unfolding watched
 watched_u1 r w t e = or_left _ _ e
 
-first_u1 : (r : Rules) (k : Context) (a : Ages) (f g : Option Bool) → ReachesAge r.max a → (watched r (start k a) (record { late = false; from = f; to = g })).causes.u1 ≡ true
+first_u1 : (r : Rules) (k : Context) (a : Ages) (f g : Option Bool) → r.bounded ≡ true → ReachesAge r.max a → (watched r (start k a) (record { late = false; from = f; to = g })).causes.u1 ≡ true
 unfolding watched
-first_u1 r k a f g h = above_older r.max a h
+first_u1 r k a f g b h = rw b (above_older r.max a h)
 
-prompt_u1 : (r : Rules) (k : Context) (a : Ages) (side : Write) (o : ContextOutcome) (d : ℕ) → ReachesAge r.max a → (followed r (prompt side o d) (start k a)).causes.u1 ≡ true
+prompt_u1 : (r : Rules) (k : Context) (a : Ages) (side : Write) (o : ContextOutcome) (d : ℕ) → r.bounded ≡ true → ReachesAge r.max a → (followed r (prompt side o d) (start k a)).causes.u1 ≡ true
 unfolding prompt
-prompt_u1 r k a side o d h =
-    fold_along (watched r) (watched r) (λ w v. w.causes.u1 ≡ true) (λ w v t e. watched_u1 r w t e) _ (start k a) (delay_ticks d) (first_u1 r k a _ _ h)
+prompt_u1 r k a side o d b h =
+    fold_along (watched r) (watched r) (λ w v. w.causes.u1 ≡ true) (λ w v t e. watched_u1 r w t e) _ (start k a) (delay_ticks d) (first_u1 r k a _ _ b h)
 
-outcome_u1 : (v : Visit) (found : Stepped) (o : ContextOutcome) → ReachesAge v.rules.max v.ages → (with_outcome v found o).causes.u1 ≡ true
+outcome_u1 : (v : Visit) (found : Stepped) (o : ContextOutcome) → v.rules.bounded ≡ true → ReachesAge v.rules.max v.ages → (with_outcome v found o).causes.u1 ≡ true
 unfolding with_outcome courses with_end
-outcome_u1 v found o h = by v.stalls where
+outcome_u1 v found o b h = by v.stalls where
   by : (z : Bool) → (fold (λ t ticks. with_end v o t (end_of v ticks)) found (courses z v.side o v.delay)).causes.u1 ≡ true
-  by true = or_left _ _ (or_right found.causes.u1 _ (prompt_u1 v.rules v.context v.ages v.side o v.delay h))
-  by false = or_right found.causes.u1 _ (prompt_u1 v.rules v.context v.ages v.side o v.delay h)
+  by true = or_left _ _ (or_right found.causes.u1 _ (prompt_u1 v.rules v.context v.ages v.side o v.delay b h))
+  by false = or_right found.causes.u1 _ (prompt_u1 v.rules v.context v.ages v.side o v.delay b h)
 
-pub step_u1 : (s : MachineSetup) (sp : Span) (op : Op) (k : Context) (a : Ages) → is_lost s op ≡ false → ReachesAge (most_on (Some s) sp) a → (step_by s sp op k a).causes.u1 ≡ true
+pub step_u1 : (s : MachineSetup) (sp : Span) (op : Op) (k : Context) (a : Ages) → is_lost s op ≡ false → IsSome sp.max → ReachesAge (most_on (Some s) sp) a → (step_by s sp op k a).causes.u1 ≡ true
 unfolding step_by visit_of rules_of
-step_u1 s sp op k a e h = rw e
-    (fold_made (with_outcome (visit_of s sp op k a)) (λ t. t.causes.u1 ≡ true) (λ t o. outcome_u1 (visit_of s sp op k a) t o h) nothing_found (outcomes op.act s sp k) (outcomes_filled op.act s sp k (or_parts (is_wild op.act) (is_some s.pending) e).0))
+step_u1 s sp op k a e b h = rw e
+    (fold_made (with_outcome (visit_of s sp op k a)) (λ t. t.causes.u1 ≡ true) (λ t o. outcome_u1 (visit_of s sp op k a) t o b h) nothing_found (outcomes op.act s sp k) (outcomes_filled op.act s sp k (or_parts (is_wild op.act) (is_some s.pending) e).0))
 
 first_with_u1 : (c : Causes) → c.u1 ≡ true → first_cause c ≡ Some U1
 first_with_u1 c e = rw e refl
@@ -145,27 +145,27 @@ none_is_none e = cc
 abbrev overdue_cause : Bool → Cause
 overdue_cause lost = if lost then U4 else U1
 
-step_first : (s : MachineSetup) (sp : Span) (op : Op) (k : Context) (a : Ages) → ReachesAge (most_on (Some s) sp) a → first_cause (step_by s sp op k a).causes ≡ Some (overdue_cause (is_lost s op))
+step_first : (s : MachineSetup) (sp : Span) (op : Op) (k : Context) (a : Ages) → IsSome sp.max → ReachesAge (most_on (Some s) sp) a → first_cause (step_by s sp op k a).causes ≡ Some (overdue_cause (is_lost s op))
 unfolding step_by
-step_first s sp op k a h = on (is_lost s op) refl where
+step_first s sp op k a b h = on (is_lost s op) refl where
   on : (z : Bool) → is_lost s op ≡ z → first_cause (step_by s sp op k a).causes ≡ Some (overdue_cause z)
   on true e = rw e refl
-  on false e = first_with_u1 _ (step_u1 s sp op k a e h)
+  on false e = first_with_u1 _ (step_u1 s sp op k a e b h)
 
 -- the span's machine is configured
 abbrev pub IsConfigured : Setup → Span → Type 0
 IsConfigured u sp = IsSome (slice_index_or u.machines sp.machine None)
 
-pub overdue_alike : (u : Setup) (sp : Span) (k : Context) (a b : Ages) → IsConfigured u sp → ReachesAge (most_of u sp) a → ReachesAge (most_of u sp) b → first_cause (context_steps u sp k a).causes ≡ first_cause (context_steps u sp k b).causes
+pub overdue_alike : (u : Setup) (sp : Span) (k : Context) (a b : Ages) → IsConfigured u sp → IsSome sp.max → ReachesAge (most_of u sp) a → ReachesAge (most_of u sp) b → first_cause (context_steps u sp k a).causes ≡ first_cause (context_steps u sp k b).causes
 unfolding context_steps most_of
 overdue_alike u sp k a b = on _ where
-  on : (m : Option MachineSetup) → IsSome m → ReachesAge (most_on m sp) a → ReachesAge (most_on m sp) b → first_cause (machine_steps m u.memory sp k a).causes ≡ first_cause (machine_steps m u.memory sp k b).causes
-  on None c h l = absurd (none_is_none c)
-  on (Some s) c h l = step_first s sp _ k a h ∙ sym (step_first s sp _ k b l)
+  on : (m : Option MachineSetup) → IsSome m → IsSome sp.max → ReachesAge (most_on m sp) a → ReachesAge (most_on m sp) b → first_cause (machine_steps m u.memory sp k a).causes ≡ first_cause (machine_steps m u.memory sp k b).causes
+  on None c d h l = absurd (none_is_none c)
+  on (Some s) c d h l = step_first s sp _ k a d h ∙ sym (step_first s sp _ k b d l)
 
-pub overdue_bad : (u : Setup) (sp : Span) (k : Context) (a : Ages) → IsConfigured u sp → ReachesAge (most_of u sp) a → IsSome (first_cause (context_steps u sp k a).causes)
+pub overdue_bad : (u : Setup) (sp : Span) (k : Context) (a : Ages) → IsConfigured u sp → IsSome sp.max → ReachesAge (most_of u sp) a → IsSome (first_cause (context_steps u sp k a).causes)
 unfolding context_steps most_of
 overdue_bad u sp k a = on _ where
-  on : (m : Option MachineSetup) → IsSome m → ReachesAge (most_on m sp) a → IsSome (first_cause (machine_steps m u.memory sp k a).causes)
-  on None c h = absurd (none_is_none c)
-  on (Some s) c h = rw (step_first s sp (reading_of (slice_index u.memory k.address) s.side_rule) k a h) refl
+  on : (m : Option MachineSetup) → IsSome m → IsSome sp.max → ReachesAge (most_on m sp) a → IsSome (first_cause (machine_steps m u.memory sp k a).causes)
+  on None c d h = absurd (none_is_none c)
+  on (Some s) c d h = rw (step_first s sp (reading_of (slice_index u.memory k.address) s.side_rule) k a d h) refl

@@ -56,9 +56,9 @@ or_more false false c d h k e = k e
 
 told_inside : (r : Rules) (late closes : Bool) (a b c d : Ages) → IsInside a b → IsInside c d → AllImplied (tick_causes r late closes a c) (tick_causes r late closes b d)
 told_inside r late closes a b c d h k = record {
-  u1 = above_inside r.max c d k;
+  u1 = and_more r.bounded _ _ (above_inside r.max c d k);
   u2 = and_more closes _ _ (below_inside r.min c d k);
-  u3 = and_more late _ _ (and_more (not r.named) _ _ (open_inside a b h));
+  u3 = and_more late _ _ (and_more r.bounded _ _ (and_more (not r.named) _ _ (open_inside a b h)));
   u4 = λ e. e;
 }
 

@@ -44,13 +44,14 @@ delayed side o delay =
 unfoldable pub courses : (stalls : Bool) → Write → ContextOutcome → ℕ → List (List Tick)
 courses stalls side o delay = prompt side o delay ∷ (if stalls then delayed side o delay ∷ [] else [])
 
--- What the span asks of a row: which edges it goes between, its bounds in ticks, and whether stalls at the row's address
--- are left out.
+-- What the span asks of a row: which edges it goes between, its bounds in ticks, whether it has a greatest bound, and whether
+-- stalls at the row's address are left out. Ages stop one above `max`, whether this is a bound or not.
 pub record Rules : Type 0 where
   pub from_rise : Bool
   pub to_rise : Bool
   pub min : ℕ
   pub max : ℕ
+  pub bounded : Bool
   pub named : Bool
 
 -- the level changes in this direction
@@ -58,12 +59,12 @@ abbrev pub is_edge : (rise old new : Bool) → Bool
 is_edge true old new = not old && new
 is_edge false old new = old && not new
 
--- open ages are one more, up to one above the most that is right
+-- open ages are one more, up to one above `most`
 abbrev pub older : ℕ → Ages → Ages
 older most Empty = Empty
 older most (Between lo hi) = Between (min lo most + 1) (min hi most + 1)
 
--- some age is above the most that is right
+-- some age is above `most`
 abbrev pub is_above : ℕ → Ages → Bool
 is_above most Empty = false
 is_above most (Between lo hi) = nat_lt most hi
@@ -91,18 +92,19 @@ no_causes = record { u1 = false; u2 = false; u3 = false; u4 = false }
 abbrev pub joined : Causes → Causes → Causes
 joined a b = record { u1 = a.u1 || b.u1; u2 = a.u2 || b.u2; u3 = a.u3 || b.u3; u4 = a.u4 || b.u4 }
 
--- The causes that one tick adds. U1: an age is above the bound; U2: a to-edge comes too early; U3: the machine waits at an
--- address that isn't named while a from-edge is open.
+-- The causes that one tick adds. U1: an age is above the greatest bound; U2: a to-edge comes too early; U3: the machine waits
+-- at an address that isn't named while a from-edge is open. Where there is no greatest bound neither U1 nor U3 is asked, since
+-- a wait only lengthens the time.
 abbrev pub tick_causes : Rules → (late closes : Bool) → (before aged : Ages) → Causes
 tick_causes r late closes before aged = record {
-  u1 = is_above r.max aged;
+  u1 = r.bounded && is_above r.max aged;
   u2 = closes && is_below r.min aged;
-  u3 = late && (not r.named && is_open before);
+  u3 = late && (r.bounded && (not r.named && is_open before));
   u4 = false;
 }
 
 -- One tick. A late tick doesn't count; any other makes open ages one more. Then the edges of the levels that it writes
--- come. `passes` says that no to-edge came so far.
+-- come. `passes` says that no to-edge came so far, and `closes` that one came while a from-edge of an earlier tick was open.
 unfoldable pub watched : Rules → Watch → Tick → Watch
 watched r w t =
     let from = unwrap_or t.from w.from in
@@ -116,12 +118,13 @@ watched r w t =
       ages = after_edges closes opens aged;
       causes = joined w.causes (tick_causes r t.late closes w.ages aged);
       from_edge = w.from_edge || opens;
+      closes = w.closes || (closes && is_open aged);
       passes = w.passes && not closes;
     }
 
 -- at the start of a course
 abbrev pub start : Context → Ages → Watch
-start k ages = record { from = k.from; to = k.to; ages = ages; causes = no_causes; from_edge = false; passes = true }
+start k ages = record { from = k.from; to = k.to; ages = ages; causes = no_causes; from_edge = false; closes = false; passes = true }
 
 -- at the end of a course
 abbrev pub followed : Rules → List Tick → Watch → Watch

@@ -3,11 +3,12 @@
 --   GoesLike         two nexts go to one context, by courses that pass alike, with related ages
 --   AllImplied       each cause of the first is one of the second
 --   IsNarrower       a step has the nexts of another with ages inside, and no more causes
---   most_of          the span's greatest age in ticks
+--   most_of          the span's greatest bound in ticks, above which ages are alike
+--   cap_of           the age at which ages stop
 --   ReachesAge       some age is at least this
 --   first_cause      the first cause in the order U1 to U4
 --   AllPlaced        each next context is in range
-use Rattle.std.specs.Prelude.{◌≡◌, ℕ, ◌≤◌, Bool, true, false, if◌then◌else◌, Option, Some, None, List, [], ◌∷◌, slice_index_or}
+use Rattle.std.specs.Prelude.{◌≡◌, ℕ, ◌+◌, ◌≤◌, Bool, true, false, if◌then◌else◌, Option, Some, None, List, [], ◌∷◌, slice_index_or}
 use Rattle.pin_matrix.specs.declared.machine.MachineSetup.{MachineSetup}
 use Rattle.pin_matrix.specs.declared.setup.Setup.{Setup}
 use Rattle.pin_matrix.specs.declared.span.Span.{Span}
@@ -63,7 +64,7 @@ pub record IsNarrower (s t : Stepped) : Type 0 where
   pub causes : AllImplied s.causes t.causes
   pub from_edge : s.from_edge ≡ t.from_edge
 
--- the most that is right in ticks of the span's machine
+-- the greatest bound in ticks of the span's machine, or what is in its place
 abbrev pub most_on : Option MachineSetup → Span → ℕ
 most_on None sp = 0
 most_on (Some s) sp = (bounds_of sp s).1
@@ -71,6 +72,10 @@ most_on (Some s) sp = (bounds_of sp s).1
 -- the same in a setup
 unfoldable pub most_of : Setup → Span → ℕ
 most_of u sp = most_on (slice_index_or u.machines sp.machine None) sp
+
+-- the age at which ages stop
+abbrev pub cap_of : Setup → Span → ℕ
+cap_of u sp = most_of u sp + 1
 
 -- some age is at least this
 abbrev pub ReachesAge : ℕ → Ages → Type 0
@@ -80,7 +85,7 @@ ReachesAge n (Between lo hi) = n ≤ hi
 -- no age is above this
 abbrev pub AreUpTo : ℕ → Ages → Type 0
 AreUpTo n Empty = Unit {0}
-AreUpTo n (Between lo hi) = hi ≤ n
+AreUpTo n (Between lo hi) = (lo ≤ n) × (hi ≤ n)
 
 -- the first cause in the order U1, U2, U3, U4
 abbrev pub first_cause : Causes → Option Cause

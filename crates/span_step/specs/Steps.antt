@@ -1,5 +1,6 @@
 -- One step of the checker: from a context with its ages to the next ones.
 --   bounds_of        a span's bounds in ticks of its machine
+--   is_bounded       it has a greatest bound
 --   next_address     the address that follows
 --   side_of          what side-set writes to the two pins
 --   Visit            what all courses of a row share
@@ -7,7 +8,7 @@
 --   is_lost          no address is known after a row
 --   step_by          the step of a machine's row
 --   context_steps    the step of a span's row
-use Rattle.std.specs.Prelude.{ℕ, ◌+◌, ◌-◌, ◌*◌, ◌/◌, ◌%◌, ◌==◌, Bool, true, false, ◌||◌, if◌then◌else◌, Option, Some, None, List, [], ◌∷◌, ◌++◌, fold, is_some, slice_index, slice_index_or}
+use Rattle.std.specs.Prelude.{ℕ, ◌+◌, ◌-◌, ◌*◌, ◌/◌, ◌%◌, ◌==◌, Bool, true, false, ◌||◌, if◌then◌else◌, Option, Some, None, is_some, option_map, List, [], ◌∷◌, ◌++◌, fold, slice_index, slice_index_or}
 use Rattle.std.specs.List.{list_any}
 use Rattle.pio_encode.specs.declared.op.Op.{Op}
 use Rattle.pio_encode.specs.Word.{reading_of}
@@ -31,15 +32,32 @@ use Rattle.span_step.specs.Courses.{Rules, courses, no_causes, joined, start, fo
 abbrev pub period_of : MachineSetup → ℕ
 period_of s = 256 * (if s.int == 0 then 65536 else s.int) + s.frac
 
--- A span's bounds in ticks. For one in clocks they are the least number of ticks that takes at least `min` clocks, and the
--- greatest that takes at most `max`, for any place of the first tick.
+-- The greatest bound beside this least one. Where there is none it is one below the least, above which ages are alike.
+abbrev pub most_or : (least : ℕ) → Option ℕ → ℕ
+most_or least None = least - 1
+most_or least (Some most) = most
+
+-- the least number of ticks that takes at least so many clocks, and the greatest that takes at most so many, for any place of
+-- the first tick
+abbrev pub least_ticks : (clocks period : ℕ) → ℕ
+least_ticks clocks period = (256 * clocks + period - 1) / period
+
+abbrev pub most_ticks : (period clocks : ℕ) → ℕ
+most_ticks period clocks = 256 * clocks / period
+
+-- a span's bounds in ticks
 abbrev pub bounds_in : SpanUnit → Span → ℕ → ℕ × ℕ
-bounds_in Ticks sp period = (sp.min, sp.max)
-bounds_in Clocks sp period = ((256 * sp.min + period - 1) / period, 256 * sp.max / period)
+bounds_in Ticks sp period = (sp.min, most_or sp.min sp.max)
+bounds_in Clocks sp period =
+    (least_ticks sp.min period, most_or (least_ticks sp.min period) (option_map (most_ticks period) sp.max))
 
 -- the same of a machine
 unfoldable pub bounds_of : Span → MachineSetup → ℕ × ℕ
 bounds_of sp s = bounds_in sp.unit sp (period_of s)
+
+-- the span has a greatest bound
+abbrev pub is_bounded : Span → Bool
+is_bounded sp = is_some sp.max
 
 -- stalls at this address are left out
 abbrev pub is_named : Span → ℕ → Bool
@@ -52,6 +70,7 @@ rules_of s sp address = let bounds = bounds_of sp s in record {
   to_rise = sp.to_rise;
   min = bounds.0;
   max = bounds.1;
+  bounded = is_bounded sp;
   named = is_named sp address;
 }
 
@@ -109,6 +128,7 @@ with_end v o found w = record {
   nexts = found.nexts ++ next_of v o w ∷ [];
   causes = joined found.causes w.causes;
   from_edge = found.from_edge || w.from_edge;
+  closes = found.closes || w.closes;
 }
 
 -- the end of a course
@@ -121,11 +141,11 @@ with_outcome v found o = fold (λ t ticks. with_end v o t (end_of v ticks)) foun
 
 -- nothing is found yet
 abbrev pub nothing_found : Stepped
-nothing_found = record { nexts = []; causes = no_causes; from_edge = false }
+nothing_found = record { nexts = []; causes = no_causes; from_edge = false; closes = false }
 
 -- nothing is found but U4
 abbrev pub wild_step : Stepped
-wild_step = record { nexts = []; causes = record no_causes { u4 = true }; from_edge = false }
+wild_step = record { nexts = []; causes = record no_causes { u4 = true }; from_edge = false; closes = false }
 
 -- No address is known after a row: its instruction sets PC, or the next instruction, from data; or the machine begins with a pending
 -- word, which isn't followed.
@@ -144,7 +164,7 @@ abbrev pub machine_steps : Option MachineSetup → List ℕ → Span → Context
 machine_steps None memory sp k ages = nothing_found
 machine_steps (Some s) memory sp k ages = step_by s sp (reading_of (slice_index memory k.address) s.side_rule) k ages
 
--- The step of a row of the span's machine: the next contexts with their ages, the causes for which the row is bad, and
--- whether a from-edge comes. There is none where the machine isn't configured.
+-- The step of a row of the span's machine: the next contexts with their ages, the causes for which the row is bad, whether a
+-- from-edge comes, and whether a to-edge comes while one is open. There is none where the machine isn't configured.
 unfoldable pub context_steps : Setup → Span → Context → Ages → Stepped
 context_steps u sp k ages = machine_steps (slice_index_or u.machines sp.machine None) u.memory sp k ages

@@ -21,7 +21,7 @@ impl Ages {
         matches!(self, Ages::Between(..))
     }
 
-    /// Open ages one tick on, up to one above the most that is right.
+    /// Open ages one tick on, up to one above this.
     pub(crate) fn older(self, most: u32) -> Ages
         requires { most < 2 ^ 24 }
         ensures { result ≡ spec.older most self }

@@ -32,6 +32,8 @@ pub(crate) struct Watch {
     pub(crate) causes: Causes,
     /// A from-edge came.
     pub(crate) from_edge: bool,
+    /// A to-edge came while a from-edge of an earlier tick was open.
+    pub(crate) closes: bool,
     /// No to-edge came.
     pub(crate) passes: bool,
 }
@@ -47,6 +49,7 @@ impl Watch {
             ages,
             causes: Causes::none(),
             from_edge: false,
+            closes: false,
             passes: true,
         }
     }
@@ -133,6 +136,7 @@ impl Watch {
             ages: aged.after_edges(closes, opens),
             causes: self.causes.joined(causes),
             from_edge: self.from_edge || opens,
+            closes: self.closes || (closes && aged.is_open()),
             passes: self.passes && !closes,
         }
     }
@@ -143,9 +147,9 @@ fn tick_causes(rules: &Rules, late: bool, closes: bool, before: Ages, aged: Ages
     ensures { result ≡ spec.tick_causes rules.now late closes before aged }
 {
     Causes {
-        u1: aged.is_above(rules.max),
+        u1: rules.bounded && aged.is_above(rules.max),
         u2: closes && aged.is_below(rules.min),
-        u3: late && !rules.named && before.is_open(),
+        u3: late && rules.bounded && !rules.named && before.is_open(),
         u4: false,
     }
 }

@@ -29,7 +29,8 @@ pub fn next_contexts_do_not_depend_on_ages()
         → AreAlike (GoesLike OpenAlike) (context_steps u sp k a).nexts (context_steps u sp k b).nexts }
 {}
 
-/// Ages grow by at least one tick along a course without a to-edge, up to one above the span's most, and no further.
+/// Ages grow by at least one tick along a course without a to-edge, up to one above the span's greatest bound, and no further.
+/// Where it has none they grow up to its least one, and to 1 at least.
 pub fn ages_grow_up_to_the_cap()
     ensures grow { (u : setup.Setup) (sp : span.Span) (k : contexts.Context) (a : ages.Ages) (n : ℕ)
         → ReachesAge n a → AllReach (min n (most_of u sp) + 1) (context_steps u sp k a).nexts }
@@ -37,13 +38,14 @@ pub fn ages_grow_up_to_the_cap()
         → AllUpTo (most_of u sp + 1) (context_steps u sp k a).nexts }
 {}
 
-/// Ages at the span's most or above are bad at each row, for one and the same cause. The span's machine is configured.
+/// Ages at the greatest bound of a span that has one, or above, are bad at each row, for one and the same cause. The span's
+/// machine is configured.
 pub fn overdue_ages_are_bad()
     ensures bad { (u : setup.Setup) (sp : span.Span) (k : contexts.Context) (a : ages.Ages)
-        → IsSome (slice_index_or u.machines sp.machine None) → ReachesAge (most_of u sp) a
+        → IsSome (slice_index_or u.machines sp.machine None) → IsSome sp.max → ReachesAge (most_of u sp) a
         → IsSome (first_cause (context_steps u sp k a).causes) }
     ensures alike { (u : setup.Setup) (sp : span.Span) (k : contexts.Context) (a b : ages.Ages)
-        → IsSome (slice_index_or u.machines sp.machine None)
+        → IsSome (slice_index_or u.machines sp.machine None) → IsSome sp.max
         → ReachesAge (most_of u sp) a → ReachesAge (most_of u sp) b
         → first_cause (context_steps u sp k a).causes ≡ first_cause (context_steps u sp k b).causes }
 {}

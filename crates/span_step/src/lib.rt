@@ -23,4 +23,4 @@ pub use laws::{
     next_contexts_do_not_depend_on_ages, overdue_ages_are_bad,
 };
 pub use stepped::{Next, Nexts, Stepped};
-pub use stepping::step;
+pub use stepping::{age_cap, step};

@@ -1,17 +1,19 @@
 //! What a span asks of a row.
-ghost use Rattle.std.specs.Prelude.{◌≡◌, ◌+◌, ◌-◌, ◌*◌, ◌/◌, ◌<◌, ◌≤◌, ◌^◌};
+ghost use Rattle.std.specs.Prelude.{◌≡◌, ◌+◌, ◌-◌, ◌*◌, ◌/◌, ◌<◌, ◌≤◌, ◌^◌, IfSome};
 ghost use Rattle.span_step.specs.Steps as spec;
 
 use pin_matrix::{MachineSetup, Span, SpanUnit};
 use std::marker::Model;
 
-/// The edges, the bounds in ticks, and whether stalls at the row's address are left out. The type keeps `max` below 2^24.
+/// The edges, the bounds in ticks, whether `max` is one, and whether stalls at the row's address are left out. The type keeps
+/// `max` below 2^24.
 #[derive(Clone, Copy)]
 pub(crate) struct Rules {
     pub(crate) from_rise: bool,
     pub(crate) to_rise: bool,
     pub(crate) min: u32,
     pub(crate) max: u32,
+    pub(crate) bounded: bool,
     pub(crate) named: bool,
 }
 
@@ -26,6 +28,7 @@ impl Model for Rules {
       to_rise = r.to_rise;
       min = r.min;
       max = r.max;
+      bounded = r.bounded;
       named = r.named;
     } };
 
@@ -36,6 +39,7 @@ impl Model for Rules {
       to_rise = r.to_rise;
       min = r.min;
       max = r.max;
+      bounded = r.bounded;
       named = r.named;
     } };
 }
@@ -52,9 +56,20 @@ impl Rules {
             to_rise: span.to_rise,
             min,
             max,
+            bounded: span.max.is_some(),
             named: is_named(span, address),
         }
     }
+}
+
+/// The age at which ages stop.
+#[tactic(auto, unfolding(crate::specs::Steps::bounds_of))]
+pub(crate) fn cap_in(machine: &MachineSetup, span: &Span) -> u32
+    ensures value { result ≡ (spec.bounds_of span.now machine.now).1 + 1 }
+    ensures fits { result ≤ 2 ^ 24 }
+{
+    let (_, most) = bounds(span, machine);
+    most + 1
 }
 
 /// Whether stalls at an address are left out.
@@ -71,11 +86,29 @@ fn bounds(span: &Span, machine: &MachineSetup) -> (u32, u32)
     ensures most { result.1 < 2 ^ 24 }
 {
     match span.unit {
-        SpanUnit::Ticks => (span.min, span.max),
+        SpanUnit::Ticks => (span.min, most_or(span.min, span.max)),
         SpanUnit::Clocks => {
             let period = period(machine);
-            (least_ticks(span.min, period), most_ticks(span.max, period))
+            let least = least_ticks(span.min, period);
+            let most = match span.max {
+                Some(max) => Some(most_ticks(max, period)),
+                None => None,
+            };
+            (least, most_or(least, most))
         }
+    }
+}
+
+/// The greatest bound beside a least one, or what is in its place.
+fn most_or(least: u32, most: Option<u32>) -> u32
+    requires least { least < 2 ^ 24 }
+    requires most { IfSome most (λ m. m < 2 ^ 24) }
+    ensures value { result ≡ spec.most_or least most }
+    ensures fits { result < 2 ^ 24 }
+{
+    match most {
+        Some(most) => most,
+        None => least.saturating_sub(1),
     }
 }
 
@@ -98,7 +131,8 @@ fn least_ticks(clocks: u32, period: u64) -> u32
     requires clocks { clocks < 2 ^ 24 }
     requires least { 256 ≤ period }
     requires most { period ≤ 2 ^ 24 }
-    ensures { result ≡ (256 * clocks + period - 1) / period }
+    ensures value { result ≡ spec.least_ticks clocks period }
+    ensures most { result ≤ clocks }
 {
     ((256 * u64::from(clocks) + period - 1) / period) as u32
 }
@@ -106,7 +140,7 @@ fn least_ticks(clocks: u32, period: u64) -> u32
 /// The greatest number of ticks that takes at most so many clocks.
 fn most_ticks(clocks: u32, period: u64) -> u32
     requires { 256 ≤ period }
-    ensures value { result ≡ 256 * clocks / period }
+    ensures value { result ≡ spec.most_ticks period clocks }
     ensures most { result ≤ clocks }
 {
     (256 * u64::from(clocks) / period) as u32

@@ -58,10 +58,13 @@ impl Nexts {
     }
 }
 
-/// What a step finds: what can come next, why the row is bad, and whether a from-edge comes.
+/// What a step finds: what can come next, and why the row is bad.
 #[derive(Drop)]
 pub struct Stepped {
     pub nexts: Nexts,
     pub causes: Causes,
+    /// A from-edge comes.
     pub from_edge: bool,
+    /// A to-edge comes while a from-edge of an earlier tick is open.
+    pub closes: bool,
 }

@@ -110,6 +110,7 @@ impl Visit {
         });
         found.causes = found.causes.joined(end.causes);
         found.from_edge = found.from_edge || end.from_edge;
+        found.closes = found.closes || end.closes;
     }
 }
 

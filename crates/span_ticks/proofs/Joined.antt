@@ -16,7 +16,7 @@ use Rattle.span_step.specs.Contexts.{Context, is_placed, is_small, IsInside}
 use Rattle.span_step.specs.Outcomes.{ContextOutcome, level_at, may_stall}
 use Rattle.span_step.specs.Courses.{watched, followed, start, prompt, delayed, delay_tick, delay_ticks, over}
 use Rattle.span_step.specs.Laws.{AllPlaced}
-use Rattle.span_step.specs.Steps.{visit_of, rules_of, side_of, bounds_of, is_named, context_steps}
+use Rattle.span_step.specs.Steps.{visit_of, rules_of, side_of, bounds_of, is_bounded, is_named, context_steps}
 use Rattle.span_ticks.specs.Rows.{IsInRow, IsSoundTable}
 use Rattle.span_ticks.specs.UnderWay.{Watch, flow_of, IsContextOf, IsResting, IsBegun, IsUnderWay, op_at, rested, stalled_from}
 use Rattle.span_ticks.specs.Following.{InAges, IsFollowed, IsAged, is_late, opens}
@@ -99,7 +99,7 @@ first_stall u sp rows s q r k a w e here begun wide st stalled =
       to = ap (unwrap_or side.to) wide.to
           ∙ two_levels sp.to_pin e.level (side_level s op.side r.begun) side.to None w.to (side_to s sp op.side r.begun begun) (ap (level_at sp.to_pin) (st.level stalled) ∙ level_none sp.to_pin);
       ages = λ n i. widened_ages s sp k.address _ (start k a) w (stalled_from u sp s k a) n (sym wide.to)
-          (tick_ages s sp k.address _ (start k a) (record { late = false; from = side.from; to = side.to }) (late_is r.begun ∙ begun) clean n (inside_ages n w.ages a wide.inside i));
+          (tick_ages s sp k.address _ (start k a) (record { late = false; from = side.from; to = side.to }) (late_is r.begun ∙ begun) clean n (inside_ages (is_bounded sp) n w.ages a wide.inside i));
       fresh = λ o. tick_fresh s sp k.address (start k a) (record { late = false; from = side.from; to = side.to }) (widened_opens sp (start k a) w (stalled_from u sp s k a) wide.from o);
     }
 
@@ -130,7 +130,7 @@ first_finish u sp rows s q r k a w e here begun wide ends p =
       to = over_levels side.to o.to k.to ∙ ap (λ l. unwrap_or side.to (unwrap_or o.to l)) wide.to
           ∙ two_levels sp.to_pin e.level (side_level s op.side r.begun) side.to o.to w.to (side_to s sp op.side r.begun begun) p.explains.to;
       ages = λ n i. widened_ages s sp k.address _ (start k a) w (prompt_from u sp s k a o) n (sym wide.to)
-          (tick_ages s sp k.address _ (start k a) (record { late = false; from = over side.from o.from; to = over side.to o.to }) (late_is r.begun ∙ begun) (prompt_clean u sp rows s k a o p.holds) n (inside_ages n w.ages a wide.inside i));
+          (tick_ages s sp k.address _ (start k a) (record { late = false; from = over side.from o.from; to = over side.to o.to }) (late_is r.begun ∙ begun) (prompt_clean u sp rows s k a o p.holds) n (inside_ages (is_bounded sp) n w.ages a wide.inside i));
       fresh = λ h. tick_fresh s sp k.address (start k a) (record { late = false; from = over side.from o.from; to = over side.to o.to }) (widened_opens sp (start k a) w (prompt_from u sp s k a o) wide.from h);
     }
 
@@ -266,11 +266,11 @@ tick_followed u sp rows s v q r w known memory (inr h) =
     (subst (λ (x : Watch). IsFollowed u sp rows s h.context.address x (tick_by (op_at u s h.context.address) s q r (effect_of (op_at u s h.context.address).act s v q r))) (sym h.watch)
     (late_tick u sp rows s v q r h.context h.ages (begun_here u sp rows s r w known h) h.begun h.stalls)))
 
--- where no address is named, an open age may be one tick more
-pub ages_have_room : (u : Setup) (sp : Span) (rows : Context → Option Ages) (s : MachineSetup) (r : Registers) (w : Watch) → AreKnown u sp rows s → ((address : ℕ) → is_named sp address ≡ false)
-    → IsUnderWay u sp rows s (flow_of r) w → (n : ℕ) → InAges n w.ages → n + 1 ≤ (bounds_of sp s).1
-ages_have_room u sp rows s r w known unnamed (inl h) n i = elim (cases_lt 0 r.delay) [
-  | inl more ↦ (tick_ages s sp r.pc Delay w delay_tick refl (delay_clean sp rows s r w more h) n i).most
+-- where there is a greatest bound and no address is named, an open age may be one tick more
+pub ages_have_room : (u : Setup) (sp : Span) (rows : Context → Option Ages) (s : MachineSetup) (r : Registers) (w : Watch) → AreKnown u sp rows s → is_bounded sp ≡ true → ((address : ℕ) → is_named sp address ≡ false)
+    → IsUnderWay u sp rows s (flow_of r) w → (n : ℕ) → InAges (is_bounded sp) n w.ages → n + 1 ≤ (bounds_of sp s).1
+ages_have_room u sp rows s r w known bounded unnamed (inl h) n i = elim (cases_lt 0 r.delay) [
+  | inl more ↦ (tick_ages s sp r.pc Delay w delay_tick refl (delay_clean sp rows s r w more h) n i).most bounded
   | inr none ↦
       let left : r.delay ≡ 0 = omega arith in
       let at = resting_here u sp rows s r w known left h in
@@ -279,14 +279,14 @@ ages_have_room u sp rows s r w known unnamed (inl h) n i = elim (cases_lt 0 r.de
       let side = side_of s sp op.side in
       let one : Found (AllEnds rows (visit_of s sp op k at.0)) = found _ op.act s sp k at.1.0.known.tame at.1.0.known.ends in
       (tick_ages s sp k.address First (start k at.0) (record { late = false; from = over side.from one.outcome.from; to = over side.to one.outcome.to }) refl
-      (prompt_clean u sp rows s k at.0 one.outcome one.holds) n (inside_ages n w.ages at.0 at.1.1.inside i)).most
+      (prompt_clean u sp rows s k at.0 one.outcome one.holds) n (inside_ages (is_bounded sp) n w.ages at.0 at.1.1.inside i)).most bounded
 ]
-ages_have_room u sp rows s r w known unnamed (inr h) n i =
+ages_have_room u sp rows s r w known bounded unnamed (inr h) n i =
     let here = begun_here u sp rows s r w known h in
     let k : Context = h.context in
     let op : Op = op_at u s k.address in
     let one : Found (AllEnds rows (visit_of s sp op k h.ages)) = found _ op.act s sp k here.known.tame here.known.ends in
     let late : IsAged s sp k.address Late (stalled_from u sp s k h.ages) _ n =
     tick_ages s sp k.address Late (stalled_from u sp s k h.ages) (record { late = true; from = one.outcome.from; to = one.outcome.to }) refl
-    (late_clean u sp rows s k h.ages one.outcome h.stalls one.holds) n (subst (λ (x : Watch). InAges n x.ages) h.watch i) in
-    absurd (let x : false ≡ true = sym (unnamed k.address) ∙ late.named refl in cc)
+    (late_clean u sp rows s k h.ages one.outcome h.stalls one.holds) n (subst (λ (x : Watch). InAges (is_bounded sp) n x.ages) h.watch i) in
+    absurd (let x : false ≡ true = sym (unnamed k.address) ∙ late.named bounded refl in cc)

@@ -1,5 +1,5 @@
 -- How a tick of a machine goes on along the rows of a table.
---   InAges           a number is one of the ages
+--   InAges           a number is one of the ages, or of a span without a greatest bound at least the least of them
 --   level_after      a pin's level after writes
 --   older_by         an age after a tick
 --   IsAged           what comes of an open age in a tick
@@ -17,13 +17,14 @@ use Rattle.span_step.specs.declared.ages.Ages.TheVariants.{Empty, Between}
 use Rattle.span_step.specs.Contexts.{Context}
 use Rattle.span_step.specs.Outcomes.{level_at}
 use Rattle.span_step.specs.Courses.{is_edge}
-use Rattle.span_step.specs.Steps.{bounds_of, is_named}
+use Rattle.span_step.specs.Steps.{bounds_of, is_bounded, is_named}
 use Rattle.span_ticks.specs.UnderWay.{Watch, IsUnderWay, flow_of}
 
--- a number is one of the ages
-abbrev pub InAges : ℕ → Ages → Type 0
-InAges n Empty = ⊥
-InAges n (Between lo hi) = (lo ≤ n) × (n ≤ hi)
+-- A number is one of the ages. Of a span without a greatest bound it is at least the least of them: a wait at an address that
+-- the span doesn't name counts, and leaves the ages.
+abbrev pub InAges : (bounded : Bool) → ℕ → Ages → Type 0
+InAges bounded n Empty = ⊥
+InAges bounded n (Between lo hi) = (lo ≤ n) × (bounded ≡ true → n ≤ hi)
 
 -- a pin's level after writes, of which a later one replaces an earlier one
 abbrev pub level_after : ℕ → List (ℕ × ℕ) → Bool → Bool
@@ -48,14 +49,14 @@ closes sp before after = is_edge sp.to_rise before.to after.to
 abbrev pub opens : Span → Watch → Watch → Bool
 opens sp before after = is_edge sp.from_rise before.from after.from
 
--- What comes of an open age in a tick at an address. It stays within the span's bounds in ticks: the most in any case, and
--- the least where the to-edge comes. Where it doesn't come, the age is among those after the tick. A late tick is at an address
--- that the span names.
+-- What comes of an open age in a tick at an address. It stays within the span's bounds in ticks: the greatest in any case, if
+-- there is one, and the least where the to-edge comes. Where it doesn't come, the age is among those after the tick. Where there
+-- is a greatest bound a late tick is at an address that the span names.
 pub record IsAged (s : MachineSetup) (sp : Span) (address : ℕ) (kind : Kind) (before after : Watch) (n : ℕ) : Type 0 where
-  pub most : older_by sp address kind n ≤ (bounds_of sp s).1
+  pub most : is_bounded sp ≡ true → older_by sp address kind n ≤ (bounds_of sp s).1
   pub least : closes sp before after ≡ true → (bounds_of sp s).0 ≤ older_by sp address kind n
-  pub stays : closes sp before after ≡ false → InAges (older_by sp address kind n) after.ages
-  pub named : is_late kind ≡ true → is_named sp address ≡ true
+  pub stays : closes sp before after ≡ false → InAges (is_bounded sp) (older_by sp address kind n) after.ages
+  pub named : is_bounded sp ≡ true → is_late kind ≡ true → is_named sp address ≡ true
 
 -- What comes of a tick at an address, which leaves these registers and this intent: some watch after it, with which the
 -- machine is under way again. The pins' levels are those that the tick writes; each open age is as `IsAged` says, and a
@@ -66,5 +67,5 @@ pub record IsFollowed (u : Setup) (sp : Span) (rows : Context → Option Ages) (
   pub under_way : IsUnderWay u sp rows s (flow_of tick.0) after
   pub from : after.from ≡ level_after sp.from_pin tick.1.level before.from
   pub to : after.to ≡ level_after sp.to_pin tick.1.level before.to
-  pub ages : (n : ℕ) → InAges n before.ages → IsAged s sp address tick.1.kind before after n
-  pub fresh : opens sp before after ≡ true → InAges 0 after.ages
+  pub ages : (n : ℕ) → InAges (is_bounded sp) n before.ages → IsAged s sp address tick.1.kind before after n
+  pub fresh : opens sp before after ≡ true → InAges (is_bounded sp) 0 after.ages

@@ -1,5 +1,5 @@
 //! Laws of a machine's ticks beside a table of the timing checker, each on a function that does nothing.
-ghost use Rattle.std.specs.Prelude.{◌≡◌, ℕ, ◌+◌, ◌≤◌, ◌==◌, false, List, Option, Some, None, slice_index_or};
+ghost use Rattle.std.specs.Prelude.{◌≡◌, ℕ, ◌+◌, ◌≤◌, ◌==◌, true, false, List, Option, Some, None, slice_index_or};
 ghost use Rattle.pin_matrix.specs.Pins.{last_of};
 ghost use Rattle.pin_matrix.specs.declared.machine.MachineSetup as setup;
 ghost use Rattle.pin_matrix.specs.declared.setup.Setup as block;
@@ -11,7 +11,7 @@ ghost use Rattle.sm_registers.specs.declared.registers.Registers as registers;
 ghost use Rattle.sm_registers.specs.View as view;
 ghost use Rattle.span_step.specs.Contexts.{Context};
 ghost use Rattle.span_step.specs.Courses.{start};
-ghost use Rattle.span_step.specs.Steps.{bounds_of, is_named};
+ghost use Rattle.span_step.specs.Steps.{bounds_of, is_bounded, is_named};
 ghost use Rattle.span_step.specs.declared.ages.Ages.{Ages};
 ghost use Rattle.span_step.specs.declared.ages.Ages.TheVariants as variants;
 ghost use Rattle.span_ticks.specs.Following.{InAges, IsFollowed, level_after};
@@ -21,7 +21,8 @@ ghost use Rattle.span_ticks.specs.UnderWay.{IsContextOf, IsUnderWay, Watch, flow
 use span_step::next_contexts_are_in_range;
 
 /// A machine that is under way along the rows of a sound table is so after each tick, whatever it sees of the pins, the flags
-/// and the FIFOs. Its open ages grow as the table says and stay within the span's bounds.
+/// and the FIFOs. Its open ages grow as the table says, or more of a span without a greatest bound, and stay within the span's
+/// bounds.
 pub fn a_tick_follows_the_table()
     ensures { (u : block.Setup) (sp : span.Span) (rows : Context → Option Ages) (s : setup.MachineSetup)
         (v : view.View) (q : queues.Queues) (r : registers.Registers) (w : Watch)
@@ -32,14 +33,14 @@ pub fn a_tick_follows_the_table()
     next_contexts_are_in_range();
 }
 
-/// Where the span names no address, each open age of a machine that is under way may be one tick more: its next tick is not
-/// late, or nothing is open.
+/// Where the span has a greatest bound and names no address, each open age of a machine that is under way may be one tick more:
+/// its next tick is not late, or nothing is open.
 pub fn open_ages_have_room()
     ensures { (u : block.Setup) (sp : span.Span) (rows : Context → Option Ages) (s : setup.MachineSetup)
         (r : registers.Registers) (w : Watch)
-        → slice_index_or u.machines sp.machine None ≡ Some s → IsSoundTable u sp rows
+        → slice_index_or u.machines sp.machine None ≡ Some s → IsSoundTable u sp rows → is_bounded sp ≡ true
         → ((address : ℕ) → is_named sp address ≡ false) → IsUnderWay u sp rows s (flow_of r) w
-        → (n : ℕ) → InAges n w.ages → n + 1 ≤ (bounds_of sp s).1 }
+        → (n : ℕ) → InAges (is_bounded sp) n w.ages → n + 1 ≤ (bounds_of sp s).1 }
 {
     next_contexts_are_in_range();
 }

@@ -1,5 +1,6 @@
 -- Tests of a table, row by row.
 --   opens            a step of a row has a from-edge
+--   closes           a step of a row has a to-edge while a from-edge is open
 --   lies_in          a context has a row in which some ages lie
 --   is_right         a row isn't bad, and each of its nexts lies within a row
 use Rattle.std.specs.Prelude.{nat_le, Bool, true, false, ◌&&◌, Option, Some, None, List}
@@ -26,6 +27,14 @@ has_from_edge u sp r = (context_steps u sp r.context r.ages).from_edge
 -- a step of a row has a from-edge
 unfoldable pub opens : Setup → Span → List Row → Bool
 opens u sp rows = list_any (has_from_edge u sp) rows
+
+-- the step of a row has a to-edge while a from-edge of an earlier tick is open
+abbrev pub has_closing_edge : Setup → Span → Row → Bool
+has_closing_edge u sp r = (context_steps u sp r.context r.ages).closes
+
+-- a step of a row has such a to-edge
+unfoldable pub closes : Setup → Span → List Row → Bool
+closes u sp rows = list_any (has_closing_edge u sp) rows
 
 -- each of some ages is one of others
 abbrev pub is_inside : Ages → Ages → Bool

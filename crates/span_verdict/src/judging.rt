@@ -4,7 +4,7 @@ ghost use Rattle.span_bounds.specs.Answers.{IsAnswer};
 ghost use Rattle.span_verdict.specs.Sharing.{IsUnshared};
 ghost use Rattle.span_verdict.specs.Verdicts.{IsVerdict};
 
-use crate::opening::opens;
+use crate::opening::opens_and_closes;
 use crate::sharing::shared_by;
 use crate::verdict::Verdict;
 use pin_matrix::{Setup, Span};
@@ -33,8 +33,12 @@ fn judged(setup: &Setup, span: &Span, derived: Derived) -> Verdict
     each_entry_is_that_of_a_row();
     match derived {
         Derived::Closed(table) => {
-            let opens = opens(&table, setup, span);
-            Verdict::Proved { table, opens }
+            let (opens, closes) = opens_and_closes(&table, setup, span);
+            Verdict::Proved {
+                table,
+                opens,
+                closes,
+            }
         }
         Derived::Bad { context, cause } => Verdict::Unproved(context, cause),
     }

@@ -11,7 +11,7 @@ mod verdict;
 
 pub use flawing::flaw;
 pub use judging::judge;
-pub use opening::opens;
+pub use opening::opens_and_closes;
 pub use rechecking::is_proof;
 pub use sharing::shared_by;
 pub use table_flaw::Flaw;

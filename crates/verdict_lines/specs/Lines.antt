@@ -8,6 +8,7 @@ use Rattle.std.specs.Prelude.{ℕ, ◌++◌, Bool, true, false, Option, Some, No
 use Rattle.span_step.specs.declared.cause.Cause.{Cause}
 use Rattle.span_step.specs.declared.cause.Cause.TheVariants.{U1, U2, U3, U4}
 use Rattle.span_step.specs.Contexts.{Context}
+use Rattle.verdict_lines.specs.declared.refusal.Finding.{Finding}
 use Rattle.verdict_lines.specs.declared.refusal.Refusal.{Refusal}
 use Rattle.verdict_lines.specs.declared.refusal.Refusal.TheVariants.{Unproved, Shared}
 
@@ -25,10 +26,10 @@ level_text true = codes "1"
 abbrev pub levels_text : (from to : Bool) → List ℕ
 levels_text from to = codes " from " ++ level_text from ++ codes " to " ++ level_text to
 
--- whether a span opens
-abbrev pub opens_text : Bool → List ℕ
-opens_text false = codes "no"
-opens_text true = codes "yes"
+-- whether a span opens, or closes
+abbrev pub yes_text : Bool → List ℕ
+yes_text false = codes "no"
+yes_text true = codes "yes"
 
 -- the code of a cause
 abbrev pub cause_text : Cause → List ℕ
@@ -41,9 +42,19 @@ cause_text U4 = codes "U4"
 abbrev pub opening_line : (front name opens : List ℕ) → List ℕ
 opening_line front name opens = front ++ codes "span " ++ name ++ codes " proved opens " ++ opens ++ codes "\n"
 
+-- the same with one for whether it closes
+abbrev pub closing_line : (front name opens closes : List ℕ) → List ℕ
+closing_line front name opens closes =
+    front ++ codes "span " ++ name ++ codes " proved opens " ++ opens ++ codes " closes " ++ closes ++ codes "\n"
+
+-- the one or the other
+abbrev pub line_by : (front name opens : List ℕ) → Option Bool → List ℕ
+line_by front name opens None = opening_line front name opens
+line_by front name opens (Some closes) = closing_line front name opens (yes_text closes)
+
 -- the line of a span that is proved
-abbrev pub proved_line : (front name : List ℕ) → (opens : Bool) → List ℕ
-proved_line front name opens = opening_line front name (opens_text opens)
+abbrev pub proved_line : (front name : List ℕ) → Finding → List ℕ
+proved_line front name f = line_by front name (yes_text f.opens) f.closes
 
 -- the line of a bad context, with these words for what is known of it
 abbrev pub context_line : (front name : List ℕ) → (address : ℕ) → (x y levels cause : List ℕ) → List ℕ
@@ -67,6 +78,6 @@ refusal_line front name (Unproved context cause) = unproved_line front name cont
 refusal_line front name (Shared machine) = shared_line front name machine
 
 -- the line of a verdict
-abbrev pub verdict_line : (front name : List ℕ) → Result Bool Refusal → List ℕ
-verdict_line front name (Ok opens) = proved_line front name opens
+abbrev pub verdict_line : (front name : List ℕ) → Result Finding Refusal → List ℕ
+verdict_line front name (Ok finding) = proved_line front name finding
 verdict_line front name (Err refusal) = refusal_line front name refusal

@@ -5,4 +5,4 @@ mod line;
 mod refusal;
 
 pub use line::{put_refusal, put_verdict};
-pub use refusal::{Refusal, found_by};
+pub use refusal::{Finding, Refusal, found_by};

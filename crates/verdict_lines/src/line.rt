@@ -3,36 +3,64 @@ ghost use Rattle.std.specs.Prelude.{◌≡◌, []};
 ghost use Rattle.pio_edge.specs.Edge.{Takes, PutCounts};
 ghost use Rattle.verdict_lines.specs.Lines as spec;
 
-use crate::refusal::Refusal;
+use crate::refusal::{Finding, Refusal};
 use itoa::Buffer;
 use pio_edge::{Sink, SinkFailed, put_all};
 use pio_encode::Name;
 use span_bounds::{Cause, Context};
 
-/// Puts the line of a verdict on the span with this name: whether it opens, or why it isn't proved.
+/// Puts the line of a verdict on the span with this name: whether it opens, and closes where that is told; or why it isn't
+/// proved.
 pub fn put_verdict<S: Sink>(
     sink: &mut S,
     name: &Name,
-    found: &Result<bool, Refusal>,
+    found: &Result<Finding, Refusal>,
 ) -> Result<(), SinkFailed>
     ensures bytes { Takes (S.taken sink.old) (spec.verdict_line [] name.now found.now) (S.taken sink.new) result }
     ensures cause { PutCounts (S.faults sink.old) (S.faults sink.new) result }
 {
     match found {
-        Ok(opens) => put_proved(sink, name.as_bytes(), *opens),
+        Ok(finding) => put_proved(sink, name.as_bytes(), *finding),
         Err(refusal) => put_refusal(sink, "", name, refusal),
     }
 }
 
 /// Puts the line of a span that is proved.
-fn put_proved<S: Sink>(sink: &mut S, name: &[u8], opens: bool) -> Result<(), SinkFailed>
-    ensures bytes { Takes (S.taken sink.old) (spec.proved_line [] name.now opens) (S.taken sink.new) result }
+fn put_proved<S: Sink>(sink: &mut S, name: &[u8], finding: Finding) -> Result<(), SinkFailed>
+    ensures bytes { Takes (S.taken sink.old) (spec.proved_line [] name.now finding) (S.taken sink.new) result }
     ensures cause { PutCounts (S.faults sink.old) (S.faults sink.new) result }
 {
-    put_opening(sink, name, opens_text(opens))
+    match finding.closes {
+        None => put_opening(sink, name, yes_text(finding.opens)),
+        Some(closes) => put_closing(sink, name, yes_text(finding.opens), yes_text(closes)),
+    }
 }
 
-/// Puts the pieces of this line.
+/// Puts the pieces of the line that tells whether a span opens and closes.
+fn put_closing<S: Sink>(
+    sink: &mut S,
+    name: &[u8],
+    opens: &str,
+    closes: &str,
+) -> Result<(), SinkFailed>
+    ensures bytes { Takes (S.taken sink.old) (spec.closing_line [] name.now opens.now closes.now) (S.taken sink.new) result }
+    ensures cause { PutCounts (S.faults sink.old) (S.faults sink.new) result }
+{
+    put_all(
+        sink,
+        &[
+            "span ".as_bytes(),
+            name,
+            " proved opens ".as_bytes(),
+            opens.as_bytes(),
+            " closes ".as_bytes(),
+            closes.as_bytes(),
+            "\n".as_bytes(),
+        ],
+    )
+}
+
+/// Puts the pieces of the line that tells whether a span opens.
 fn put_opening<S: Sink>(sink: &mut S, name: &[u8], opens: &str) -> Result<(), SinkFailed>
     ensures bytes { Takes (S.taken sink.old) (spec.opening_line [] name.now opens.now) (S.taken sink.new) result }
     ensures cause { PutCounts (S.faults sink.old) (S.faults sink.new) result }
@@ -174,11 +202,11 @@ fn levels_text(from: bool, to: bool) -> &'static str
     }
 }
 
-/// Whether a span opens.
-fn opens_text(opens: bool) -> &'static str
-    ensures { result.now ≡ spec.opens_text opens }
+/// Whether a span opens, or closes.
+fn yes_text(is_so: bool) -> &'static str
+    ensures { result.now ≡ spec.yes_text is_so }
 {
-    if opens { "yes" } else { "no" }
+    if is_so { "yes" } else { "no" }
 }
 
 /// The code of a cause.

@@ -2,8 +2,18 @@
 ghost use Rattle.std.specs.Prelude.{◌≡◌};
 ghost use Rattle.verdict_lines.specs.Refusals as spec;
 
+use pin_matrix::Span;
 use span_bounds::{Cause, Context};
 use span_verdict::Verdict;
+
+/// What is told of a span that is proved.
+#[derive(Clone, Copy)]
+pub struct Finding {
+    /// Whether it opens.
+    pub opens: bool,
+    /// Whether it closes. It is told exactly where the span has no greatest bound.
+    pub closes: Option<bool>,
+}
 
 /// Why a span isn't proved.
 #[derive(Clone, Copy)]
@@ -14,14 +24,25 @@ pub enum Refusal {
     Shared(u8),
 }
 
-/// Whether a span that is proved opens, or why it isn't proved. The table is dropped.
-pub fn found_by(verdict: Verdict) -> Result<bool, Refusal>
-    ensures { result ≡ spec.found_by verdict }
+/// What is told of a span with this verdict, or why it isn't proved. The table is dropped.
+pub fn found_by(verdict: Verdict, span: &Span) -> Result<Finding, Refusal>
+    ensures { result ≡ spec.found_by span.now verdict }
 {
     match verdict {
-        Verdict::Proved { table, opens } => {
+        Verdict::Proved {
+            table,
+            opens,
+            closes,
+        } => {
             drop(table);
-            Ok(opens)
+            Ok(Finding {
+                opens,
+                closes: if span.max.is_some() {
+                    None
+                } else {
+                    Some(closes)
+                },
+            })
         }
         Verdict::Unproved(context, cause) => Err(Refusal::Unproved(context, cause)),
         Verdict::Shared(machine) => Err(Refusal::Shared(machine)),

@@ -1,0 +1,346 @@
+-- The fourth sweep keeps what it says of its rows.
+use Rattle.std.proofs.Common.{◌≡◌, ◌≢◌, ℕ, ◌+◌, ◌<◌, ◌≤◌, ◌⊎◌, Bool, true, false, MatchBool, List, [], ◌∷◌, length, get_or, take, sum_by, refl, sym, ap, ◌∙◌, subst, inl, inr, arith}
+use Rattle.std.proofs.Math.ListN.{set}
+use Rattle.std.proofs.lemmas.List.{length-set, take_more, take_all}
+use Rattle.std.proofs.lemmas.List.Sums.{sum_by_push}
+use Rattle.pin_matrix.specs.declared.setup.Setup.{Setup}
+use Rattle.pin_matrix.specs.declared.span.Span.{Span}
+use Rattle.span_step.specs.declared.ages.Ages.{Ages}
+use Rattle.span_step.specs.declared.ages.Ages.TheVariants.{Empty, Between}
+use Rattle.span_step.specs.declared.stepped.Next.{Next}
+use Rattle.span_step.specs.Laws.{AreUpTo, cap_of}
+use Rattle.span_bounds.specs.declared.entry.Entry.{Entry}
+use Rattle.span_bounds.specs.declared.entry.Entry.TheVariants.{Absent, Present}
+use Rattle.span_bounds.specs.Tables.{LiesAt}
+use Rattle.span_bounds.specs.Edges.{at, nexts_at, spot, EachNext, AllLie, IsClosedAt, Among}
+use Rattle.span_bounds.specs.Reach.{IsHeldBy, AreHeld}
+use Rattle.span_bounds.specs.Sums.{one_if, open_at, join_into}
+use Rattle.span_bounds.specs.Queues.{IsMore}
+use Rattle.span_bounds.specs.Take.{IsFresh, IsTaken, IsSettled, ages_or_none}
+use Rattle.span_bounds.specs.Settle.{lies, one_waiting, slack, ease_left, Eased, BegunAt, Settle, SettleRow, Begun, IsBegun, IsSettling, SettlesRow}
+use Rattle.span_bounds.proofs.Nexts.{EachNext-at, EachNext-more, same_or_not}
+use Rattle.span_bounds.proofs.Reaching.{at_same, at_other}
+use Rattle.span_bounds.proofs.Joins.{joined_at, lies_at_join, lies_still, closed_lies}
+use Rattle.span_bounds.proofs.Takes.{all_still}
+use Rattle.span_bounds.proofs.Filled.{capped}
+use Rattle.span_bounds.proofs.Slack.{lies_from, table_slack, more_wait, fewer_wait, all_wait, length_front}
+use Rattle.span_bounds.proofs.Capped.{IsFresh-join, reach_holds, left_capped}
+
+clash : {b : Bool} → b ≡ true → b ≡ false → ⊥
+clash p q = cc
+
+below_or : (i n : ℕ) → i < n + 1 → (i < n) ⊎ (i ≡ n)
+below_or i n l = elim (same_or_not i n) [ inl e ↦ inr e | inr d ↦ inl (omega arith) ]
+
+waiting_more : (l : List Entry) (n : ℕ) → n < length l → sum_by one_waiting (take (n + 1) l) ≡ sum_by one_waiting (take n l) + one_waiting (at l n)
+waiting_more l n i = rw (take_more l n Absent i) (sum_by_push one_waiting (take n l) (at l n))
+
+-- before the sweep no row was looked at
+pub Begun-starts : (u : Setup) (sp : Span) (l x : List Entry) (w : List ℕ) (t : IsTaken u sp l x) → w ≡ [] → Begun u sp t.reach l x w 0
+Begun-starts u sp l x w t e = rw e (record { keeps = t.keeps; near = λ i h. absurd h; queued = λ i m o. absurd (omega arith); done = t.done; there = λ i m o. there i m o (at l i) refl; few = omega arith }) where
+  there : (i : ℕ) → i < 139392 → open_at (at l i) ≡ true → (e : Entry) → at l i ≡ e → LiesAt Empty (at x i)
+  there i m o Absent q = absurd (clash o (rw q refl))
+  there i m o (Present c) q = t.keeps.rows i c m (sym (t.left.left i m o) ∙ q)
+
+-- one row more
+pub Begun-step : (u : Setup) (sp : Span) (l x x0 x' : List Entry) (w w' : List ℕ) (n : ℕ) (t : IsTaken u sp l x0) → n < 139392 → Begun u sp t.reach l x w n → BegunAt (cap_of u sp) n l x x' w w' → Begun u sp t.reach l x' w' (n + 1)
+Begun-step u sp l x x0 x' w w' n t b s h = on (open_at (at l n)) refl h where
+  inside_l : n < length l
+  inside_l = rw t.left.size b
+
+  inside_x : n < length x
+  inside_x = rw s.keeps.under.size b
+
+  held_there : (e : Entry) → at l n ≡ e → open_at e ≡ true → IsHeldBy (Between (cap_of u sp) (cap_of u sp)) (at t.reach n)
+  held_there Absent q o = absurd (clash o refl)
+  held_there (Present c) q o = rw (sym (t.left.left n b (rw q o)) ∙ q) (λ y. o)
+
+  one_more : (z : Bool) → open_at (at l n) ≡ z → sum_by one_waiting (take (n + 1) l) ≡ sum_by one_waiting (take n l) + one_if z
+  one_more z q = waiting_more l n inside_l ∙ ap (λ y. sum_by one_waiting (take n l) + one_if y) q
+
+  on : (z : Bool) → open_at (at l n) ≡ z → MatchBool z ((x' ≡ joined_at x n (Between (cap_of u sp) (cap_of u sp))) × IsMore n w w') ((x' ≡ x) × (w' ≡ w)) → Begun u sp t.reach l x' w' (n + 1)
+  on true o r = rw r.0 (record {
+    keeps = IsFresh-join u sp t.reach x n (Between (cap_of u sp) (cap_of u sp)) b s.keeps (λ f c. left_capped u sp l x0 t f c n b o) (held_there (at l n) refl o);
+    near = λ i k. elim (r.1.of_these i k) [ inl e ↦ rw e b | inr m ↦ s.near i m ];
+    queued = λ i m p. elim (below_or i n m) [ inl k ↦ r.1.all i (inr (s.queued i k p)) | inr e ↦ r.1.all i (inl e) ];
+    done = λ i a m p q. done i a m p q (same_or_not i n);
+    there = λ i m p. lies_still x n (Between (cap_of u sp) (cap_of u sp)) Empty i inside_x (s.there i m p);
+    few = omega (arith, s.few, one_more true o, r.1.size);
+  }) where
+    done : (i : ℕ) (a : Ages) → i < 139392 → open_at (at l i) ≡ false → at (joined_at x n (Between (cap_of u sp) (cap_of u sp))) i ≡ Present a → (i ≡ n) ⊎ (i ≢ n) → AllLie (at (joined_at x n (Between (cap_of u sp) (cap_of u sp)))) (nexts_at u sp i a)
+    done i a m p q (inl e) = absurd (clash o (rw e at p))
+    done i a m p q (inr d) = all_still x n (Between (cap_of u sp) (cap_of u sp)) _ inside_x (s.done i a m p (rw (at_other x n i (Present (join_into (Between (cap_of u sp) (cap_of u sp)) (at x n))) d) at q))
+  on false o r = rw (r.0, r.1) (record {
+    keeps = s.keeps;
+    near = s.near;
+    queued = λ i m p. elim (below_or i n m) [ inl k ↦ s.queued i k p | inr e ↦ absurd (clash p (rw (← e) at o)) ];
+    done = s.done;
+    there = s.there;
+    few = omega (arith, s.few, one_more false o);
+  })
+
+-- each row was looked at: those that are left wait
+pub Begun-ends : (u : Setup) (sp : Span) (l x x0 : List Entry) (w : List ℕ) (t : IsTaken u sp l x0) → Begun u sp t.reach l x w 139392 → IsSettling u sp l x w
+Begun-ends u sp l x x0 w t s = record {
+  reach = t.reach;
+  reached = t.reached;
+  settle = record {
+    keeps = s.keeps;
+    size = t.left.size;
+    near = s.near;
+    queued = s.queued;
+    done = s.done;
+    there = s.there;
+    few = let all : take 139392 l ≡ l = take_all 139392 l (rw t.left.size (omega arith)) in rw all at s.few;
+  };
+}
+
+-- fewer wait than there is room for
+pub settle_room : (u : Setup) (sp : Span) (l x : List Entry) (w : List ℕ) → IsSettling u sp l x w → length w ≤ 139392
+settle_room u sp l x w t = omega (arith, t.settle.few, all_wait l, t.settle.size)
+
+-- a number is taken from the end
+pub IsSettling-pop : (u : Setup) (sp : Span) (l x : List Entry) (w w' : List ℕ) (i : ℕ) → IsMore i w' w → IsSettling u sp l x w → IsSettling u sp l x (i ∷ w')
+IsSettling-pop u sp l x w w' i e t = record {
+  reach = t.reach;
+  reached = t.reached;
+  settle = record {
+    keeps = s.keeps;
+    size = s.size;
+    near = λ j h. s.near j (e.all j h);
+    queued = λ j c o. e.of_these j (s.queued j c o);
+    done = s.done;
+    there = s.there;
+    few = omega (arith, s.few, e.size);
+  };
+} where
+  s : Settle u sp t.reach l x w
+  s = t.settle
+
+-- a number that doesn't wait is passed by
+pub IsSettling-skip : (u : Setup) (sp : Span) (l x : List Entry) (w : List ℕ) (i : ℕ) → open_at (at l i) ≡ false → IsSettling u sp l x (i ∷ w) → IsSettling u sp l x w
+IsSettling-skip u sp l x w i q t = record {
+  reach = t.reach;
+  reached = t.reached;
+  settle = record {
+    keeps = s.keeps;
+    size = s.size;
+    near = λ j h. s.near j (inr h);
+    queued = λ j c o. elim (s.queued j c o) [ inl e ↦ absurd (clash o (rw (← e) at q)) | inr h ↦ h ];
+    done = s.done;
+    there = s.there;
+    few = omega (arith, s.few);
+  };
+} where
+  s : Settle u sp t.reach l x (i ∷ w)
+  s = t.settle
+
+-- the row of a number begins to be looked at
+pub SettlesRow-begins : (u : Setup) (sp : Span) (l l' x : List Entry) (w : List ℕ) (i : ℕ) (a : Ages) → i < 139392 → open_at (at l i) ≡ true → l' ≡ set l i Absent → at x i ≡ Present a → IsSettling u sp l x (i ∷ w) → SettlesRow u sp l' x w i a []
+SettlesRow-begins u sp l l' x w i a b o e own t = rw e (record {
+  reach = t.reach;
+  reached = t.reached;
+  row = record {
+    keeps = s.keeps;
+    size = length-set l i Absent ∙ s.size;
+    near = λ j h. s.near j (inr h);
+    queued = λ j c p. queued j c p (same_or_not j i);
+    finished = λ j c m p d q. s.done j c m (rw (at_other l i j Absent d) at p) q;
+    own = inl own;
+    held = tt;
+    needed = λ f c. rw own at (s.keeps.under.least f c i b);
+    reached = rw own at (s.keeps.under.within i b);
+    there = λ j m p. there j m p (same_or_not j i);
+    few = omega (arith, s.few, fewer_wait l i inside o);
+  };
+}) where
+  s : Settle u sp t.reach l x (i ∷ w)
+  s = t.settle
+
+  inside : i < length l
+  inside = rw s.size b
+
+  there : (j : ℕ) → j < 139392 → open_at (at (set l i Absent) j) ≡ true → (j ≡ i) ⊎ (j ≢ i) → LiesAt Empty (at x j)
+  there j c p (inl d) = absurd (clash p (rw (d, at_same l i Absent inside) refl))
+  there j c p (inr d) = s.there j c (rw (at_other l i j Absent d) at p)
+
+  queued : (j : ℕ) → j < 139392 → open_at (at (set l i Absent) j) ≡ true → (j ≡ i) ⊎ (j ≢ i) → Among j w
+  queued j c p (inl d) = absurd (clash p (rw (d, at_same l i Absent inside) refl))
+  queued j c p (inr d) = elim (s.queued j c (rw (at_other l i j Absent d) at p)) [ inl k ↦ absurd (d k) | inr h ↦ h ]
+
+-- a row that waits has these ages
+pub waiting_ages : (u : Setup) (sp : Span) (l x : List Entry) (w : List ℕ) (i : ℕ) (a : Ages) → i < 139392 → IsSettling u sp l x w → open_at (at l i) ≡ true → a ≡ ages_or_none (at x i) → at x i ≡ Present a
+waiting_ages u sp l x w i a b t o e = by (at x i) (t.settle.there i b o) ∙ ap Present (sym e) where
+  by : (g : Entry) → LiesAt Empty g → g ≡ Present (ages_or_none g)
+  by Absent k = absurd k
+  by (Present c) k = refl
+
+-- rows are looked at in order, as the code has it
+pub IsBegun-step : (u : Setup) (sp : Span) (l x x' : List Entry) (w w' : List ℕ) (n : ℕ) → n < 139392 → IsBegun u sp l x w n → BegunAt (cap_of u sp) n l x x' w w' → IsBegun u sp l x' w' (n + 1)
+IsBegun-step u sp l x x' w w' n b t h = record { table = t.table; taken = t.taken; begun = Begun-step u sp l x t.table x' w w' n t.taken b t.begun h }
+
+pub begun_room : (u : Setup) (sp : Span) (l x : List Entry) (w : List ℕ) (n : ℕ) → IsBegun u sp l x w n → length w ≤ n
+begun_room u sp l x w n t = omega (arith, t.begun.few, all_wait (take n l), length_front n l)
+
+-- one next more, as the code has it
+pub SettlesRow-step : (u : Setup) (sp : Span) (l l' x x' : List Entry) (w w' : List ℕ) (i : ℕ) (a : Ages) (items : List Next) (k : ℕ) (n : Next) → items ≡ nexts_at u sp i a → k < length items → n ≡ get_or items k n → spot n < 139392 → i < 139392 →
+    SettlesRow u sp l x w i a (take k items) → Eased n x x' l l' w w' → SettlesRow u sp l' x' w' i a (take (k + 1) items)
+SettlesRow-step u sp l l' x x' w w' i a items k n ie lk q b bi t r = on (lies n.ages (at x p)) refl r where
+  p : ℕ
+  p = spot n
+
+  s : SettleRow u sp t.reach l x w i a (take k items)
+  s = t.row
+
+  inside_x : spot n < length x
+  inside_x = rw s.keeps.under.size b
+
+  inside_l : spot n < length l
+  inside_l = rw s.size b
+
+  needed : (f : ℕ → Entry) → IsClosedAt u sp f → LiesAt n.ages (f (spot n))
+  needed f c = subst (λ y. LiesAt y.ages (f (spot y))) (sym q) (EachNext-at (λ y. LiesAt y.ages (f (spot y))) items k n (subst (AllLie f) (sym ie) (closed_lies u sp f i a bi c (s.needed f c))) lk)
+
+  held_there : IsHeldBy n.ages (at t.reach (spot n))
+  held_there = subst (λ y. IsHeldBy y.ages (at t.reach (spot y))) (sym q) (EachNext-at (λ y. IsHeldBy y.ages (at t.reach (spot y))) items k n (subst (AreHeld (at t.reach)) (sym ie) (reach_holds u sp t.reach i a t.reached bi s.reached)) lk)
+
+  x1 : List Entry
+  x1 = joined_at x (spot n) n.ages
+
+  keeps1 : IsFresh u sp t.reach (joined_at x (spot n) n.ages)
+  keeps1 = IsFresh-join u sp t.reach x (spot n) n.ages b s.keeps needed held_there
+
+  held1 : AllLie (at (joined_at x (spot n) n.ages)) (take (k + 1) items)
+  held1 = EachNext-more (λ y. LiesAt y.ages (at (joined_at x (spot n) n.ages) (spot y))) items k n lk (all_still x (spot n) n.ages _ inside_x s.held) (subst (λ y. LiesAt y.ages (at (joined_at x (spot n) n.ages) (spot y))) q (lies_at_join x (spot n) n.ages inside_x))
+
+  other_row : (j : ℕ) (c : Ages) → j ≢ spot n → at (joined_at x (spot n) n.ages) j ≡ Present c → at x j ≡ Present c
+  other_row j c d e = rw (at_other x (spot n) j (Present (join_into n.ages (at x (spot n)))) d) at e
+
+  -- once the row of the next waits
+  joined : (m : List Entry) (v : List ℕ) → length m ≡ 139392 → open_at (at m (spot n)) ≡ true → ((j : ℕ) → j ≢ spot n → at m j ≡ at l j) → ((j : ℕ) → Among j v → j < 139392) → ((j : ℕ) → j < 139392 → open_at (at m j) ≡ true → Among j v) → length v ≤ sum_by one_waiting m → SettlesRow u sp m (joined_at x (spot n) n.ages) v i a (take (k + 1) items)
+  joined m v size o same near queued few = record {
+    reach = t.reach;
+    reached = t.reached;
+    row = record {
+      keeps = keeps1;
+      size = size;
+      near = near;
+      queued = queued;
+      finished = λ j c e f d g. finished j c e f d g (same_or_not j (spot n));
+      own = own (same_or_not i (spot n)) s.own;
+      held = held1;
+      needed = s.needed;
+      reached = s.reached;
+      there = λ j m o. there j m o (same_or_not j (spot n));
+      few = few;
+    };
+  } where
+    there : (j : ℕ) → j < 139392 → open_at (at m j) ≡ true → (j ≡ spot n) ⊎ (j ≢ spot n) → LiesAt Empty (at (joined_at x (spot n) n.ages) j)
+    there j c e (inl h) = rw (h, at_same x (spot n) (Present (join_into n.ages (at x (spot n)))) inside_x) tt
+    there j c e (inr h) = lies_still x (spot n) n.ages Empty j inside_x (s.there j c (rw (same j h) at e))
+
+    finished : (j : ℕ) (c : Ages) → j < 139392 → open_at (at m j) ≡ false → (j ≡ i → ⊥) → at (joined_at x (spot n) n.ages) j ≡ Present c → (j ≡ spot n) ⊎ (j ≢ spot n) → AllLie (at (joined_at x (spot n) n.ages)) (nexts_at u sp j c)
+    finished j c e f d g (inl h) = absurd (clash o (rw h at f))
+    finished j c e f d g (inr h) = all_still x (spot n) n.ages _ inside_x (s.finished j c e (rw (same j h) at f) d (other_row j c h g))
+
+    own : (i ≡ spot n) ⊎ (i ≢ spot n) → (at x i ≡ Present a) ⊎ (open_at (at l i) ≡ true) → (at (joined_at x (spot n) n.ages) i ≡ Present a) ⊎ (open_at (at m i) ≡ true)
+    own (inl h) y = inr (rw h o)
+    own (inr h) (inl y) = inl (at_other x (spot n) i (Present (join_into n.ages (at x (spot n)))) h ∙ y)
+    own (inr h) (inr y) = inr (rw (same i h) y)
+
+  on : (z : Bool) → lies n.ages (at x (spot n)) ≡ z → MatchBool z ((x' ≡ x) × ((l' ≡ l) × (w' ≡ w))) ((x' ≡ joined_at x (spot n) n.ages) × MatchBool (open_at (at l (spot n))) ((l' ≡ l) × (w' ≡ w)) ((l' ≡ set l (spot n) (Present (Between 0 0))) × IsMore (spot n) w w')) → SettlesRow u sp l' x' w' i a (take (k + 1) items)
+  on true z v = rw (v.0, v.1.0, v.1.1) (record {
+    reach = t.reach;
+    reached = t.reached;
+    row = record {
+      keeps = s.keeps;
+      size = s.size;
+      near = s.near;
+      queued = s.queued;
+      finished = s.finished;
+      own = s.own;
+      held = EachNext-more (λ y. LiesAt y.ages (at x (spot y))) items k n lk s.held (subst (λ y. LiesAt y.ages (at x (spot y))) q (lies_from n.ages (at x (spot n)) z));
+      needed = s.needed;
+      reached = s.reached;
+      there = s.there;
+      few = s.few;
+    };
+  })
+  on false z v = by (open_at (at l (spot n))) refl v.1 where
+    by : (y : Bool) → open_at (at l (spot n)) ≡ y → MatchBool y ((l' ≡ l) × (w' ≡ w)) ((l' ≡ set l (spot n) (Present (Between 0 0))) × IsMore (spot n) w w') → SettlesRow u sp l' x' w' i a (take (k + 1) items)
+    by true y c = rw (v.0, c.0, c.1) (joined l w s.size y (λ j d. refl) s.near s.queued s.few)
+    by false y c = rw (v.0, c.0) (joined (set l (spot n) (Present (Between 0 0))) w'
+        (length-set l (spot n) (Present (Between 0 0)) ∙ s.size)
+        (rw (at_same l (spot n) (Present (Between 0 0)) inside_l) refl)
+        (λ j d. at_other l (spot n) j (Present (Between 0 0)) d)
+        (λ j h. elim (c.1.of_these j h) [ inl e ↦ rw e b | inr m ↦ s.near j m ])
+        (λ j m o. queued j m o (same_or_not j (spot n)))
+        (omega (arith, s.few, more_wait l (spot n) inside_l y, c.1.size))) where
+          queued : (j : ℕ) → j < 139392 → open_at (at (set l (spot n) (Present (Between 0 0))) j) ≡ true → (j ≡ spot n) ⊎ (j ≢ spot n) → Among j w'
+          queued j m o (inl e) = c.1.all j (inl e)
+          queued j m o (inr d) = c.1.all j (inr (s.queued j m (rw (at_other l (spot n) j (Present (Between 0 0)) d) at o)))
+
+-- all nexts are done
+pub SettlesRow-ends : (u : Setup) (sp : Span) (l x : List Entry) (w : List ℕ) (i : ℕ) (a : Ages) → SettlesRow u sp l x w i a (nexts_at u sp i a) → IsSettling u sp l x w
+SettlesRow-ends u sp l x w i a t = record {
+  reach = t.reach;
+  reached = t.reached;
+  settle = record {
+    keeps = s.keeps;
+    size = s.size;
+    near = s.near;
+    queued = s.queued;
+    done = λ j c m o e. done j c m o e (same_or_not j i) s.own;
+    there = s.there;
+    few = s.few;
+  };
+} where
+  s : SettleRow u sp t.reach l x w i a (nexts_at u sp i a)
+  s = t.row
+
+  done : (j : ℕ) (c : Ages) → j < 139392 → open_at (at l j) ≡ false → at x j ≡ Present c → (j ≡ i) ⊎ (j ≢ i) → (at x i ≡ Present a) ⊎ (open_at (at l i) ≡ true) → AllLie (at x) (nexts_at u sp j c)
+  done j c m o e (inr d) y = s.finished j c m o d e
+  done j c m o e (inl d) (inr y) = absurd (clash y (rw d at o))
+  done j c m o e (inl d) (inl y) =
+      let e' : at x i ≡ Present c = rw d at e in
+      let same : a ≡ c = cc in rw (d, ← same) s.held
+
+-- room for one more while a row is looked at
+pub row_room : (u : Setup) (sp : Span) (l x : List Entry) (w : List ℕ) (i : ℕ) (a : Ages) (done : List Next) → SettlesRow u sp l x w i a done → length w ≤ 139392
+row_room u sp l x w i a done t = omega (arith, t.row.few, all_wait l, t.row.size)
+
+-- an eased next leaves no more to do
+pub work_eased : (u : Setup) (sp : Span) (i : ℕ) (a : Ages) (items : List Next) (k : ℕ) (n : Next) (x x' l l' : List Entry) (w w' : List ℕ) → items ≡ nexts_at u sp i a → k < length items → n ≡ get_or items k n → spot n < length x → Eased n x x' l l' w w' → ease_left (cap_of u sp) x' w' ≤ ease_left (cap_of u sp) x w
+work_eased u sp i a items k n x x' l l' w w' ie lk q b r = on (lies n.ages (at x (spot n))) refl r where
+  up : AreUpTo (cap_of u sp) n.ages
+  up = subst (λ y. AreUpTo (cap_of u sp) y.ages) (sym q) (EachNext-at (λ y. AreUpTo (cap_of u sp) y.ages) items k n (subst (EachNext (λ m. AreUpTo (cap_of u sp) m.ages)) (sym ie) (capped u sp i a)) lk)
+
+  on : (z : Bool) → lies n.ages (at x (spot n)) ≡ z → MatchBool z ((x' ≡ x) × ((l' ≡ l) × (w' ≡ w))) ((x' ≡ joined_at x (spot n) n.ages) × MatchBool (open_at (at l (spot n))) ((l' ≡ l) × (w' ≡ w)) ((l' ≡ set l (spot n) (Present (Between 0 0))) × IsMore (spot n) w w')) → ease_left (cap_of u sp) x' w' ≤ ease_left (cap_of u sp) x w
+  on true z v = rw (v.0, v.1.1) (omega arith)
+  on false z v = by (open_at (at l (spot n))) v.1 where
+    less : sum_by (slack (cap_of u sp)) (joined_at x (spot n) n.ages) + 1 ≤ sum_by (slack (cap_of u sp)) x
+    less = table_slack (cap_of u sp) x (spot n) n.ages b up z
+
+    by : (y : Bool) → MatchBool y ((l' ≡ l) × (w' ≡ w)) ((l' ≡ set l (spot n) (Present (Between 0 0))) × IsMore (spot n) w w') → ease_left (cap_of u sp) x' w' ≤ ease_left (cap_of u sp) x w
+    by true c = rw (v.0, c.1) (omega (arith, less))
+    by false c = rw v.0 (omega (arith, less, c.1.size))
+
+-- nothing waits any more: no row is left
+pub IsSettled-ends : (u : Setup) (sp : Span) (l x : List Entry) (w : List ℕ) → w ≡ [] → IsSettling u sp l x w → IsSettled u sp l x
+IsSettled-ends u sp l x w none t = record {
+  taken = record {
+    reach = t.reach;
+    reached = t.reached;
+    keeps = s.keeps;
+    left = record { size = s.size; left = λ i m o. absurd (nobody i m o) };
+    stays = λ i b m o. absurd (nobody i m o);
+    blocked = λ i m o. absurd (nobody i m o);
+    done = s.done;
+  };
+  bounded = λ i m o. absurd (nobody i m o);
+} where
+  s : Settle u sp t.reach l x w
+  s = t.settle
+
+  nobody : (i : ℕ) → i < 139392 → open_at (at l i) ≡ true → ⊥
+  nobody i m o = let h : Among i [] = rw none at (s.queued i m o) in h
