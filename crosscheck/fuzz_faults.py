@@ -49,7 +49,7 @@ def stages(files, asked, name):
     return {
         SOURCE: [["asm", SOURCE]],
         CONFIG: [["shares", *ask], ["check", *ask], ["table", *ask, "--span", name]],
-        STIMULUS: [["measure", *observe], ["receive", *observe, *line], ["run", *observe]],
+        STIMULUS: [["measure", *observe], ["receive", *observe, *line], ["inspect", *observe], ["run", *observe]],
     }
 
 

@@ -3,6 +3,7 @@
 import random
 
 import fuzz_models as models
+import inside_model
 import observers_model
 from fuzz_calls import Violation
 from fuzz_checks import block_words, changes, check, need, pair_words, run_words, same, without_spans
@@ -109,6 +110,27 @@ def stepped(program, files, asked):
 
 
 @check(SOURCE)
+def inside(program, files, asked):
+    """What `inspect` writes is the model's text, and without what is inside it is the trace.
+
+    Why: both are told of the same clocks; the values inside are those of the state that stepping the block by the rules gives ("What is
+    inside", "The promises").
+    """
+    block, bare = models.Block(files[SOURCE], files.get(CONFIG)), without_spans(files)
+    clocks, lines = min(asked["clocks"], 200), models.lines_of(files.get(STIMULUS, b""))
+    program.take(bare)
+    ran = program.call(*run_words(bare, clocks))
+    program.take(files)
+    if ran.status != 0:
+        return False
+    told = program.call("inspect", *block_words(files, STIMULUS), "--clocks", str(clocks))
+    wanted = inside_model.text(block.memory, block.setups, block.pins, lines, clocks).encode()
+    same(told, told._replace(status=0, out=wanted, err=b""), "what is inside isn't the model's")
+    need(inside_model.without_inside(told.out.decode()).encode() == ran.out, "what inspect traces isn't what run does", told, ran)
+    return True
+
+
+@check(SOURCE)
 def memory(program, files, asked):
     """A long run takes no more memory than a short one, but for a little.
 
@@ -117,7 +139,7 @@ def memory(program, files, asked):
     files = without_spans(files)
     program.take(files)
     observe = block_words(files, STIMULUS)
-    others = [["measure", *observe], ["receive", *observe, "--pin", str(asked["pin"]), "--bit", "2"]]
+    others = [["measure", *observe], ["inspect", *observe], ["receive", *observe, "--pin", str(asked["pin"]), "--bit", "2"]]
     others += [["gen", "--seed", str(asked["seed"])]]
     for words in (["run", *observe], others[asked["place"] % len(others)]):
         enough = next((room for room in ROOMS if program.within(room, *words, "--clocks", "100") == 0), None)
