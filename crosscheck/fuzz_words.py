@@ -10,6 +10,7 @@ FORMS = {
     "asm": [],
     "dis": ["--side", "--opt"],
     "run": ["--source", "--config", "--stimulus", "--clocks"],
+    "inspect": ["--source", "--config", "--stimulus", "--clocks"],
     "check": ["--source", "--config"],
     "measure": ["--source", "--config", "--stimulus", "--clocks"],
     "receive": ["--source", "--config", "--stimulus", "--clocks", "--pin", "--bit"],

@@ -4,6 +4,8 @@ pub mod ClockLaws
 pub mod Digits
 pub mod FormLaws
 pub mod HeaderLaws
+pub mod InsideLaws
+pub mod InsideSame
 pub mod RoomLaws
 pub mod SilenceLaws
 pub mod TextLaws

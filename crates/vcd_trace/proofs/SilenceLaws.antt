@@ -108,16 +108,16 @@ changes_over-some more a b h k differ none =
     cc
 
 -- a join that is empty has empty parts
-first_none : (x y : List ℕ) → x ++ y ≡ [] → x ≡ []
+pub first_none : (x y : List ℕ) → x ++ y ≡ [] → x ≡ []
 first_none [] y h = refl
 first_none (a ∷ x) y h = cc
 
-last_none : (x y : List ℕ) → x ++ y ≡ [] → y ≡ []
+pub last_none : (x y : List ℕ) → x ++ y ≡ [] → y ≡ []
 last_none [] y h = h
 last_none (a ∷ x) y h = cc
 
 -- one of two is false
-one_false : (x y : Bool) → (x && y) ≡ false → (x ≡ true → y ≡ false)
+pub one_false : (x y : Bool) → (x && y) ≡ false → (x ≡ true → y ≡ false)
 one_false true y h e = h
 one_false false y h e = cc
 

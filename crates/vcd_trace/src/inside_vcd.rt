@@ -178,7 +178,7 @@ fn put_end<S: Sink>(sink: &mut S, clock: u64, last: &Option<Inside>) -> Result<(
 // Whether the same is inside.
 #[inline(always)]
 fn is_same_inside(before: &Inside, now: &Inside) -> bool
-    ensures same { result ≡ same_inside before.now now.now }
+    ensures { result ≡ same_inside before.now now.now }
 {
     *before == *now
 }

@@ -7,7 +7,7 @@ use block_core::MachineInside;
 /// The values of more than one bit, in the order of their identifiers.
 #[inline(always)]
 pub(crate) fn words_of(machine: &MachineInside) -> [u32; 8]
-    ensures values { result ≡ spec.words_of machine.now }
+    ensures { result ≡ spec.words_of machine.now }
 {
     [
         u32::from(machine.pc),

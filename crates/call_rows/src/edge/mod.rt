@@ -1,4 +1,5 @@
 //! Rows of shelves and sinks, of words, and of traces.
+mod insides;
 mod lent;
 mod pairs;
 mod samples;
@@ -8,6 +9,7 @@ mod traces;
 mod words;
 mod writers;
 
+use insides::tell_insides;
 use pairs::tell_pairs;
 use shelves::{tell_file, tell_shelf, tell_unread};
 use sinks::{tell_memory_sink, tell_sure_sink};
@@ -80,15 +82,18 @@ pub enum EdgeBlockKind {
     Trace,
     /// The trace of two blocks.
     Pairs,
+    /// The trace of what is inside a block.
+    Insides,
     /// A list of samples.
     List,
 }
 
 /// The kinds of blocks with their names.
-pub static EDGE_BLOCK_KINDS: [(&str, EdgeBlockKind); 4] = [
+pub static EDGE_BLOCK_KINDS: [(&str, EdgeBlockKind); 5] = [
     ("shelves in memory", EdgeBlockKind::Shelf),
     ("traces", EdgeBlockKind::Trace),
     ("traces of pairs", EdgeBlockKind::Pairs),
+    ("traces of what is inside", EdgeBlockKind::Insides),
     ("lists of samples", EdgeBlockKind::List),
 ];
 
@@ -139,6 +144,7 @@ pub fn tell_edge_block(
         EdgeBlockKind::Shelf => tell_shelf(alloc, lines, expected, seen),
         EdgeBlockKind::Trace => tell_trace(alloc, lines, expected, seen),
         EdgeBlockKind::Pairs => tell_pairs(alloc, lines, expected, seen),
+        EdgeBlockKind::Insides => tell_insides(alloc, lines, expected, seen),
         EdgeBlockKind::List => tell_list(alloc, lines, expected, seen),
     }
 }

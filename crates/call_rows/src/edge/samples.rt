@@ -59,11 +59,13 @@ fn take(sample: &mut Sample, key: &str, value: &str) -> Option<()> {
     Some(())
 }
 
-fn number(digits: &str) -> Option<u32> {
+/// A number in hexadecimal digits.
+pub fn number(digits: &str) -> Option<u32> {
     u32::from_str_radix(digits, 16).ok()
 }
 
-fn small(digits: &str) -> Option<u8> {
+/// A small one.
+pub fn small(digits: &str) -> Option<u8> {
     u8::from_str_radix(digits, 16).ok()
 }
 
@@ -119,7 +121,7 @@ fn is_known(line: &str) -> bool {
     let (head, _) = line.split_once(' ').unwrap_or((line, ""));
     match head {
         ">" | "v" | "dump" | "end" | "lines" | "fails" | "bytes" | "lent" => true,
-        "room" | "kept" | "s" => true,
+        "room" | "kept" | "s" | "configured" => true,
         _ => told_at(line).is_some(),
     }
 }

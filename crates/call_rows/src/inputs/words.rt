@@ -21,6 +21,7 @@ fn tell_order(order: &Order, text: &mut String) -> Result<(), AllocError> {
         Order::Asm { file } => write!(text, "asm {file:?}"),
         Order::Run { files, clocks } => tell_run("run", files, *clocks, text),
         Order::Measure { files, clocks } => tell_run("measure", files, *clocks, text),
+        Order::Inspect { files, clocks } => tell_run("inspect", files, *clocks, text),
         Order::Receive {
             files,
             clocks,

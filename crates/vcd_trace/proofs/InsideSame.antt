@@ -1,0 +1,250 @@
+-- Where the same is inside, and what is told of it.
+use Rattle.std.proofs.Common.{◌≡◌, ℕ, ◌+◌, ◌*◌, ◌<◌, ◌^◌, Bool, true, false, cond, eqb, Option, Some, None, List, [], ◌∷◌, ◌++◌, length, refl, sym, ap, subst, ◌∙◌, arith, eq-eqb, Result}
+use Rattle.std.specs.Prelude.{◌&&◌, map, is_some, replicate}
+use borrow.Author.Tests.{eqb-true}
+use Rattle.block_core.specs.declared.sample.Sample.{Sample}
+use Rattle.block_core.specs.declared.inside.MachineInside.{MachineInside}
+use Rattle.block_core.specs.declared.inside.Inside.{Inside}
+use Rattle.block_core.specs.Sample.{bits_of, same_numbers, same_sample}
+use Rattle.pio_edge.specs.Edge.{with_bytes, TakesPrefix}
+use Rattle.vcd_trace.specs.Shows.{AreInside}
+use Rattle.sample_trace.specs.Told.{IsNext, held_to, told_at}
+use Rattle.vcd_trace.specs.TextForm.{TextForm, added, ended, HasPut}
+use Rattle.vcd_trace.specs.VcdText.{change_lines, changes_over, clock_line}
+use Rattle.vcd_trace.specs.InsideText.{bit_of, first_of_machine, inside_changes_text, inside_form, inside_open_text, inside_step_text, inside_text_of, machine_changes, machine_values, machine_widths, machine_variables, machines_changes, pad_changes, same_inside, same_machine, same_machines}
+use Rattle.vcd_trace.specs.InsideTold.{added_inside, ended_inside, places_code, taken_code, told_first}
+use Rattle.vcd_trace.specs.Groups.{bit_changes}
+use Rattle.vcd_trace.proofs.FormLaws.{AddsNothing, one_put, one_breaks, end_put, end_breaks}
+use Rattle.vcd_trace.proofs.ToldLaws.{and_true, same_numbers-self, same_sample-self, same_sample-equal}
+use Rattle.vcd_trace.proofs.ChangesLaws.{both_true, length-bits_of, same_numbers-equal}
+use Rattle.vcd_trace.proofs.SilenceLaws.{bits_of-same, change_lines-none, changes_over-some, first_none, last_none, one_false}
+use Rattle.vcd_trace.proofs.InsideLaws.{inside_changes-parts}
+
+-- ---- the same is inside
+
+same_machine-self : (m : Option MachineInside) → same_machine m m ≡ true
+same_machine-self None = refl
+same_machine-self (Some m) = same_numbers-self (machine_values m)
+
+same_machines-self : (l : List (Option MachineInside)) → same_machines l l ≡ true
+same_machines-self [] = refl
+same_machines-self (m ∷ rest) = and_true (same_machine m m) (same_machines rest rest) (same_machine-self m) (same_machines-self rest)
+
+same_inside-self : (s : Inside) → same_inside s s ≡ true
+same_inside-self s =
+    and_true _ _ (same_sample-self s.sample) (and_true _ _ (eq-eqb s.pads s.pads refl) (same_machines-self s.machines))
+
+-- what is repeated adds nothing
+pub inside_repeats_add-nothing : (configured : List Bool) → AddsNothing (inside_form configured)
+inside_repeats_add-nothing configured clock s = ap (λ (b : Bool). cond b [] (clock_line clock ++ inside_changes_text s s)) (same_inside-self s)
+
+-- a clock in which something else is inside adds its line and the changes
+pub inside_step-changed : (clock : ℕ) (a b : Inside) → same_inside a b ≡ false → inside_step_text clock a b ≡ clock_line clock ++ inside_changes_text a b
+inside_step-changed clock a b h = ap (λ (t : Bool). cond t [] (clock_line clock ++ inside_changes_text a b)) h
+
+-- and one in which the same is inside none
+pub inside_step-same : (clock : ℕ) (a b : Inside) → same_inside a b ≡ true → inside_step_text clock a b ≡ []
+inside_step-same clock a b h = ap (λ (t : Bool). cond t [] (clock_line clock ++ inside_changes_text a b)) h
+
+-- a Boolean is known by its bit
+same_bit : (a b : Bool) → bit_of a ≡ bit_of b → a ≡ b
+same_bit true true h = refl
+same_bit false false h = refl
+same_bit true false h = absurd (omega (arith, h))
+same_bit false true h = absurd (omega (arith, h))
+
+-- a machine is known by its values
+machine-known : (a b : MachineInside) → machine_values a ≡ machine_values b → a ≡ b
+machine-known a b h =
+    let pc : a.pc ≡ b.pc = cc in
+    let instruction : a.instruction ≡ b.instruction = cc in
+    let x : a.x ≡ b.x = cc in
+    let y : a.y ≡ b.y = cc in
+    let isr : a.isr ≡ b.isr = cc in
+    let osr : a.osr ≡ b.osr = cc in
+    let isr_count : a.isr_count ≡ b.isr_count = cc in
+    let osr_count : a.osr_count ≡ b.osr_count = cc in
+    let waits_bit : bit_of a.waits ≡ bit_of b.waits = cc in
+    let enabled_bit : bit_of a.enabled ≡ bit_of b.enabled = cc in
+    let waits : a.waits ≡ b.waits = same_bit a.waits b.waits waits_bit in
+    let enabled : a.enabled ≡ b.enabled = same_bit a.enabled b.enabled enabled_bit in
+    let one : MachineInside = record { pc = a.pc; instruction = a.instruction; x = a.x; y = a.y; isr = a.isr; osr = a.osr; isr_count = a.isr_count; osr_count = a.osr_count; waits = a.waits; enabled = a.enabled } in
+    let two : MachineInside = record { pc = b.pc; instruction = b.instruction; x = b.x; y = b.y; isr = b.isr; osr = b.osr; isr_count = b.isr_count; osr_count = b.osr_count; waits = b.waits; enabled = b.enabled } in
+    let same : one ≡ two = cc in
+    same
+
+same_machine-equal : (a b : Option MachineInside) → same_machine a b ≡ true → a ≡ b
+same_machine-equal None None h = refl
+same_machine-equal None (Some b) h = cc
+same_machine-equal (Some a) None h = cc
+same_machine-equal (Some a) (Some b) h = ap Some (machine-known a b (same_numbers-equal (machine_values a) (machine_values b) h))
+
+same_machines-equal : (xs ys : List (Option MachineInside)) → same_machines xs ys ≡ true → xs ≡ ys
+same_machines-equal [] [] h = refl
+same_machines-equal [] (y ∷ ys) h = cc
+same_machines-equal (x ∷ xs) [] h = cc
+same_machines-equal (x ∷ xs) (y ∷ ys) h =
+    let t = both_true (same_machine x y) (same_machines xs ys) h in
+    let first : x ≡ y = same_machine-equal x y t.0 in
+    let rest : xs ≡ ys = same_machines-equal xs ys t.1 in
+    cc
+
+-- where the same is inside, it is that
+pub same_inside-equal : (a b : Inside) → same_inside a b ≡ true → a ≡ b
+same_inside-equal a b h =
+    let s = both_true (same_sample a.sample b.sample) _ h in
+    let p = both_true (eqb a.pads b.pads) (same_machines a.machines b.machines) s.1 in
+    let sample : a.sample ≡ b.sample = same_sample-equal a.sample b.sample s.0 in
+    let pads : a.pads ≡ b.pads = eqb-true _ _ p.0 in
+    let machines : a.machines ≡ b.machines = same_machines-equal a.machines b.machines p.1 in
+    let one : Inside = record { sample = a.sample; pads = a.pads; machines = a.machines } in
+    let two : Inside = record { sample = b.sample; pads = b.pads; machines = b.machines } in
+    let same : one ≡ two = cc in
+    same
+
+-- ---- where nothing has a line, the same is inside
+
+length-values : (m : MachineInside) → length (machine_values m) ≡ length machine_widths
+unfolding machine_widths machine_variables
+length-values m = refl
+
+same_numbers-from : (xs ys : List ℕ) → xs ≡ ys → same_numbers xs ys ≡ true
+same_numbers-from xs ys e = ap (λ (t : List ℕ). same_numbers xs t) (sym e) ∙ same_numbers-self xs
+
+same_machine-from : (place : ℕ) (a b : Option MachineInside) → is_some a ≡ is_some b → machine_changes place a b ≡ [] → same_machine a b ≡ true
+same_machine-from place None None s h = refl
+same_machine-from place None (Some b) s h = cc
+same_machine-from place (Some a) None s h = cc
+same_machine-from place (Some a) (Some b) s h =
+    same_numbers-from _ _ (change_lines-none (first_of_machine place) machine_widths (machine_values a) (machine_values b) (length-values a) (length-values b) h)
+
+same_machines-from : (place : ℕ) (xs ys : List (Option MachineInside)) → map is_some xs ≡ map is_some ys → machines_changes place xs ys ≡ [] → same_machines xs ys ≡ true
+same_machines-from place [] [] s h = refl
+same_machines-from place [] (y ∷ ys) s h = cc
+same_machines-from place (x ∷ xs) [] s h = cc
+same_machines-from place (x ∷ xs) (y ∷ ys) s h =
+    let here : is_some x ≡ is_some y = cc in
+    let others : map is_some xs ≡ map is_some ys = cc in
+    and_true _ _ (same_machine-from place x y here (first_none (machine_changes place x y) (machines_changes (place + 1) xs ys) h))
+    (same_machines-from (place + 1) xs ys others (last_none (machine_changes place x y) (machines_changes (place + 1) xs ys) h))
+
+same_pads-from : (a b : ℕ) → a < 2 ^ 32 → b < 2 ^ 32 → bit_changes 161 32 a b ≡ [] → eqb a b ≡ true
+unfolding bit_changes
+same_pads-from a b h k none =
+    eq-eqb a b (bits_of-same 32 a b h k (change_lines-none 161 (replicate 32 1) (bits_of 32 a) (bits_of 32 b) (length-bits_of 32 a) (length-bits_of 32 b) none))
+
+-- the sample has no line, so another part has one
+inside_some : (t : Bool) (a b : Inside) → same_sample a.sample b.sample ≡ t → AreInside a b → same_inside a b ≡ false → inside_changes_text a b ≡ [] → ⊥
+inside_some false a b e r differ none =
+    let first : changes_over 0 a.sample b.sample ≡ [] = first_none _ _ (sym (inside_changes-parts a b) ∙ none) in
+    changes_over-some 0 a.sample b.sample r.first.sample r.second.sample e first
+inside_some true a b e r differ none =
+    let rest = last_none (changes_over 0 a.sample b.sample) _ (sym (inside_changes-parts a b) ∙ none) in
+    let pads : eqb a.pads b.pads ≡ true = same_pads-from a.pads b.pads r.first.pads r.second.pads (first_none (bit_changes 161 32 a.pads b.pads) _ rest) in
+    let machines : same_machines a.machines b.machines ≡ true = same_machines-from 0 a.machines b.machines r.places (last_none (bit_changes 161 32 a.pads b.pads) _ rest) in
+    let same : same_inside a b ≡ true = and_true _ _ e (and_true _ _ pads machines) in
+    cc
+
+pub inside_changes-some : (a b : Inside) → AreInside a b → same_inside a b ≡ false → inside_changes_text a b ≡ [] → ⊥
+inside_changes-some a b = inside_some (same_sample a.sample b.sample) a b refl
+
+-- ---- what is told
+
+-- what a clock adds is the same whichever machines are declared
+pub added-inside : (configured : List Bool) (clock : ℕ) (last : Option Inside) (now : Inside) → added (inside_form configured) clock last now ≡ added_inside clock last now
+added-inside configured clock None now = refl
+added-inside configured clock (Some before) now = refl
+
+pub ended-inside : (configured : List Bool) (clock : ℕ) (last : Option Inside) → ended (inside_form configured) clock last ≡ ended_inside clock last
+ended-inside configured clock None = refl
+ended-inside configured clock (Some before) = refl
+
+-- the machines that are declared are known from what is told of them
+some_code : (l : List Bool) → 0 < places_code l
+some_code [] = omega arith
+some_code (here ∷ rest) = let more = some_code rest in omega (arith, more)
+
+bit-low : (b : Bool) → bit_of b < 2
+bit-low true = omega arith
+bit-low false = omega arith
+
+same_places : (a b : List Bool) → places_code a ≡ places_code b → a ≡ b
+same_places [] [] h = refl
+same_places [] (y ∷ b) h = let more = some_code b in absurd (omega (arith, h, more))
+same_places (x ∷ a) [] h = let more = some_code a in absurd (omega (arith, h, more))
+same_places (x ∷ a) (y ∷ b) h =
+    let low = bit-low x in
+    let other = bit-low y in
+    let here : x ≡ y = same_bit x y (let e : bit_of x ≡ bit_of y = omega (arith, h, low, other) in e) in
+    let rest : a ≡ b = same_places a b (let e : places_code a ≡ places_code b = omega (arith, h, low, other) in e) in
+    cc
+
+head : List ℕ → ℕ
+head [] = 0
+head (x ∷ xs) = x
+
+apart : (a b : ℕ) → a ≡ b → a ≡ 0 → b ≡ 1 → ⊥
+apart a b e f g = omega arith
+
+same_taken : (a b : Option (List ℕ)) → taken_code a ≡ taken_code b → a ≡ b
+unfolding head
+same_taken None None h = refl
+same_taken (Some a) (Some b) h = cc
+same_taken None (Some b) h = absurd (apart (head (taken_code None)) (head (taken_code (Some b))) (ap head h) refl refl)
+same_taken (Some a) None h = absurd (apart (head (taken_code None)) (head (taken_code (Some a))) (ap head (sym h)) refl refl)
+
+-- both are known from what a trace names for them
+pub told-known : (a b : List Bool) (s t : Option (List ℕ)) → told_first a s ≡ told_first b t → (a ≡ b) × (s ≡ t)
+told-known a b s t h =
+    let codes : places_code a ≡ places_code b = cc in
+    let takens : taken_code s ≡ taken_code t = cc in
+    (same_places a b codes, same_taken s t takens)
+
+-- ---- the trace
+
+-- the text before the first clock was put, by a trace that names these machines
+pub begins : (own configured : List Bool) (now taken taken' : Option (List ℕ)) (last : Option Inside) → told_first own now ≡ told_first configured taken
+    → taken' ≡ with_bytes now (inside_open_text own []) → last ≡ None → HasPut (inside_form configured) taken [] false taken' last
+begins own configured now taken taken' last same bytes none =
+    let known = told-known own configured now taken same in
+    let P : List Bool → Type 0 = λ places. taken' ≡ with_bytes now (inside_open_text places []) in
+    let Q : Option (List ℕ) → Type 0 = λ before. taken' ≡ with_bytes before (inside_open_text configured []) in
+    record { text = subst Q known.1 (subst P known.0 bytes); remembered = none }
+
+-- or only a first part of it
+pub begin_breaks : (own configured : List Bool) (now taken taken' : Option (List ℕ)) → told_first own now ≡ told_first configured taken
+    → TakesPrefix now (inside_open_text own []) taken' → TakesPrefix taken (inside_text_of configured [] false) taken'
+begin_breaks own configured now taken taken' same bytes =
+    let known = told-known own configured now taken same in
+    let P : List Bool → Type 0 = λ places. TakesPrefix now (inside_open_text places []) taken' in
+    let Q : Option (List ℕ) → Type 0 = λ before. TakesPrefix before (inside_open_text configured []) taken' in
+    subst Q known.1 (subst P known.0 bytes)
+
+pub one_put_inside : (configured : List Bool) (b : Option (List ℕ)) (l : List Inside) (taken : Option (List ℕ)) (last : Option Inside) (clock : ℕ) (t : Inside) (taken' : Option (List ℕ)) (last' : Option Inside)
+    → HasPut (inside_form configured) b l false taken last → IsNext l clock → taken' ≡ with_bytes taken (added_inside clock last t) → last' ≡ Some t
+    → HasPut (inside_form configured) b (told_at clock t l) false taken' last'
+one_put_inside configured b l taken last clock t taken' last' h n k kept =
+    let f : TextForm Inside = inside_form configured in
+    let P : Option Inside → Type 0 = λ x. HasPut f b (told_at clock t l) false taken' x in
+    subst P (sym kept) (one_put f (inside_repeats_add-nothing configured) b l taken last clock t taken' h n (k ∙ ap (with_bytes taken) (sym (added-inside configured clock last t))))
+
+pub one_breaks_inside : (configured : List Bool) (b : Option (List ℕ)) (l : List Inside) (taken : Option (List ℕ)) (last : Option Inside) (clock : ℕ) (t : Inside) (taken' : Option (List ℕ))
+    → HasPut (inside_form configured) b l false taken last → IsNext l clock → TakesPrefix taken (added_inside clock last t) taken'
+    → TakesPrefix b (inside_text_of configured (told_at clock t l) false) taken'
+one_breaks_inside configured b l taken last clock t taken' h n k =
+    let f : TextForm Inside = inside_form configured in
+    let P : List ℕ → Type 0 = λ x. TakesPrefix taken x taken' in
+    one_breaks f (inside_repeats_add-nothing configured) b l taken last clock t taken' h n (subst P (sym (added-inside configured clock last t)) k)
+
+pub end_put_inside : (configured : List Bool) (b : Option (List ℕ)) (l : List Inside) (taken : Option (List ℕ)) (last : Option Inside) (clock : ℕ) (taken' : Option (List ℕ))
+    → HasPut (inside_form configured) b l false taken last → IsNext l clock → taken' ≡ with_bytes taken (ended_inside clock last)
+    → HasPut (inside_form configured) b (held_to clock l) true taken' last
+end_put_inside configured b l taken last clock taken' h n k =
+    end_put (inside_form configured) (inside_repeats_add-nothing configured) b l taken last clock taken' h n (k ∙ ap (with_bytes taken) (sym (ended-inside configured clock last)))
+
+pub end_breaks_inside : (configured : List Bool) (b : Option (List ℕ)) (l : List Inside) (taken : Option (List ℕ)) (last : Option Inside) (clock : ℕ) (taken' : Option (List ℕ))
+    → HasPut (inside_form configured) b l false taken last → IsNext l clock → TakesPrefix taken (ended_inside clock last) taken'
+    → TakesPrefix b (inside_text_of configured (held_to clock l) true) taken'
+end_breaks_inside configured b l taken last clock taken' h n k =
+    let P : List ℕ → Type 0 = λ x. TakesPrefix taken x taken' in
+    end_breaks (inside_form configured) (inside_repeats_add-nothing configured) b l taken last clock taken' h n (subst P (sym (ended-inside configured clock last)) k)

@@ -1,0 +1,8 @@
+use Rattle.vcd_trace.proofs.InsideSame.{end_put_inside, end_breaks_inside}
+use Rattle.vcd_trace.proofs.inside_vcd.InsideVcdTraceInside.end.Goals as goal
+
+pub returns-in-Ok-clause-ok : goal.returns-in-Ok-clause-ok
+returns-in-Ok-clause-ok g c = λ b l h n configured taken e. end_put_inside configured taken l _ _ _ _ (h configured taken e) n c.in-Ok.ensures.bytes
+
+pub returns-in-Err-clause-err : goal.returns-in-Err-clause-err
+returns-in-Err-clause-err g c = λ b l h n configured taken e. end_breaks_inside configured taken l _ _ _ _ (h configured taken e) n c.in-Err.ensures.bytes
