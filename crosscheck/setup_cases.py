@@ -55,7 +55,7 @@ CASES = [
     Case("isr_filled", {"program": "period", "at": 30}, {"id": 0, "program": "period", "set_count": 0, "side_base": 16, "isr": 250}, {}),
     Case("isr_nobody_reads"),
     Case("isr_cleared", {"program": "period", "at": 30}, {"id": 0, "program": "period", "set_count": 0}, {}),
-    Case("bits_shifted_in", {"program": "sends"}, {"id": 0, "program": "sends", "set_count": 0, "isr_count": 3}, {}),
+    Case("bits_shifted_in", {"program": "sends", "at": 28}, {"id": 0, "program": "sends", "set_count": 0, "isr_count": 3}, {}),
     Case("pull_waits", machine=MACHINE | {"pending": 0x80A0}),
     Case(
         "reads_pins",
