@@ -1,5 +1,5 @@
 -- The run of a setup without stimulus lines, for a span whose pins no other machine may write.
-use Rattle.std.proofs.Common.{◌≡◌, ◌==◌, ℕ, zero, suc, ◌+◌, ◌<◌, Bool, true, false, not, ◌&&◌, ◌||◌, Option, Some, None, option_map, IfSome, List, [], ◌∷◌, unwrap_or, slice_index_or, refl, sym, ap, subst, ◌∙◌, arith}
+use Rattle.std.proofs.Common.{◌≡◌, ◌==◌, ℕ, zero, suc, ◌+◌, ◌<◌, Bool, true, false, not, ◌&&◌, ◌||◌, Option, Some, None, option_map, is_some, if◌then◌else◌, IfSome, List, [], ◌∷◌, unwrap_or, slice_index_or, refl, sym, ap, subst, ◌∙◌, arith}
 use Rattle.std.proofs.lemmas.Bool.{and_parts, or_parts}
 use Rattle.std.proofs.lemmas.Bool.Decides.{nat_tests}
 use Rattle.std.specs.Int.{bit_at}
@@ -20,7 +20,7 @@ use Rattle.block_core.specs.Block.{BlockState, Run, first_state, first_run, firs
 use Rattle.block_core.specs.Following.{Follows, place_at, intent_in, leaves_level, OthersLeave}
 use Rattle.block_core.specs.Hosted.{hosted_at, hosted_next, host_of}
 use Rattle.span_step.specs.Courses.{start}
-use Rattle.span_step.specs.Steps.{bounds_of, bounds_in, period_of}
+use Rattle.span_step.specs.Steps.{bounds_of, bounds_in, is_bounded, most_or, period_of}
 use Rattle.span_bounds.specs.Tables.{start_context}
 use Rattle.span_verdict.specs.Sharing.{holds, writes_pin, writes_span, may_write, shares, IsUnshared}
 use Rattle.span_check.specs.Marks.{Mark}
@@ -153,13 +153,17 @@ starts_there runs u sp s marks configured none = rw configured (record {
 
 pub bad_visit_is_broken : AreRuns → AreLevels → IsTested → StaysPlaced → (u : Setup) (sp : Span) → sp.unit ≡ Ticks → LeavesNoChoice u sp → IsUnshared u sp → HasBadVisit u sp → IsBroken u sp
 unfolding bounds_of
-bad_visit_is_broken runs levels tested stays u sp ticks c alone b = record { clocks = broken.0; broken = λ h. broken.1 (subst (λ (x : SpanUnit). Holds x sp.min sp.max marks broken.0) ticks h) } where
+bad_visit_is_broken runs levels tested stays u sp ticks c alone b = record { clocks = broken.0; broken = λ h. broken.1 (subst (λ (x : Option ℕ). Holds Ticks sp.min x marks broken.0) (sym (asked sp.min sp.max)) (subst (λ (x : SpanUnit). Holds x sp.min sp.max marks broken.0) ticks h)) } where
   marks : ℕ → Mark
   marks = marks_over sp u.memory (seen_beside u []) (host_of (first_run u) []) (state_beside u [])
 
-  bounds : bounds_of sp c.machine ≡ (sp.min, sp.max)
+  bounds : bounds_of sp c.machine ≡ (sp.min, most_or sp.min sp.max)
   bounds = ap (λ k. bounds_in k sp (period_of c.machine)) ticks
 
-  broken : IsBrokenBy sp.min sp.max (marks_over sp u.memory (seen_beside u []) (host_of (first_run u) []) (state_beside u []))
-  broken = subst (λ (x : ℕ × ℕ). IsBrokenBy x.0 x.1 (marks_over sp u.memory (seen_beside u []) (host_of (first_run u) []) (state_beside u []))) bounds
+  asked : (least : ℕ) (max : Option ℕ) → (if is_some max then Some (most_or least max) else None) ≡ max
+  asked least None = refl
+  asked least (Some most) = refl
+
+  broken : IsBrokenBy (is_bounded sp) sp.min (most_or sp.min sp.max) (marks_over sp u.memory (seen_beside u []) (host_of (first_run u) []) (state_beside u []))
+  broken = subst (λ (x : ℕ × ℕ). IsBrokenBy (is_bounded sp) x.0 x.1 (marks_over sp u.memory (seen_beside u []) (host_of (first_run u) []) (state_beside u []))) bounds
       (bad_visit_breaks levels tested u sp c.machine (seen_beside u []) (host_of (first_run u) []) (state_beside u []) (run_alone runs u sp c.machine c.configured alone) (λ i. (each_visit stays u sp c i).single) (starts_there runs u sp c.machine _ c.configured c.begins) b)

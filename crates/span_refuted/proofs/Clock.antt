@@ -26,7 +26,8 @@ use Rattle.span_check.specs.Runs.{marks_over}
 use Rattle.span_refuted.proofs.Single.{Watch, Tick}
 use Rattle.span_refuted.proofs.Joining.{IsClean, clean_joined}
 use Rattle.span_refuted.proofs.Registers.{IsRest, IsTick, no_levels}
-use Rattle.span_refuted.proofs.Exact.{AreExact, IsBrokenBy, exact_tick, exact_idle}
+use Rattle.span_step.specs.Steps.{is_bounded}
+use Rattle.span_refuted.proofs.Exact.{AreExact, IsBrokenBy, IsRuled, exact_tick, exact_idle}
 
 -- what a law of span_ticks says
 abbrev pub AreLevels : Type 0
@@ -56,7 +57,7 @@ pub record IsAt (sp : Span) (s : MachineSetup) (most : ℕ) (marks : ℕ → Mar
   pub rest : IsRest m.machine.registers address ticks
   pub from : w.from ≡ is_high b.levels sp.from_pin
   pub to : w.to ≡ is_high b.levels sp.to_pin
-  pub exact : AreExact marks most c w.ages
+  pub exact : AreExact (is_bounded sp) marks most c w.ages
 
 changes_edge : (rise a b : Bool) → changes rise a b ≡ is_edge rise a b
 changes_edge true a b = refl
@@ -150,7 +151,7 @@ idle_clock levels sp s most memory seen host states c w address ticks h id none 
   rest = subst (λ (r : Registers). IsRest r address ticks) (sym k.registers) g.rest;
   from = from;
   to = to;
-  exact = exact_idle (marks_over sp memory seen host states) most c w.ages
+  exact = exact_idle (is_bounded sp) (marks_over sp memory seen host states) most c w.ages
       (ap (λ (i : Intent). counts i.kind (names sp (pc_at (place_at (states c) sp.machine)))) k.intent)
       (edge_of sp.to_rise w.to w.to _ _ g.to to ∙ no_edge sp.to_rise w.to) g.exact;
 } where
@@ -172,13 +173,13 @@ pub record IsTicked (sp : Span) (s : MachineSetup) (r : Rules) (marks : ℕ → 
 -- a clock with a tick
 pub tick_clock : AreLevels → (sp : Span) (s : MachineSetup) (r : Rules) (memory : List ℕ) (seen : ℕ → ℕ) (host : ℕ → Due) (states : ℕ → BlockState) (c : ℕ) (w : Watch) (t : Tick) (address ticks next left : ℕ)
     → IsAfter sp memory (seen c) (host c) (states c) (states (suc c)) → s.id ≡ sp.machine → is_tick 0 (timing.period_of s.int s.frac) c ≡ true
-    → r.from_rise ≡ sp.from_rise → r.to_rise ≡ sp.to_rise → t.late ≡ false
+    → r.from_rise ≡ sp.from_rise → r.to_rise ≡ sp.to_rise → IsRuled (is_bounded sp) r → t.late ≡ false
     → ((v : View) (q : _) (x : Registers) → v.memory ≡ memory → IsRest x address ticks → IsTick sp t.from t.to next left (tick_of s v q x))
     → IsAt sp s r.max (marks_over sp memory seen host states) (states c) c w address ticks
-    → IsBrokenBy r.min r.max (marks_over sp memory seen host states) ⊎ IsTicked sp s r (marks_over sp memory seen host states) (states (suc c)) (suc c) w t next left
+    → IsBrokenBy (is_bounded sp) r.min r.max (marks_over sp memory seen host states) ⊎ IsTicked sp s r (marks_over sp memory seen host states) (states (suc c)) (suc c) w t next left
 unfolding mark_of watched
-tick_clock levels sp s r memory seen host states c w t address ticks next left h id some from_rise to_rise prompt acts g =
-    elim (exact_tick r (marks_over sp memory seen host states) c w.ages (is_edge r.to_rise w.to (unwrap_or t.to w.to)) (is_edge r.from_rise w.from (unwrap_or t.from w.from))
+tick_clock levels sp s r memory seen host states c w t address ticks next left h id some from_rise to_rise ruled prompt acts g =
+    elim (exact_tick (is_bounded sp) r (marks_over sp memory seen host states) c w.ages (is_edge r.to_rise w.to (unwrap_or t.to w.to)) (is_edge r.from_rise w.from (unwrap_or t.from w.from)) ruled
     (ap (λ (i : Intent). counts i.kind (names sp (pc_at (place_at (states c) sp.machine)))) k.intent ∙ tick.counting _)
     (edge_of sp.to_rise w.to _ _ _ g.to to ∙ ap (λ z. is_edge z w.to (unwrap_or t.to w.to)) (sym to_rise))
     (edge_of sp.from_rise w.from _ _ _ g.from from ∙ ap (λ z. is_edge z w.from (unwrap_or t.from w.from)) (sym from_rise))

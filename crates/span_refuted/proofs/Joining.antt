@@ -104,9 +104,9 @@ and_false false x y z f h k = refl
 told_join : (r : Rules) (late closes : Bool) (a b c d : Ages) → IsClean (tick_causes r late closes a c) → IsClean (tick_causes r late closes b d)
     → IsClean (tick_causes r late closes (join a b) (join c d))
 told_join r late closes a b c d h k = record {
-  u1 = above_join r.max c d h.u1 k.u1;
+  u1 = and_false r.bounded _ _ _ (above_join r.max c d) h.u1 k.u1;
   u2 = and_false closes _ _ _ (below_join r.min c d) h.u2 k.u2;
-  u3 = and_false late _ _ _ (and_false (not r.named) _ _ _ (open_join a b)) h.u3 k.u3;
+  u3 = and_false late _ _ _ (and_false r.bounded _ _ _ (and_false (not r.named) _ _ _ (open_join a b))) h.u3 k.u3;
   u4 = refl;
 }
 

@@ -37,6 +37,7 @@ ended following o w = record {
   } ∷ [];
   causes = joined no_causes w.causes;
   from_edge = false || w.from_edge;
+  closes = false || w.closes;
 }
 
 -- the prompt course of an instruction

@@ -1,5 +1,6 @@
 -- From visit to visit in a run: each is bad for no cause, or the span is broken.
-use Rattle.std.proofs.Common.{◌≡◌, ◌==◌, ℕ, zero, suc, ◌+◌, ◌*◌, ◌≤◌, ◌⊎◌, Bool, true, false, cond, Option, Some, None, List, inl, inr, refl, sym, subst, ◌∙◌, arith}
+use Rattle.std.proofs.Common.{◌≡◌, ◌==◌, ℕ, zero, suc, ◌+◌, ◌*◌, ◌≤◌, ◌⊎◌, Bool, true, false, cond, Option, Some, None, is_some, List, inl, inr, refl, sym, subst, ◌∙◌, arith}
+use Rattle.std.specs.Option.{option_map}
 use Rattle.std.proofs.lemmas.Bool.Decides.{nat_tests}
 use Rattle.clock_divider.specs.Timing as timing
 use Rattle.clock_divider.specs.Ticks.{is_tick}
@@ -7,6 +8,8 @@ use Rattle.pio_encode.specs.declared.op.Op.{Op}
 use Rattle.pin_matrix.specs.declared.machine.MachineSetup.{MachineSetup}
 use Rattle.pin_matrix.specs.declared.setup.Setup.{Setup}
 use Rattle.pin_matrix.specs.declared.span.Span.{Span}
+use Rattle.pin_matrix.specs.declared.span.SpanUnit.{SpanUnit}
+use Rattle.pin_matrix.specs.declared.span.SpanUnit.TheVariants.{Ticks, Clocks}
 use Rattle.sm_registers.specs.declared.registers.Registers.{Registers}
 use Rattle.sm_registers.specs.View.{View}
 use Rattle.sm_registers.specs.Tick.{tick_of}
@@ -16,7 +19,7 @@ use Rattle.span_step.specs.declared.cause.Cause.{Cause}
 use Rattle.span_step.specs.declared.cause.Cause.TheVariants.{U1, U2}
 use Rattle.span_step.specs.Outcomes.{ContextOutcome}
 use Rattle.span_step.specs.Courses.{Rules, delay_tick, delay_ticks, prompt, over, start, watched, followed, no_causes}
-use Rattle.span_step.specs.Steps.{bounds_of, rules_of, next_address, side_of, address_after}
+use Rattle.span_step.specs.Steps.{bounds_in, bounds_of, is_bounded, least_ticks, most_or, most_ticks, period_of, rules_of, next_address, side_of, address_after}
 use Rattle.span_check.specs.Marks.{Mark}
 use Rattle.span_check.specs.Runs.{marks_over}
 use Rattle.span_refuted.specs.OneWay.{instruction_at}
@@ -25,7 +28,7 @@ use Rattle.span_refuted.proofs.Single.{Watch, Tick, IsSingle, end, course}
 use Rattle.span_refuted.proofs.Joining.{IsClean, clean_joined, clean_none}
 use Rattle.span_refuted.proofs.Visiting.{next_visit}
 use Rattle.span_refuted.proofs.Registers.{IsRest, IsTick, first_tick, delay_tick as delay_acts}
-use Rattle.span_refuted.proofs.Exact.{IsBrokenBy}
+use Rattle.span_refuted.proofs.Exact.{IsBrokenBy, IsRuled}
 use Rattle.span_refuted.proofs.Clocks.{IsTested, tick_comes}
 use Rattle.span_refuted.proofs.Clock.{AreLevels, IsAfter, IsAt, idle_clock, tick_clock}
 
@@ -74,38 +77,38 @@ module _ (levels : AreLevels) (tested : IsTested) (sp : Span) (s : MachineSetup)
         waited false q later = later q
 
   -- the next tick
-  one_tick : (r : Rules) (w : Watch) (t : Tick) (address ticks next left : ℕ) → r.from_rise ≡ sp.from_rise → r.to_rise ≡ sp.to_rise → t.late ≡ false
+  one_tick : (r : Rules) (w : Watch) (t : Tick) (address ticks next left : ℕ) → r.from_rise ≡ sp.from_rise → r.to_rise ≡ sp.to_rise → IsRuled (is_bounded sp) r → t.late ≡ false
       → ((v : View) (q : _) (x : Registers) → v.memory ≡ memory → IsRest x address ticks → IsTick sp t.from t.to next left (tick_of s v q x))
       → IsPassed sp s r.max (marks_over sp memory seen host states) states w address ticks
-      → IsBrokenBy r.min r.max (marks_over sp memory seen host states) ⊎ IsPassed sp s r.max (marks_over sp memory seen host states) states (watched r w t) next left
-  one_tick r w t address ticks next left from_rise to_rise prompt acts p =
+      → IsBrokenBy (is_bounded sp) r.min r.max (marks_over sp memory seen host states) ⊎ IsPassed sp s r.max (marks_over sp memory seen host states) states (watched r w t) next left
+  one_tick r w t address ticks next left from_rise to_rise ruled prompt acts p =
       let comes = tick_comes tested (timing.period_of s.int s.frac) p.there.clock (long_period s) in
       let due = wait r.max comes.0 p.there.clock w address ticks comes.1 p.there.at in
-      elim (tick_clock levels sp s r memory seen host states due.clock w t address ticks next left (run.after due.clock) run.id due.tick from_rise to_rise prompt acts due.at) [
+      elim (tick_clock levels sp s r memory seen host states due.clock w t address ticks next left (run.after due.clock) run.id due.tick from_rise to_rise ruled prompt acts due.at) [
         | inl broken ↦ inl broken
         | inr ticked ↦ inr (record { there = record { clock = suc due.clock; at = ticked.at }; clean = ticked.clean p.clean })
       ]
 
   -- the ticks of a delay
-  delays : (r : Rules) (n : ℕ) (w : Watch) (address : ℕ) → r.from_rise ≡ sp.from_rise → r.to_rise ≡ sp.to_rise
+  delays : (r : Rules) (n : ℕ) (w : Watch) (address : ℕ) → r.from_rise ≡ sp.from_rise → r.to_rise ≡ sp.to_rise → IsRuled (is_bounded sp) r
       → IsPassed sp s r.max (marks_over sp memory seen host states) states w address n
-      → IsBrokenBy r.min r.max (marks_over sp memory seen host states) ⊎ IsPassed sp s r.max (marks_over sp memory seen host states) states (followed r (delay_ticks n) w) address 0
-  delays r zero w address from_rise to_rise p = inr p
-  delays r (suc n) w address from_rise to_rise p = elim (one_tick r w delay_tick address (suc n) address n from_rise to_rise refl (λ v q x memory h. delay_acts s sp v q x address n h) p) [
+      → IsBrokenBy (is_bounded sp) r.min r.max (marks_over sp memory seen host states) ⊎ IsPassed sp s r.max (marks_over sp memory seen host states) states (followed r (delay_ticks n) w) address 0
+  delays r zero w address from_rise to_rise ruled p = inr p
+  delays r (suc n) w address from_rise to_rise ruled p = elim (one_tick r w delay_tick address (suc n) address n from_rise to_rise ruled refl (λ v q x memory h. delay_acts s sp v q x address n h) p) [
     | inl broken ↦ inl broken
-    | inr passed ↦ delays r n (watched r w delay_tick) address from_rise to_rise passed
+    | inr passed ↦ delays r n (watched r w delay_tick) address from_rise to_rise ruled passed
   ]
 
   -- the whole course of an instruction with one way
-  passes : (r : Rules) (op : Op) (w : Watch) (o : ContextOutcome) (address next : ℕ) → r.from_rise ≡ sp.from_rise → r.to_rise ≡ sp.to_rise
+  passes : (r : Rules) (op : Op) (w : Watch) (o : ContextOutcome) (address next : ℕ) → r.from_rise ≡ sp.from_rise → r.to_rise ≡ sp.to_rise → IsRuled (is_bounded sp) r
       → ((v : View) (q : _) (x : Registers) → v.memory ≡ memory → IsRest x address 0
       → IsTick sp (over (side_of s sp op.side).from o.from) (over (side_of s sp op.side).to o.to) next op.delay (tick_of s v q x))
       → IsPassed sp s r.max (marks_over sp memory seen host states) states w address 0
-      → IsBrokenBy r.min r.max (marks_over sp memory seen host states) ⊎ IsPassed sp s r.max (marks_over sp memory seen host states) states (followed r (course s sp op o) w) next 0
+      → IsBrokenBy (is_bounded sp) r.min r.max (marks_over sp memory seen host states) ⊎ IsPassed sp s r.max (marks_over sp memory seen host states) states (followed r (course s sp op o) w) next 0
   unfolding prompt
-  passes r op w o address next from_rise to_rise acts p = elim (one_tick r w (record { late = false; from = over (side_of s sp op.side).from o.from; to = over (side_of s sp op.side).to o.to }) address 0 next op.delay from_rise to_rise refl acts p) [
+  passes r op w o address next from_rise to_rise ruled acts p = elim (one_tick r w (record { late = false; from = over (side_of s sp op.side).from o.from; to = over (side_of s sp op.side).to o.to }) address 0 next op.delay from_rise to_rise ruled refl acts p) [
     | inl broken ↦ inl broken
-    | inr passed ↦ delays r op.delay _ next from_rise to_rise passed
+    | inr passed ↦ delays r op.delay _ next from_rise to_rise ruled passed
   ]
 
 -- the same point, by what its watch knows
@@ -136,14 +139,29 @@ clean_start = record { u1 = refl; u2 = refl; u3 = refl; u4 = refl }
 clean_ended : (u : Setup) (sp : Span) (s : MachineSetup) (i : ℕ) → (h : IsSingle u sp s (visit u sp i).0) → IsClean (end s sp (instruction_at u s (visit u sp i).0.address) h.outcome (visit u sp i).0 (visit u sp i).1).causes → cause_at u sp i ≡ None
 clean_ended u sp s i h c = rw (h.step (visit u sp i).1) (clean_none _ (clean_joined no_causes _ clean_start c))
 
+stops_at : (least : ℕ) (max : Option ℕ) → is_some max ≡ false → least ≤ most_or least max + 1
+stops_at least None e = omega arith
+stops_at least (Some most) e = cc
+
+stops_in : (unit : SpanUnit) (sp : Span) (period : ℕ) → is_bounded sp ≡ false → (bounds_in unit sp period).0 ≤ (bounds_in unit sp period).1 + 1
+stops_in Ticks sp period e = stops_at sp.min sp.max e
+stops_in Clocks sp period e = stops_at (least_ticks sp.min period) (option_map (most_ticks period) sp.max) (mapped sp.max e) where
+  mapped : (max : Option ℕ) → is_some max ≡ false → is_some (option_map (most_ticks period) max) ≡ false
+  mapped None e = refl
+  mapped (Some most) e = cc
+
+ruled_by : (sp : Span) (s : MachineSetup) (address : ℕ) → IsRuled (is_bounded sp) (rules_of s sp address)
+unfolding rules_of bounds_of
+ruled_by sp s address = record { same = refl; stops = λ e. stops_in sp.unit sp (period_of s) e }
+
 -- a visit, in a run of its setup
 pub visit_passes : AreLevels → IsTested → (u : Setup) (sp : Span) (s : MachineSetup) (seen : ℕ → ℕ) (host : ℕ → Due) (states : ℕ → BlockState) (i : ℕ) → IsRun sp s u.memory seen host states → IsSingle u sp s (visit u sp i).0
     → IsAtVisit u sp s (marks_over sp u.memory seen host states) states i
-    → IsBrokenBy (bounds_of sp s).0 (bounds_of sp s).1 (marks_over sp u.memory seen host states) ⊎ (IsAtVisit u sp s (marks_over sp u.memory seen host states) states (suc i) × (cause_at u sp i ≡ None))
+    → IsBrokenBy (is_bounded sp) (bounds_of sp s).0 (bounds_of sp s).1 (marks_over sp u.memory seen host states) ⊎ (IsAtVisit u sp s (marks_over sp u.memory seen host states) states (suc i) × (cause_at u sp i ≡ None))
 unfolding rules_of
 visit_passes levels tested u sp s seen host states i run h there =
     elim (passes levels tested sp s u.memory seen host states run (rules_of s sp (visit u sp i).0.address) (instruction_at u s (visit u sp i).0.address) (start (visit u sp i).0 (visit u sp i).1) h.outcome
-    (visit u sp i).0.address (address_after h.outcome.jump (next_address s (visit u sp i).0.address)) refl refl
+    (visit u sp i).0.address (address_after h.outcome.jump (next_address s (visit u sp i).0.address)) refl refl (ruled_by sp s (visit u sp i).0.address)
     (λ v q x memory r. first_tick u s sp (visit u sp i).0 v q x (visit u sp i).0.address h.outcome memory r h.settled h.quick h.only)
     (record { there = there; clean = clean_start })) [
       | inl broken ↦ inl broken
@@ -157,7 +175,7 @@ visit_passes levels tested u sp s seen host states i run h there =
 -- so each visit is come to, or the span is broken
 walk : AreLevels → IsTested → (u : Setup) (sp : Span) (s : MachineSetup) (seen : ℕ → ℕ) (host : ℕ → Due) (states : ℕ → BlockState) → IsRun sp s u.memory seen host states → ((i : ℕ) → IsSingle u sp s (visit u sp i).0)
     → IsAtVisit u sp s (marks_over sp u.memory seen host states) states 0 → (i : ℕ)
-    → IsBrokenBy (bounds_of sp s).0 (bounds_of sp s).1 (marks_over sp u.memory seen host states) ⊎ IsAtVisit u sp s (marks_over sp u.memory seen host states) states i
+    → IsBrokenBy (is_bounded sp) (bounds_of sp s).0 (bounds_of sp s).1 (marks_over sp u.memory seen host states) ⊎ IsAtVisit u sp s (marks_over sp u.memory seen host states) states i
 walk levels tested u sp s seen host states run single begins zero = inr begins
 walk levels tested u sp s seen host states run single begins (suc i) = elim (walk levels tested u sp s seen host states run single begins i) [
   | inl broken ↦ inl broken
@@ -171,7 +189,7 @@ never_both {P = P} c a b h e = elim h [ inl p ↦ none a (sym p ∙ e) | inr q �
 
 pub bad_visit_breaks : AreLevels → IsTested → (u : Setup) (sp : Span) (s : MachineSetup) (seen : ℕ → ℕ) (host : ℕ → Due) (states : ℕ → BlockState) → IsRun sp s u.memory seen host states → ((i : ℕ) → IsSingle u sp s (visit u sp i).0)
     → IsAtVisit u sp s (marks_over sp u.memory seen host states) states 0 → HasBadVisit u sp
-    → IsBrokenBy (bounds_of sp s).0 (bounds_of sp s).1 (marks_over sp u.memory seen host states)
+    → IsBrokenBy (is_bounded sp) (bounds_of sp s).0 (bounds_of sp s).1 (marks_over sp u.memory seen host states)
 bad_visit_breaks levels tested u sp s seen host states run single begins b = elim (walk levels tested u sp s seen host states run single begins b.number) [
   | inl broken ↦ broken
   | inr there ↦ elim (visit_passes levels tested u sp s seen host states b.number run (single b.number) there) [

@@ -9,6 +9,7 @@ use Rattle.pio_encode.specs.Word.{reading_of, act_of, delay_of, side_of, set_at}
 use Rattle.pin_matrix.specs.declared.mapping.Mapping.{Mapping}
 use Rattle.pin_matrix.specs.declared.machine.MachineSetup.{MachineSetup}
 use Rattle.pin_matrix.specs.declared.setup.Setup.{Setup}
+use Rattle.pin_matrix.proofs.Greatest.{of_some, of_none}
 use Rattle.pin_matrix.specs.declared.span.Span.{Span}
 use Rattle.pin_matrix.specs.declared.span.SpanUnit.TheVariants.{Ticks}
 use Rattle.span_step.specs.declared.cause.Cause.TheVariants.{U1, U2}
@@ -97,14 +98,38 @@ high_time min max ordered bounded = record {
   to_rise = false;
   unit = Ticks;
   min = min;
-  max = max;
+  max = Some max;
   stalls = [];
   named = refl;
   machine_in_block = omega arith;
   from_pin_is_a_pin = omega arith;
   to_pin_is_a_pin = omega arith;
-  ordered = ordered;
-  bounded = bounded;
+  ordered = of_some (λ m. min ≤ m) max ordered;
+  min_fits = omega (arith, ordered, bounded);
+  bounded = of_some (λ m. m < 2 ^ 24) max bounded;
+  stalls_in_ticks = refl;
+}
+
+-- the same with a least bound alone
+abbrev high_time_from : (min : ℕ) → min < 2 ^ 24 → Span
+high_time_from min fits = record {
+  name = 97 ∷ [];
+  machine = 0;
+  from_pin = 0;
+  from_rise = true;
+  to_pin = 0;
+  to_rise = false;
+  unit = Ticks;
+  min = min;
+  max = None;
+  stalls = [];
+  named = refl;
+  machine_in_block = omega arith;
+  from_pin_is_a_pin = omega arith;
+  to_pin_is_a_pin = omega arith;
+  ordered = of_none (λ m. min ≤ m);
+  min_fits = fits;
+  bounded = of_none (λ m. m < 2 ^ 24);
   stalls_in_ticks = refl;
 }
 
@@ -129,6 +154,15 @@ blink-good-row = (refl, refl)
 stuck-row : (cause_at stuck (high_time 0 4 (omega arith) (omega arith)) 4 ≡ None) × (cause_at stuck (high_time 0 4 (omega arith) (omega arith)) 5 ≡ Some U1)
 unfolding stuck visit start_context context_steps step_by with_outcome with_end visit_of rules_of bounds_of courses prompt watched outcomes is_wild may_stall reading_of act_of delay_of side_of set_at
 stuck-row = (refl, refl)
+
+-- with a least bound alone two ticks are missing as before, and a high time without end is right
+blink-freely-row : (cause_at blink (high_time_from 1 (omega arith)) 1 ≡ None) × (cause_at blink (high_time_from 2 (omega arith)) 1 ≡ Some U2)
+unfolding blink visit start_context context_steps step_by with_outcome with_end visit_of rules_of bounds_of courses prompt watched outcomes is_wild may_stall reading_of act_of delay_of side_of set_at
+blink-freely-row = (refl, refl)
+
+stuck-freely-row : (cause_at stuck (high_time_from 4 (omega arith)) 5 ≡ None) × (cause_at stuck (high_time_from 4 (omega arith)) 6 ≡ None)
+unfolding stuck visit start_context context_steps step_by with_outcome with_end visit_of rules_of bounds_of courses prompt watched outcomes is_wild may_stall reading_of act_of delay_of side_of set_at
+stuck-freely-row = (refl, refl)
 
 -- the blink leaves no choice: it comes to addresses 0 and 1 in turn
 starts_at_0 : reached blink machine 0 ≡ 0

@@ -14,7 +14,7 @@ use Rattle.block_core.specs.Hosted.{host_of, hosted_at, sample_at, samples}
 use Rattle.block_core.specs.Shown.{sample_of}
 use Rattle.span_check.specs.Marks as marks
 use Rattle.span_check.specs.Marks.{Mark, mark_of}
-use Rattle.span_check.specs.Holding.{IsFirstToEdge, Holds, HoldsFrom, IsQuiet, IsUnbroken}
+use Rattle.span_check.specs.Holding.{IsFirstToEdge, Holds, HoldsFrom, IsQuiet, IsUnbroken, IsUpTo}
 use Rattle.span_check.specs.Runs.{marks_in, state_beside}
 use Rattle.span_check.specs.Proved.{HoldsInEveryRun}
 use Rattle.span_meter.specs.Measured as meter
@@ -102,18 +102,21 @@ all_good e levels shown same n Good asked k (suc count) within =
     (measured e (levels (suc k)) rest) (all_good e levels shown same n Good asked (suc k) count (omega arith)))
 
 -- within some bounds
-abbrev IsBetween : (min max d : ℕ) → Type 0
-IsBetween min max d = (min ≤ d) × (d ≤ max)
+abbrev IsBetween : (min : ℕ) (max : Option ℕ) (d : ℕ) → Type 0
+IsBetween min max d = (min ≤ d) × IsUpTo max d
 
-least_between : (lo hi d : ℕ) (ds : List ℕ) → IsBetween lo hi d → AllByRecursion (IsBetween lo hi) ds → lo ≤ least_with d ds
+least_between : (lo : ℕ) (hi : Option ℕ) (d : ℕ) (ds : List ℕ) → IsBetween lo hi d → AllByRecursion (IsBetween lo hi) ds → lo ≤ least_with d ds
 least_between lo hi d [] h all = h.0
 least_between lo hi d (x ∷ xs) h all = let a = h.0 in let i = least_between lo hi x xs all.0 all.1 in omega arith
 
-most_between : (lo hi : ℕ) (ds : List ℕ) → AllByRecursion (IsBetween lo hi) ds → greatest_of ds ≤ hi
-most_between lo hi [] all = omega arith
-most_between lo hi (x ∷ xs) all = let a = all.0.1 in let i = most_between lo hi xs all.1 in omega arith
+most_between : (lo : ℕ) (hi : Option ℕ) (ds : List ℕ) → AllByRecursion (IsBetween lo hi) ds → IsUpTo hi (greatest_of ds)
+most_between lo None ds all = tt
+most_between lo (Some m) [] all = omega arith
+most_between lo (Some m) (x ∷ xs) all =
+    let a : x ≤ m = all.0.1 in
+    let i : greatest_of xs ≤ m = most_between lo (Some m) xs all.1 in omega arith
 
-seen_between : (lo hi : ℕ) (ds : List ℕ) → AllByRecursion (IsBetween lo hi) ds → IsWithin lo hi (seen_of ds)
+seen_between : (lo : ℕ) (hi : Option ℕ) (ds : List ℕ) → AllByRecursion (IsBetween lo hi) ds → IsWithin lo hi (seen_of ds)
 seen_between lo hi [] all = record { least = λ some. absurd (omega arith); most = λ some. absurd (omega arith) }
 seen_between lo hi (x ∷ xs) all = record { least = λ some. least_between lo hi x xs all.0 all.1; most = λ some. most_between lo hi (x ∷ xs) all }
 
@@ -137,7 +140,7 @@ first_levels : (u : Setup) (lines : List Line) → (state_beside u lines 0).leve
 unfolding hosted_at
 first_levels u lines = refl
 
-in_clocks : (unit : SpanUnit) (lo hi n : ℕ) (m : ℕ → Mark) → unit ≡ Clocks → Holds unit lo hi m n → ((c : ℕ) → c < n → (m c).breaks ≡ false)
+in_clocks : (unit : SpanUnit) (lo : ℕ) (hi : Option ℕ) (n : ℕ) (m : ℕ → Mark) → unit ≡ Clocks → Holds unit lo hi m n → ((c : ℕ) → c < n → (m c).breaks ≡ false)
     → (s d : ℕ) → (m s).from ≡ true → 0 < d → s + d < n → (m (s + d)).to ≡ true → ((c : ℕ) → s < c → c < s + d → (m c).to ≡ false) → IsBetween lo hi d
 in_clocks Ticks lo hi n m clocks holds calm s d start some within to first = cc
 in_clocks Clocks lo hi n m clocks holds calm s d start some within to first =
@@ -146,7 +149,7 @@ in_clocks Clocks lo hi n m clocks holds calm s d start some within to first =
     let spoken : IsUnbroken m s (suc (s + d)) = λ c low high. calm c (omega arith) in
     let least = h.least (s + d) ends within spoken in
     let most = h.most (s + d) ends within spoken in
-    (omega arith, omega arith)
+    (omega arith, subst (IsUpTo hi) (let e : suc (s + d) - 1 - s ≡ d = omega arith in e) most)
 
 pub seen_within : (u : Setup) (sp : Span) → sp.unit ≡ Clocks → HoldsInEveryRun u sp → (lines : List Line) (n : ℕ) → IsUndisturbed u sp lines n → IsWithin sp.min sp.max (measured_in u sp lines n)
 seen_within u sp clocks holds lines n calm =

@@ -2,12 +2,13 @@
 --   IsUndisturbed   no line disables or restarts the span's machine
 --   measured_in     what the span measures in a run
 --   IsWithin        the least and the greatest distance are within the bounds
-use Rattle.std.specs.Prelude.{◌≡◌, ℕ, ◌<◌, ◌≤◌, false, List}
+use Rattle.std.specs.Prelude.{◌≡◌, ℕ, ◌<◌, ◌≤◌, false, Option, List}
 use Rattle.pin_matrix.specs.declared.setup.Setup.{Setup}
 use Rattle.pin_matrix.specs.declared.span.Span.{Span}
 use Rattle.dreq_pacing.specs.declared.line.Line.{Line}
 use Rattle.block_core.specs.Block.{first_run}
 use Rattle.block_core.specs.Hosted.{host_of, samples}
+use Rattle.span_check.specs.Holding.{IsUpTo}
 use Rattle.span_check.specs.Marks.{is_broken}
 use Rattle.span_meter.specs.declared.seen.SeenDistances.{SeenDistances}
 use Rattle.span_meter.specs.Measured.{ends_in, measured, seen_of}
@@ -20,7 +21,7 @@ IsUndisturbed u sp lines n = (c : ℕ) → c < n → is_broken (host_of (first_r
 abbrev pub measured_in : Setup → Span → List Line → (n : ℕ) → SeenDistances
 measured_in u sp lines n = seen_of (measured (ends_in sp) (first_run u).state.levels (samples (first_run u) lines n))
 
--- Where there are distances, the least and the greatest are within the bounds.
-pub record IsWithin (min max : ℕ) (s : SeenDistances) : Type 0 where
+-- Where there are distances, the least and the greatest are within the bounds, of which there may be no greatest.
+pub record IsWithin (min : ℕ) (max : Option ℕ) (s : SeenDistances) : Type 0 where
   pub least : 0 < s.pairs → min ≤ s.least
-  pub most : 0 < s.pairs → s.most ≤ max
+  pub most : 0 < s.pairs → IsUpTo max s.most
