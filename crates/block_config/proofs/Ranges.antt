@@ -34,7 +34,7 @@ in_ranged : (low high : ℕ) (z : ℤ) (n : ℕ) → in_range low high z ≡ Ok 
 in_ranged low high (pos m) n e = in_tested low high m n (nat_le low m) (nat_le m high) refl refl e
 in_ranged low high (negsuc m) n e = cc
 
-in_read : (low high : ℕ) (z : Option ℤ) (n : ℕ) → range_of low high z ≡ Ok n → IsIn low high n
+pub in_read : (low high : ℕ) (z : Option ℤ) (n : ℕ) → range_of low high z ≡ Ok n → IsIn low high n
 in_read low high (Some z) n e = in_ranged low high z n e
 in_read low high None n e = cc
 

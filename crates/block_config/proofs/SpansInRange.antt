@@ -1,22 +1,25 @@
 -- The spans of a configuration are in the ranges that their type keeps.
-use Rattle.std.proofs.Common.{◌≡◌, ℕ, ◌<◌, ◌≤◌, ◌^◌, ◌==◌, ◌||◌, cond, nat_le, nat_lt, Bool, true, false, Option, Some, None, is_some, Result, Ok, Err, List, [], length, slice_index, slice_index_or, refl, subst, codes, arith}
+use Rattle.std.proofs.Common.{◌≡◌, ℕ, ◌<◌, ◌≤◌, ◌^◌, ◌==◌, ◌||◌, cond, nat_le, nat_lt, Bool, true, false, Option, Some, None, is_some, Result, Ok, Err, List, [], length, slice_index, slice_index_or, refl, ap, ◌∙◌, subst, codes, arith}
 use Rattle.std.specs.List.{AllByRecursion}
+use Rattle.std.specs.Option.{ForSome}
+use Rattle.pin_matrix.proofs.Greatest.{of_some, of_none}
 use Rattle.std.proofs.lemmas.Bool.{ltb-false, eqb-true}
-use Rattle.toml.specs.Data.{Data, Items, no_items, item, Members, as_array, as_str, as_table, get_member}
+use Rattle.toml.specs.Data.{Data, Items, no_items, item, Members, as_array, as_float, as_integer, as_str, as_table, get_member}
 use Rattle.pin_matrix.specs.declared.span.SpanUnit.{SpanUnit}
 use Rattle.pin_matrix.specs.Spans.{is_in_ticks, is_span_name}
 use Rattle.block_config.specs.Answer.{ConfigRefusal}
 use Rattle.block_config.specs.Arrays.{count_items, all_items, gather}
 use Rattle.setup_keys.specs.Block.{MachineKeys, SpanKeys}
+use Rattle.block_config.specs.declared.fault.ConfigKind.{ConfigKind}
 use Rattle.block_config.specs.declared.fault.ConfigKind.TheVariants.{Many, WrongType, Range}
 use Rattle.block_config.specs.declared.path.Section.TheVariants.{Span}
 use Rattle.block_config.specs.Programs.{Loaded}
-use Rattle.block_config.specs.Spans.{span_names, required, name_of, name_at, configured, machine_at, span_pins, edge_at, SpanEnds, ends_at, unit_at, bound_keys, Bounds, ordered, bounds_at, load_of_machine, stall_addresses, stalls_in, stalls_of, stalls_at, SpanValues, values_at, span_keys_of, span_of_table, span_in, all_spans}
+use Rattle.block_config.specs.Spans.{span_names, required, name_of, name_at, configured, machine_at, span_pins, edge_at, SpanEnds, ends_at, unit_at, least_at, is_endless, most_of, most_at, Bounds, is_under, ordered, bounds_at, load_of_machine, stall_addresses, stalls_in, stalls_of, stalls_at, SpanValues, values_at, span_keys_of, span_of_table, span_in, all_spans}
 use Rattle.block_config.specs.Tables.{and_then, number_at, each_at}
-use Rattle.block_config.specs.Values.{text_of}
+use Rattle.block_config.specs.Values.{map_ok, number_in, text_of}
 use Rattle.setup_keys.specs.InRange.{IsSpan}
 use Rattle.block_config.proofs.Gathered.{gather_keeps, read_table}
-use Rattle.block_config.proofs.Ranges.{goes_on, off_key, ok_same, number_within, all_within, all_defaulted}
+use Rattle.block_config.proofs.Ranges.{goes_on, in_read, off_key, ok_same, number_within, all_within, all_defaulted}
 
 record AreEnds (e : SpanEnds) : Type 0 where
   machine : e.machine < 4
@@ -24,8 +27,9 @@ record AreEnds (e : SpanEnds) : Type 0 where
   to_pin : e.to_pin < 32
 
 record AreOrdered (b : Bounds) : Type 0 where
-  ordered : b.least ≤ b.most
-  bounded : b.most < 2 ^ 24
+  ordered : ForSome b.most (λ m. b.least ≤ m)
+  min_fits : b.least < 2 ^ 24
+  bounded : ForSome b.most (λ m. m < 2 ^ 24)
 
 name_tested : (name found : List ℕ) (b : Bool) → is_span_name name ≡ b → cond b (Ok name) (Err Range) ≡ Ok found → is_span_name found ≡ true
 name_tested name found true is e = subst (λ (n : List ℕ). is_span_name n ≡ true) (ok_same name found e) is
@@ -69,16 +73,40 @@ ends_read machines t ends (Ok machine) (Ok pins) (Ok from) (Err r) m p e = cc
 are_ends : (machines : List (Option MachineKeys)) (t : Members) (ends : SpanEnds) → ends_at machines t ≡ Ok ends → AreEnds ends
 are_ends machines t ends e = ends_read machines t ends (machine_at machines t) (each_at (number_at t) span_pins) (edge_at t (codes "from_edge")) (edge_at t (codes "to_edge")) refl refl e
 
-ordered_tested : (k found : Bounds) (r : ConfigRefusal) (b : Bool) → nat_lt k.most k.least ≡ b → cond b (Err r) (Ok k) ≡ Ok found → k.most ≤ 16777215 → AreOrdered found
-ordered_tested k found r true is e high = cc
-ordered_tested k found r false is e high = subst AreOrdered (ok_same k found e) (record { ordered = ltb-false k.most k.least is; bounded = omega arith })
+-- a greatest bound that was read is in range
+number_most : (r : Result ℕ ConfigKind) (most : ℕ) → map_ok (λ (n : ℕ). let o : Option ℕ = Some n in o) r ≡ Ok (Some most) → r ≡ Ok most
+number_most (Ok n) most e = cc
+number_most (Err kind) most e = cc
+
+most_tested : (b : Bool) (d : Data) (most : ℕ) → cond b (Ok None) (map_ok (λ (n : ℕ). let o : Option ℕ = Some n in o) (number_in 0 16777215 d)) ≡ Ok (Some most) → most ≤ 16777215
+most_tested true d most e = cc
+most_tested false d most e = (in_read 0 16777215 (as_integer d) most (number_most (number_in 0 16777215 d) most e)).1
+
+most_high : (o : Option Data) (most : ℕ) → most_of o ≡ Ok (Some most) → most ≤ 16777215
+most_high None most e = cc
+most_high (Some d) most e = most_tested (is_endless (as_float d)) d most e
+
+not_under : (most : Option ℕ) (least : ℕ) → is_under most least ≡ false → ForSome most (λ m. least ≤ m)
+not_under None least e = of_none (λ m. least ≤ m)
+not_under (Some most) least e = of_some (λ m. least ≤ m) most (ltb-false most least e)
+
+below_bits : (most : Option ℕ) → ((m : ℕ) → most ≡ Some m → m ≤ 16777215) → ForSome most (λ m. m < 2 ^ 24)
+below_bits most h m e = omega (arith, h m e)
+
+ordered_tested : (k found : Bounds) (r : ConfigRefusal) (b : Bool) → is_under k.most k.least ≡ b → cond b (Err r) (Ok k) ≡ Ok found → k.least ≤ 16777215 → ((m : ℕ) → k.most ≡ Some m → m ≤ 16777215)
+    → AreOrdered found
+ordered_tested k found r true is e low high = cc
+ordered_tested k found r false is e low high =
+    subst AreOrdered (ok_same k found e) (record { ordered = not_under k.most k.least is; min_fits = omega (arith, low); bounded = below_bits k.most high })
 
 are_ordered : (t : Members) (bounds : Bounds) → bounds_at t ≡ Ok bounds → AreOrdered bounds
 are_ordered t bounds e =
-    let unit = goes_on (unit_at t) (λ unit. and_then (each_at (number_at t) bound_keys) (λ bounds. ordered (record { unit = unit; least = slice_index bounds 0; most = slice_index bounds 1 }))) bounds e in
-    let read = goes_on (each_at (number_at t) bound_keys) (λ bounds. ordered (record { unit = unit.value; least = slice_index bounds 0; most = slice_index bounds 1 })) bounds unit.rest in
-    let w = all_within t bound_keys read.value [] 0 (all_defaulted bound_keys refl) refl read.found in
-    ordered_tested (record { unit = unit.value; least = slice_index read.value 0; most = slice_index read.value 1 }) bounds _ _ refl read.rest w.2.1
+    let unit = goes_on (unit_at t) (λ unit. and_then (least_at t) (λ least. and_then (most_at t) (λ most. ordered (record { unit = unit; least = least; most = most })))) bounds e in
+    let least = goes_on (least_at t) (λ least. and_then (most_at t) (λ most. ordered (record { unit = unit.value; least = least; most = most }))) bounds unit.rest in
+    let most = goes_on (most_at t) (λ most. ordered (record { unit = unit.value; least = least.value; most = most })) bounds least.rest in
+    let low = number_within t (required (codes "min") 16777215) least.value refl least.found in
+    let high : (m : ℕ) → most.value ≡ Some m → m ≤ 16777215 = λ m is. most_high (get_member (codes "max") t) m (off_key (codes "max") _ most.value most.found ∙ ap (λ (o : Option ℕ). let r : Result (Option ℕ) ConfigKind = Ok o in r) is) in
+    ordered_tested (record { unit = unit.value; least = least.value; most = most.value }) bounds _ _ refl most.rest low.1 high
 
 -- stalls are in a span in ticks alone
 abbrev AreInTicks : SpanUnit → List ℕ → Type 0
@@ -121,6 +149,7 @@ parts_in_range name v n e b s = record {
   from_pin_is_a_pin = e.from_pin;
   to_pin_is_a_pin = e.to_pin;
   ordered = b.ordered;
+  min_fits = b.min_fits;
   bounded = b.bounded;
   stalls_in_ticks = s;
 }

@@ -5,10 +5,11 @@
 --   stalls_at   the addresses at which stalls don't count
 --   span_in     the span of the table at a place
 --   all_spans   the spans of all tables
-use Rattle.std.specs.Prelude.{ℕ, nat_le, nat_lt, ◌==◌, ◌||◌, is_some, Bool, true, false, if◌then◌else◌, slice_index, slice_index_or, Option, Some, None, List, [], ◌∷◌, Result, Ok, Err, codes}
+use Rattle.std.specs.Prelude.{ℕ, nat_le, nat_lt, ◌==◌, ◌&&◌, ◌||◌, not, Float, is_some, Bool, true, false, if◌then◌else◌, slice_index, slice_index_or, Option, Some, None, List, [], ◌∷◌, Result, Ok, Err, codes}
+use Rattle.std.specs.Float.{float_is_infinite, is_sign_negative}
 use Rattle.std.specs.List.{find}
 use Rattle.std.specs.Str.{bytes_eq}
-use Rattle.toml.specs.Data.{Data, Items, Members, get_member, as_array, as_str, as_table}
+use Rattle.toml.specs.Data.{Data, Items, Members, get_member, as_array, as_float, as_str, as_table}
 use Rattle.pin_matrix.specs.declared.span.SpanUnit.{SpanUnit}
 use Rattle.pin_matrix.specs.declared.span.SpanUnit.TheVariants.{Ticks, Clocks}
 use Rattle.pin_matrix.specs.Spans.{is_in_ticks, is_span_name}
@@ -23,7 +24,7 @@ use Rattle.block_config.specs.Loads.{covers}
 use Rattle.block_config.specs.Machines.{moved_place}
 use Rattle.block_config.specs.Programs.{Loaded, label_of}
 use Rattle.block_config.specs.Tables.{and_then, on_key, number_at, each_at, section_at, element_of}
-use Rattle.block_config.specs.Values.{text_of}
+use Rattle.block_config.specs.Values.{map_ok, number_in, text_of}
 
 -- every key of a span's table
 abbrev pub span_names : List (List ℕ)
@@ -89,25 +90,44 @@ unit_of (Some word) = if bytes_eq word (codes "ticks") then Ok Ticks else if byt
 abbrev pub unit_at : Members → Result SpanUnit ConfigRefusal
 unit_at t = on_key (codes "unit") (and_then (text_of (get_member (codes "unit") t)) unit_of)
 
--- the two bounds, each below 2 ^ 24
-abbrev pub bound_keys : List Numbered
-bound_keys = required (codes "min") 16777215 ∷ required (codes "max") 16777215 ∷ []
+-- the least bound, below 2 ^ 24
+abbrev pub least_at : Members → Result ℕ ConfigRefusal
+least_at t = number_at t (required (codes "min") 16777215)
+
+-- TOML's float `inf`, also written `+inf`
+abbrev pub is_endless : Option Float → Bool
+is_endless None = false
+is_endless (Some x) = float_is_infinite x && not (is_sign_negative x)
+
+-- the greatest bound: a number below 2 ^ 24, or `inf`, which says that there is none
+abbrev pub most_of : Option Data → Result (Option ℕ) ConfigKind
+most_of None = Err Missing
+most_of (Some d) = if is_endless (as_float d) then Ok None else map_ok Some (number_in 0 16777215 d)
+
+-- the greatest bound of a table
+abbrev pub most_at : Members → Result (Option ℕ) ConfigRefusal
+most_at t = on_key (codes "max") (most_of (get_member (codes "max") t))
 
 -- how long a span lasts
 pub record Bounds : Type 0 where
   pub unit : SpanUnit
   pub least : ℕ
-  pub most : ℕ
+  pub most : Option ℕ
 
--- the least isn't above the most
+-- a greatest bound is below a least one
+abbrev pub is_under : Option ℕ → (least : ℕ) → Bool
+is_under None least = false
+is_under (Some most) least = nat_lt most least
+
+-- the least isn't above the greatest
 abbrev pub ordered : Bounds → Result Bounds ConfigRefusal
-ordered b = if nat_lt b.most b.least then refused (codes "max") Range else Ok b
+ordered b = if is_under b.most b.least then refused (codes "max") Range else Ok b
 
 -- the unit and the bounds of a table
 abbrev pub bounds_at : Members → Result Bounds ConfigRefusal
 bounds_at t =
-    and_then (unit_at t) (λ unit. and_then (each_at (number_at t) bound_keys) (λ bounds.
-    ordered (record { unit = unit; least = slice_index bounds 0; most = slice_index bounds 1 })))
+    and_then (unit_at t) (λ unit. and_then (least_at t) (λ least. and_then (most_at t) (λ most.
+    ordered (record { unit = unit; least = least; most = most }))))
 
 -- The load of the program that a machine runs. A machine starts at one of its program's words, and loads share no address: so
 -- it is the load in whose addresses the machine starts.

@@ -364,18 +364,10 @@ pub const SPAN_PINS: [NumberKey; 2] = [
     },
 ];
 
-/// A span's two bounds.
-pub const BOUND_KEYS: [NumberKey; 2] = [
-    NumberKey {
-        name: MIN,
-        low: 0,
-        high: 16_777_215,
-        default: None,
-    },
-    NumberKey {
-        name: MAX,
-        low: 0,
-        high: 16_777_215,
-        default: None,
-    },
-];
+/// A span's least bound.
+pub const SPAN_MIN: NumberKey = NumberKey {
+    name: MIN,
+    low: 0,
+    high: 16_777_215,
+    default: None,
+};

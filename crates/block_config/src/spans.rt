@@ -1,5 +1,6 @@
 //! All tables of spans: the keys of one in order, and the span that they name.
-ghost use Rattle.std.specs.Prelude.{◌≡◌, ◌≤◌, ◌<◌, ◌^◌, ◌==◌, ◌||◌, Ok, [], length, map, option_map, IfOk, IsTrue};
+ghost use Rattle.std.specs.Prelude.{◌≡◌, ◌≤◌, ◌<◌, ◌^◌, ◌==◌, ◌||◌, Ok, Some, [], length, map, option_map, IfOk, IfSome, IsTrue};
+ghost use Rattle.std.specs.Option.{ForSome};
 ghost use Rattle.pin_matrix.specs.Spans.{are_addresses, is_in_ticks, is_span_name};
 ghost use Rattle.toml.specs.View.{items_view, table_view, view};
 ghost use Rattle.answers.specs.Answers.{Gives};
@@ -16,7 +17,7 @@ use crate::path::{Section, fault_at, fault_of_key, fault_of_section};
 use crate::programs::LoadedProgram;
 use crate::stalls::stalls_at;
 use crate::table::{Lack, are_known, number_at, numbers_at, value_at};
-use crate::value::text_of;
+use crate::value::{number_in, text_of};
 use arrayvec::ArrayVec;
 use pin_matrix::{MachineSetup, Span, SpanUnit, Spans, Stalls, is_span_name};
 use pio_encode::Name;
@@ -289,9 +290,11 @@ impl EndValues {
 pub struct BoundValues {
     pub unit: SpanUnit,
     pub min: u32,
-    pub max: u32,
-    pub ghost ordered: { min ≤ max },
-    pub ghost bounded: { max < 2 ^ 24 },
+    /// `None` where there is no greatest bound.
+    pub max: Option<u32>,
+    pub ghost ordered: { ForSome max (λ m. min ≤ m) },
+    pub ghost min_fits: { min < 2 ^ 24 },
+    pub ghost bounded: { ForSome max (λ m. m < 2 ^ 24) },
 }
 
 impl BoundValues {
@@ -327,21 +330,73 @@ impl BoundValues {
         }
     }
 
+    /// The greatest bound of a table, if there is one.
+    fn most(table: &Table) -> Result<Option<u32>, Lack>
+        ensures value { seen (λ m. m) result ≡ spec.most_at (table_view table.now) }
+        ensures high { IfOk result (λ most. IfSome most (λ m. m ≤ 16777215)) }
+    {
+        match Self::most_of(value_at(table, keys::MAX)) {
+            Ok(most) => Ok(most),
+            Err(kind) => Err(Lack {
+                key: keys::MAX,
+                kind,
+            }),
+        }
+    }
+
+    /// The greatest bound that a value is: a number, or `inf` for none.
+    fn most_of(value: Option<&Value>) -> Result<Option<u32>, ConfigKind>
+        ensures value { result ≡ spec.most_of (option_map (λ v. view v.now) value.entry) }
+        ensures high { IfOk result (λ most. IfSome most (λ m. m ≤ 16777215)) }
+    {
+        match value {
+            None => Err(ConfigKind::Missing),
+            Some(value) if is_endless(value.as_float()) => Ok(None),
+            Some(value) => Ok(Some(number_in(0, 16_777_215, value)?)),
+        }
+    }
+
     /// The unit and the bounds of a table.
-    #[tactic(auto, unfolding(crate::specs::Tables::each_at))]
     fn read(table: &Table) -> Result<Self, Lack>
         ensures { seen bounds_view result ≡ spec.bounds_at (table_view table.now) }
     {
         let unit = Self::unit(table)?;
-        let bounds = numbers_at(table, &keys::BOUND_KEYS)?;
-        let min = bounds[0];
-        let max = bounds[1];
+        let min = number_at(table, &keys::SPAN_MIN)?;
+        match Self::most(table)? {
+            None => Ok(BoundValues {
+                unit,
+                min,
+                max: None,
+            }),
+            Some(max) => Self::in_order(unit, min, max),
+        }
+    }
+
+    /// Both bounds, of which the greatest isn't below the least.
+    fn in_order(unit: SpanUnit, min: u32, max: u32) -> Result<Self, Lack>
+        requires { max ≤ 16777215 }
+        ensures { seen bounds_view result ≡ spec.ordered (record { unit = unit; least = min; most = Some max }) }
+    {
         if max < min {
             return Err(Lack {
                 key: keys::MAX,
                 kind: ConfigKind::Range,
             });
         }
-        Ok(BoundValues { unit, min, max })
+        Ok(BoundValues {
+            unit,
+            min,
+            max: Some(max),
+        })
+    }
+}
+
+/// Whether a float is TOML's `inf`.
+fn is_endless(float: Option<f64>) -> bool
+    ensures { result ≡ spec.is_endless float }
+{
+    match float {
+        Some(float) => float.is_infinite() && float.is_sign_positive(),
+        None => false,
     }
 }

@@ -77,7 +77,7 @@ rechecked_tells u at sp rows before after (Err (fault.Flaw place n flaw)) p k w 
 
 -- what a verdict finds
 pub finds : (u : Setup) (sp : Span) (found : Verdict) → IsVerdict u sp found → VerdictHolds u sp found → IsTableVerdict u sp (table_or found)
-finds u sp (verdict.Proved rows opens) v k = (record { provable = v.provable; alone = v.alone }, (k, v.table))
+finds u sp (verdict.Proved rows opens closes) v k = (record { provable = v.provable; alone = v.alone }, (k, v.table))
 finds u sp (verdict.Unproved at cause) v k = v
 finds u sp (verdict.Shared m) v k = v
 

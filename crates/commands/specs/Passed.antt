@@ -29,6 +29,7 @@ use Rattle.load_summary.specs.Summaries.{summary_of, summary_text}
 use Rattle.span_bounds.specs.declared.row.Row.{Row}
 use Rattle.span_bounds.specs.Answers.{IsGoodLeast}
 use Rattle.span_check.specs.Proved.{HoldsInEveryRun}
+use Rattle.verdict_lines.specs.declared.refusal.Finding.{Finding}
 use Rattle.verdict_lines.specs.declared.refusal.Refusal.{Refusal}
 use Rattle.table_files.specs.Rows.{table_text}
 use Rattle.table_files.specs.FlawLines.{rechecked_line}
@@ -80,7 +81,7 @@ pub record CheckPassed (c : Call) (files : Files) (source : List ℕ) (config : 
   pub setup : Setup
   pub lines : List Line
   pub given : prepared_at files source config None ≡ right (setup, lines)
-  pub found : List (Result Bool Refusal)
+  pub found : List (Result Finding Refusal)
   pub verdicts : AreVerdicts setup setup.spans found
   pub wrote : Writing c (verdict_text setup.spans found)
   pub provable : AreProvable setup

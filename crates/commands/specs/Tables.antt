@@ -23,7 +23,7 @@ use Rattle.commands.specs.Written.{HasTaken, TakesPart}
 
 -- the table of a proved span, or why it isn't proved
 abbrev pub table_or : Verdict → Result (List Row) Refusal
-table_or (verdict.Proved rows opens) = Ok rows
+table_or (verdict.Proved rows opens closes) = Ok rows
 table_or (verdict.Unproved k cause) = Err (refusal.Unproved k cause)
 table_or (verdict.Shared m) = Err (refusal.Shared m)
 

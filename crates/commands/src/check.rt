@@ -16,7 +16,7 @@ use pin_matrix::{Setup, Span};
 use pio_edge::{Shelf, Sink, SinkFailed};
 use stages::{Verdicts, judge_spans, prepare_setup, refuse};
 use std::alloc::Global;
-use verdict_lines::{Refusal, put_verdict};
+use verdict_lines::{Finding, Refusal, put_verdict};
 
 /// Writes the line of the verdict on each span of a setup, and then ends with the fault of the first one that isn't provable,
 /// if there is one. All memory is taken before the first piece is put.
@@ -56,7 +56,7 @@ fn tell_verdicts<O: Sink>(out: &mut O, setup: &Setup, verdicts: Verdicts) -> Res
 fn write_verdicts<O: Sink>(
     out: &mut O,
     spans: &[Span],
-    found: &[Result<bool, Refusal>],
+    found: &[Result<Finding, Refusal>],
 ) -> Result<(), Fault>
     requires { length found.now ≡ length spans.now }
     ensures { SinkWrites O.taken O.waiting O.faults out.old out.new
@@ -70,7 +70,7 @@ fn write_verdicts<O: Sink>(
 fn put_verdicts<O: Sink>(
     out: &mut O,
     spans: &[Span],
-    found: &[Result<bool, Refusal>],
+    found: &[Result<Finding, Refusal>],
 ) -> Result<(), SinkFailed>
     requires { length found.now ≡ length spans.now }
     ensures bytes { Takes (O.taken out.old) (verdict_text spans.now found.now) (O.taken out.new) result }
@@ -86,7 +86,7 @@ fn put_verdicts<O: Sink>(
 fn put_line<O: Sink>(
     out: &mut O,
     span: &Span,
-    found: &Result<bool, Refusal>,
+    found: &Result<Finding, Refusal>,
 ) -> Result<(), SinkFailed>
     ensures bytes { Takes (O.taken out.old) (verdict_line [] span.now.name found.now) (O.taken out.new) result }
     ensures cause { PutCounts (O.faults out.old) (O.faults out.new) result }

@@ -99,6 +99,7 @@ bounds s = record {
   from_pin_is_a_pin = s.from_pin_is_a_pin;
   to_pin_is_a_pin = s.to_pin_is_a_pin;
   ordered = s.ordered;
+  min_fits = s.min_fits;
   bounded = s.bounded;
   stalls_in_ticks = s.stalls_in_ticks;
 }
@@ -120,6 +121,7 @@ span_with k f = record {
   from_pin_is_a_pin = f.from_pin_is_a_pin;
   to_pin_is_a_pin = f.to_pin_is_a_pin;
   ordered = f.ordered;
+  min_fits = f.min_fits;
   bounded = f.bounded;
   stalls_in_ticks = f.stalls_in_ticks;
 }

@@ -1,15 +1,16 @@
 -- Numbers in range are not clipped.
-use Rattle.std.proofs.Common.{◌≡◌, ℕ, ◌≤◌, ◌%◌, ◌+◌, suc, min, ◌==◌, ◌||◌, ◌&&◌, not, cond, Bool, true, false, Option, Some, None, option_map, List, [], ◌∷◌, map, length, refl, ap, sym, ◌∙◌, arith}
+use Rattle.std.proofs.Common.{◌≡◌, ℕ, ◌<◌, ◌≤◌, ◌^◌, ◌%◌, ◌+◌, suc, min, ◌==◌, ◌||◌, ◌&&◌, not, cond, Bool, true, false, Option, Some, None, option_map, List, [], ◌∷◌, map, length, refl, ap, sym, ◌∙◌, arith}
 use Rattle.std.proofs.Math.Nat.{mod-eq_of_lt}
 use Rattle.std.proofs.lemmas.Bool.{and_parts, eqb-true}
 use Rattle.std.specs.List.{AllByRecursion}
+use Rattle.std.specs.Option.{ForSome}
 use Rattle.pin_matrix.specs.Setups.{ids_are_places}
 use Rattle.pin_matrix.specs.Spans.{is_in_ticks, is_span_name, underscore}
 use Rattle.pin_matrix.specs.declared.machine.MachineSetup.{MachineSetup}
 use Rattle.pin_matrix.specs.declared.setup.Setup.{Setup}
 use Rattle.pin_matrix.specs.declared.span.Span.{Span}
 use Rattle.setup_keys.specs.Block.{MachineKeys, SpanKeys, BlockKeys, keys_of_machine, keys_of_span, keys_of_block}
-use Rattle.setup_keys.specs.Clipped.{bits_of, clipped_machine, formed, clipped_span, clipped_at, clipped_block}
+use Rattle.setup_keys.specs.Clipped.{bits_of, clipped_machine, clipped_least, clipped_most, formed, clipped_span, clipped_at, clipped_block}
 use Rattle.setup_keys.specs.InRange.{IsMachine, IsSpan, ArePlaced, IsBlock}
 use Rattle.setup_keys.proofs.Alike.{facts, bounds, same_block}
 use Rattle.setup_keys.proofs.Making.{a_setup_says}
@@ -55,15 +56,26 @@ machine_kept k place f is =
     let status : k.status_n % 16 ≡ k.status_n = mod-eq_of_lt f.status_in_field in
     rw (id, start, isrs, osrs, bottom, top, in_base, jmp, out, sets, side, outs, setss, sides, status, frac_in (k.int == 0) k.frac f.divides, join_in k.join_tx k.join_rx f.joins_one_way, bits_in k.push_threshold f.pushes_some f.pushes_a_word, bits_in k.pull_threshold f.pulls_some f.pulls_a_word) refl
 
+most_in : (most : Option ℕ) → ForSome most (λ m. m < 2 ^ 24) → clipped_most most ≡ most
+most_in None h = refl
+most_in (Some n) h = ap (λ (m : ℕ). let o : Option ℕ = Some m in o) (mod-eq_of_lt (h n refl))
+
+least_in : (least : ℕ) (most : Option ℕ) → ForSome most (λ m. least ≤ m) → least < 2 ^ 24 → ForSome most (λ m. m < 2 ^ 24) → clipped_least least most ≡ least
+least_in least None o l b = mod-eq_of_lt l
+least_in least (Some n) o l b =
+    let e : n % 16777216 ≡ n = mod-eq_of_lt (b n refl) in
+    let s : min least n ≡ least = omega (arith, o n refl) in
+    rw e s
+
 span_kept : (k : SpanKeys) → IsSpan k → clipped_span k ≡ k
 span_kept k f =
     let machine : k.machine % 4 ≡ k.machine = mod-eq_of_lt f.machine_in_block in
     let from : k.from_pin % 32 ≡ k.from_pin = mod-eq_of_lt f.from_pin_is_a_pin in
     let to : k.to_pin % 32 ≡ k.to_pin = mod-eq_of_lt f.to_pin_is_a_pin in
-    let most : k.most % 16777216 ≡ k.most = mod-eq_of_lt f.bounded in
-    let least : min k.least k.most ≡ k.least = omega (arith, f.ordered) in
+    let most : clipped_most k.most ≡ k.most = most_in k.most f.bounded in
+    let least : clipped_least k.least k.most ≡ k.least = least_in k.least k.most f.ordered f.min_fits f.bounded in
     let name : formed k.name ≡ k.name = name_in (is_span_name k.name) k.name refl f.named in
-    rw (name, machine, from, to, most, least, stalls_in (is_in_ticks k.unit) k.stalls f.stalls_in_ticks) refl
+    rw (name, machine, from, to, least, most, stalls_in (is_in_ticks k.unit) k.stalls f.stalls_in_ticks) refl
 
 spans_kept : (ks : List SpanKeys) → AllByRecursion IsSpan ks → map clipped_span ks ≡ ks
 spans_kept [] h = refl

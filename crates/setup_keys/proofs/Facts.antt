@@ -1,10 +1,12 @@
 -- What the types of a setup keep, of numbers that are brought into range.
-use Rattle.std.specs.Prelude.{◌≡◌, ℕ, ◌+◌, ◌-◌, ◌%◌, ◌^◌, ◌<◌, ◌≤◌, min, ◌==◌, ◌||◌, ◌&&◌, not, cond, if◌then◌else◌, Bool, true, false, List, [], ◌∷◌, length, refl}
-use Rattle.std.proofs.Common.{lit<, lit≤}
+use Rattle.std.specs.Prelude.{◌≡◌, ℕ, ◌+◌, ◌-◌, ◌%◌, ◌^◌, ◌<◌, ◌≤◌, min, ◌==◌, ◌||◌, ◌&&◌, not, cond, if◌then◌else◌, Bool, true, false, Option, Some, None, List, [], ◌∷◌, length, refl}
+use Rattle.std.proofs.Common.{arith, lit<, lit≤}
+use Rattle.std.specs.Option.{ForSome}
 use Rattle.std.proofs.Math.Nat.{zero-lt-suc, min-le_right, le_trans, add-le-add}
 use Rattle.std.proofs.lemmas.Nat.{mod_below}
 use Rattle.pin_matrix.specs.Spans.{underscore, is_span_name}
-use Rattle.setup_keys.specs.Clipped.{bits_of, formed}
+use Rattle.pin_matrix.proofs.Greatest.{of_some, of_none}
+use Rattle.setup_keys.specs.Clipped.{bits_of, clipped_least, clipped_most, formed}
 use Rattle.setup_keys.specs.Rule.{most_bits}
 
 -- a number brought below 4
@@ -22,6 +24,21 @@ below_32 n = mod_below n 32 (lit< tt)
 -- a number brought below 2 ^ 24
 pub below_24_bits : (n : ℕ) → n % 2 ^ 24 < 2 ^ 24
 below_24_bits n = mod_below n (2 ^ 24) (lit< tt)
+
+-- a greatest bound brought below 2 ^ 24
+pub most_fits : (most : Option ℕ) → ForSome (clipped_most most) (λ m. m < 2 ^ 24)
+most_fits None = of_none (λ m. m < 2 ^ 24)
+most_fits (Some n) = of_some (λ m. m < 2 ^ 24) (n % 2 ^ 24) (below_24_bits n)
+
+-- a least bound brought below it
+pub least_fits : (least : ℕ) (most : Option ℕ) → clipped_least least most < 2 ^ 24
+least_fits least None = below_24_bits least
+least_fits least (Some n) = omega (arith, min-le_right least (n % 2 ^ 24), below_24_bits n)
+
+-- and to the greatest at most
+pub least_at_most : (least : ℕ) (most : Option ℕ) → ForSome (clipped_most most) (λ m. clipped_least least most ≤ m)
+least_at_most least None = of_none (λ m. clipped_least least None ≤ m)
+least_at_most least (Some n) = of_some (λ m. clipped_least least (Some n) ≤ m) (n % 2 ^ 24) (min-le_right least (n % 2 ^ 24))
 
 -- a number brought to this one at most
 pub at_most : (n most : ℕ) → min n most ≤ most

@@ -11,7 +11,7 @@ use Rattle.setup_keys.specs.Clipped.{clipped_machine, clipped_span, clipped_bloc
 use Rattle.setup_keys.specs.InRange.{IsMachine, IsSpan}
 use Rattle.setup_keys.specs.Rule.{RuleKeys, keys_of_rule, clipped_rule}
 use Rattle.setup_keys.proofs.Alike.{machine_with, span_with, block_with}
-use Rattle.setup_keys.proofs.Facts.{below_4, below_16, below_32, below_24_bits, at_most, five_at_most, at_most_32, divides_at, joins_at, some_bits, few_bits, has_form, ticks_at, bits_fit}
+use Rattle.setup_keys.proofs.Facts.{below_4, below_16, below_32, most_fits, least_fits, least_at_most, at_most, five_at_most, at_most_32, divides_at, joins_at, some_bits, few_bits, has_form, ticks_at, bits_fit}
 
 -- a side-set rule says these numbers, brought into range
 abbrev pub a_rule_says : (k : RuleKeys) → (r : SideRule) × (keys_of_rule r ≡ clipped_rule k)
@@ -49,8 +49,9 @@ span_in_range k = record {
   machine_in_block = below_4 k.machine;
   from_pin_is_a_pin = below_32 k.from_pin;
   to_pin_is_a_pin = below_32 k.to_pin;
-  ordered = at_most k.least _;
-  bounded = below_24_bits k.most;
+  ordered = least_at_most k.least k.most;
+  min_fits = least_fits k.least k.most;
+  bounded = most_fits k.most;
   stalls_in_ticks = ticks_at (is_in_ticks k.unit) k.stalls;
 }
 

@@ -43,7 +43,7 @@ pub record MachineKeys : Type 0 where
   pub status_rx : Bool
   pub status_n : ℕ
 
--- what a span says
+-- what a span says; `most` is none where it has no greatest bound
 pub record SpanKeys : Type 0 where
   pub name : List ℕ
   pub machine : ℕ
@@ -53,7 +53,7 @@ pub record SpanKeys : Type 0 where
   pub to_rise : Bool
   pub unit : SpanUnit
   pub least : ℕ
-  pub most : ℕ
+  pub most : Option ℕ
   pub stalls : List ℕ
 
 -- what a block's setup says: its machines at their places

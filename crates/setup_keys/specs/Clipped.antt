@@ -1,7 +1,7 @@
 -- Numbers brought into the ranges of their fields: of numbers past a range what is too much is lost.
 --   clipped_machine, clipped_span   of a machine and a span
 --   clipped_block                   of a block, whose machines take their places' numbers
-use Rattle.std.specs.Prelude.{ℕ, suc, ◌-◌, ◌%◌, ◌^◌, min, ◌==◌, ◌&&◌, not, if◌then◌else◌, Option, None, option_map, List, [], ◌∷◌, map, slice_index_or}
+use Rattle.std.specs.Prelude.{ℕ, suc, ◌-◌, ◌%◌, ◌^◌, min, ◌==◌, ◌&&◌, not, if◌then◌else◌, Option, Some, None, option_map, List, [], ◌∷◌, map, slice_index_or}
 use Rattle.pin_matrix.specs.Spans.{underscore, is_in_ticks, is_span_name}
 use Rattle.setup_keys.specs.Block.{MachineKeys, SpanKeys, BlockKeys}
 
@@ -38,15 +38,24 @@ clipped_machine place k = record k {
 abbrev pub formed : List ℕ → List ℕ
 formed name = if is_span_name name then name else underscore ∷ []
 
--- the numbers of a span: the most is below 2 ^ 24, the least no more, and a span in clocks names no stalls
+-- a greatest bound below 2 ^ 24, if there is one
+abbrev pub clipped_most : Option ℕ → Option ℕ
+clipped_most most = option_map (λ m. m % 2 ^ 24) most
+
+-- a least bound below 2 ^ 24, and no more than the greatest
+abbrev pub clipped_least : (least : ℕ) → (most : Option ℕ) → ℕ
+clipped_least least None = least % 2 ^ 24
+clipped_least least (Some m) = min least (m % 2 ^ 24)
+
+-- the numbers of a span: both bounds are in range, and a span in clocks names no stalls
 abbrev pub clipped_span : SpanKeys → SpanKeys
 clipped_span k = record k {
   name = formed k.name;
   machine = k.machine % 4;
   from_pin = k.from_pin % 32;
   to_pin = k.to_pin % 32;
-  least = min k.least (k.most % 2 ^ 24);
-  most = k.most % 2 ^ 24;
+  least = clipped_least k.least k.most;
+  most = clipped_most k.most;
   stalls = if is_in_ticks k.unit then k.stalls else [];
 }
 

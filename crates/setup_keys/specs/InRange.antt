@@ -2,6 +2,7 @@
 --   IsMachine, IsSpan, IsBlock   of a machine, a span and a block
 use Rattle.std.specs.Prelude.{◌≡◌, ℕ, ◌+◌, ◌^◌, ◌<◌, ◌≤◌, ◌==◌, ◌||◌, ◌&&◌, not, true, Option, Some, None, List, [], ◌∷◌, length}
 use Rattle.std.specs.List.{AllByRecursion}
+use Rattle.std.specs.Option.{ForSome}
 use Rattle.pin_matrix.specs.Spans.{is_in_ticks, is_span_name}
 use Rattle.setup_keys.specs.Block.{MachineKeys, SpanKeys, BlockKeys}
 
@@ -36,8 +37,9 @@ pub record IsSpan (k : SpanKeys) : Type 0 where
   pub machine_in_block : k.machine < 4
   pub from_pin_is_a_pin : k.from_pin < 32
   pub to_pin_is_a_pin : k.to_pin < 32
-  pub ordered : k.least ≤ k.most
-  pub bounded : k.most < 2 ^ 24
+  pub ordered : ForSome k.most (λ m. k.least ≤ m)
+  pub min_fits : k.least < 2 ^ 24
+  pub bounded : ForSome k.most (λ m. m < 2 ^ 24)
   pub stalls_in_ticks : (is_in_ticks k.unit || length k.stalls == 0) ≡ true
 
 -- each machine of the list, which begins at this place, is in range and has its place's number as its own

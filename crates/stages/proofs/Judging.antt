@@ -10,6 +10,7 @@ use Rattle.span_verdict.specs.Verdicts.{IsVerdict}
 use Rattle.span_verdict.specs.declared.verdict.Verdict.{Verdict}
 use Rattle.span_verdict.specs.declared.verdict.Verdict.TheVariants as verdict
 use Rattle.span_check.specs.Proved.{HoldsInEveryRun}
+use Rattle.verdict_lines.specs.declared.refusal.Finding.{Finding}
 use Rattle.verdict_lines.specs.declared.refusal.Refusal.{Refusal}
 use Rattle.verdict_lines.specs.Refusals.{found_by}
 use Rattle.stages.specs.Configured.{AreConfigured}
@@ -22,12 +23,12 @@ all_at P (x ∷ xs) zero d h lt = h.0
 all_at P (x ∷ xs) (suc i) d h lt = all_at P xs i d h.1 (omega arith)
 
 -- what a verdict without its table says
-pub without_table : (u : Setup) (sp : Span) (v : Verdict) → IsVerdict u sp v → IsVerdictOn u sp (found_by v)
-without_table u sp (verdict.Proved rows opens) h = (rows, h)
+pub without_table : (u : Setup) (sp : Span) (v : Verdict) → IsVerdict u sp v → IsVerdictOn u sp (found_by sp v)
+without_table u sp (verdict.Proved rows opens closes) h = record { rows = rows; opens = opens; closes = closes; proved = h; told = refl }
 without_table u sp (verdict.Unproved k cause) h = h
 without_table u sp (verdict.Shared m) h = h
 
-verdicts_more : (u : Setup) (spans : List Span) (found : List (Result Bool Refusal)) (sp : Span) (f : Result Bool Refusal) → AreVerdicts u spans found → IsVerdictOn u sp f → AreVerdicts u (spans ++ sp ∷ []) (found ++ f ∷ [])
+verdicts_more : (u : Setup) (spans : List Span) (found : List (Result Finding Refusal)) (sp : Span) (f : Result Finding Refusal) → AreVerdicts u spans found → IsVerdictOn u sp f → AreVerdicts u (spans ++ sp ∷ []) (found ++ f ∷ [])
 verdicts_more u [] [] sp f h here = (here, tt)
 verdicts_more u [] (g ∷ found) sp f h here = absurd h
 verdicts_more u (s ∷ spans) [] sp f h here = absurd h
@@ -52,9 +53,9 @@ refused_before u [] sp place name r h = absurd h
 refused_before u (s ∷ spans) sp zero name r h = h
 refused_before u (s ∷ spans) sp (suc place) name r h = (h.0, refused_before u spans sp place name r h.1)
 
-first_more : (u : Setup) (spans : List Span) (refused : Option (ℕ × List ℕ × Refusal)) (place : ℕ) (sp : Span) (f : Result Bool Refusal) → length spans ≡ place → IsFirstOf u spans refused
+first_more : (u : Setup) (spans : List Span) (refused : Option (ℕ × List ℕ × Refusal)) (place : ℕ) (sp : Span) (f : Result Finding Refusal) → length spans ≡ place → IsFirstOf u spans refused
     → IsVerdictOn u sp f → IsFirstOf u (spans ++ sp ∷ []) (first_refused refused place sp.name f)
-first_more u spans None place sp (Ok opens) at h here = provable_more u spans sp h (record { provable = here.1.provable; alone = here.1.alone })
+first_more u spans None place sp (Ok told) at h here = provable_more u spans sp h (record { provable = here.proved.provable; alone = here.proved.alone })
 first_more u spans None place sp (Err r) at h here = refused_last u spans place sp r at h here
 first_more u spans (Some earlier) place sp f at h here = refused_before u spans sp earlier.0 earlier.1 earlier.2 h
 
@@ -62,7 +63,7 @@ plus_one : (n : ℕ) → n + 1 ≡ suc n
 plus_one n = omega arith
 
 -- one verdict more
-pub judged_more : (u : Setup) (spans : List Span) (place : ℕ) (found : List (Result Bool Refusal)) (refused : Option (ℕ × List ℕ × Refusal)) (sp : Span) (f : Result Bool Refusal)
+pub judged_more : (u : Setup) (spans : List Span) (place : ℕ) (found : List (Result Finding Refusal)) (refused : Option (ℕ × List ℕ × Refusal)) (sp : Span) (f : Result Finding Refusal)
     → place < length spans → sp ≡ get_or spans place sp → AreJudged u (take place spans) found refused → IsVerdictOn u sp f
     → AreJudged u (take (place + 1) spans) (found ++ f ∷ []) (first_refused refused place sp.name f)
 judged_more u spans place found refused sp f lt is h here =
@@ -74,16 +75,16 @@ judged_more u spans place found refused sp f lt is h here =
     subst (λ (l : List Span). AreJudged u l (found ++ f ∷ []) (first_refused refused place sp.name f)) (sym e) whole
 
 -- the same by what the next verdict gives
-pub judged_next : (u : Setup) (spans : List Span) (place : ℕ) (found after : List (Result Bool Refusal)) (earlier refused : Option (ℕ × List ℕ × Refusal)) (sp : Span)
+pub judged_next : (u : Setup) (spans : List Span) (place : ℕ) (found after : List (Result Finding Refusal)) (earlier refused : Option (ℕ × List ℕ × Refusal)) (sp : Span)
     → place < length spans → sp ≡ get_or spans place sp → AreJudged u (take place spans) found earlier → IsNextVerdict u place sp found after earlier refused
     → AreJudged u (take (place + 1) spans) after refused
 judged_next u spans place found after earlier refused sp lt is h next =
     let whole = judged_more u spans place found earlier sp next.found lt is h next.verdict in
-    subst (λ (fs : List (Result Bool Refusal)). AreJudged u (take (place + 1) spans) fs refused) (sym next.more)
+    subst (λ (fs : List (Result Finding Refusal)). AreJudged u (take (place + 1) spans) fs refused) (sym next.more)
     (subst (λ (r : Option (ℕ × List ℕ × Refusal)). AreJudged u (take (place + 1) spans) (found ++ next.found ∷ []) r) (sym next.first) whole)
 
 -- when all are judged
-pub judged_all : (u : Setup) (spans : List Span) (place : ℕ) (found : List (Result Bool Refusal)) (refused : Option (ℕ × List ℕ × Refusal)) → length spans ≤ place → AreJudged u (take place spans) found refused → AreJudged u spans found refused
+pub judged_all : (u : Setup) (spans : List Span) (place : ℕ) (found : List (Result Finding Refusal)) (refused : Option (ℕ × List ℕ × Refusal)) → length spans ≤ place → AreJudged u (take place spans) found refused → AreJudged u spans found refused
 judged_all u spans place found refused le h = subst (λ (l : List Span). AreJudged u l found refused) (take_whole spans place le) h
   where
     take_whole : (l : List Span) (n : ℕ) → length l ≤ n → take n l ≡ l

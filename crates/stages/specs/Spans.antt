@@ -2,6 +2,7 @@
 --   IsProvableAlone  a span is provable, and no other machine may write a pin of it
 --   IsRefused        why a span isn't
 --   IsFirstRefused   the first span that isn't, its place and name, and why
+--   IsProvedAs       a span is proved, and what is told of it
 --   AreVerdicts      a verdict on each span, in order
 --   HasVerdicts      the lines of such verdicts
 use Rattle.std.specs.Prelude.{◌≡◌, ℕ, zero, suc, ◌++◌, Bool, List, [], ◌∷◌, Option, Some, None, Result, Ok, Err}
@@ -13,9 +14,11 @@ use Rattle.span_bounds.specs.Tables.{IsProvable}
 use Rattle.span_verdict.specs.Sharing.{IsUnshared, IsLeastSharer}
 use Rattle.span_verdict.specs.Verdicts.{IsProved, IsUnproved}
 use Rattle.span_check.specs.Proved.{HoldsInEveryRun}
+use Rattle.verdict_lines.specs.declared.refusal.Finding.{Finding}
 use Rattle.verdict_lines.specs.declared.refusal.Refusal.{Refusal}
 use Rattle.verdict_lines.specs.declared.refusal.Refusal.TheVariants.{Unproved, Shared}
 use Rattle.verdict_lines.specs.Lines.{verdict_line}
+use Rattle.verdict_lines.specs.Refusals.{finding_of}
 use Rattle.fault_lines.specs.declared.fault.Fault.{Fault}
 use Rattle.fault_lines.specs.declared.fault.Fault.TheVariants as fault
 
@@ -44,35 +47,43 @@ IsFirstRefused u [] place name refusal = ⊥
 IsFirstRefused u (sp ∷ spans) zero name refusal = (sp.name ≡ name) × IsRefused u sp refusal
 IsFirstRefused u (sp ∷ spans) (suc place) name refusal = IsProvableAlone u sp × IsFirstRefused u spans place name refusal
 
--- a span is proved, and opens or not; or this is why it isn't
-abbrev pub IsVerdictOn : Setup → Span → Result Bool Refusal → Type 0
-IsVerdictOn u sp (Ok opens) = (rows : List Row) × IsProved u sp rows opens
+-- a span is proved, and this is told of it
+pub record IsProvedAs (u : Setup) (sp : Span) (told : Finding) : Type 0 where
+  pub rows : List Row
+  pub opens : Bool
+  pub closes : Bool
+  pub proved : IsProved u sp rows opens closes
+  pub told : told ≡ finding_of sp opens closes
+
+-- a span is proved, and this is told of it; or this is why it isn't
+abbrev pub IsVerdictOn : Setup → Span → Result Finding Refusal → Type 0
+IsVerdictOn u sp (Ok told) = IsProvedAs u sp told
 IsVerdictOn u sp (Err refusal) = IsRefused u sp refusal
 
 -- a verdict on each span, in order
-abbrev pub AreVerdicts : Setup → List Span → List (Result Bool Refusal) → Type 0
+abbrev pub AreVerdicts : Setup → List Span → List (Result Finding Refusal) → Type 0
 AreVerdicts u [] [] = Unit {0}
 AreVerdicts u [] (found ∷ more) = ⊥
 AreVerdicts u (sp ∷ spans) [] = ⊥
 AreVerdicts u (sp ∷ spans) (found ∷ more) = IsVerdictOn u sp found × AreVerdicts u spans more
 
 -- the line of the verdict on each span, in order
-unfoldable pub verdict_text : List Span → List (Result Bool Refusal) → List ℕ
+unfoldable pub verdict_text : List Span → List (Result Finding Refusal) → List ℕ
 verdict_text [] found = []
 verdict_text (sp ∷ spans) [] = []
 verdict_text (sp ∷ spans) (found ∷ more) = verdict_line [] sp.name found ++ verdict_text spans more
 
 -- the lines of right verdicts on the spans of a setup are such
 abbrev pub HasVerdicts : Setup → (List ℕ → Type 0) → Type 0
-HasVerdicts u P = (found : List (Result Bool Refusal)) × AreVerdicts u u.spans found × P (verdict_text u.spans found)
+HasVerdicts u P = (found : List (Result Finding Refusal)) × AreVerdicts u u.spans found × P (verdict_text u.spans found)
 
 -- ---- what the stages that ask spans give
 
 -- the place of the first span that isn't provable, its name, and why, once this verdict on the span of this place and
 -- name comes after those before it
-abbrev pub first_refused : Option (ℕ × List ℕ × Refusal) → (place : ℕ) → (name : List ℕ) → Result Bool Refusal → Option (ℕ × List ℕ × Refusal)
+abbrev pub first_refused : Option (ℕ × List ℕ × Refusal) → (place : ℕ) → (name : List ℕ) → Result Finding Refusal → Option (ℕ × List ℕ × Refusal)
 first_refused None place name (Err refusal) = Some (place, name, refusal)
-first_refused None place name (Ok opens) = None
+first_refused None place name (Ok told) = None
 first_refused (Some earlier) place name found = Some earlier
 
 -- each of these spans is provable, or this is the first one that isn't, and why
@@ -81,13 +92,13 @@ IsFirstOf u spans None = AllByRecursion (IsProvableAlone u) spans
 IsFirstOf u spans (Some refused) = IsFirstRefused u spans refused.0 refused.1 refused.2
 
 -- a verdict on each of these spans, and the first one that isn't provable
-pub record AreJudged (u : Setup) (spans : List Span) (found : List (Result Bool Refusal)) (refused : Option (ℕ × List ℕ × Refusal)) : Type 0 where
+pub record AreJudged (u : Setup) (spans : List Span) (found : List (Result Finding Refusal)) (refused : Option (ℕ × List ℕ × Refusal)) : Type 0 where
   pub verdicts : AreVerdicts u spans found
   pub first : IsFirstOf u spans refused
 
 -- a verdict on the span at this place came after the others
-pub record IsNextVerdict (u : Setup) (place : ℕ) (sp : Span) (before after : List (Result Bool Refusal)) (earlier refused : Option (ℕ × List ℕ × Refusal)) : Type 0 where
-  pub found : Result Bool Refusal
+pub record IsNextVerdict (u : Setup) (place : ℕ) (sp : Span) (before after : List (Result Finding Refusal)) (earlier refused : Option (ℕ × List ℕ × Refusal)) : Type 0 where
+  pub found : Result Finding Refusal
   pub verdict : IsVerdictOn u sp found
   pub more : after ≡ before ++ found ∷ []
   pub first : refused ≡ first_refused earlier place sp.name found

@@ -9,13 +9,13 @@ use pin_matrix::{Setup, Span};
 use pio_encode::Name;
 use span_check::{a_provable_span_holds_in_every_run, check};
 use std::alloc::{AllocError, Global};
-use verdict_lines::{Refusal, found_by};
+use verdict_lines::{Finding, Refusal, found_by};
 
 /// The verdicts on all spans of a setup, in order; and the place of the first one that isn't provable, from 0 on, its
 /// name, and why.
 #[derive(Drop)]
 pub struct Verdicts {
-    pub found: Vec<Result<bool, Refusal>>,
+    pub found: Vec<Result<Finding, Refusal>>,
     pub refused: Option<(usize, Name, Refusal)>,
 }
 
@@ -79,8 +79,8 @@ fn judge_next(
 
 /// Adds a verdict to those that are found. The error is want of memory.
 fn keep(
-    verdicts: &mut Vec<Result<bool, Refusal>>,
-    found: Result<bool, Refusal>,
+    verdicts: &mut Vec<Result<Finding, Refusal>>,
+    found: Result<Finding, Refusal>,
 ) -> Result<(), AllocError>
     ensures { IfOk result (λ _. verdicts.new.items ≡ verdicts.old.items ++ found ∷ []) }
 {
@@ -93,12 +93,12 @@ fn judge_span(
     alloc: Global,
     setup: &Setup,
     span: &Span,
-) -> Result<Result<bool, Refusal>, AllocError>
+) -> Result<Result<Finding, Refusal>, AllocError>
     requires { IsSome (slice_index_or setup.now.machines span.now.machine None) }
     ensures { IfOk result (λ found. IsVerdictOn setup.now span.now found) }
 {
     let verdict = check(alloc, setup, span)?;
-    Ok(found_by(verdict))
+    Ok(found_by(verdict, span))
 }
 
 /// Keeps the refusal that came before, else takes that of the span at this place, if it isn't proved. The error is want
@@ -107,7 +107,7 @@ fn note_refusal(
     alloc: Global,
     place: usize,
     span: &Span,
-    found: &Result<bool, Refusal>,
+    found: &Result<Finding, Refusal>,
     refused: &mut Option<(usize, Name, Refusal)>,
 ) -> Result<(), AllocError>
     ensures { IfOk result (λ _. refused.new ≡ spec.first_refused refused.old place span.now.name found.now) }
