@@ -512,8 +512,8 @@ def span(random, noise):
         "to_pin": str(random.randrange(32)),
         "from_edge": random.choice(['"rise"', '"fall"']),
         "to_edge": rarely('"up"', random.choice(['"rise"', '"fall"'])),
-        "min": random.choice(["0", "5", "100"]),
-        "max": random.choice(["100", "16777215", rarely("16777216", "200"), rarely("3", "300")]),
+        "min": random.choice(["0", "5", "100", rarely("inf", "16777215"), rarely("1.5", "7")]),
+        "max": random.choice(["100", "16777215", rarely("16777216", "200"), rarely("3", "300"), "inf", "+inf", rarely(random.choice(["-inf", "nan", "9.0"]), "inf")]),
     }
     if random.random() < 0.4:
         keys["unit"] = random.choice(['"ticks"', '"clocks"'])

@@ -3,6 +3,7 @@ of TOML gives.
 """
 
 import tomllib
+from math import inf
 
 # Each key in the order in which it is looked at, with its limits; a key without limits is true or false.
 MACHINE_KEYS = {
@@ -145,6 +146,8 @@ class Reader:
                 need(key in ("unit", "stalls"), where, "C13")
             elif key == "stalls":
                 self.stalls(where, table)
+            elif key == "max" and table[key] == inf:
+                pass
             elif key in SPAN_NUMBERS:
                 need(is_number(table[key]), where, "C3")
                 need(0 <= table[key] <= SPAN_NUMBERS[key], where, "C4")

@@ -1,5 +1,7 @@
 """Random blocks with spans, as an author of firmware may write them: pulses, delays, counted loops, and some waits."""
 
+from math import inf
+
 from piotool import span_model
 from cases import Run, as_tables, lines_of
 from config_model import MACHINE_KEYS
@@ -154,4 +156,6 @@ class Timed(Run):
         period = span_model.period_of(self.setups[span["machine"]])
         least, most = ages if span["unit"] == "ticks" else (ages[0] * period // 256, -(-ages[1] * period // 256))
         near = least + random.choice([0, 0, 0, 1, 1, -1]), most + random.choice([0, 0, 0, -1, 1])
+        if random.random() < 0.2:
+            return min(max(near[0], 0), MOST), inf
         return sorted(min(max(bound, 0), MOST) for bound in near)

@@ -12,7 +12,7 @@ from typing import Any, Callable, Optional
 from piotool import span_model
 from piotool.asked import MOV, OUT, PINS, Asked, Word
 from piotool.lazy_state import MachineState, State
-from piotool.span_model import Context, Course, bounds_of
+from piotool.span_model import Bounds, Context, Course, bounds_of
 
 TICK = 0.6  # what a tick weighs that is still to be passed
 MOST_CONTEXTS = 20_000
@@ -63,6 +63,9 @@ class Guide:
         self.asked, self.own = asked, asked.machines[asked.own]
         self.model = Sharper(block.memory, self.own.setup, span)
         self.bounds, self.stalls = bounds_of(span, self.own.setup), asked.stalls
+        if not self.bounds.is_bounded:
+            # No count is too great, and no wait is one too many.
+            self.bounds, self.stalls = Bounds(self.bounds.least, inf, False), frozenset(range(32))
         self.first = self.model.start(block.pins["level"])
         self.rows: dict[Context, list[Course]] = {}
         ahead = [self.first]

@@ -4,6 +4,7 @@ The rules are those of docs/SPECIFICATION.md. A *stretch* runs a state up to the
 many clocks, and leaps over delays. It tells a log, where one is given, what the system has to do for that.
 """
 
+from math import inf
 from typing import Any, Optional
 
 from piotool.asked import JMP, SET, Asked, AskedMachine
@@ -170,7 +171,7 @@ class Stretch(Choices):
         state, asked = self.state, self.asked
         if own is not None:
             is_named = self.is_named(own)
-            if own.is_late and not is_named and state.newest is not None:
+            if own.is_late and not is_named and state.newest is not None and asked.span["max"] != inf:
                 self.found = state.clock + 1
                 return
             state.counted += not is_named

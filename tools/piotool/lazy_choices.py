@@ -3,6 +3,7 @@
 What is chosen of a free bit is put in its place everywhere in the state at once.
 """
 
+from math import inf
 from typing import Any, Optional
 
 from piotool.asked import Asked, AskedMachine
@@ -150,7 +151,8 @@ class Choices:
         if isinstance(value, int):
             return value
         if len({it >> 1 for it in value if it > 1}) > FEW_BITS:
-            return self.one_of(value, [*COUNTERS, self.asked.span["max"] & ALL_ONES, self.asked.span["max"] * 2 & ALL_ONES])
+            most = self.asked.span["min" if self.asked.span["max"] == inf else "max"]
+            return self.one_of(value, [*COUNTERS, most & ALL_ONES, most * 2 & ALL_ONES])
         return self.chosen_number(value)
 
     def chosen_number(self, value: Value) -> int:

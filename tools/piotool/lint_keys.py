@@ -44,7 +44,7 @@ LIMITS = {
     ("span", "to_edge"): EDGE,
     ("span", "unit"): '"ticks" or "clocks"',
     ("span", "min"): BOUND,
-    ("span", "max"): BOUND,
+    ("span", "max"): f"{BOUND}, or inf",
     ("span", "stalls"): "an array of labels; none in clocks",
     ("load", "load"): "tables, each below [[load]]",
     ("machine", "machine"): "tables, each below [[machine]]",

@@ -78,6 +78,7 @@ WARNINGS = {
     "pin-not-driven": "a WAIT for a pin that nothing drives",
     "stall-never": "a stall is named that can't stall",
     "same-name": "two spans have one name",
+    "never-closes": "no to-edge can end a span without a greatest bound",
     "span-not-seen": "the run never sees a span",
     "bounds-not-seen": "the run never sees a span at its bounds",
     "bound-not-tight": "a bound isn't tight by more than half",

@@ -1,6 +1,7 @@
 """What is said of declared spans: those that are refused, with why and a run that breaks them; bounds that aren't tight; rates."""
 
 import re
+from math import inf
 from typing import Iterator, Optional
 
 from piotool.breaking import answer_of
@@ -84,12 +85,19 @@ class SpanLint:
         found: list[Optional[tuple[int, int]]] = []
         for table, verdict in zip(self.tables, self.verdicts):
             ages = None
-            if verdict.endswith(" proved opens yes"):
+            if " proved opens yes" in verdict and not verdict.endswith(" closes no"):
                 widest = self.block.span(table) | {"min": 0, "max": MOST}
                 graph = graph_of(self.block.memory, self.block.setups, self.block.pins["level"], widest)
                 ages = graph.ages_at_ends()
             found.append(ages)
         return found
+
+    def unclosed(self) -> Iterator[Said]:
+        """Spans without a greatest bound that no to-edge ends, so that their least is never asked."""
+        for place, (table, verdict) in enumerate(zip(self.tables, self.verdicts)):
+            if " proved opens yes" in verdict and verdict.endswith(" closes no"):
+                text = f"span {table['name']}: nothing that the program does after its from-edge is its to-edge, so min is never asked"
+                yield Said(self.files.config_place(f"span[{place}].to_edge"), "warning", text, "never-closes")
 
     def of_bounds(self, tight: list[Optional[tuple[int, int]]]) -> Iterator[Said]:
         """Bounds that are off by more than half of the tight ones."""
@@ -100,7 +108,7 @@ class SpanLint:
             least, most = ages[0] * period // 256, -(-ages[1] * period // 256)
             for key, bound, is_wide in (
                 ("min", least, 2 * (least - table["min"]) > least),
-                ("max", most, 2 * (table["max"] - most) > most),
+                ("max", most, table["max"] != inf and 2 * (table["max"] - most) > most),
             ):
                 if is_wide:
                     text = f"span {table['name']}: {key} is {table[key]}, and the tight one is {bound}"
@@ -113,7 +121,7 @@ class SpanLint:
         for place, table in enumerate(self.tables):
             is_period = table["from_pin"] == table["to_pin"] and table["from_edge"] == table["to_edge"]
             said = {text: rate for text, rate in self.rates(place).items() if rate <= mhz * 5e5}
-            if not is_period or table.get("stalls") or len(said) != 1:
+            if not is_period or table.get("stalls") or table["max"] == inf or len(said) != 1:
                 continue
             (text, rate), = said.items()
             is_ticks = table.get("unit", "ticks") == "ticks"

@@ -114,7 +114,7 @@ class Search:
     def endless(self, node: Node, child: Node) -> Optional[Found]:
         """The loop that a state ends on which the span stays open, where its count grows in it; by Brent's way of marking."""
         oldest = child.state.oldest
-        if oldest is None or child.state.ages()[1] * 2 > self.asked.span["max"] and not self.asked.in_clocks:
+        if self.asked.span["max"] == inf or oldest is None or child.state.ages()[1] * 2 > self.asked.span["max"] and not self.asked.in_clocks:
             return None
         if node.mark is None or node.mark.state.oldest != oldest or child.steps >= node.until:
             child.mark, child.mark_key = child, self.keys.of(child.state, False)

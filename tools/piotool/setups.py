@@ -3,13 +3,15 @@
 import json
 import tomllib
 from dataclasses import dataclass
+from math import inf
 from pathlib import Path
-from typing import Optional
+from typing import Any, Optional
 
 from piotool.calls import Fault, read_text
 from piotool.set_up import Tables
 
 MOST = 2**24 - 1  # the greatest bound
+LONG = 10**18  # more clocks than any trace has
 NUMBERS = {"machine": 3, "from_pin": 31, "to_pin": 31, "min": MOST, "max": MOST}
 WORDS = {"from_edge": ("rise", "fall"), "to_edge": ("rise", "fall"), "unit": ("ticks", "clocks")}
 
@@ -26,11 +28,13 @@ class Span:
     to_edge: str
     unit: str
     min: int
-    max: int
+    max: float  # a number, or inf
     stalls: tuple[str, ...]
 
     def bounds(self) -> str:
         """The declared bounds as a text, as `2..7 ticks`."""
+        if self.max == inf:
+            return f"at least {self.min} {self.unit}"
         return f"{self.min} {self.unit}" if self.min == self.max else f"{self.min}..{self.max} {self.unit}"
 
     @property
@@ -69,8 +73,8 @@ def span_of(path: str | Path, at: str, table: Tables) -> Span:
     """The span that a table declares."""
     table = {"unit": "ticks", "stalls": []} | table
     for key, most in NUMBERS.items():
-        if type(table.get(key)) is not int or not 0 <= table[key] <= most:
-            raise Fault(f"{path}: {at}.{key} is no number from 0 to {most}")
+        if type(table.get(key)) is not int and not (key == "max" and table.get(key) == inf) or not 0 <= table[key] <= most and table[key] != inf:
+            raise Fault(f"{path}: {at}.{key} is no number from 0 to {most}{', nor inf' if key == 'max' else ''}")
     for key, words in WORDS.items():
         if not isinstance(table.get(key), str) or table[key] not in words:
             raise Fault(f"{path}: {at}.{key} is neither {words[0]} nor {words[1]}")
@@ -103,7 +107,9 @@ def period_of(path: str | Path, tables: Tables, machine: int) -> int:
 def clocks_allowed(path: str | Path, tables: Tables, span: Span) -> Optional[tuple[int, int]]:
     """The clocks that a span allows: ticks count as clocks of the machine's divider. None where it names stalls, whose waits aren't known."""
     period = period_of(path, tables, span.machine) if span.unit == "ticks" else 256
-    return None if span.stalls else (span.min * period // 256, -(-span.max * period // 256))
+    if span.stalls:
+        return None
+    return span.min * period // 256, LONG if span.max == inf else int(-(-span.max * period // 256))
 
 
 def toml_of(tables: Tables) -> str:
@@ -117,4 +123,9 @@ def toml_of(tables: Tables) -> str:
 
 def assignments(table: Tables) -> list[str]:
     """The lines of a table: its values are numbers, texts, truths, and lists of these."""
-    return [f"{key} = {json.dumps(value)}" for key, value in table.items()]
+    return [f"{key} = {written(value)}" for key, value in table.items()]
+
+
+def written(value: Any) -> str:
+    """A value as TOML writes it."""
+    return "inf" if value == inf else json.dumps(value)

@@ -13,6 +13,7 @@ side_pindirs. A span has the keys of a configuration; stalls are addresses.
 import heapq
 from collections import Counter
 from dataclasses import dataclass, field
+from math import inf
 from typing import Any, Iterator, Optional
 
 from piotool.machine_model import Setup, Write, period_of
@@ -91,10 +92,14 @@ class Course:
 
 @dataclass(frozen=True)
 class Bounds:
-    """The least and the greatest number of ticks; more than one above the greatest isn't told apart."""
+    """The least and the greatest number of ticks; more than one above the greatest isn't told apart.
+
+    Of a span without a greatest bound `most` is one below the least, so that counting ends there.
+    """
 
     least: int
     most: int
+    is_bounded: bool = True
 
     @property
     def cap(self) -> int:
@@ -104,10 +109,11 @@ class Bounds:
 
 def bounds_of(span: Span, setup: Setup) -> Bounds:
     """The bounds of a span in ticks."""
-    if span["unit"] == "ticks":
-        return Bounds(span["min"], span["max"])
-    period = period_of(setup)
-    return Bounds(-(-256 * span["min"] // period), 256 * span["max"] // period)
+    period = 256 if span["unit"] == "ticks" else period_of(setup)
+    least = -(-256 * span["min"] // period)
+    if span["max"] == inf:
+        return Bounds(least, max(0, least - 1), False)
+    return Bounds(least, 256 * span["max"] // period)
 
 
 def mapping(base: int, count: int) -> list[int]:
@@ -315,11 +321,11 @@ class Graph:
             return [("U4", 0)]
         found = []
         for place, (tick, ages) in enumerate(zip(course.ticks, self.ages_within(course))):
-            if ages and ages[1] > self.bounds.most:
+            if ages and ages[1] > self.bounds.most and self.bounds.is_bounded:
                 found.append(("U1", place))
             if ages and tick.ends and ages[0] < self.bounds.least:
                 found.append(("U2", place))
-            if ages and tick.is_late and course.before.address not in self.stalls:
+            if ages and tick.is_late and course.before.address not in self.stalls and self.bounds.is_bounded:
                 found.append(("U3", place))
         return found
 
@@ -359,6 +365,10 @@ class Graph:
         """Whether some course has a from-edge."""
         return any(tick.begins for courses in self.rows.values() for course in courses for tick in course.ticks)
 
+    def closes(self) -> bool:
+        """Whether an open span may come to a to-edge."""
+        return self.ages_at_ends() is not None
+
 
 def sharing(setups: dict[int, Setup], span: Span) -> Optional[int]:
     """The least other machine whose mappings hold a pin of the span, or None."""
@@ -380,7 +390,8 @@ def verdict(memory: list[int], setups: dict[int, Setup], level: int, span: Span)
     graph = graph_of(memory, setups, level, span)
     if bad := graph.first_bad():
         return f"unproved at {bad[0]}: {bad[1]}"
-    return f"proved opens {'yes' if graph.opens() else 'no'}"
+    closes = "" if graph.bounds.is_bounded else f" closes {'yes' if graph.closes() else 'no'}"
+    return f"proved opens {'yes' if graph.opens() else 'no'}{closes}"
 
 
 def table(memory: list[int], setups: dict[int, Setup], level: int, span: Span) -> str:

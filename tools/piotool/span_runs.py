@@ -188,7 +188,7 @@ def broken_at(block: SetUp, span: dict[str, Any], run: Run, lines: list[Line]) -
             continue
         count, wait = counted(span, run.ticks[span["machine"]].within(begin, last))
         count = last - begin if span["unit"] == "clocks" else count
-        if wait or count > span["max"] or end is not None and count < span["min"]:
+        if wait and span["max"] != inf or count > span["max"] or end is not None and count < span["min"]:
             return Broken(begin, end, last, count, wait)
     return None
 

@@ -1,6 +1,7 @@
 """What is told of a span that was searched: its line, and the calls that show its run."""
 
 import os
+from math import inf
 from pathlib import Path
 from typing import Any, Optional
 
@@ -12,8 +13,8 @@ EDGES = {"rise": ("rises", "risen"), "fall": ("falls", "fallen")}
 
 
 def bounds_of(span: dict[str, Any]) -> str:
-    """The declared bounds, as `2..7`."""
-    return f"{span['min']}..{span['max']}"
+    """The declared bounds, as `2..7`, or `at least 2`."""
+    return f"at least {span['min']}" if span["max"] == inf else f"{span['min']}..{span['max']}"
 
 
 def line_of(block: SetUp, span: dict[str, Any], answer: Answer, seconds: float, stem: Optional[str] = None) -> str:
