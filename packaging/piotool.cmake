@@ -72,7 +72,7 @@ if(CMAKE_SCRIPT_MODE_FILE STREQUAL CMAKE_CURRENT_LIST_FILE)
     message("${verdicts}")
     if(verdicts STREQUAL "")
         message(FATAL_ERROR "no span is declared in ${CONFIG}")
-    elseif(verdicts MATCHES "opens no")
+    elseif(verdicts MATCHES "opens no|closes no")
         message(FATAL_ERROR "a span never opens: look at its pins and edges")
     endif()
 
