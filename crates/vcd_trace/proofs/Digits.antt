@@ -145,11 +145,11 @@ fours_below zero n t h = absurd (omega arith)
 fours_below (suc m) n t h =
     elim (eq-zero-or-pos (m - n)) [
       | inl z ↦ let e : n ≡ m = omega (arith, z, h) in
-        let a = and_l _ (are_fours m) t in
-        let low = and_l _ _ a in
-        let high = and_r _ _ a in
-        let here : AreDigits m = record { first = eqb→eq _ _ (and_l _ _ low); second = eqb→eq _ _ (and_r _ _ low); third = eqb→eq _ _ (and_l _ _ high); fourth = eqb→eq _ _ (and_r _ _ high) } in
-        subst AreDigits (sym e) here
+          let a = and_l _ (are_fours m) t in
+          let low = and_l _ _ a in
+          let high = and_r _ _ a in
+          let here : AreDigits m = record { first = eqb→eq _ _ (and_l _ _ low); second = eqb→eq _ _ (and_r _ _ low); third = eqb→eq _ _ (and_l _ _ high); fourth = eqb→eq _ _ (and_r _ _ high) } in
+          subst AreDigits (sym e) here
       | inr g ↦ fours_below m n (and_r _ (are_fours m) t) (omega (arith, g))
     ]
 

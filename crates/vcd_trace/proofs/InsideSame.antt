@@ -2,6 +2,9 @@
 use Rattle.std.proofs.Common.{◌≡◌, ℕ, ◌+◌, ◌*◌, ◌<◌, ◌^◌, Bool, true, false, cond, eqb, Option, Some, None, List, [], ◌∷◌, ◌++◌, length, refl, sym, ap, subst, ◌∙◌, arith, eq-eqb, Result}
 use Rattle.std.specs.Prelude.{◌&&◌, map, is_some, replicate}
 use borrow.Author.Tests.{eqb-true}
+use lib.Pointwise.{pointwise}
+use Rattle.std.specs.Option.{option_eq}
+use Rattle.block_core.specs.contracts.inside.MachineInsidePartialEq.TheImpl.{eq-value}
 use Rattle.block_core.specs.declared.sample.Sample.{Sample}
 use Rattle.block_core.specs.declared.inside.MachineInside.{MachineInside}
 use Rattle.block_core.specs.declared.inside.Inside.{Inside}
@@ -130,6 +133,45 @@ same_inside-equal a b h =
     let two : Inside = record { sample = b.sample; pads = b.pads; machines = b.machines } in
     let same : one ≡ two = cc in
     same
+
+-- ---- the derived comparison
+
+-- by the values of one bit
+by_bits : (a b : MachineInside) (waits other enabled another : Bool)
+    → eq-value.it (record a { waits = waits; enabled = enabled }) (record b { waits = other; enabled = another })
+    ≡ same_numbers (machine_values (record a { waits = waits; enabled = enabled })) (machine_values (record b { waits = other; enabled = another }))
+by_bits a b true true true true = refl
+by_bits a b true true true false = refl
+by_bits a b true true false true = refl
+by_bits a b true true false false = refl
+by_bits a b true false true true = refl
+by_bits a b true false true false = refl
+by_bits a b true false false true = refl
+by_bits a b true false false false = refl
+by_bits a b false true true true = refl
+by_bits a b false true true false = refl
+by_bits a b false true false true = refl
+by_bits a b false true false false = refl
+by_bits a b false false true true = refl
+by_bits a b false false true false = refl
+by_bits a b false false false true = refl
+by_bits a b false false false false = refl
+
+derived_machine-is : (a b : MachineInside) → eq-value.it a b ≡ same_numbers (machine_values a) (machine_values b)
+derived_machine-is a b = by_bits a b a.waits b.waits a.enabled b.enabled
+
+derived_option-is : (a b : Option MachineInside) → option_eq eq-value.it a b ≡ same_machine a b
+derived_option-is None None = refl
+derived_option-is None (Some b) = refl
+derived_option-is (Some a) None = refl
+derived_option-is (Some a) (Some b) = derived_machine-is a b
+
+pub derived_machines-are : (xs ys : List (Option MachineInside)) → pointwise (option_eq eq-value.it) xs ys ≡ same_machines xs ys
+derived_machines-are [] [] = refl
+derived_machines-are [] (y ∷ ys) = refl
+derived_machines-are (x ∷ xs) [] = refl
+derived_machines-are (x ∷ xs) (y ∷ ys) =
+    ap (λ (t : Bool). t && pointwise (option_eq eq-value.it) xs ys) (derived_option-is x y) ∙ ap (λ (t : Bool). same_machine x y && t) (derived_machines-are xs ys)
 
 -- ---- where nothing has a line, the same is inside
 

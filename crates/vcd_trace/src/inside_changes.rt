@@ -100,12 +100,7 @@ fn put_place<S: Sink>(
     ensures cause { PutCounts (S.faults sink.old) (S.faults sink.new) result }
 {
     if before.pc != now.pc && before.instruction != now.instruction {
-        return put_two_vectors(
-            sink,
-            first,
-            u32::from(now.pc),
-            u32::from(now.instruction),
-        );
+        return put_two_vectors(sink, first, u32::from(now.pc), u32::from(now.instruction));
     }
     put_either(sink, first, before, now)
 }

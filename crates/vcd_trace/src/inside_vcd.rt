@@ -8,8 +8,8 @@ ghost use Rattle.vcd_trace.specs.InsideText.{inside_text_of};
 ghost use Rattle.vcd_trace.specs.InsideGroups.{same_further};
 ghost use Rattle.vcd_trace.specs.InsideTold.{added_inside, ended_inside, told_first};
 
-use crate::clock_line::ClockLine;
 use crate::changes::put_next;
+use crate::clock_line::ClockLine;
 use crate::inside_changes::put_further;
 use crate::inside_dump::put_inside_dump;
 use crate::inside_header::put_inside_header;

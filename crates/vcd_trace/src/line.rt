@@ -166,7 +166,8 @@ fn write_four(line: &mut [u8], end: usize, number: u8)
     requires number { number < 16 }
     requires after { 4 ≤ end }
     requires before { end ≤ length line.now }
-    ensures { drop (end - 4) line.new ≡ four_digits number ++ drop end line.old }
+    ensures digits { drop (end - 4) line.new ≡ four_digits number ++ drop end line.old }
+    ensures size { length line.new ≡ length line.old }
 {
     let first = usize::from(number) * 4;
     line[end - 1] = FOURS[first + 3];

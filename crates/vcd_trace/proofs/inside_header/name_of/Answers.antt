@@ -1,4 +1,4 @@
-use Rattle.std.proofs.Common.{refl}
+use Rattle.std.proofs.Common.{◌≡◌, arith, refl}
 use Rattle.vcd_trace.specs.InsideGroups.{machine_variable}
 use Rattle.vcd_trace.specs.InsideText.{machine_variables}
 use Rattle.vcd_trace.proofs.inside_header.name_of.Goals as goal
@@ -38,3 +38,7 @@ returns-in-7-clause-name c = rw c.in-7.is refl
 pub returns-in-8-clause-name : goal.returns-in-8-clause-name
 unfolding machine_variable machine_variables
 returns-in-8-clause-name c = rw c.in-8.is refl
+
+pub returns-in_default-clause-name : goal.returns-in_default-clause-name
+unfolding machine_variable machine_variables
+returns-in_default-clause-name c = let last : c.args.number ≡ 9 = omega arith in rw last refl

@@ -5,8 +5,8 @@ use Rattle.vcd_trace.specs.ClockText.{four_digits}
 use Rattle.vcd_trace.proofs.Digits.{FOURS_at, put_at}
 use Rattle.vcd_trace.proofs.line.write_four.Goals as goal
 
-pub returns : goal.returns
-returns c =
+pub returns-clause-digits : goal.returns-clause-digits
+returns-clause-digits c =
     let end = c.args.end in
     let old = c.args.line.now in
     let at = c.from-first.result * 4 in
