@@ -129,7 +129,7 @@ twin_dump-parts s =
     ∙ append_assoc (codes "$dumpvars\n") (values_over 0 s.0) (values_over 128 s.1 ++ codes "$end\n")
 
 -- values that are what they were have no lines
-vector_changes-none : (id : ℕ) (words : List ℕ) → vector_changes id words words ≡ []
+pub vector_changes-none : (id : ℕ) (words : List ℕ) → vector_changes id words words ≡ []
 vector_changes-none id [] = refl
 vector_changes-none id (w ∷ words) = ap (λ t. cond t [] (vector_line id w) ++ vector_changes (id + 1) words words) (eq-eqb w w refl) ∙ vector_changes-none (id + 1) words
 

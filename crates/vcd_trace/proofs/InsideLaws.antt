@@ -1,16 +1,17 @@
 -- The text of what is inside a block by its parts.
-use Rattle.std.proofs.Common.{◌≡◌, ℕ, ◌+◌, ◌*◌, ◌<◌, Bool, true, false, Option, Some, None, List, [], ◌∷◌, ◌++◌, suc, length, drop, get_or, refl, sym, ap, ◌∙◌, append_assoc, arith}
+use Rattle.std.proofs.Common.{◌≡◌, ℕ, ◌+◌, ◌*◌, ◌<◌, Bool, true, false, Option, Some, None, List, [], ◌∷◌, ◌++◌, suc, length, drop, get_or, refl, sym, ap, ◌∙◌, append_assoc, append-nil, arith, cond, eqb, slice_index_or, zero}
 use Rattle.std.specs.Prelude.{codes, map, replicate, if◌then◌else◌}
 use Rattle.std.proofs.Math.Seq.{drop-cons}
 use Rattle.block_core.specs.declared.inside.MachineInside.{MachineInside}
 use Rattle.block_core.specs.declared.inside.Inside.{Inside}
-use Rattle.block_core.specs.Sample.{bits_of}
-use Rattle.vcd_trace.specs.VcdText.{Variable, declaration, declarations, scope_text, value_lines, change_lines, values_over, changes_over}
+use Rattle.block_core.specs.Sample.{bits_of, same_numbers}
+use Rattle.vcd_trace.specs.VcdText.{Variable, declaration, declarations, scope_text, value_lines, change_lines, values_over, changes_over, vector_line}
 use Rattle.vcd_trace.specs.Groups.{bit_lines, bit_changes, vector_lines, vector_changes}
 use Rattle.vcd_trace.specs.InsideText.{bit_of, inside_changes_text, inside_dump_text, inside_header_text, machine_changes, machine_lines, machine_opening, machine_scope, machine_scopes, machine_values, machine_variables, machine_widths, machines_changes, machines_lines, named, pad_changes, pad_lines, pad_variables, pads_scope, scope_of}
-use Rattle.vcd_trace.specs.InsideGroups.{flags_of, machine_variable, words_of}
-use Rattle.vcd_trace.proofs.TextLaws.{change_lines-append, value_lines-append}
-use Rattle.vcd_trace.proofs.ChangesLaws.{change_lines-vectors, value_lines-vectors}
+use Rattle.vcd_trace.specs.InsideGroups.{flags_of, further_changes, long_of, machine_variable, place_of, register_changes, registers_of, same_registers, short_of, words_of}
+use Rattle.vcd_trace.specs.declared.inside_header.TheConstants.{WIDTHS}
+use Rattle.vcd_trace.proofs.TextLaws.{bit_changes-same, change_lines-append, one_line, value_lines-append}
+use Rattle.vcd_trace.proofs.ChangesLaws.{both_true, change_lines-vectors, same_numbers-equal, value_lines-vectors, vector_changes-none}
 
 -- ---- parts in a row
 
@@ -80,6 +81,57 @@ pub pads-changes : (before now : ℕ) → pad_changes before now ≡ bit_changes
 unfolding pad_changes pad_variables bit_changes
 pads-changes before now = refl
 
+-- ---- what a clock changes of a machine
+
+-- two parts, then two more
+two_and_two : (a b v w : List ℕ) → (a ++ (b ++ v)) ++ w ≡ (a ++ (b ++ [])) ++ (v ++ w)
+two_and_two a b v w =
+    append_assoc a (b ++ v) w ∙ ap (λ (x : List ℕ). a ++ x) (append_assoc b v w ∙ ap (λ (x : List ℕ). x ++ (v ++ w)) (sym (append-nil b)))
+    ∙ sym (append_assoc a (b ++ []) (v ++ w))
+
+-- the address and the word, then all else
+pub machine-kinds : (id : ℕ) (a b : MachineInside) → change_lines id machine_widths (machine_values a) (machine_values b) ≡ vector_changes id (place_of a) (place_of b) ++ register_changes (id + 2) a b
+machine-kinds id a b =
+    let pc : List ℕ = cond (eqb a.pc b.pc) [] (vector_line id b.pc) in
+    let word : List ℕ = cond (eqb a.instruction b.instruction) [] (vector_line (id + 1) b.instruction) in
+    let bits : List ℕ = bit_changes (id + 8) 2 (flags_of a) (flags_of b) in
+    machine-changes id a b
+    ∙ ap (λ (n : ℕ). (pc ++ (word ++ vector_changes n (registers_of a) (registers_of b))) ++ bits) (let e : id + 1 + 1 ≡ id + 2 = omega arith in e)
+    ∙ ap (λ (n : ℕ). (pc ++ (word ++ vector_changes (id + 2) (registers_of a) (registers_of b))) ++ bit_changes n 2 (flags_of a) (flags_of b)) (let e : id + 8 ≡ id + 2 + 6 = omega arith in e)
+    ∙ two_and_two pc word (vector_changes (id + 2) (registers_of a) (registers_of b)) (bit_changes (id + 2 + 6) 2 (flags_of a) (flags_of b))
+
+-- where both change, they have the two lines
+pub place-both : (id : ℕ) (a b : MachineInside) → (a.pc ≡ b.pc → ⊥) → (a.instruction ≡ b.instruction → ⊥) → vector_changes id (place_of a) (place_of b) ≡ vector_line id b.pc ++ vector_line (id + 1) b.instruction
+place-both id a b h k =
+    ap (λ (x : List ℕ). x ++ (cond (eqb a.instruction b.instruction) [] (vector_line (id + 1) b.instruction) ++ [])) (one_line a.pc b.pc (vector_line id b.pc) h)
+    ∙ ap (λ (x : List ℕ). vector_line id b.pc ++ (x ++ [])) (one_line a.instruction b.instruction (vector_line (id + 1) b.instruction) k)
+    ∙ ap (λ (x : List ℕ). vector_line id b.pc ++ x) (append-nil (vector_line (id + 1) b.instruction))
+
+-- the line of the one, then that of the other
+pub place-parts : (id : ℕ) (a b : MachineInside) → vector_changes id (place_of a) (place_of b) ≡ cond (eqb a.pc b.pc) [] (vector_line id b.pc) ++ cond (eqb a.instruction b.instruction) [] (vector_line (id + 1) b.instruction)
+place-parts id a b =
+    ap (λ (x : List ℕ). cond (eqb a.pc b.pc) [] (vector_line id b.pc) ++ x) (append-nil (cond (eqb a.instruction b.instruction) [] (vector_line (id + 1) b.instruction)))
+
+-- where all else is the same, it has no lines
+pub registers-none : (id : ℕ) (a b : MachineInside) → same_registers a b ≡ true → register_changes id a b ≡ []
+registers-none id a b h =
+    let t = both_true (same_numbers (long_of a) (long_of b)) (same_numbers (short_of a) (short_of b)) h in
+    let long : long_of a ≡ long_of b = same_numbers-equal (long_of a) (long_of b) t.0 in
+    let short : short_of a ≡ short_of b = same_numbers-equal (short_of a) (short_of b) t.1 in
+    let x : a.x ≡ b.x = cc in
+    let y : a.y ≡ b.y = cc in
+    let isr : a.isr ≡ b.isr = cc in
+    let osr : a.osr ≡ b.osr = cc in
+    let isr_count : a.isr_count ≡ b.isr_count = cc in
+    let osr_count : a.osr_count ≡ b.osr_count = cc in
+    let waits : bit_of a.waits ≡ bit_of b.waits = cc in
+    let enabled : bit_of a.enabled ≡ bit_of b.enabled = cc in
+    let registers : registers_of b ≡ registers_of a = cc in
+    let flags : flags_of b ≡ flags_of a = omega (arith, waits, enabled) in
+    ap (λ (l : List ℕ). vector_changes id (registers_of a) l ++ bit_changes (id + 6) 2 (flags_of a) (flags_of b)) registers
+    ∙ ap (λ (x : List ℕ). x ++ bit_changes (id + 6) 2 (flags_of a) (flags_of b)) (vector_changes-none id (registers_of a))
+    ∙ ap (λ (n : ℕ). bit_changes (id + 6) 2 (flags_of a) n) flags ∙ bit_changes-same (id + 6) 2 (flags_of a)
+
 -- ---- the values one by one
 
 pub inside_dump-parts : (s : Inside) → inside_dump_text s ≡ codes "$dumpvars\n" ++ (values_over 0 s.sample ++ (bit_lines 161 32 s.pads ++ (machines_lines 0 s.machines ++ codes "$end\n")))
@@ -87,6 +139,14 @@ unfolding inside_dump_text
 inside_dump-parts s =
     five (codes "$dumpvars\n") (values_over 0 s.sample) (pad_lines s.pads) (machines_lines 0 s.machines) (codes "$end\n")
     ∙ ap (λ (x : List ℕ). codes "$dumpvars\n" ++ (values_over 0 s.sample ++ (x ++ (machines_lines 0 s.machines ++ codes "$end\n")))) (pads-lines s.pads)
+
+-- the sample, then the pads and the machines
+pub inside_changes-further : (a b : Inside) → inside_changes_text a b ≡ changes_over 0 a.sample b.sample ++ further_changes a b
+unfolding inside_changes_text
+inside_changes-further a b = append_assoc (changes_over 0 a.sample b.sample) (pad_changes a.pads b.pads) (machines_changes 0 a.machines b.machines)
+
+pub further-parts : (a b : Inside) → further_changes a b ≡ bit_changes 161 32 a.pads b.pads ++ machines_changes 0 a.machines b.machines
+further-parts a b = ap (λ (x : List ℕ). x ++ machines_changes 0 a.machines b.machines) (pads-changes a.pads b.pads)
 
 pub inside_changes-parts : (a b : Inside) → inside_changes_text a b ≡ changes_over 0 a.sample b.sample ++ (bit_changes 161 32 a.pads b.pads ++ machines_changes 0 a.machines b.machines)
 unfolding inside_changes_text
@@ -135,3 +195,18 @@ unfolding named_text machine_variable
 named_text-turn first i h =
     ap (declarations (first + i)) (machine_at machine_variables i (named [] 0) (let within : i < length machine_variables = omega (arith, length-machine_variables) in within))
     ∙ ap (λ (n : ℕ). declaration (first + i) (get_or machine_variables i (named [] 0)) ++ declarations n (drop (i + 1) machine_variables)) (let e : first + i + 1 ≡ first + (i + 1) = omega arith in e)
+
+-- the widths of the table
+pub WIDTHS_at : (n : ℕ) → n < 10 → slice_index_or WIDTHS n 0 ≡ (machine_variable n).width
+unfolding machine_variable machine_variables
+WIDTHS_at zero h = refl
+WIDTHS_at (suc zero) h = refl
+WIDTHS_at (suc (suc zero)) h = refl
+WIDTHS_at (suc (suc (suc zero))) h = refl
+WIDTHS_at (suc (suc (suc (suc zero)))) h = refl
+WIDTHS_at (suc (suc (suc (suc (suc zero))))) h = refl
+WIDTHS_at (suc (suc (suc (suc (suc (suc zero)))))) h = refl
+WIDTHS_at (suc (suc (suc (suc (suc (suc (suc zero))))))) h = refl
+WIDTHS_at (suc (suc (suc (suc (suc (suc (suc (suc zero)))))))) h = refl
+WIDTHS_at (suc (suc (suc (suc (suc (suc (suc (suc (suc zero))))))))) h = refl
+WIDTHS_at (suc (suc (suc (suc (suc (suc (suc (suc (suc (suc n)))))))))) h = absurd (omega arith)

@@ -2,15 +2,18 @@
 use Rattle.std.proofs.Common.{◌≡◌, ℕ, ◌+◌, ◌*◌, ◌<◌, ◌^◌, Bool, true, false, cond, eqb, Option, Some, None, List, [], ◌∷◌, ◌++◌, length, refl, sym, ap, subst, ◌∙◌, arith, eq-eqb, Result}
 use Rattle.std.specs.Prelude.{◌&&◌, map, is_some, replicate}
 use borrow.Author.Tests.{eqb-true}
+use lib.Pointwise.{pointwise}
+use Rattle.std.specs.Option.{option_eq}
+use Rattle.block_core.specs.contracts.inside.MachineInsidePartialEq.TheImpl.{eq-value}
 use Rattle.block_core.specs.declared.sample.Sample.{Sample}
 use Rattle.block_core.specs.declared.inside.MachineInside.{MachineInside}
 use Rattle.block_core.specs.declared.inside.Inside.{Inside}
-use Rattle.block_core.specs.Sample.{bits_of, same_numbers, same_sample}
+use Rattle.block_core.specs.Sample.{bits_of, same_numbers, same_sample, values_of}
 use Rattle.pio_edge.specs.Edge.{with_bytes, TakesPrefix}
 use Rattle.vcd_trace.specs.Shows.{AreInside}
 use Rattle.sample_trace.specs.Told.{IsNext, held_to, told_at}
 use Rattle.vcd_trace.specs.TextForm.{TextForm, added, ended, HasPut}
-use Rattle.vcd_trace.specs.VcdText.{change_lines, changes_over, clock_line}
+use Rattle.vcd_trace.specs.VcdText.{change_lines, changes_over, clock_line, widths}
 use Rattle.vcd_trace.specs.InsideText.{bit_of, first_of_machine, inside_changes_text, inside_form, inside_open_text, inside_step_text, inside_text_of, machine_changes, machine_values, machine_widths, machine_variables, machines_changes, pad_changes, same_inside, same_machine, same_machines}
 use Rattle.vcd_trace.specs.InsideTold.{added_inside, ended_inside, places_code, taken_code, told_first}
 use Rattle.vcd_trace.specs.Groups.{bit_changes}
@@ -18,7 +21,9 @@ use Rattle.vcd_trace.proofs.FormLaws.{AddsNothing, one_put, one_breaks, end_put,
 use Rattle.vcd_trace.proofs.ToldLaws.{and_true, same_numbers-self, same_sample-self, same_sample-equal}
 use Rattle.vcd_trace.proofs.ChangesLaws.{both_true, length-bits_of, same_numbers-equal}
 use Rattle.vcd_trace.proofs.SilenceLaws.{bits_of-same, change_lines-none, changes_over-some, first_none, last_none, one_false}
-use Rattle.vcd_trace.proofs.InsideLaws.{inside_changes-parts}
+use Rattle.vcd_trace.specs.InsideGroups.{further_changes, same_further, with_further}
+use Rattle.vcd_trace.proofs.TextLaws.{change_lines-same}
+use Rattle.vcd_trace.proofs.InsideLaws.{inside_changes-further, inside_changes-parts}
 
 -- ---- the same is inside
 
@@ -39,12 +44,39 @@ pub inside_repeats_add-nothing : (configured : List Bool) → AddsNothing (insid
 inside_repeats_add-nothing configured clock s = ap (λ (b : Bool). cond b [] (clock_line clock ++ inside_changes_text s s)) (same_inside-self s)
 
 -- a clock in which something else is inside adds its line and the changes
-pub inside_step-changed : (clock : ℕ) (a b : Inside) → same_inside a b ≡ false → inside_step_text clock a b ≡ clock_line clock ++ inside_changes_text a b
+inside_step-changed : (clock : ℕ) (a b : Inside) → same_inside a b ≡ false → inside_step_text clock a b ≡ clock_line clock ++ inside_changes_text a b
 inside_step-changed clock a b h = ap (λ (t : Bool). cond t [] (clock_line clock ++ inside_changes_text a b)) h
 
--- and one in which the same is inside none
-pub inside_step-same : (clock : ℕ) (a b : Inside) → same_inside a b ≡ true → inside_step_text clock a b ≡ []
-inside_step-same clock a b h = ap (λ (t : Bool). cond t [] (clock_line clock ++ inside_changes_text a b)) h
+-- where the sample is another one, there are its changes, then those of the pads and the machines
+pub inside_step-seen : (clock : ℕ) (a b : Inside) → same_sample a.sample b.sample ≡ false → inside_step_text clock a b ≡ clock_line clock ++ (changes_over 0 a.sample b.sample ++ further_changes a b)
+inside_step-seen clock a b h =
+    inside_step-changed clock a b (ap (λ (t : Bool). t && same_further a b) h) ∙ ap (λ (x : List ℕ). clock_line clock ++ x) (inside_changes-further a b)
+
+-- where it is shown again, and the rest is the same, there is nothing
+pub inside_step-same : (clock : ℕ) (a b : Inside) → same_sample a.sample b.sample ≡ true → same_further a b ≡ true → inside_step_text clock a b ≡ []
+inside_step-same clock a b h k = ap (λ (t : Bool). cond t [] (clock_line clock ++ inside_changes_text a b)) (and_true _ _ h k)
+
+-- a sample that is shown again has no changes
+changes_over-same : (more : ℕ) (s : Sample) → changes_over more s s ≡ []
+unfolding changes_over
+changes_over-same more s = change_lines-same (33 + more) widths (values_of s)
+
+-- where it is shown again alone, there are the changes of the pads and the machines
+pub inside_step-unseen : (clock : ℕ) (a b : Inside) → same_sample a.sample b.sample ≡ true → same_further a b ≡ false → inside_step_text clock a b ≡ clock_line clock ++ further_changes a b
+inside_step-unseen clock a b h k =
+    let sample : b.sample ≡ a.sample = sym (same_sample-equal a.sample b.sample h) in
+    inside_step-changed clock a b (ap (λ (t : Bool). t && same_further a b) h ∙ k)
+    ∙ ap (λ (x : List ℕ). clock_line clock ++ x) (inside_changes-further a b
+    ∙ ap (λ (t : Sample). changes_over 0 a.sample t ++ further_changes a b) sample
+    ∙ ap (λ (x : List ℕ). x ++ further_changes a b) (changes_over-same 0 a.sample))
+
+-- with the sample, the pads and the machines of another, it is that
+pub further-kept : (last now : Inside) (s : Sample) → s ≡ now.sample → with_further (record { sample = s; pads = last.pads; machines = last.machines }) now ≡ now
+further-kept last now s e =
+    let one : Inside = record { sample = s; pads = now.pads; machines = now.machines } in
+    let two : Inside = record { sample = now.sample; pads = now.pads; machines = now.machines } in
+    let same : one ≡ two = cc in
+    same
 
 -- a Boolean is known by its bit
 same_bit : (a b : Bool) → bit_of a ≡ bit_of b → a ≡ b
@@ -101,6 +133,45 @@ same_inside-equal a b h =
     let two : Inside = record { sample = b.sample; pads = b.pads; machines = b.machines } in
     let same : one ≡ two = cc in
     same
+
+-- ---- the derived comparison
+
+-- by the values of one bit
+by_bits : (a b : MachineInside) (waits other enabled another : Bool)
+    → eq-value.it (record a { waits = waits; enabled = enabled }) (record b { waits = other; enabled = another })
+    ≡ same_numbers (machine_values (record a { waits = waits; enabled = enabled })) (machine_values (record b { waits = other; enabled = another }))
+by_bits a b true true true true = refl
+by_bits a b true true true false = refl
+by_bits a b true true false true = refl
+by_bits a b true true false false = refl
+by_bits a b true false true true = refl
+by_bits a b true false true false = refl
+by_bits a b true false false true = refl
+by_bits a b true false false false = refl
+by_bits a b false true true true = refl
+by_bits a b false true true false = refl
+by_bits a b false true false true = refl
+by_bits a b false true false false = refl
+by_bits a b false false true true = refl
+by_bits a b false false true false = refl
+by_bits a b false false false true = refl
+by_bits a b false false false false = refl
+
+derived_machine-is : (a b : MachineInside) → eq-value.it a b ≡ same_numbers (machine_values a) (machine_values b)
+derived_machine-is a b = by_bits a b a.waits b.waits a.enabled b.enabled
+
+derived_option-is : (a b : Option MachineInside) → option_eq eq-value.it a b ≡ same_machine a b
+derived_option-is None None = refl
+derived_option-is None (Some b) = refl
+derived_option-is (Some a) None = refl
+derived_option-is (Some a) (Some b) = derived_machine-is a b
+
+pub derived_machines-are : (xs ys : List (Option MachineInside)) → pointwise (option_eq eq-value.it) xs ys ≡ same_machines xs ys
+derived_machines-are [] [] = refl
+derived_machines-are [] (y ∷ ys) = refl
+derived_machines-are (x ∷ xs) [] = refl
+derived_machines-are (x ∷ xs) (y ∷ ys) =
+    ap (λ (t : Bool). t && pointwise (option_eq eq-value.it) xs ys) (derived_option-is x y) ∙ ap (λ (t : Bool). same_machine x y && t) (derived_machines-are xs ys)
 
 -- ---- where nothing has a line, the same is inside
 

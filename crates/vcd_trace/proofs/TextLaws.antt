@@ -1,5 +1,5 @@
 -- Laws of the lines of values and changes.
-use Rattle.std.proofs.Common.{◌≡◌, ℕ, ◌+◌, ◌-◌, ◌/◌, ◌%◌, ◌<◌, cond, eqb, List, [], ◌∷◌, ◌++◌, suc, length, drop, get_or, Result, IsErr, refl, sym, ap, ◌∙◌, append_assoc, arith, eq-eqb, subst}
+use Rattle.std.proofs.Common.{◌≡◌, ℕ, ◌+◌, ◌-◌, ◌/◌, ◌%◌, ◌<◌, false, cond, eqb, List, [], ◌∷◌, ◌++◌, suc, length, drop, get_or, Result, IsErr, refl, sym, ap, ◌∙◌, append_assoc, append-nil, arith, eq-eqb, subst}
 use borrow.Author.Tests.{ne_eqb}
 use Rattle.std.proofs.Common.{Option}
 use Rattle.pio_edge.specs.Edge.{with_bytes, TakesPrefix, Takes}
@@ -8,7 +8,8 @@ use Rattle.pio_edge.proofs.PutLaws.{going_on, takes_failed, going_ends, with_byt
 use Rattle.std.specs.Prelude.{replicate}
 use Rattle.std.proofs.Math.Seq.{drop-cons}
 use Rattle.block_core.specs.Sample.{bits_of}
-use Rattle.vcd_trace.specs.VcdText.{value_line, bit_line, vector_line, value_lines, change_lines}
+use Rattle.std.specs.Fmt.{digits}
+use Rattle.vcd_trace.specs.VcdText.{identifier, value_line, bit_line, vector_line, value_lines, change_lines}
 use Rattle.vcd_trace.specs.Groups.{bit_lines, bit_changes, vector_lines, vector_changes}
 
 -- a value that stays has no line
@@ -111,3 +112,17 @@ going_stayed o m n whole rest line later a b g e h k = going_on o m n whole rest
 -- the line of a value that changes failed
 pub going_failed : {T E : Type 0} (o m n : Option (List ℕ)) (whole rest line later : List ℕ) (a b : ℕ) (r : Result T E) → Going o m whole rest → rest ≡ cond (eqb a b) [] line ++ later → (a ≡ b → ⊥) → IsErr r → TakesPrefix m line n → Takes o whole n r
 going_failed o m n whole rest line later a b r g e h f t = takes_failed o m n whole rest line later r g (e ∙ ap (λ x. x ++ later) (one_line a b line h)) f t
+
+-- the line of a value of more bits, before what follows it
+pub vector_line-onto : (id value : ℕ) (rest : List ℕ) → 98 ∷ (digits 2 false value ++ 32 ∷ (identifier id ++ 10 ∷ rest)) ≡ vector_line id value ++ rest
+vector_line-onto id value rest =
+    ap (λ (l : List ℕ). 98 ∷ (digits 2 false value ++ 32 ∷ l)) (sym (append_assoc (identifier id) (10 ∷ []) rest))
+    ∙ ap (λ (l : List ℕ). 98 ∷ l) (sym (append_assoc (digits 2 false value) (32 ∷ (identifier id ++ 10 ∷ [])) rest))
+
+-- the last put took all that was left
+pub going_done_last : (o m n : Option (List ℕ)) (whole rest : List ℕ) → Going o m whole rest → n ≡ with_bytes m rest → n ≡ with_bytes o whole
+going_done_last o m n whole rest g e = going_ends o n whole (going_on o m n whole rest rest [] g (sym (append-nil rest)) e)
+
+-- the last put failed
+pub going_failed_last : {T E : Type 0} (o m n : Option (List ℕ)) (whole rest : List ℕ) (r : Result T E) → Going o m whole rest → IsErr r → TakesPrefix m rest n → Takes o whole n r
+going_failed_last o m n whole rest r g f p = takes_failed o m n whole rest rest [] r g (sym (append-nil rest)) f p

@@ -26,7 +26,7 @@ same_sample-self s =
     (and_true _ _ (same_numbers-self s.tx) (and_true _ _ (same_numbers-self s.rx) (and_true _ _ (same_numbers-self s.got) (same_numbers-self s.sticky))))))
 
 -- samples that show the same are the same
-same_sample-equal : (a b : Sample) → same_sample a b ≡ true → a ≡ b
+pub same_sample-equal : (a b : Sample) → same_sample a b ≡ true → a ≡ b
 same_sample-equal a b h =
     let l = both_true (eqb a.level b.level) _ h in
     let d = both_true (eqb a.direction b.direction) _ l.1 in

@@ -1,5 +1,5 @@
--- What is kept of the line of a clock: words of private clauses.
-use Rattle.std.specs.Prelude.{◌≡◌, ℕ, ◌+◌, ◌*◌, ◌≤◌, Bool, nat_le, nat_lt, ◌&&◌, List, [], ◌∷◌, ◌++◌, decimal, drop}
+-- What is kept of the line of a clock, and what is written of digits: words of private clauses.
+use Rattle.std.specs.Prelude.{◌≡◌, ℕ, ◌+◌, ◌*◌, ◌/◌, ◌%◌, ◌≤◌, Bool, nat_le, nat_lt, ◌&&◌, List, [], ◌∷◌, ◌++◌, decimal, drop}
 use Rattle.vcd_trace.specs.Characters.{newline, hash}
 
 -- from this start the room has the line of a clock of a hundred, whatever its last two digits are
@@ -20,3 +20,7 @@ pub record Line : Type 0 where
 -- a clock differs in its last two digits at most from the clocks of a hundred
 abbrev pub is_of : (hundred clock : ℕ) → Bool
 is_of hundred clock = nat_le hundred clock && nat_lt clock (hundred + 100)
+
+-- the last four binary digits of a number
+abbrev pub four_digits : ℕ → List ℕ
+four_digits n = (48 + n / 8 % 2) ∷ (48 + n / 4 % 2) ∷ (48 + n / 2 % 2) ∷ (48 + n % 2) ∷ []

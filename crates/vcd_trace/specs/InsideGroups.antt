@@ -1,17 +1,56 @@
--- What the variables and the values of a machine are by their kind: words of private clauses.
-use Rattle.std.specs.Prelude.{ℕ, ◌+◌, ◌*◌, List, [], ◌∷◌, get_or}
+-- What the variables and the values of what is inside are by their kind: words of private clauses.
+use Rattle.std.specs.Prelude.{ℕ, ◌+◌, ◌*◌, ◌==◌, ◌&&◌, Bool, List, [], ◌∷◌, ◌++◌, get_or}
 use Rattle.block_core.specs.declared.inside.MachineInside.{MachineInside}
+use Rattle.block_core.specs.declared.inside.Inside.{Inside}
+use Rattle.block_core.specs.Sample.{same_numbers}
 use Rattle.vcd_trace.specs.VcdText.{Variable}
-use Rattle.vcd_trace.specs.InsideText.{bit_of, machine_variables, named}
+use Rattle.vcd_trace.specs.Groups.{bit_changes, vector_changes}
+use Rattle.vcd_trace.specs.InsideText.{bit_of, machine_variables, machines_changes, named, pad_changes, same_machines}
 
 -- a variable of a machine, by its place in their order
 unfoldable pub machine_variable : ℕ → Variable
 machine_variable number = get_or machine_variables number (named [] 0)
 
--- a machine's values of more than one bit
+-- the address and the word that a machine is at
+abbrev pub place_of : MachineInside → List ℕ
+place_of m = m.pc ∷ m.instruction ∷ []
+
+-- its other values of more than one bit
+abbrev pub registers_of : MachineInside → List ℕ
+registers_of m = m.x ∷ m.y ∷ m.isr ∷ m.osr ∷ m.isr_count ∷ m.osr_count ∷ []
+
+-- all of them
 abbrev pub words_of : MachineInside → List ℕ
-words_of m = m.pc ∷ m.instruction ∷ m.x ∷ m.y ∷ m.isr ∷ m.osr ∷ m.isr_count ∷ m.osr_count ∷ []
+words_of m = m.pc ∷ m.instruction ∷ registers_of m
 
 -- those of one bit, as a number
 abbrev pub flags_of : MachineInside → ℕ
 flags_of m = bit_of m.waits + 2 * bit_of m.enabled
+
+-- the registers of 32 bits
+abbrev pub long_of : MachineInside → List ℕ
+long_of m = m.x ∷ m.y ∷ m.isr ∷ m.osr ∷ []
+
+-- the counts, and the values of one bit
+abbrev pub short_of : MachineInside → List ℕ
+short_of m = m.isr_count ∷ m.osr_count ∷ bit_of m.waits ∷ bit_of m.enabled ∷ []
+
+-- two machines agree in all but the address and the word
+abbrev pub same_registers : (before now : MachineInside) → Bool
+same_registers before now = same_numbers (long_of before) (long_of now) && same_numbers (short_of before) (short_of now)
+
+-- what a clock changes of these, whose numbers count on from one
+abbrev pub register_changes : ℕ → (before now : MachineInside) → List ℕ
+register_changes id before now = vector_changes id (registers_of before) (registers_of now) ++ bit_changes (id + 6) 2 (flags_of before) (flags_of now)
+
+-- what a clock changes of the pads and of the machines
+abbrev pub further_changes : (before now : Inside) → List ℕ
+further_changes before now = pad_changes before.pads now.pads ++ machines_changes 0 before.machines now.machines
+
+-- the same is at the pads and inside the machines
+abbrev pub same_further : (before now : Inside) → Bool
+same_further before now = (before.pads == now.pads) && same_machines before.machines now.machines
+
+-- the one with the pads and machines of the other
+abbrev pub with_further : (before now : Inside) → Inside
+with_further before now = record before { pads = now.pads; machines = now.machines }

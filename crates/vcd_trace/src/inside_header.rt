@@ -125,14 +125,10 @@ fn width_of(number: u8) -> u8
     requires { number < 10 }
     ensures { result ≡ (machine_variable number).width }
 {
-    match number {
-        0 => 5,
-        1 => 16,
-        2 | 3 | 4 | 5 => 32,
-        6 | 7 => 6,
-        _ => 1,
-    }
+    WIDTHS[usize::from(number)]
 }
+
+const WIDTHS: [u8; 10] = [5, 16, 32, 32, 32, 32, 6, 6, 1, 1];
 
 // The declaration of a variable of this name and width.
 fn put_named<S: Sink>(sink: &mut S, id: u8, name: &str, width: u8) -> Result<(), SinkFailed>

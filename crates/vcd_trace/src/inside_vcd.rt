@@ -1,16 +1,20 @@
 //! The value-change trace of what is inside a block (IEEE 1364-2005, section 18), line by line into a sink that was lent.
-ghost use Rattle.std.specs.Prelude.{◌≡◌, ℕ, Bool, List, Option, false, [], Some, OnOk};
+ghost use Rattle.std.specs.Prelude.{◌≡◌, ℕ, Bool, List, Option, true, false, [], Some, OnOk};
 ghost use Rattle.pio_edge.specs.Edge.{Takes, PutCounts, TakesPrefix};
 ghost use Rattle.vcd_trace.specs.TextForm.{HasPut};
 ghost use Rattle.vcd_trace.specs.InsideText.{inside_dump_text, inside_form, inside_open_text, inside_step_text};
-ghost use Rattle.vcd_trace.specs.InsideText.{inside_text_of, same_inside};
+ghost use Rattle.block_core.specs.Sample.{same_sample};
+ghost use Rattle.vcd_trace.specs.InsideText.{inside_text_of};
+ghost use Rattle.vcd_trace.specs.InsideGroups.{same_further};
 ghost use Rattle.vcd_trace.specs.InsideTold.{added_inside, ended_inside, told_first};
 
+use crate::changes::put_next;
 use crate::clock_line::ClockLine;
-use crate::inside_changes::put_next_inside;
+use crate::inside_changes::put_further;
 use crate::inside_dump::put_inside_dump;
 use crate::inside_header::put_inside_header;
 use crate::line::put_clock;
+use crate::vcd::is_same;
 use block_core::Inside;
 use pio_edge::{Sink, SinkFailed};
 use sample_trace::{Trace, TraceFailed};
@@ -157,11 +161,33 @@ fn put_step<S: Sink>(
     ensures cause { PutCounts (S.faults sink.old) (S.faults sink.new) result }
     ensures kept { OnOk result (last.new ≡ now.now) }
 {
-    if is_same_inside(last, now) {
+    if is_same(&last.sample, &now.sample) {
+        return put_unseen(sink, line, clock, last, now);
+    }
+    line.put(sink, clock)?;
+    put_next(sink, &mut last.sample, &now.sample)?;
+    put_further(sink, last, now)
+}
+
+// The same where its sample is shown again. A call of its own, since a run has no registers for both.
+#[inline(never)]
+fn put_unseen<S: Sink>(
+    sink: &mut S,
+    line: &mut ClockLine,
+    clock: u64,
+    last: &mut Inside,
+    now: &Inside,
+) -> Result<(), SinkFailed>
+    requires { same_sample last.old.sample now.now.sample ≡ true }
+    ensures bytes { Takes (S.taken sink.old) (inside_step_text clock last.old now.now) (S.taken sink.new) result }
+    ensures cause { PutCounts (S.faults sink.old) (S.faults sink.new) result }
+    ensures kept { OnOk result (last.new ≡ now.now) }
+{
+    if has_same_further(last, now) {
         return Ok(());
     }
     line.put(sink, clock)?;
-    put_next_inside(sink, last, now)
+    put_further(sink, last, now)
 }
 
 // What the end adds after what was told last.
@@ -175,10 +201,10 @@ fn put_end<S: Sink>(sink: &mut S, clock: u64, last: &Option<Inside>) -> Result<(
     }
 }
 
-// Whether the same is inside.
+// Whether the same is at the pads and inside the machines.
 #[inline(always)]
-fn is_same_inside(before: &Inside, now: &Inside) -> bool
-    ensures { result ≡ same_inside before.now now.now }
+fn has_same_further(before: &Inside, now: &Inside) -> bool
+    ensures { result ≡ same_further before.now now.now }
 {
-    *before == *now
+    before.pads == now.pads && before.machines == now.machines
 }

@@ -1,8 +1,9 @@
 //! The lines of the value-change text, each put as one piece (IEEE 1364-2005, section 18.2).
-ghost use Rattle.std.specs.Prelude.{◌≡◌, ℕ, ◌+◌, ◌<◌, ◌≤◌, ◌^◌, ◌++◌, ◌∷◌, [], false, drop};
+ghost use Rattle.std.specs.Prelude.{◌≡◌, ℕ, ◌+◌, ◌-◌, ◌<◌, ◌≤◌, ◌++◌, ◌∷◌, false, drop, length};
 ghost use Rattle.std.specs.Fmt.{digits};
 ghost use Rattle.pio_edge.specs.Edge.{Takes, PutCounts};
 ghost use Rattle.vcd_trace.specs.Characters.{blank, letter_b, newline, tilde};
+ghost use Rattle.vcd_trace.specs.ClockText.{four_digits};
 ghost use Rattle.vcd_trace.specs.VcdText.{clock_line, bit_line, vector_line, identifier};
 
 use crate::variable::SECOND;
@@ -56,66 +57,127 @@ pub(crate) fn put_vector<S: Sink>(sink: &mut S, id: u8, value: u32) -> Result<()
     ensures cause { PutCounts (S.faults sink.old) (S.faults sink.new) result }
 {
     let mut line = [0; LINE_ROOM];
-    let end = write_name(&mut line, id);
-    let start = write_bits(&mut line, end, value);
+    let start = write_vector(&mut line, LINE_ROOM, id, value);
     sink.put(&line[start..])
+}
+
+/// The lines of two values of more bits, whose numbers follow each other, as one piece.
+#[inline(always)]
+pub(crate) fn put_two_vectors<S: Sink>(
+    sink: &mut S,
+    id: u8,
+    one: u32,
+    two: u32,
+) -> Result<(), SinkFailed>
+    requires { id + 2 ≤ 256 }
+    ensures bytes { Takes (S.taken sink.old) (vector_line id one ++ vector_line (id + 1) two) (S.taken sink.new) result }
+    ensures cause { PutCounts (S.faults sink.old) (S.faults sink.new) result }
+{
+    let mut lines = [0; 2 * LINE_ROOM];
+    let second = write_vector(&mut lines, 2 * LINE_ROOM, id + 1, two);
+    let start = write_vector(&mut lines, second, id, one);
+    sink.put(&lines[start..])
 }
 
 /// Room for `b`, the 32 digits of a word, a blank, the identifier of up to two characters and the newline.
 const LINE_ROOM: usize = 37;
 
-// Writes the blank, the identifier and the newline up to the end of the room, and says where they begin.
-fn write_name(line: &mut [u8; LINE_ROOM], id: u8) -> usize
-    ensures after { 33 ≤ result }
-    ensures within { result < LINE_ROOM }
-    ensures text { drop result line.new ≡ blank ∷ (identifier id ++ newline ∷ []) }
+// Writes the line of a value up to a place, from its last character on, and says where it begins.
+#[inline(always)]
+fn write_vector(line: &mut [u8], end: usize, id: u8, value: u32) -> usize
+    requires after { LINE_ROOM ≤ end }
+    requires before { end ≤ length line.now }
+    ensures after { end ≤ result + LINE_ROOM }
+    ensures before { result ≤ end }
+    ensures text { drop result line.new ≡ vector_line id value ++ drop end line.old }
+{
+    let name = write_name(line, end, id);
+    write_bits(line, name, value)
+}
+
+// Writes the blank, the identifier and the newline up to a place, and says where they begin.
+#[inline(always)]
+fn write_name(line: &mut [u8], end: usize, id: u8) -> usize
+    requires after { 4 ≤ end }
+    requires before { end ≤ length line.now }
+    ensures after { end ≤ result + 4 }
+    ensures before { result ≤ end }
+    ensures text { drop result line.new ≡ blank ∷ (identifier id ++ newline ∷ drop end line.old) }
 {
     if id < SECOND {
-        write_character(line, id);
-        LINE_ROOM - 3
+        write_character(line, end, id);
+        end - 3
     } else {
-        write_two_characters(line, id - SECOND);
-        LINE_ROOM - 4
+        write_two_characters(line, end, id - SECOND);
+        end - 4
     }
 }
 
 // The identifier of a first scope.
-fn write_character(line: &mut [u8; LINE_ROOM], id: u8)
-    ensures { drop 34 line.new ≡ blank ∷ id ∷ newline ∷ [] }
+#[inline(always)]
+fn write_character(line: &mut [u8], end: usize, id: u8)
+    requires after { 3 ≤ end }
+    requires before { end ≤ length line.now }
+    ensures { drop (end - 3) line.new ≡ blank ∷ id ∷ newline ∷ drop end line.old }
 {
-    line[LINE_ROOM - 3] = b' ';
-    line[LINE_ROOM - 2] = id;
-    line[LINE_ROOM - 1] = b'\n';
+    line[end - 1] = b'\n';
+    line[end - 2] = id;
+    line[end - 3] = b' ';
 }
 
 // That of a second scope.
-fn write_two_characters(line: &mut [u8; LINE_ROOM], id: u8)
-    ensures { drop 33 line.new ≡ blank ∷ tilde ∷ id ∷ newline ∷ [] }
+#[inline(always)]
+fn write_two_characters(line: &mut [u8], end: usize, id: u8)
+    requires after { 4 ≤ end }
+    requires before { end ≤ length line.now }
+    ensures { drop (end - 4) line.new ≡ blank ∷ tilde ∷ id ∷ newline ∷ drop end line.old }
 {
-    line[LINE_ROOM - 4] = b' ';
-    line[LINE_ROOM - 3] = b'~';
-    line[LINE_ROOM - 2] = id;
-    line[LINE_ROOM - 1] = b'\n';
+    line[end - 1] = b'\n';
+    line[end - 2] = id;
+    line[end - 3] = b'~';
+    line[end - 4] = b' ';
 }
 
-// Writes `b` and the digits up to a place, from the last one on, and says where they begin.
-fn write_bits(line: &mut [u8; LINE_ROOM], end: usize, value: u32) -> usize
+// Writes `b` and the digits up to a place, from the last ones on, and says where they begin.
+#[inline(always)]
+fn write_bits(line: &mut [u8], end: usize, value: u32) -> usize
     requires after { 33 ≤ end }
-    requires before { end < LINE_ROOM }
-    ensures within { result ≤ LINE_ROOM }
+    requires before { end ≤ length line.now }
+    ensures after { end ≤ result + 33 }
+    ensures before { result ≤ end }
     ensures text { drop result line.new ≡ letter_b ∷ (digits 2 false value ++ drop end line.old) }
 {
     let mut start = end;
     let mut rest = value;
-    loop {
-        start -= 1;
-        line[start] = b'0' + (rest % 2) as u8;
-        rest /= 2;
-        if rest == 0 {
-            break;
-        }
+    while rest >= 16 {
+        write_four(line, start, (rest % 16) as u8);
+        start -= 4;
+        rest /= 16;
     }
-    start -= 1;
+    write_four(line, start, rest as u8);
+    start -= usize::from(COUNTS[rest as usize]) + 1;
     line[start] = b'b';
     start
 }
+
+// Writes the four binary digits of a number up to a place.
+#[inline(always)]
+fn write_four(line: &mut [u8], end: usize, number: u8)
+    requires number { number < 16 }
+    requires after { 4 ≤ end }
+    requires before { end ≤ length line.now }
+    ensures digits { drop (end - 4) line.new ≡ four_digits number ++ drop end line.old }
+    ensures size { length line.new ≡ length line.old }
+{
+    let first = usize::from(number) * 4;
+    line[end - 1] = FOURS[first + 3];
+    line[end - 2] = FOURS[first + 2];
+    line[end - 3] = FOURS[first + 1];
+    line[end - 4] = FOURS[first];
+}
+
+/// The four binary digits of each number below 16.
+static FOURS: [u8; 64] = *b"0000000100100011010001010110011110001001101010111100110111101111";
+
+/// How many of them it has without leading zeros.
+static COUNTS: [u8; 16] = [1, 1, 2, 2, 3, 3, 3, 3, 4, 4, 4, 4, 4, 4, 4, 4];

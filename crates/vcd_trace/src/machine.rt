@@ -21,6 +21,21 @@ pub(crate) fn words_of(machine: &MachineInside) -> [u32; 8]
     ]
 }
 
+/// The last six of these: all but the address and the word.
+#[inline(always)]
+pub(crate) fn registers_of(machine: &MachineInside) -> [u32; 6]
+    ensures { result ≡ spec.registers_of machine.now }
+{
+    [
+        machine.x,
+        machine.y,
+        machine.isr,
+        machine.osr,
+        u32::from(machine.isr_count),
+        u32::from(machine.osr_count),
+    ]
+}
+
 /// Those of one bit, the first in bit 0.
 #[inline(always)]
 pub(crate) fn bits_of(machine: &MachineInside) -> u32

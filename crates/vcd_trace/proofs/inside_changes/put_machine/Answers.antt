@@ -1,27 +1,26 @@
-use Rattle.std.proofs.Common.{◌+◌, ◌++◌, ◌∙◌, sym, ap}
-use Rattle.vcd_trace.specs.Groups.{bit_changes, vector_changes}
-use Rattle.vcd_trace.specs.InsideGroups.{flags_of, words_of}
-use Rattle.vcd_trace.proofs.InsideLaws.{machine-changes}
+use Rattle.std.proofs.Common.{◌+◌, sym, ap, ◌∙◌, append-nil}
+use Rattle.pio_edge.specs.Edge.{with_bytes}
+use Rattle.vcd_trace.specs.Groups.{vector_changes}
+use Rattle.vcd_trace.specs.InsideGroups.{place_of}
+use Rattle.vcd_trace.proofs.InsideLaws.{machine-kinds, registers-none}
+use Rattle.vcd_trace.proofs.TextLaws.{going_done}
 use Rattle.pio_edge.proofs.PutLaws.{going_begins, going_on, takes_failed, takes_last}
 use Rattle.vcd_trace.proofs.inside_changes.put_machine.Goals as goal
 
-pub returns-in_err-put_changed_words-clause-bytes : goal.returns-in_err-put_changed_words-clause-bytes
-returns-in_err-put_changed_words-clause-bytes g c =
+pub returns-in_err-put_place-clause-bytes : goal.returns-in_err-put_place-clause-bytes
+returns-in_err-put_place-clause-bytes g c =
+    let text = machine-kinds c.args.first c.args.before.now c.args.now.now in
+    takes_failed _ _ _ _ _ _ _ c.from_residual.result (going_begins _ _) text c.from_residual.ensures.0 c.in_err-put_place.ensures.bytes
+
+pub returns-then-has_same_registers-clause-bytes : goal.returns-then-has_same_registers-clause-bytes
+returns-then-has_same_registers-clause-bytes g c =
     let a = c.args.before.now in
     let b = c.args.now.now in
-    let bits = bit_changes (c.args.first + 8) 2 (flags_of a) (flags_of b) in
-    let text = machine-changes c.args.first a b ∙ ap (λ l. vector_changes c.args.first l (words_of b) ++ bits) (sym c.words_of.ensures)
-    ∙ ap (λ l. vector_changes c.args.first c.words_of.result l ++ bits) (sym c.words_of-2.ensures) in
-    takes_failed _ _ _ _ _ _ _ c.from_residual.result (going_begins _ _) text c.from_residual.ensures.0 c.in_err-put_changed_words.ensures.bytes
+    let none = registers-none (c.args.first + 2) a b (sym c.has_same_registers.ensures ∙ c.if-has_same_registers.true) in
+    let g1 = going_on _ _ _ _ _ _ _ (going_begins _ _) (machine-kinds c.args.first a b) c.in_ok-put_place.ensures.bytes in
+    going_done _ _ _ _ g1 none
 
 pub returns-clause-bytes : goal.returns-clause-bytes
 returns-clause-bytes g c =
-    let a = c.args.before.now in
-    let b = c.args.now.now in
-    let bits = bit_changes (c.args.first + 8) 2 (flags_of a) (flags_of b) in
-    let text = machine-changes c.args.first a b ∙ ap (λ l. vector_changes c.args.first l (words_of b) ++ bits) (sym c.words_of.ensures)
-    ∙ ap (λ l. vector_changes c.args.first c.words_of.result l ++ bits) (sym c.words_of-2.ensures)
-    ∙ ap (λ n. vector_changes c.args.first c.words_of.result c.words_of-2.result ++ bit_changes (c.args.first + 8) 2 n (flags_of b)) (sym c.bits_of.ensures.value)
-    ∙ ap (λ n. vector_changes c.args.first c.words_of.result c.words_of-2.result ++ bit_changes (c.args.first + 8) 2 c.bits_of.result n) (sym c.bits_of-2.ensures.value) in
-    let g1 = going_on _ _ _ _ _ _ _ (going_begins _ _) text c.in_ok-put_changed_words.ensures.bytes in
-    takes_last _ _ _ _ _ c.put_changed_bits.result g1 c.put_changed_bits.ensures.bytes
+    let g1 = going_on _ _ _ _ _ _ _ (going_begins _ _) (machine-kinds c.args.first c.args.before.now c.args.now.now) c.in_ok-put_place.ensures.bytes in
+    takes_last _ _ _ _ _ c.put_registers.result g1 c.put_registers.ensures.bytes

@@ -1,4 +1,7 @@
-use Rattle.std.proofs.Common.{◌∙◌, ap, rules}
+use Rattle.std.proofs.Common.{◌≡◌, ◌+◌, ◌++◌, ◌∙◌, ap, arith, sym, rules}
+use Rattle.vcd_trace.specs.VcdText.{declaration}
+use Rattle.vcd_trace.specs.InsideText.{named}
+use Rattle.vcd_trace.specs.InsideGroups.{machine_variable}
 use Rattle.vcd_trace.proofs.InsideLaws.{named_text, named_text-all, named_text-none, named_text-turn}
 use Rattle.vcd_trace.proofs.TextLaws.{going_done}
 use Rattle.pio_edge.proofs.PutLaws.{going_begins, going_on, takes_failed}
@@ -13,12 +16,28 @@ loop-number-init g c = record {
 pub returns-in_err-put_named-clause-bytes : goal.returns-in_err-put_named-clause-bytes
 returns-in_err-put_named-clause-bytes g c =
     let l = c.loop-number in
-    takes_failed _ _ _ _ _ _ _ c.from_residual.result l.invariant.going (named_text-turn c.args.first l.number c.loop-number-test.true) c.from_residual.ensures.0 c.in_err-put_named.ensures.bytes
+    let first = c.args.first in
+    let n = l.number in
+    let turn = named_text-turn first n c.loop-number-test.true
+    ∙ ap (λ t. declaration (first + n) (named t (machine_variable n).width) ++ named_text first (n + 1)) (sym c.name_of.ensures.name)
+    ∙ ap (λ w. declaration (first + n) (named c.name_of.result.now w) ++ named_text first (n + 1)) (sym c.width_of.ensures) in
+    takes_failed _ _ _ _ _ _ _ c.from_residual.result l.invariant.going turn c.from_residual.ensures.0 c.in_err-put_named.ensures.bytes
 
 pub loop-number-preserved : goal.loop-number-preserved
 loop-number-preserved g c =
     let l = c.loop-number in
+    let first = c.args.first in
+    let n = l.number in
+    let turn = named_text-turn first n c.loop-number-test.true
+    ∙ ap (λ t. declaration (first + n) (named t (machine_variable n).width) ++ named_text first (n + 1)) (sym c.name_of.ensures.name)
+    ∙ ap (λ w. declaration (first + n) (named c.name_of.result.now w) ++ named_text first (n + 1)) (sym c.width_of.ensures) in
     record {
-      going = going_on _ _ _ _ _ _ _ l.invariant.going (named_text-turn c.args.first l.number c.loop-number-test.true) c.in_ok-put_named.ensures.bytes;
+      going = going_on _ _ _ _ _ _ _ l.invariant.going turn c.in_ok-put_named.ensures.bytes;
       counts = c.in_ok-put_named.ensures.cause.ok ∙ l.invariant.counts;
     }
+
+pub returns-clause-bytes : goal.returns-clause-bytes
+returns-clause-bytes g c =
+    let l = c.loop-number in
+    let last : l.number ≡ 10 = omega arith in
+    going_done _ _ _ _ l.invariant.going (ap (named_text c.args.first) last ∙ named_text-none c.args.first)

@@ -1,5 +1,19 @@
-use Rattle.vcd_trace.proofs.RoomLaws.{last_four}
+use Rattle.std.proofs.Common.{◌-◌, ◌∷◌, drop, slice_set, arith, refl}
+use Rattle.std.proofs.Math.ListN.{length-set}
+use Rattle.vcd_trace.proofs.Digits.{put_at}
 use Rattle.vcd_trace.proofs.line.write_two_characters.Goals as goal
 
 pub returns : goal.returns
-returns c = last_four c.args.line.now 32 126 c.args.id 10 c.told-line
+returns c =
+    let end = c.args.end in
+    let old = c.args.line.now in
+    let one = slice_set old (end - 1) 10 in
+    let two = slice_set one (end - 2) c.args.id in
+    let three = slice_set two (end - 3) 126 in
+    let size_one = length-set old (end - 1) 10 in
+    let size_two = length-set one (end - 2) c.args.id in
+    let size_three = length-set two (end - 3) 126 in
+    put_at three (end - 4) (end - 3) 32 (126 ∷ c.args.id ∷ 10 ∷ drop end old) (omega arith) (omega (arith, size_one, size_two, size_three))
+    (put_at two (end - 3) (end - 2) 126 (c.args.id ∷ 10 ∷ drop end old) (omega arith) (omega (arith, size_one, size_two))
+    (put_at one (end - 2) (end - 1) c.args.id (10 ∷ drop end old) (omega arith) (omega (arith, size_one))
+    (put_at old (end - 1) end 10 (drop end old) (omega arith) (omega arith) refl)))
