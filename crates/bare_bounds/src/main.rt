@@ -60,7 +60,7 @@ fn found_of(alloc: Global, load: &TimedProgram) -> Option<Derived> {
         to_rise: false,
         unit: SpanUnit::Ticks,
         min: 0,
-        max: MOST,
+        max: Some(MOST),
         stalls: Stalls::empty(alloc),
     };
     let mut setup = Setup::of(memory_of(load), Spans::empty(alloc));

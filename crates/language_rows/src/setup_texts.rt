@@ -78,7 +78,11 @@ fn tell_span(span: &Span, text: &mut String) -> Result<(), AllocError> {
         " {} m{} {} {} {} {}",
         span.name, span.machine, span.from_pin, span.from_rise, span.to_pin, span.to_rise
     )?;
-    write!(text, " {unit} {}-{} [", span.min, span.max)?;
+    write!(text, " {unit} {}-", span.min)?;
+    match span.max {
+        Some(max) => write!(text, "{max} [")?,
+        None => text.push_str("inf [")?,
+    }
     for (place, address) in span.stalls.as_slice().iter().enumerate() {
         let gap = if place == 0 { "" } else { " " };
         write!(text, "{gap}{address}")?;

@@ -78,7 +78,7 @@ fn in_clocks(alloc: Global, name: Name) -> Span
         to_rise: false,
         unit: SpanUnit::Clocks,
         min: 0,
-        max: 0,
+        max: Some(0),
         stalls: Stalls::empty(alloc),
     }
 }
@@ -126,7 +126,7 @@ fn in_ticks(name: Name, stalls: Stalls) -> Span
         to_rise: false,
         unit: SpanUnit::Ticks,
         min: 2,
-        max: 16_777_215,
+        max: Some(16_777_215),
         stalls,
     }
 }

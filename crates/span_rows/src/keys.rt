@@ -26,7 +26,7 @@ pub struct Keys<'a> {
     pub to_rise: bool,
     pub unit: SpanUnit,
     pub min: u32,
-    pub max: u32,
+    pub max: Option<u32>,
     pub stalls: &'a str,
 }
 
@@ -61,7 +61,7 @@ impl<'a> Keys<'a> {
             to_rise: false,
             unit: SpanUnit::Ticks,
             min: 0,
-            max: 0,
+            max: Some(0),
             stalls: "",
         }
     }
@@ -122,11 +122,20 @@ impl<'a> Keys<'a> {
             "to_edge" => self.to_rise = is_rise(value)?,
             "unit" => self.unit = unit_of(value)?,
             "min" => self.min = value.parse().ok()?,
-            "max" => self.max = value.parse().ok()?,
+            "max" => self.max = most_of(value)?,
             "stalls" => self.stalls = value,
             _ => return Some(false),
         }
         Some(true)
+    }
+}
+
+/// A number, or `inf` for no greatest bound.
+pub fn most_of(value: &str) -> Option<Option<u32>> {
+    if value == "inf" {
+        Some(None)
+    } else {
+        Some(Some(value.parse().ok()?))
     }
 }
 

@@ -6,7 +6,7 @@ use pio_edge::MemSink;
 use pio_encode::Name;
 use span_bounds::{Cause, Context};
 use std::alloc::Global;
-use verdict_lines::{Refusal, put_refusal, put_verdict};
+use verdict_lines::{Finding, Refusal, put_refusal, put_verdict};
 
 /// Adds the line of a verdict. A row asks for the span's name and the verdict; on a line of its own, for the put that fails
 /// and the bytes that it takes.
@@ -45,11 +45,23 @@ fn tell_taken(sink: &MemSink, passes: bool, text: &mut String) -> Option<()> {
     text.push_str(if passes { "" } else { ", and fails" }).ok()
 }
 
-/// `opens`, `never opens`, or a refusal.
-fn verdict_of(verdict: &str) -> Option<Result<bool, Refusal>> {
-    match verdict {
-        "opens" => Some(Ok(true)),
-        "never opens" => Some(Ok(false)),
+/// `opens`, `never opens`, the same and ` and closes` or ` and never closes`, or a refusal.
+fn verdict_of(verdict: &str) -> Option<Result<Finding, Refusal>> {
+    let (opening, closes) = match verdict.split_once(" and ") {
+        None => (verdict, None),
+        Some((opening, "closes")) => (opening, Some(true)),
+        Some((opening, "never closes")) => (opening, Some(false)),
+        Some(_) => return None,
+    };
+    match opening {
+        "opens" => Some(Ok(Finding {
+            opens: true,
+            closes,
+        })),
+        "never opens" => Some(Ok(Finding {
+            opens: false,
+            closes,
+        })),
         _ => Some(Err(refusal_of(verdict)?)),
     }
 }

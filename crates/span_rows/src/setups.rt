@@ -1,5 +1,6 @@
 //! The setup and the span of a row.
-ghost use Rattle.std.specs.Prelude.{◌≡◌, ◌≤◌, true, IsTrue, IsSome, IfSome, None, slice_index_or};
+ghost use Rattle.std.specs.Prelude.{◌≡◌, ◌<◌, ◌≤◌, ◌^◌, true, IsTrue, IsSome, IfSome, None, slice_index_or};
+ghost use Rattle.std.specs.Option.{ForSome};
 ghost use Rattle.pin_matrix.specs.Spans as spec;
 
 use crate::keys::Keys;
@@ -49,10 +50,10 @@ fn set_mapping(base: u8, count: u8) -> Option<Mapping>
 /// The span of this name on machine 0, from an edge of pin 0, where its keys are in their ranges and there is memory.
 pub fn span_of(alloc: Global, keys: &Keys, name: &str) -> Option<Span> {
     let stalls = stalls_of(alloc, keys.stalls)?;
-    let in_range = keys.min <= keys.max && keys.max <= MOST && keys.to_pin < 32;
-    if !in_range || keys.unit == SpanUnit::Clocks && !stalls.is_empty() {
+    if keys.to_pin > 31 || keys.unit == SpanUnit::Clocks && !stalls.is_empty() {
         return None;
     }
+    let max = most_of(keys.min, keys.max)?;
     Some(Span {
         name: name_of(alloc, name)?,
         machine: 0,
@@ -62,9 +63,21 @@ pub fn span_of(alloc: Global, keys: &Keys, name: &str) -> Option<Span> {
         to_rise: keys.to_rise,
         unit: keys.unit,
         min: keys.min,
-        max: keys.max,
+        max,
         stalls: Stalls::new(stalls)?,
     })
+}
+
+/// The greatest bound beside a least one, where both are in their ranges.
+fn most_of(min: u32, max: Option<u32>) -> Option<Option<u32>>
+    ensures low { IfSome result (λ most. (min < 2 ^ 24) × ForSome most (λ m. min ≤ m)) }
+    ensures high { IfSome result (λ most. ForSome most (λ m. m < 2 ^ 24)) }
+{
+    match max {
+        None if min <= MOST => Some(None),
+        Some(max) if min <= max && max <= MOST => Some(Some(max)),
+        _ => None,
+    }
 }
 
 fn name_of(alloc: Global, text: &str) -> Option<Name>

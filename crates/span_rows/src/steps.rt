@@ -1,5 +1,5 @@
 //! Steps of the checker: the least closed table of a program, or the bad context.
-use crate::keys::Keys;
+use crate::keys::{Keys, most_of};
 use crate::programs::Program;
 use crate::setups::{is_configured, machine_of, span_of};
 use pin_matrix::{Setup, Span, Spans};
@@ -34,7 +34,7 @@ fn take_numbers(keys: &mut Keys, numbers: &str) -> Option<()> {
     keys.x = numbers.next()?.parse().ok()?;
     keys.y = numbers.next()?.parse().ok()?;
     keys.min = numbers.next()?.parse().ok()?;
-    keys.max = numbers.next()?.parse().ok()?;
+    keys.max = most_of(numbers.next()?)?;
     match numbers.next() {
         None => Some(()),
         Some(_) => None,

@@ -26,24 +26,40 @@ fn tell_checked(alloc: Global, setup: &Setup, span: &Span, text: &mut String) ->
         return None;
     }
     match check(alloc, setup, span).ok()? {
-        Verdict::Proved { table, opens } => {
+        Verdict::Proved {
+            table,
+            opens,
+            closes,
+        } => {
             let is_right = recheck(&table, setup, span);
-            tell_proved(opens, is_right, text).ok()
+            tell_proved(span, opens, closes, is_right, text).ok()
         }
         Verdict::Unproved(context, cause) => tell_unproved(&context, cause, text).ok(),
         Verdict::Shared(machine) => write!(text, "shared by machine {machine}").ok(),
     }
 }
 
-/// Adds whether the span opens, and whether the table passes when it is looked through anew.
-fn tell_proved(opens: bool, is_right: bool, text: &mut String) -> Result<(), AllocError> {
+/// Adds whether the span opens, whether it closes where it has no greatest bound, and whether the table passes when it is looked
+/// through anew.
+fn tell_proved(
+    span: &Span,
+    opens: bool,
+    closes: bool,
+    is_right: bool,
+    text: &mut String,
+) -> Result<(), AllocError> {
     let how = if opens { "opens" } else { "never opens" };
+    let ends = match (span.max, closes) {
+        (Some(_), _) => "",
+        (None, true) => " and closes",
+        (None, false) => " and never closes",
+    };
     let passes = if is_right {
         ""
     } else {
         ", but its table doesn't pass"
     };
-    write!(text, "proved, {how}{passes}")
+    write!(text, "proved, {how}{ends}{passes}")
 }
 
 /// Adds the first bad context's address, X and from-level, and its cause.

@@ -1,20 +1,15 @@
 -- The ages of a least closed table are in range: with those out of range cut off, a closed table is closed.
 use Rattle.std.proofs.Common.{◌≡◌, ℕ, ◌+◌, ◌*◌, ◌/◌, ◌^◌, ◌<◌, ◌≤◌, ◌==◌, nat_le, min, cond, Bool, true, false, List, [], ◌∷◌, map, Option, Some, None, refl, sym, ap, subst, ◌∙◌, arith}
-use Rattle.std.specs.Prelude.{slice_index_or}
 use Rattle.std.proofs.lemmas.Bool.Decides.{nat_tests}
-use Rattle.std.proofs.lemmas.Nat.{mul-le}
-use Rattle.std.proofs.Math.Nat.{div-lt_iff_lt-mul, mul-lt-mul_of_pos_left}
-use Rattle.pin_matrix.specs.declared.machine.MachineSetup.{MachineSetup}
 use Rattle.pin_matrix.specs.declared.setup.Setup.{Setup}
 use Rattle.pin_matrix.specs.declared.span.Span.{Span}
-use Rattle.pin_matrix.specs.declared.span.SpanUnit.{SpanUnit}
-use Rattle.pin_matrix.specs.declared.span.SpanUnit.TheVariants.{Ticks, Clocks}
 use Rattle.span_step.specs.declared.ages.Ages.{Ages}
 use Rattle.span_step.specs.declared.ages.Ages.TheVariants.{Empty, Between}
 use Rattle.span_step.specs.declared.stepped.Next.{Next}
 use Rattle.span_step.specs.Contexts.{Context, IsInside}
-use Rattle.span_step.specs.Laws.{AreAlike, GoesLike, AreInside, AreUpTo, AllUpTo, IsNarrower, most_on, most_of}
-use Rattle.span_step.specs.Steps.{bounds_in, bounds_of, period_of, context_steps}
+use Rattle.span_step.specs.Laws.{AreAlike, GoesLike, AreInside, AreUpTo, AllUpTo, IsNarrower, most_of}
+use Rattle.span_step.specs.Steps.{context_steps}
+use Rattle.span_step.proofs.Periods.{most_small}
 use Rattle.span_bounds.specs.declared.entry.Entry.{Entry}
 use Rattle.span_bounds.specs.declared.entry.Entry.TheVariants.{Absent, Present}
 use Rattle.span_bounds.specs.declared.row.Row.{Row}
@@ -59,7 +54,7 @@ within_fixed m (Between l g) (Between lo hi) h k i =
     let low : lo ≤ l = i.0 in
     let high : g ≤ hi = i.1 in
     let order : l ≤ g = h in
-    let most : g ≤ m = k in
+    let most : g ≤ m = k.1 in
     let e : nat_le lo (min hi m) ≡ true = test lo l g hi m low high order most in
     rw e (low, top g hi m high most) where
       test : (lo l g hi m : ℕ) → lo ≤ l → g ≤ hi → l ≤ g → g ≤ m → nat_le lo (min hi m) ≡ true
@@ -179,31 +174,8 @@ own_entries n (r ∷ rs) h =
       both all r [] h k = tt
       both all r (s ∷ ss) h k = (rw (other_number (number_of r.context) (number_of s.context) (omega (arith, h.0))) k.0, both all r ss h.1 k.1)
 
-period_least : (s : MachineSetup) → 256 ≤ period_of s
-period_least s = on (s.int == 0) refl where
-  on : (b : Bool) → (s.int == 0) ≡ b → 256 ≤ 256 * cond b 65536 s.int + s.frac
-  on true e = omega arith
-  on false e = let p : 1 ≤ s.int = grind (arith, nat_tests) in omega arith
-
-in_clocks : (max period : ℕ) → max < 2 ^ 24 → 256 ≤ period → 256 * max / period < 2 ^ 24
-in_clocks max period h l =
-    let up : 256 * max ≤ period * max = mul-le 256 max period max l (omega arith) in
-    let more : period * max < period * 2 ^ 24 = mul-lt-mul_of_pos_left {m = max} {n = 2 ^ 24} {k = period} h (omega arith) in
-    let all : 256 * max < 2 ^ 24 * period = omega (arith, up, more) in
-    (div-lt_iff_lt-mul {k = period} {x = 256 * max} {y = 2 ^ 24} (omega arith)).1 all
-
-most_in : (unit : SpanUnit) (sp : Span) (period : ℕ) → 256 ≤ period → (bounds_in unit sp period).1 < 2 ^ 24
-most_in Ticks sp period l = sp.bounded
-most_in Clocks sp period l = in_clocks sp.max period sp.bounded l
-
-most_small : (m : Option MachineSetup) (sp : Span) → most_on m sp < 2 ^ 24
-unfolding bounds_of
-most_small None sp = omega arith
-most_small (Some s) sp = most_in sp.unit sp (period_of s) (period_least s)
-
 most_fits : (u : Setup) (sp : Span) → most_of u sp + 1 ≤ 16777216
-unfolding most_of
-most_fits u sp = let l = most_small (slice_index_or u.machines sp.machine None) sp in omega (arith, l)
+most_fits u sp = omega (arith, most_small u sp)
 
 -- the ages of a least closed table can be told
 pub least_told : IsMonotone → IsCapped → (u : Setup) (sp : Span) (rows : List Row) → IsLeast u sp rows → HaveAgeRanges rows
