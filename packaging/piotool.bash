@@ -3,7 +3,7 @@ _piotool() {
     local word=${COMP_WORDS[COMP_CWORD]} before=${COMP_WORDS[COMP_CWORD - 1]} words=
     COMPREPLY=()
     if [ "$COMP_CWORD" -eq 1 ]; then
-        COMPREPLY=($(compgen -W 'asm run dis check gen table recheck shares measure receive uart pair help --help' -- "$word"))
+        COMPREPLY=($(compgen -W 'asm run dis check gen table recheck shares measure receive uart pair inspect help --help' -- "$word"))
         return
     fi
     case $before in
@@ -26,7 +26,8 @@ _piotool() {
         receive) words='--source --config --stimulus --clocks --pin --bit --help' ;;
         uart) words='--send --divider --clocks --help' ;;
         pair) words='--source --config --second --stimulus --clocks --help' ;;
-        help) words='asm run dis check gen table recheck shares measure receive uart pair' ;;
+        inspect) words='--source --config --stimulus --clocks --help' ;;
+        help) words='asm run dis check gen table recheck shares measure receive uart pair inspect' ;;
     esac
     case ${COMP_WORDS[1]}:$word in
         *:-* | help:*) COMPREPLY=($(compgen -W "$words" -- "$word")) ;;

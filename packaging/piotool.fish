@@ -13,6 +13,7 @@ complete -c piotool -n __fish_use_subcommand -a measure -d 'Counts each span of 
 complete -c piotool -n __fish_use_subcommand -a receive -d 'Reads a pin as a UART does, and writes each byte with the clock of its start bit'
 complete -c piotool -n __fish_use_subcommand -a uart -d 'Sends the bytes of a file by the proved UART transmitter, and writes each byte with the clock of its start bit'
 complete -c piotool -n __fish_use_subcommand -a pair -d 'Writes the trace of two blocks on the same pins, as a value change dump'
+complete -c piotool -n __fish_use_subcommand -a inspect -d 'Traces what is inside the block, clock by clock: pads, PC and registers of each machine beside what run traces'
 complete -c piotool -n __fish_use_subcommand -a help -d 'Print this message or the help of the given subcommand(s)'
 complete -c piotool -n '__fish_seen_subcommand_from asm' -F
 complete -c piotool -n '__fish_seen_subcommand_from run' -l source -r -F -d 'The program, in pioasm'
@@ -53,4 +54,8 @@ complete -c piotool -n '__fish_seen_subcommand_from pair' -l config -r -F -d 'Wh
 complete -c piotool -n '__fish_seen_subcommand_from pair' -l second -r -F -d 'The configuration of the second block, in TOML; its key pins.own lists the pins that it drives'
 complete -c piotool -n '__fish_seen_subcommand_from pair' -l stimulus -r -F -d 'What the system and the outside do, clock by clock'
 complete -c piotool -n '__fish_seen_subcommand_from pair' -l clocks -x -d 'How many clocks to work out, up to 10^12'
-complete -c piotool -n '__fish_seen_subcommand_from help' -a 'asm run dis check gen table recheck shares measure receive uart pair'
+complete -c piotool -n '__fish_seen_subcommand_from inspect' -l source -r -F -d 'The program, in pioasm'
+complete -c piotool -n '__fish_seen_subcommand_from inspect' -l config -r -F -d 'What the block starts from, in TOML'
+complete -c piotool -n '__fish_seen_subcommand_from inspect' -l stimulus -r -F -d 'What the system and the outside do, clock by clock'
+complete -c piotool -n '__fish_seen_subcommand_from inspect' -l clocks -x -d 'How many clocks to work out, up to 10^12'
+complete -c piotool -n '__fish_seen_subcommand_from help' -a 'asm run dis check gen table recheck shares measure receive uart pair inspect'
