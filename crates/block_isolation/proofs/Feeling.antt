@@ -96,8 +96,8 @@ reads_alike laws memory s r v w same home sees =
     let t = touched_by memory s in
     elim (own_act memory s v r same home) [
       | inl wild ↦ reads_same laws act s r v w range (narrowed t (reads_of act s) (sees_of act s) v w sees
-      (λ i inside k. ap (λ (u : Touches). has u.reads i) wild ∙ has_ones 32 i inside)
-      (λ i inside k. ap (λ (u : Touches). has u.sees i) wild ∙ has_ones 8 i inside))
+          (λ i inside k. ap (λ (u : Touches). has u.reads i) wild ∙ has_ones 32 i inside)
+          (λ i inside k. ap (λ (u : Touches). has u.sees i) wild ∙ has_ones 8 i inside))
       | inr own ↦ reads_same laws act s r v w range (narrowed t (reads_of act s) (sees_of act s) v w sees (λ i inside k. own.reads i k) (λ i inside k. own.sees i k))
     ]
 

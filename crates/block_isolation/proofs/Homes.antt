@@ -106,8 +106,8 @@ runs_started memory s r tame at = record {
   tame = first_tame s.pending at.word at.first tame.first;
   goes = λ jump. ap (λ (p : Option ℕ). pc_after jump (is_some p) s r) at.pending ∙ pc_target_first jump s r;
   reached = λ i below h. reach_starts memory s i below (
-    ap (λ (p : Option ℕ). has (first_in p s.start) i) at.first
-    ∙ (ap (λ (a : ℕ). has (leads_to (act_of at.word) a) i) (sym at.pc) ∙ h));
+      ap (λ (p : Option ℕ). has (first_in p s.start) i) at.first
+      ∙ (ap (λ (a : ℕ). has (leads_to (act_of at.word) a) i) (sym at.pc) ∙ h));
 }
 
 after_there : (memory : List ℕ) (s : MachineSetup) (delay : ℕ) (r : Registers) (act : Act) (next : ℕ) (e : Effect) → Runs memory s r act next → IsTameEffect act next r e → IsThere memory s r

@@ -82,7 +82,7 @@ home_first memory (Some s) = record {
   home = record {
     placed = record { pc = s.start_in_memory; in_count = s.isr_has_bits; out_count = s.osr_has_bits; delay = omega arith };
     reached = λ none. reach_within memory s 32 (omega arith) s.start s.start_in_memory
-      (reach_starts memory s s.start s.start_in_memory (ap (λ (p : Option ℕ). has (first_in p s.start) s.start) none ∙ has_own s.start));
+        (reach_starts memory s s.start s.start_in_memory (ap (λ (p : Option ℕ). has (first_in p s.start) s.start) none ∙ has_own s.start));
     pending = inl (begins_pending s s.pending refl);
   };
 } where

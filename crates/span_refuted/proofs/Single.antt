@@ -1,5 +1,6 @@
 -- The step of an instruction with one way has one next, at the end of its prompt course.
-use Rattle.std.proofs.Common.{◌≡◌, ℕ, Bool, true, false, not, ◌&&◌, ◌||◌, Some, None, List, [], ◌∷◌, slice_index_or, refl}
+use Rattle.std.proofs.Common.{◌≡◌, ℕ, Bool, true, false, not, ◌&&◌, ◌||◌, Some, None, List, [], ◌∷◌, is_some, slice_index_or, refl, ap}
+use Rattle.std.proofs.lemmas.Bool.{or_from}
 use Rattle.pio_encode.specs.declared.op.Op.{Op}
 use Rattle.pin_matrix.specs.declared.machine.MachineSetup.{MachineSetup}
 use Rattle.pin_matrix.specs.declared.setup.Setup.{Setup}
@@ -10,7 +11,7 @@ use Rattle.span_step.specs.declared.stepped.Stepped.{Stepped}
 use Rattle.span_step.specs.Contexts.{Context}
 use Rattle.span_step.specs.Outcomes.{ContextOutcome, outcomes, may_stall}
 use Rattle.span_step.specs.Courses.{prompt, courses, delay_tick, no_causes, joined, start, followed}
-use Rattle.span_step.specs.Steps.{address_after, next_address, side_of, rules_of, visit_of, with_end, with_outcome, step_by, context_steps}
+use Rattle.span_step.specs.Steps.{address_after, next_address, side_of, rules_of, visit_of, with_end, with_outcome, is_lost, step_by, context_steps}
 use Rattle.span_refuted.specs.OneWay.{is_settled, has_one_way, instruction_at, goes_to}
 use Rattle.span_refuted.proofs.Sole.{HasOutcome, settled_outcome, settled_tame}
 
@@ -51,7 +52,9 @@ end s sp op o k a = followed (rules_of s sp k.address) (course s sp op o) (start
 step_ended : (s : MachineSetup) (sp : Span) (op : Op) (k : Context) (a : Ages) → s.pending ≡ None → is_settled op.act ≡ true → may_stall op.act s ≡ false
     → (h : HasOutcome op.act s sp k) → step_by s sp op k a ≡ ended (next_address s k.address) h.outcome (end s sp op h.outcome k a)
 unfolding step_by visit_of with_outcome with_end courses
-step_ended s sp op k a begins settled quick h = rw (settled_tame op.act settled, begins, h.only, quick) refl
+step_ended s sp op k a begins settled quick h = rw (goes_on, h.only, quick) refl where
+  goes_on : is_lost s op ≡ false
+  goes_on = or_from _ _ (settled_tame op.act settled) (ap is_some begins)
 
 two : (a b : Bool) → (a && not b) ≡ true → (a ≡ true) × (b ≡ false)
 two true false h = (refl, refl)
