@@ -53,7 +53,7 @@ pub record IsProvedAs (u : Setup) (sp : Span) (told : Finding) : Type 0 where
   pub opens : Bool
   pub closes : Bool
   pub proved : IsProved u sp rows opens closes
-  pub told : told ≡ finding_of sp opens closes
+  pub said : told ≡ finding_of sp opens closes
 
 -- a span is proved, and this is told of it; or this is why it isn't
 abbrev pub IsVerdictOn : Setup → Span → Result Finding Refusal → Type 0
