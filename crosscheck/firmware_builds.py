@@ -5,6 +5,7 @@ configuration. It is made of `piotool asm`'s listing. With the SDK's source (PIC
 the sources here have nothing that needs the shim.
 """
 
+import os
 import shutil
 import subprocess
 import sys
@@ -62,6 +63,20 @@ def built(main: Path, sources: list[Path], folder: Path, flags: list[str] | None
     shim = folder / "sdk.o"
     run([COMPILER, "-std=c11", *FLAGS, "-c", SHIM / "sdk.c", "-o", shim])
     run([*compiler, *FLAGS, *(flags or []), "-I", SHIM, "-I", folder, main, shim, *LINKER, "-o", elf])
+    return elf
+
+
+def built_of_rust(main: Path, folder: Path) -> Path | None:
+    """The ELF of a firmware in Rust, or none where there is no compiler of Rust that knows the processor and the words of `core`."""
+    folder.mkdir(parents=True, exist_ok=True)
+    made, shim, elf = folder / "main.o", folder / "sdk.o", folder / f"{main.stem}.elf"
+    flags = "--edition 2021 --target thumbv6m-none-eabi --crate-type lib --emit obj -C panic=abort -C opt-level=s -g".split()
+    # It has parts of `core` itself, which a compiler takes under this variable alone.
+    env = os.environ | {"RUSTC_BOOTSTRAP": "1"}
+    if not shutil.which("rustc") or subprocess.run(["rustc", *flags, "-o", made, main], capture_output=True, env=env).returncode:
+        return None
+    run([COMPILER, "-std=c11", *FLAGS, "-c", SHIM / "sdk.c", "-o", shim])
+    run([COMPILER, *FLAGS, made, shim, *LINKER, "-o", elf])
     return elf
 
 
