@@ -5,7 +5,7 @@
 mod loads;
 
 use loads::{LOADS, TimedProgram, machine_of, memory_of};
-use pin_matrix::{Setup, Span, SpanUnit, Spans, Stalls};
+use pin_matrix::{Setup, Span, SpanUnit, Spans, Addresses};
 use pio_encode::Name;
 use span_bounds::{Ages, Cause, Context, Derived, Table, derive};
 use std::alloc::{AllocError, Global};
@@ -61,7 +61,7 @@ fn found_of(alloc: Global, load: &TimedProgram) -> Option<Derived> {
         unit: SpanUnit::Ticks,
         min: 0,
         max: Some(MOST),
-        stalls: Stalls::empty(alloc),
+        stalls: Addresses::empty(alloc),
     };
     let mut setup = Setup::of(memory_of(load), Spans::empty(alloc));
     setup.place(machine_of(load));

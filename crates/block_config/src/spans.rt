@@ -19,7 +19,7 @@ use crate::stalls::stalls_at;
 use crate::table::{Lack, are_known, number_at, numbers_at, value_at};
 use crate::value::{number_in, text_of};
 use arrayvec::ArrayVec;
-use pin_matrix::{MachineSetup, Span, SpanUnit, Spans, Stalls, is_span_name};
+use pin_matrix::{MachineSetup, Span, SpanUnit, Spans, Addresses, is_span_name};
 use pio_encode::Name;
 use std::alloc::Global;
 use toml::{Table, Value};
@@ -193,13 +193,13 @@ impl SpanValues {
     }
 
     /// The stalls of the span.
-    fn stalls(&self, alloc: Global) -> Result<Stalls, ConfigFault>
+    fn stalls(&self, alloc: Global) -> Result<Addresses, ConfigFault>
         ensures { Gives told (λ s. s) result (Ok self.now.stalls.items) }
     {
         let addresses = self.stalls.as_slice().to_vec(alloc)?;
-        match Stalls::new(addresses) {
+        match Addresses::new(addresses) {
             Some(stalls) => Ok(stalls),
-            None => Ok(Stalls::empty(alloc)),
+            None => Ok(Addresses::empty(alloc)),
         }
     }
 }

@@ -6,7 +6,7 @@ ghost use Rattle.pin_matrix.specs.Spans as spec;
 
 use crate::lines::up_to;
 use crate::setup::NO_SIDE;
-use pin_matrix::{MachineSetup, Mapping, Setup, Span, SpanUnit, Spans, Stalls, is_span_name};
+use pin_matrix::{MachineSetup, Mapping, Setup, Span, SpanUnit, Spans, Addresses, is_span_name};
 use pio_encode::Name;
 use std::alloc::{AllocError, Global};
 
@@ -27,7 +27,7 @@ pub fn tell_limit(alloc: Global, asked: &str, text: &mut String) -> Option<()> {
 }
 
 fn tell_stalls(alloc: Global, list: &str, text: &mut String) -> Option<()> {
-    match Stalls::new(addresses(alloc, list)?) {
+    match Addresses::new(addresses(alloc, list)?) {
         Some(stalls) => tell_addresses(stalls.as_slice(), text).ok(),
         None => text.push_str("refused").ok(),
     }
@@ -79,7 +79,7 @@ fn in_clocks(alloc: Global, name: Name) -> Span
         unit: SpanUnit::Clocks,
         min: 0,
         max: Some(0),
-        stalls: Stalls::empty(alloc),
+        stalls: Addresses::empty(alloc),
     }
 }
 
@@ -103,7 +103,7 @@ fn tell_setup(alloc: Global, rest: &str, text: &mut String) -> Option<()> {
     };
     let span = in_ticks(
         named(alloc, "high")?,
-        Stalls::new(addresses(alloc, stalls)?)?,
+        Addresses::new(addresses(alloc, stalls)?)?,
     );
     let spans = Spans::new(vec![in alloc; span].ok()?)?;
     let mut setup = Setup::of([0; 32], spans);
@@ -114,7 +114,7 @@ fn tell_setup(alloc: Global, rest: &str, text: &mut String) -> Option<()> {
 }
 
 /// From a rise of pin 31 to a fall of pin 0, in ticks of machine 3.
-fn in_ticks(name: Name, stalls: Stalls) -> Span
+fn in_ticks(name: Name, stalls: Addresses) -> Span
     requires { IsTrue (spec.is_span_name name) }
 {
     Span {

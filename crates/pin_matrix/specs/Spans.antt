@@ -1,8 +1,8 @@
 -- What the types of a span keep (choices of this profile).
---   is_in_ticks     what a span's bounds count
---   is_span_name    the form of a span's name
---   are_addresses   where stalls may be named
---   are_stalls      the stalls that a span may leave out
+--   is_in_ticks          what a span's bounds count
+--   is_span_name         the form of a span's name
+--   are_addresses        places in memory
+--   are_few_addresses    what a key of a span may name
 use Rattle.std.specs.Prelude.{ℕ, nat_le, nat_lt, ◌==◌, ◌&&◌, ◌||◌, Bool, true, false, List, length}
 use Rattle.std.specs.Char.{is_ascii_alphanumeric}
 use Rattle.std.specs.List.{list_all}
@@ -35,5 +35,5 @@ abbrev pub are_addresses : List ℕ → Bool
 are_addresses addresses = list_all (λ a. nat_lt a 32) addresses
 
 -- at most 16 addresses
-abbrev pub are_stalls : List ℕ → Bool
-are_stalls addresses = nat_le (length addresses) 16 && are_addresses addresses
+abbrev pub are_few_addresses : List ℕ → Bool
+are_few_addresses addresses = nat_le (length addresses) 16 && are_addresses addresses

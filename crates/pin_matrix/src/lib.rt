@@ -26,7 +26,7 @@ pub use mapping::Mapping;
 pub use pads::pad_of;
 pub use rotation::pins_from;
 pub use setup::Setup;
-pub use span::{Span, SpanUnit, Spans, Stalls};
+pub use span::{Addresses, PinSignal, Span, SpanUnit, Spans};
 pub use span_name::is_span_name;
 pub use sync::Sync;
 pub use writes::writes_of;

@@ -8,8 +8,8 @@ use pio_encode::Name;
 use std::alloc::Global;
 use std::marker::Model;
 
-/// The most addresses of a span at which stalls don't count.
-const MOST_STALLS: usize = 16;
+/// The most addresses that a key of a span names.
+const MOST_ADDRESSES: usize = 16;
 
 /// The most spans of a block.
 const MOST_SPANS: usize = 64;
@@ -23,44 +23,53 @@ pub enum SpanUnit {
     Clocks,
 }
 
-/// The addresses, each 0 to 31 and at most 16, at which stalls don't count.
+/// What of a pin an edge is a change of.
+#[derive(Clone, Copy, PartialEq)]
+pub enum PinSignal {
+    /// The level that the block drives.
+    Level,
+    /// The direction, high where it is out.
+    Direction,
+}
+
+/// Addresses that a span names, each 0 to 31 and at most 16.
 #[derive(Drop)]
-pub struct Stalls {
+pub struct Addresses {
     addresses: Vec<u8>,
 }
 
-impl Model for Stalls {
+impl Model for Addresses {
     ghost use Rattle.std.specs.Prelude.{List, ℕ, IsTrue};
-    ghost use Rattle.pin_matrix.specs.Spans.{are_stalls};
+    ghost use Rattle.pin_matrix.specs.Spans.{are_few_addresses};
 
     ghost Value = { List ℕ };
 
-    ghost view = { λ s. s.addresses.items };
+    ghost view = { λ a. a.addresses.items };
 
-    ghost invariant = { λ s. IsTrue (are_stalls s.addresses.items) };
+    ghost invariant = { λ a. IsTrue (are_few_addresses a.addresses.items) };
 }
 
-impl Stalls {
+impl Addresses {
     ghost use Rattle.std.specs.Prelude.{◌≡◌, if◌then◌else◌, Some, None, [], IsTrue};
-    ghost use Rattle.pin_matrix.specs.Spans.{are_stalls};
+    ghost use Rattle.pin_matrix.specs.Spans.{are_few_addresses};
 
     /// These addresses, unless there are more than 16 or one is above 31. It takes no memory.
-    pub fn new(addresses: Vec<u8>) -> Option<Stalls>
+    pub fn new(addresses: Vec<u8>) -> Option<Addresses>
         ensures { result
-            ≡ (if are_stalls addresses.items then Some addresses.items else None) }
+            ≡ (if are_few_addresses addresses.items then Some addresses.items else None) }
     {
-        if are_stalls(&addresses) {
-            Some(Stalls { addresses })
+        if are_few_addresses(&addresses) {
+            Some(Addresses { addresses })
         } else {
             None
         }
     }
 
     /// No addresses. It takes no memory.
-    pub fn empty(alloc: Global) -> Stalls
+    pub fn empty(alloc: Global) -> Addresses
         ensures { result ≡ [] }
     {
-        Stalls {
+        Addresses {
             addresses: Vec::new(alloc),
         }
     }
@@ -68,7 +77,7 @@ impl Stalls {
     /// The addresses in their order.
     pub fn as_slice(&self) -> &[u8]
         ensures list { result.now ≡ self.now }
-        ensures kept { IsTrue (are_stalls self.now) }
+        ensures kept { IsTrue (are_few_addresses self.now) }
     {
         self.addresses.as_slice()
     }
@@ -81,10 +90,10 @@ impl Stalls {
     }
 }
 
-fn are_stalls(addresses: &[u8]) -> bool
-    ensures { result ≡ spec.are_stalls addresses.now }
+fn are_few_addresses(addresses: &[u8]) -> bool
+    ensures { result ≡ spec.are_few_addresses addresses.now }
 {
-    addresses.len() <= MOST_STALLS && are_addresses(addresses)
+    addresses.len() <= MOST_ADDRESSES && are_addresses(addresses)
 }
 
 fn are_addresses(bytes: &[u8]) -> bool
@@ -102,19 +111,25 @@ pub struct Span {
     pub machine: u8,
     /// 0 to 31.
     pub from_pin: u8,
-    /// A rise, else a fall.
+    pub from_signal: PinSignal,
+    /// A rise of the level, or the direction becomes out; else a fall, or it becomes in.
     pub from_rise: bool,
     /// 0 to 31.
     pub to_pin: u8,
-    /// A rise, else a fall.
+    pub to_signal: PinSignal,
+    /// As of the from-edge.
     pub to_rise: bool,
     pub unit: SpanUnit,
     /// The least that is right: up to 16,777,215, and at most `max` where there is one.
     pub min: u32,
     /// The most that is right: up to 16,777,215. `None` where there is no greatest bound.
     pub max: Option<u32>,
-    /// Empty for a span in clocks.
-    pub stalls: Stalls,
+    /// Where stalls don't count. Empty for a span in clocks.
+    pub stalls: Addresses,
+    /// Nothing is said of a from-edge after which the machine waits, but at one of `stalls`.
+    pub prompt: bool,
+    /// Nothing is said of a from-edge after which the machine comes to one of these.
+    pub without: Addresses,
     pub ghost named: { IsTrue (is_span_name name) },
     pub ghost machine_in_block: { machine < 4 },
     pub ghost from_pin_is_a_pin: { from_pin < 32 },

@@ -4,7 +4,7 @@ ghost use Rattle.std.specs.Option.{ForSome};
 ghost use Rattle.pin_matrix.specs.Spans as spec;
 
 use crate::keys::Keys;
-use pin_matrix::{MachineSetup, Mapping, Setup, Span, SpanUnit, Stalls, is_span_name};
+use pin_matrix::{MachineSetup, Mapping, Setup, Span, SpanUnit, Addresses, is_span_name};
 use pio_encode::Name;
 use std::alloc::Global;
 
@@ -65,7 +65,7 @@ pub fn span_of(alloc: Global, keys: &Keys, name: &str) -> Option<Span> {
         unit: keys.unit,
         min: keys.min,
         max,
-        stalls: Stalls::new(stalls)?,
+        stalls: Addresses::new(stalls)?,
     })
 }
 
