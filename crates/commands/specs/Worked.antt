@@ -9,8 +9,7 @@ use Rattle.std.specs.FinMap.{get}
 use Rattle.pio_edge.specs.Edge.{Files}
 use Rattle.dreq_pacing.specs.declared.line.Line.{Line}
 use Rattle.block_core.specs.Block.{first_run}
-use Rattle.block_core.specs.Stirring.{stirring}
-use Rattle.block_core.specs.HostedTwin.{twin_stirring}
+use Rattle.idle_engine.specs.Worked.{worked_in, twin_worked_in}
 use Rattle.pin_matrix.specs.declared.setup.Setup.{Setup}
 use Rattle.drawn_load.specs.Loads.{lines_of}
 use Rattle.load_summary.specs.Summaries.{start_of}
@@ -22,19 +21,19 @@ use Rattle.stages.specs.Judged.{Judged, right, wrong, prepared_at, read_at, pair
 use Rattle.stages.specs.declared.pair.TwoBlocks.{TwoBlocks}
 use Rattle.commands.specs.Tasks.{twin_start}
 
--- the clocks of a run that stir, and one more; none where its files have a fault
+-- the clocks of a run that are worked out singly; none if its files have a fault
 abbrev pub run_worked : ℕ → Judged (Setup × List Line) → ℕ
-run_worked clocks (right prepared) = stirring (first_run prepared.0) prepared.1 clocks + 1
+run_worked clocks (right prepared) = worked_in (first_run prepared.0) prepared.1 clocks
 run_worked clocks (wrong e) = 0
 
--- At most the clocks that stir, and one more. Of files that aren't told no more is said than that it is the clocks asked.
+-- Of files that aren't told no more is said than that it is at most the clocks asked.
 abbrev pub worked_of : Option Files → (source : List ℕ) → (config stimulus : Option (List ℕ)) → (clocks : ℕ) → ℕ
 worked_of (Some files) source config stimulus clocks = run_worked clocks (prepared_at files source config stimulus)
 worked_of None source config stimulus clocks = clocks
 
 -- the same of a transmitter with this divider that is fed a file's bytes
 abbrev pub sent_worked : (divider clocks : ℕ) → Judged (List ℕ) → ℕ
-sent_worked divider clocks (right bytes) = stirring (first_run (transmitter_of divider)) (fed bytes) clocks + 1
+sent_worked divider clocks (right bytes) = worked_in (first_run (transmitter_of divider)) (fed bytes) clocks
 sent_worked divider clocks (wrong e) = 0
 
 -- and where its file is told or not
@@ -42,9 +41,9 @@ abbrev pub uart_worked : Option Files → (send : List ℕ) → (divider clocks 
 uart_worked (Some files) send divider clocks = sent_worked divider clocks (read_at Send (get files send))
 uart_worked None send divider clocks = clocks
 
--- the same of two blocks, of which either may stir
+-- the same of two blocks
 abbrev pub pair_worked : ℕ → Judged TwoBlocks → ℕ
-pair_worked clocks (right p) = twin_stirring (twin_start p) p.first_lines p.second_lines clocks + 1
+pair_worked clocks (right p) = twin_worked_in (twin_start p) p.first_lines p.second_lines clocks
 pair_worked clocks (wrong e) = 0
 
 -- and where their files are told or not
@@ -60,5 +59,5 @@ most_worked files (receive source config stimulus clocks pin bit) = worked_of fi
 most_worked files (inspect source config stimulus clocks) = worked_of files source config stimulus clocks
 most_worked files (uart send divider clocks) = uart_worked files send divider clocks
 most_worked files (pair source config second stimulus clocks) = twin_worked files source config second stimulus clocks
-most_worked files (gen seed clocks) = stirring (start_of seed) (lines_of seed) clocks + 1
+most_worked files (gen seed clocks) = worked_in (start_of seed) (lines_of seed) clocks
 most_worked files a = 0

@@ -33,7 +33,6 @@ pub fn generate<F: Shelf, O: Sink, L: Ledger>(
         (call_by F.holds F.faults O.taken O.waiting O.faults shelf.old shelf.new out.old out.new) result }
     ensures asked { CommandAsks (gen_asked seed clocks) (F.fetched shelf.old) (F.fetched shelf.new) result }
     ensures same { shelf.new ≡ shelf.old }
-    ensures steps { steps.new ≤ steps.old + clocks }
     ensures worked { steps.new ≤ steps.old + most_worked (F.holds shelf.old) (gen_asked seed clocks) }
 {
     let summary = summarise(alloc, seed, clocks, steps)?;

@@ -1,5 +1,6 @@
-//! What the texts of commands are to one another, on functions that do nothing.
-ghost use Rattle.std.specs.Prelude.{◌≡◌, ◌+◌, ◌*◌, ◌<◌, ◌≤◌, ℕ, List, Ok, length};
+//! Laws of what commands write and of the clocks that they work out, on functions that do nothing.
+ghost use Rattle.std.specs.Prelude.{◌≡◌, ◌+◌, ◌*◌, ◌<◌, ◌≤◌, ℕ, List, Ok, Option, length};
+ghost use Rattle.pio_edge.specs.Edge.{Files};
 ghost use Rattle.pin_matrix.specs.declared.setup.Setup.{Setup};
 ghost use Rattle.pin_matrix.specs.declared.span.Span.{Span};
 ghost use Rattle.block_core.specs.Block.{first_run};
@@ -13,7 +14,10 @@ ghost use Rattle.pio_uart.specs.Feeding.{fed};
 ghost use Rattle.pio_uart.specs.Transmitter.{IsTransmitter};
 ghost use Rattle.commands.specs.Tasks.{received_text, sent_text};
 ghost use Rattle.commands.specs.Whole.{all_frames};
+ghost use Rattle.commands.specs.Worked.{most_worked};
+ghost use Rattle.command_line.specs.Words.{Asked, clocks_asked};
 
+use idle_engine::few_clocks_are_worked_out;
 use pio_uart::a_transmitter_sends_in_time;
 use table_files::{a_least_table_is_told, a_table_is_read_back};
 
@@ -41,3 +45,10 @@ pub fn clocks_enough_send_all()
     ensures { (divider clocks : ℕ) (bytes : List ℕ) → divider * (80 * length bytes + 5) < clocks
         → sent_text divider bytes clocks ≡ frames_text (all_frames divider 0 bytes) }
 {}
+
+/// A command works out no more clocks than it is asked for, whether its files are told or not.
+pub fn no_more_clocks_are_worked_out_than_asked()
+    ensures { (files : Option Files) (a : Asked) → most_worked files a ≤ clocks_asked a }
+{
+    few_clocks_are_worked_out();
+}

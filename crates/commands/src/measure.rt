@@ -2,7 +2,6 @@
 ghost use Rattle.std.specs.Prelude.{◌≡◌, ◌+◌, ◌≤◌, ◌^◌, ℕ, IfOk, List, [], map, option_map};
 ghost use Rattle.block_core.specs.Block.{first_run};
 ghost use Rattle.block_core.specs.Hosted.{samples};
-ghost use Rattle.block_core.specs.Stirring.{stirring};
 ghost use Rattle.command_line.specs.Words.{measure as measure_asked};
 ghost use Rattle.commands.specs.Tasks.{measured_text, seen_in};
 ghost use Rattle.commands.specs.Outside.{call_by};
@@ -11,6 +10,7 @@ ghost use Rattle.commands.specs.Worked.{most_worked};
 ghost use Rattle.commands.specs.Written.{SinkWrites};
 ghost use Rattle.span_meter.specs.Measured.{SpanEdges};
 ghost use Rattle.span_meter.specs.Meters.{HasMeasured, seen_so_far};
+ghost use Rattle.idle_engine.specs.Worked.{worked_in};
 
 use crate::measured_lines::write_lines;
 use block_core::Block;
@@ -18,7 +18,7 @@ use command_line::RunFiles;
 use dreq_pacing::Schedule;
 use fault_lines::Fault;
 use fifo_pair::{Fifo, RingFifo};
-use idle_engine::simulate;
+use idle_engine::{few_clocks_are_worked_out, simulate};
 use pin_matrix::Setup;
 use pio_edge::{Shelf, Sink};
 use sample_trace::TraceFailed;
@@ -51,10 +51,10 @@ pub fn measure<F: Shelf, O: Sink, L: Ledger>(
         (option_map (λ t. t.now) files.entry.stimulus) clocks)
         (F.fetched shelf.old) (F.fetched shelf.new) result }
     ensures same { F.holds shelf.new ≡ F.holds shelf.old }
-    ensures steps { steps.new ≤ steps.old + clocks }
     ensures worked { steps.new ≤ steps.old + most_worked (F.holds shelf.old)
         (measure_asked files.entry.source.now (option_map (λ t. t.now) files.entry.config) (option_map (λ t. t.now) files.entry.stimulus) clocks) }
 {
+    few_clocks_are_worked_out();
     let (setup, schedule) = prepare(alloc, shelf, files)?;
     write_measured(alloc, &setup, &schedule, clocks, out, steps)
 }
@@ -72,8 +72,7 @@ fn write_measured<O: Sink, L: Ledger>(
     requires { clocks ≤ 10 ^ 12 }
     ensures ends { SinkWrites O.taken O.waiting O.faults out.old out.new
         (measured_text (first_run setup.now) setup.now.spans schedule.now clocks) result }
-    ensures steps { steps.new ≤ steps.old + clocks }
-    ensures stirring { steps.new ≤ steps.old + stirring (first_run setup.now) schedule.now clocks + 1 }
+    ensures steps { steps.new ≤ steps.old + worked_in (first_run setup.now) schedule.now clocks }
 {
     let meter = metered(alloc, setup, schedule, clocks, steps)?;
     write_lines(out, setup.spans.as_slice(), &meter)
@@ -90,8 +89,7 @@ fn metered<L: Ledger>(
     requires { clocks ≤ 10 ^ 12 }
     ensures seen { IfOk result (λ meter. seen_so_far meter
         ≡ map (λ sp. seen_in (first_run setup.now) sp schedule.now clocks) setup.now.spans) }
-    ensures steps { steps.new ≤ steps.old + clocks }
-    ensures stirring { steps.new ≤ steps.old + stirring (first_run setup.now) schedule.now clocks + 1 }
+    ensures steps { steps.new ≤ steps.old + worked_in (first_run setup.now) schedule.now clocks }
 {
     let mut block = Block::<RingFifo>::new(alloc, setup)?;
     let mut meter = SpanMeter::new(alloc, setup.spans.as_slice(), block.view().level)?;
@@ -111,8 +109,7 @@ fn meter_run<F: Fifo, L: Ledger>(
     requires within { clocks ≤ 10 ^ 12 }
     ensures measured { (levels : ℕ) (ends : List SpanEdges) → HasMeasured levels ends [] meter.old
         → HasMeasured levels ends (samples block.old.run schedule.now clocks) meter.new }
-    ensures steps { steps.new ≤ steps.old + clocks }
-    ensures stirring { steps.new ≤ steps.old + stirring block.old.run schedule.now clocks + 1 }
+    ensures steps { steps.new ≤ steps.old + worked_in block.old.run schedule.now clocks }
 {
     match simulate(block, schedule, clocks, meter, steps) {
         Ok(()) => {}

@@ -1,19 +1,19 @@
 //! The command `pair`: the trace of the first clocks of two blocks on one set of pins.
 ghost use Rattle.std.specs.Prelude.{◌≡◌, ◌+◌, ◌≤◌, ◌^◌, option_map};
-ghost use Rattle.block_core.specs.HostedTwin.{twin_stirring};
 ghost use Rattle.command_line.specs.Words.{pair as pair_asked};
 ghost use Rattle.commands.specs.Tasks.{twin_start, twin_trace_text};
 ghost use Rattle.commands.specs.Outside.{call_by};
 ghost use Rattle.commands.specs.Promise.{CommandAsks, CommandEnds};
 ghost use Rattle.commands.specs.Worked.{most_worked};
 ghost use Rattle.commands.specs.Written.{SinkWrites};
+ghost use Rattle.idle_engine.specs.Worked.{twin_worked_in};
 
 use crate::handing::hand_on;
 use block_core::Twin;
 use command_line::PairFiles;
 use fault_lines::Fault;
 use fifo_pair::RingFifo;
-use idle_engine::{a_stopped_pair_leaves_a_first_part, simulate_twin};
+use idle_engine::{a_stopped_pair_leaves_a_first_part, few_clocks_are_worked_out, simulate_twin};
 use pio_edge::{Shelf, Sink};
 use stages::{TwoBlocks, ask_both_spans, prepare_pair};
 use std::alloc::Global;
@@ -44,10 +44,10 @@ pub fn pair<F: Shelf, O: Sink, L: Ledger>(
         (option_map (λ t. t.now) files.entry.stimulus) clocks)
         (F.fetched shelf.old) (F.fetched shelf.new) result }
     ensures same { F.holds shelf.new ≡ F.holds shelf.old }
-    ensures steps { steps.new ≤ steps.old + clocks }
     ensures worked { steps.new ≤ steps.old + most_worked (F.holds shelf.old)
         (pair_asked files.entry.source.now files.entry.config.now files.entry.second.now (option_map (λ t. t.now) files.entry.stimulus) clocks) }
 {
+    few_clocks_are_worked_out();
     let blocks = prepare_pair(alloc, shelf, files)?;
     ask_both_spans(alloc, &blocks.first, &blocks.second)?;
     write_pair(alloc, &blocks, clocks, out, steps)
@@ -64,9 +64,8 @@ fn write_pair<O: Sink, L: Ledger>(
     requires { clocks ≤ 10 ^ 12 }
     ensures ends { SinkWrites O.taken O.waiting O.faults out.old out.new
         (twin_trace_text (twin_start blocks.now) blocks.now.first_lines blocks.now.second_lines clocks) result }
-    ensures steps { steps.new ≤ steps.old + clocks }
-    ensures stirring { steps.new ≤ steps.old
-        + twin_stirring (twin_start blocks.now) blocks.now.first_lines blocks.now.second_lines clocks + 1 }
+    ensures steps { steps.new ≤ steps.old
+        + twin_worked_in (twin_start blocks.now) blocks.now.first_lines blocks.now.second_lines clocks }
 {
     a_stopped_pair_leaves_a_first_part();
     failing_early_leaves_a_first_part_of_two();

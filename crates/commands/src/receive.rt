@@ -1,13 +1,13 @@
 //! The command `receive`: the bytes that one pin sends in the first clocks of a run.
 ghost use Rattle.std.specs.Prelude.{◌≡◌, ◌+◌, ◌<◌, ◌≤◌, ◌^◌, option_map};
 ghost use Rattle.block_core.specs.Block.{first_run};
-ghost use Rattle.block_core.specs.Stirring.{stirring};
 ghost use Rattle.command_line.specs.Words.{receive as receive_asked};
 ghost use Rattle.commands.specs.Tasks.{received_text};
 ghost use Rattle.commands.specs.Outside.{call_by};
 ghost use Rattle.commands.specs.Promise.{CommandAsks, CommandEnds};
 ghost use Rattle.commands.specs.Worked.{most_worked};
 ghost use Rattle.commands.specs.Written.{SinkWrites};
+ghost use Rattle.idle_engine.specs.Worked.{worked_in};
 
 use crate::handing::hand_on;
 use block_core::Block;
@@ -15,7 +15,7 @@ use command_line::{RunFiles, SerialLine};
 use dreq_pacing::Schedule;
 use fault_lines::Fault;
 use fifo_pair::RingFifo;
-use idle_engine::{a_stopped_run_leaves_a_first_part, simulate};
+use idle_engine::{a_stopped_run_leaves_a_first_part, few_clocks_are_worked_out, simulate};
 use pin_matrix::{Setup, is_high};
 use pio_edge::{Shelf, Sink};
 use serial_receiver::{Receiver, stopping_early_leaves_a_first_part};
@@ -50,11 +50,11 @@ pub fn receive<F: Shelf, O: Sink, L: Ledger>(
         (option_map (λ t. t.now) files.entry.stimulus) clocks line.pin line.bit)
         (F.fetched shelf.old) (F.fetched shelf.new) result }
     ensures same { F.holds shelf.new ≡ F.holds shelf.old }
-    ensures steps { steps.new ≤ steps.old + clocks }
     ensures worked { steps.new ≤ steps.old + most_worked (F.holds shelf.old)
         (receive_asked files.entry.source.now (option_map (λ t. t.now) files.entry.config)
         (option_map (λ t. t.now) files.entry.stimulus) clocks line.pin line.bit) }
 {
+    few_clocks_are_worked_out();
     let (setup, schedule) = prepare(alloc, shelf, files)?;
     write_received(alloc, &setup, &schedule, clocks, line, out, steps)
 }
@@ -75,8 +75,7 @@ pub fn write_received<O: Sink, L: Ledger>(
     requires bit { 2 ≤ line.bit }
     ensures ends { SinkWrites O.taken O.waiting O.faults out.old out.new
         (received_text (first_run setup.now) line.pin line.bit schedule.now clocks) result }
-    ensures steps { steps.new ≤ steps.old + clocks }
-    ensures stirring { steps.new ≤ steps.old + stirring (first_run setup.now) schedule.now clocks + 1 }
+    ensures steps { steps.new ≤ steps.old + worked_in (first_run setup.now) schedule.now clocks }
 {
     a_stopped_run_leaves_a_first_part();
     stopping_early_leaves_a_first_part();

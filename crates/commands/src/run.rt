@@ -1,13 +1,13 @@
 //! The command `run`: the trace of the first clocks of a block that a source and a configuration set up, beside a stimulus.
 ghost use Rattle.std.specs.Prelude.{◌≡◌, ◌+◌, ◌≤◌, ◌^◌, option_map};
 ghost use Rattle.block_core.specs.Block.{first_run};
-ghost use Rattle.block_core.specs.Stirring.{stirring};
 ghost use Rattle.command_line.specs.Words.{run as run_asked};
 ghost use Rattle.commands.specs.Tasks.{trace_text};
 ghost use Rattle.commands.specs.Outside.{call_by};
 ghost use Rattle.commands.specs.Promise.{CommandAsks, CommandEnds};
 ghost use Rattle.commands.specs.Worked.{most_worked};
 ghost use Rattle.commands.specs.Written.{SinkWrites};
+ghost use Rattle.idle_engine.specs.Worked.{worked_in};
 
 use crate::handing::hand_on;
 use block_core::Block;
@@ -15,7 +15,7 @@ use command_line::RunFiles;
 use dreq_pacing::Schedule;
 use fault_lines::Fault;
 use fifo_pair::RingFifo;
-use idle_engine::{a_stopped_run_leaves_a_first_part, simulate};
+use idle_engine::{a_stopped_run_leaves_a_first_part, few_clocks_are_worked_out, simulate};
 use pin_matrix::Setup;
 use pio_edge::{Shelf, Sink};
 use stages::{ask_spans, prepare};
@@ -47,10 +47,10 @@ pub fn run<F: Shelf, O: Sink, L: Ledger>(
         (option_map (λ t. t.now) files.entry.stimulus) clocks)
         (F.fetched shelf.old) (F.fetched shelf.new) result }
     ensures same { F.holds shelf.new ≡ F.holds shelf.old }
-    ensures steps { steps.new ≤ steps.old + clocks }
     ensures worked { steps.new ≤ steps.old + most_worked (F.holds shelf.old)
         (run_asked files.entry.source.now (option_map (λ t. t.now) files.entry.config) (option_map (λ t. t.now) files.entry.stimulus) clocks) }
 {
+    few_clocks_are_worked_out();
     let (setup, schedule) = prepare(alloc, shelf, files)?;
     ask_spans(alloc, &setup)?;
     write_trace(alloc, &setup, &schedule, clocks, out, steps)
@@ -68,8 +68,7 @@ fn write_trace<O: Sink, L: Ledger>(
     requires { clocks ≤ 10 ^ 12 }
     ensures ends { SinkWrites O.taken O.waiting O.faults out.old out.new
         (trace_text (first_run setup.now) schedule.now clocks) result }
-    ensures steps { steps.new ≤ steps.old + clocks }
-    ensures stirring { steps.new ≤ steps.old + stirring (first_run setup.now) schedule.now clocks + 1 }
+    ensures steps { steps.new ≤ steps.old + worked_in (first_run setup.now) schedule.now clocks }
 {
     a_stopped_run_leaves_a_first_part();
     failing_early_leaves_a_first_part();

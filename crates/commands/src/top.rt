@@ -1,6 +1,6 @@
 //! The call: the words, then what they ask for, and its end told.
 ghost use Rattle.std.specs.Prelude.{◌≡◌, ◌≢◌, ◌+◌, ◌≤◌, map, Some, Err, string_bytes};
-ghost use Rattle.command_line.specs.Words.{WordsAreTaken, IsWithinRange, asked_by, clocks_asked, most_clocks};
+ghost use Rattle.command_line.specs.Words.{WordsAreTaken, IsWithinRange, asked_by, most_clocks};
 ghost use Rattle.commands.specs.Outside.{call_by, output_by};
 ghost use Rattle.commands.specs.Promise.{CommandAsks, CommandEnds};
 ghost use Rattle.commands.specs.Worked.{most_worked};
@@ -15,6 +15,7 @@ use crate::check::check;
 use crate::dis::dis;
 use crate::generate::generate;
 use crate::inspect::inspect;
+use crate::laws::no_more_clocks_are_worked_out_than_asked;
 use crate::measure::measure;
 use crate::pair::pair;
 use crate::receive::receive;
@@ -54,6 +55,7 @@ pub fn piotool<F: Shelf, O: Sink, E: Sink, L: Ledger>(
     ensures steps { steps.new ≤ steps.old + most_clocks (map string_bytes words.now) }
     ensures worked { steps.new ≤ steps.old + worked_for (F.holds shelf.old) (map string_bytes words.now) }
 {
+    no_more_clocks_are_worked_out_than_asked();
     let fault = work(alloc, words, shelf, out, steps).err();
     end_with(err, fault)
 }
@@ -71,7 +73,6 @@ fn work<F: Shelf, O: Sink, L: Ledger>(
     ensures asked { WorkAsks (map string_bytes words.now) (F.fetched shelf.old) (F.fetched shelf.new) result }
     ensures taken { WordsAreTaken (map string_bytes words.now) → result ≢ Err Fault.Usage }
     ensures same { F.holds shelf.new ≡ F.holds shelf.old }
-    ensures steps { steps.new ≤ steps.old + most_clocks (map string_bytes words.now) }
     ensures worked { steps.new ≤ steps.old + worked_for (F.holds shelf.old) (map string_bytes words.now) }
 {
     match read(alloc, words) {
@@ -95,7 +96,6 @@ fn obey<F: Shelf, O: Sink, L: Ledger>(
     ensures asked { CommandAsks (asked_by order.entry) (F.fetched shelf.old) (F.fetched shelf.new) result }
     ensures not_usage { result ≢ Err Fault.Usage }
     ensures same { F.holds shelf.new ≡ F.holds shelf.old }
-    ensures steps { steps.new ≤ steps.old + clocks_asked (asked_by order.entry) }
     ensures worked { steps.new ≤ steps.old + most_worked (F.holds shelf.old) (asked_by order.entry) }
 {
     match order {

@@ -1,7 +1,6 @@
 //! The command `uart`: what the proved transmitter sends of a file's bytes in the first clocks of a run.
 ghost use Rattle.std.specs.Prelude.{◌≡◌, ◌+◌, ◌≤◌, ◌^◌, ℕ, List};
 ghost use Rattle.block_core.specs.Block.{first_run};
-ghost use Rattle.block_core.specs.Stirring.{stirring};
 ghost use Rattle.commands.specs.Outside.{call_by};
 ghost use Rattle.commands.specs.Promise.{CommandAsks, CommandEnds};
 ghost use Rattle.commands.specs.Tasks.{sent_text};
@@ -10,12 +9,14 @@ ghost use Rattle.commands.specs.Written.{SinkWrites};
 ghost use Rattle.command_line.specs.Words.{uart as uart_asked};
 ghost use Rattle.pio_uart.specs.Feeding.{fed};
 ghost use Rattle.pio_uart.specs.OneSetup.{transmitter_of};
+ghost use Rattle.idle_engine.specs.Worked.{worked_in};
 
 use crate::laws::a_transmitter_sends_this_text;
 use crate::receive::write_received;
 use command_line::SerialLine;
 use dreq_pacing::Schedule;
 use fault_lines::{Fault, File};
+use idle_engine::few_clocks_are_worked_out;
 use pio_edge::{Shelf, Sink};
 use pio_uart::{feed, uart_setup};
 use stages::fetch_file;
@@ -45,9 +46,9 @@ pub fn uart<F: Shelf, O: Sink, L: Ledger>(
     ensures asked { CommandAsks (uart_asked send.now divider clocks)
         (F.fetched shelf.old) (F.fetched shelf.new) result }
     ensures same { F.holds shelf.new ≡ F.holds shelf.old }
-    ensures steps { steps.new ≤ steps.old + clocks }
     ensures worked { steps.new ≤ steps.old + most_worked (F.holds shelf.old) (uart_asked send.now divider clocks) }
 {
+    few_clocks_are_worked_out();
     let bytes = fetch_file(alloc, shelf, File::Send, send)?;
     send_bytes(alloc, &bytes, divider, clocks, out, steps)
 }
@@ -66,8 +67,7 @@ fn send_bytes<O: Sink, L: Ledger>(
     requires most { divider ≤ 8191 }
     ensures ends { SinkWrites O.taken O.waiting O.faults out.old out.new
         (sent_text divider bytes.now clocks) result }
-    ensures steps { steps.new ≤ steps.old + clocks }
-    ensures stirring { steps.new ≤ steps.old + stirring (first_run (transmitter_of divider)) (fed bytes.now) clocks + 1 }
+    ensures steps { steps.new ≤ steps.old + worked_in (first_run (transmitter_of divider)) (fed bytes.now) clocks }
 {
     let schedule = feed(alloc, bytes)?;
     write_sent(alloc, &schedule, divider, clocks, out, steps)
@@ -88,8 +88,7 @@ fn write_sent<O: Sink, L: Ledger>(
     ensures ends { (bytes : List ℕ) → schedule.now ≡ fed bytes
         → SinkWrites O.taken O.waiting O.faults out.old out.new
         (sent_text divider bytes clocks) result }
-    ensures steps { steps.new ≤ steps.old + clocks }
-    ensures stirring { steps.new ≤ steps.old + stirring (first_run (transmitter_of divider)) schedule.now clocks + 1 }
+    ensures steps { steps.new ≤ steps.old + worked_in (first_run (transmitter_of divider)) schedule.now clocks }
 {
     a_transmitter_sends_this_text();
     let setup = uart_setup(alloc, divider);

@@ -3,3 +3,4 @@ pub mod Kinds
 pub mod One
 pub mod OneInside
 pub mod Two
+pub mod Worked

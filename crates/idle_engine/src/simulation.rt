@@ -2,12 +2,13 @@
 ghost use Rattle.std.specs.Prelude.{◌≡◌, ℕ, ◌+◌, ◌≤◌, ◌^◌, Bool, false, true, is_err, Option, List, OnOk, OnErr};
 ghost use Rattle.pio_edge.specs.Edge.{PutCounts};
 ghost use Rattle.block_core.specs.Hosted.{hosted_at, samples};
-ghost use Rattle.block_core.specs.HostedTwin.{twin_of, hosted_twin_at, twin_samples, twin_stirs_in, twin_stirring};
+ghost use Rattle.block_core.specs.HostedTwin.{twin_of, hosted_twin_at, twin_samples};
 ghost use Rattle.block_core.specs.Inside.{insides};
-ghost use Rattle.block_core.specs.Stirring.{stirs_in, stirring, worked};
+ghost use Rattle.block_core.specs.Stirring.{worked};
 ghost use Rattle.sample_trace.specs.Told.{IsNext, told_at};
 ghost use Rattle.idle_engine.specs.Kinds.{IsCourse};
 ghost use Rattle.idle_engine.specs.Stops.{InsideStopsAt, Stops, StopsAt, TwinStopsAt};
+ghost use Rattle.idle_engine.specs.Worked.{worked_in, twin_worked_in};
 
 use crate::clocks::{leap, step};
 use crate::kind::Runs;
@@ -44,10 +45,8 @@ pub fn simulate<F: Fifo, T: Trace<Sample>, L: Ledger>(
     ensures cause { PutCounts (T.faults trace.old) (T.faults trace.new) result }
     ensures same { T.name trace.new ≡ T.name trace.old }
     ensures steps { steps.new + block.old.calls ≡ steps.old + block.new.calls }
-    ensures exact { OnOk result (steps.new
-        ≡ steps.old + worked (λ c. stirs_in schedule.now (hosted_at block.old.run schedule.now c)) clocks) }
-    ensures most { steps.new ≤ steps.old + clocks }
-    ensures stirring { steps.new ≤ steps.old + stirring block.old.run schedule.now clocks + 1 }
+    ensures exact { OnOk result (steps.new ≡ steps.old + worked_in block.old.run schedule.now clocks) }
+    ensures most { steps.new ≤ steps.old + worked_in block.old.run schedule.now clocks }
 {
     let mut ports = HostPorts::new(schedule);
     run(block, &mut ports, clocks, trace, steps)
@@ -76,10 +75,8 @@ pub fn simulate_inside<F: Fifo, T: Trace<Inside>, L: Ledger>(
     ensures cause { PutCounts (T.faults trace.old) (T.faults trace.new) result }
     ensures same { T.name trace.new ≡ T.name trace.old }
     ensures steps { steps.new + block.old.calls ≡ steps.old + block.new.calls }
-    ensures exact { OnOk result (steps.new
-        ≡ steps.old + worked (λ c. stirs_in schedule.now (hosted_at block.old.run schedule.now c)) clocks) }
-    ensures most { steps.new ≤ steps.old + clocks }
-    ensures stirring { steps.new ≤ steps.old + stirring block.old.run schedule.now clocks + 1 }
+    ensures exact { OnOk result (steps.new ≡ steps.old + worked_in block.old.run schedule.now clocks) }
+    ensures most { steps.new ≤ steps.old + worked_in block.old.run schedule.now clocks }
 {
     let mut ports = HostPorts::new(schedule);
     run(block, &mut ports, clocks, trace, steps)
@@ -113,10 +110,8 @@ pub fn simulate_twin<F: Fifo, T: Trace<(Sample, Sample)>, L: Ledger>(
     ensures cause { PutCounts (T.faults trace.old) (T.faults trace.new) result }
     ensures same { T.name trace.new ≡ T.name trace.old }
     ensures steps { steps.new + twin.old.calls ≡ steps.old + twin.new.calls }
-    ensures exact { OnOk result (steps.new ≡ steps.old
-        + worked (λ c. twin_stirs_in first.now second.now (hosted_twin_at twin.old.twin first.now second.now c)) clocks) }
-    ensures most { steps.new ≤ steps.old + clocks }
-    ensures stirring { steps.new ≤ steps.old + twin_stirring twin.old.twin first.now second.now clocks + 1 }
+    ensures exact { OnOk result (steps.new ≡ steps.old + twin_worked_in twin.old.twin first.now second.now clocks) }
+    ensures most { steps.new ≤ steps.old + twin_worked_in twin.old.twin first.now second.now clocks }
 {
     let mut ports = (HostPorts::new(first), HostPorts::new(second));
     run(twin, &mut ports, clocks, trace, steps)

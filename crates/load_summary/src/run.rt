@@ -1,7 +1,7 @@
 //! The run of a load, clock by clock, and what is counted in it.
 ghost use Rattle.std.specs.Prelude.{◌≡◌, ◌+◌, ◌≤◌, ◌^◌, IfOk};
-ghost use Rattle.block_core.specs.Stirring.{stirring};
 ghost use Rattle.drawn_load.specs.Loads.{lines_of};
+ghost use Rattle.idle_engine.specs.Worked.{worked_in};
 ghost use Rattle.load_summary.specs.Counted.{counted_run};
 ghost use Rattle.load_summary.specs.Summaries.{start_of, summary_of};
 
@@ -26,8 +26,7 @@ pub fn summarise<L: Ledger>(
 ) -> Result<Summary, AllocError>
     requires { clocks ≤ 10 ^ 12 }
     ensures summary { IfOk result (λ summary. summary ≡ summary_of seed clocks) }
-    ensures steps { steps.new ≤ steps.old + clocks }
-    ensures stirring { steps.new ≤ steps.old + stirring (start_of seed) (lines_of seed) clocks + 1 }
+    ensures steps { steps.new ≤ steps.old + worked_in (start_of seed) (lines_of seed) clocks }
 {
     let load = draw_load(alloc, seed)?;
     let mut block = Block::<RingFifo>::new(alloc, &load.setup)?;
@@ -44,8 +43,7 @@ fn counted<F: Fifo, L: Ledger>(
     requires fresh { block.old.run.clock ≡ 0 }
     requires within { clocks ≤ 10 ^ 12 }
     ensures summary { result ≡ counted_run block.old.run schedule.now clocks }
-    ensures steps { steps.new ≤ steps.old + clocks }
-    ensures stirring { steps.new ≤ steps.old + stirring block.old.run schedule.now clocks + 1 }
+    ensures steps { steps.new ≤ steps.old + worked_in block.old.run schedule.now clocks }
 {
     let mut trace = EdgeTrace::new(block.view().level);
     match simulate(block, schedule, clocks, &mut trace, steps) {

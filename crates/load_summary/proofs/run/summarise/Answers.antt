@@ -1,6 +1,6 @@
 use Rattle.std.proofs.Common.{◌≡◌, ◌≤◌, ◌+◌, ap, ap₂, subst, ◌∙◌}
 use Rattle.block_core.specs.Block.{first_run}
-use Rattle.block_core.specs.Stirring.{stirring}
+use Rattle.idle_engine.specs.Worked.{worked_in}
 use Rattle.load_summary.specs.Summaries.{start_of}
 use Rattle.load_summary.specs.Counted.{counted_run}
 use Rattle.load_summary.proofs.Moves.{run_is}
@@ -14,11 +14,11 @@ returns-clause-summary g c =
     ∙ ap₂ (λ run lines. counted_run run lines c.args.clocks) start c.in_ok-load.ensures.schedule
     ∙ run_is seed c.args.clocks
 
-pub returns-clause-stirring : goal.returns-clause-stirring
-returns-clause-stirring g c =
+pub returns-clause-steps : goal.returns-clause-steps
+returns-clause-steps g c =
     let seed = c.args.seed in
     let clocks = c.args.clocks in
     let start : c.in_ok-block.block.run ≡ start_of seed = ap (λ b. b.run) c.in_ok-block.ensures ∙ ap first_run c.in_ok-load.ensures.setup in
-    subst (λ n. c.counted.new.steps ≤ c.args.steps.now + n + 1)
-    (ap₂ (λ run lines. stirring run lines clocks) start c.in_ok-load.ensures.schedule)
-    c.counted.ensures.stirring
+    subst (λ n. c.counted.new.steps ≤ c.args.steps.now + n)
+    (ap₂ (λ run lines. worked_in run lines clocks) start c.in_ok-load.ensures.schedule)
+    c.counted.ensures.steps
