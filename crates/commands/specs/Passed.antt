@@ -25,7 +25,7 @@ use Rattle.serial_receiver.specs.Frames.{frames, levels_of}
 use Rattle.serial_receiver.specs.FrameText.{frames_text}
 use Rattle.pio_uart.specs.Feeding.{frames_fed}
 use Rattle.block_shares.specs.Report.{shares_text}
-use Rattle.load_summary.specs.Summaries.{summary_of, summary_text}
+use Rattle.drawn_load.specs.Summaries.{summary_of, summary_text}
 use Rattle.span_bounds.specs.declared.row.Row.{Row}
 use Rattle.span_bounds.specs.Answers.{IsGoodLeast}
 use Rattle.span_check.specs.Proved.{HoldsInEveryRun}

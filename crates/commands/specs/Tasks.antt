@@ -36,7 +36,7 @@ use Rattle.command_line.specs.Words.{Asked, asm, run, check, table, recheck, sha
 use Rattle.program_listing.specs.Listing.{listing_text}
 use Rattle.word_file.specs.Listing.{word_lines, rule_for}
 use Rattle.block_shares.specs.Report.{shares_text}
-use Rattle.load_summary.specs.Summaries.{summary_of, summary_text}
+use Rattle.drawn_load.specs.Summaries.{summary_of, summary_text}
 use Rattle.stages.specs.Spans.{HasVerdicts}
 use Rattle.stages.specs.Judged.{Judged, right, and_then, IfRight, source_at, words_at, prepared_at, span_at, recheck_at, read_at, pair_at}
 use Rattle.stages.specs.Roles.{run_reaches, recheck_reaches, pair_reaches}

@@ -12,7 +12,7 @@ use Rattle.block_core.specs.Block.{first_run}
 use Rattle.idle_engine.specs.Worked.{worked_in, twin_worked_in}
 use Rattle.pin_matrix.specs.declared.setup.Setup.{Setup}
 use Rattle.drawn_load.specs.Loads.{lines_of}
-use Rattle.load_summary.specs.Summaries.{start_of}
+use Rattle.drawn_load.specs.Summaries.{start_of}
 use Rattle.fault_lines.specs.declared.fault.File.TheVariants.{Send}
 use Rattle.pio_uart.specs.Feeding.{fed}
 use Rattle.pio_uart.specs.OneSetup.{transmitter_of}

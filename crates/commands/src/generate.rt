@@ -5,11 +5,11 @@ ghost use Rattle.commands.specs.Outside.{call_by};
 ghost use Rattle.commands.specs.Promise.{CommandAsks, CommandEnds};
 ghost use Rattle.commands.specs.Worked.{most_worked};
 ghost use Rattle.commands.specs.Written.{SinkWrites};
-ghost use Rattle.load_summary.specs.Summaries.{summary_text};
+ghost use Rattle.drawn_load.specs.Summaries.{summary_text};
 
 use crate::handing::hand_on;
 use fault_lines::Fault;
-use load_summary::{Summary, put_summary, summarise};
+use drawn_load::{Summary, put_summary, summarise};
 use pio_edge::{Shelf, Sink};
 use std::alloc::Global;
 use std::sync::ledger::Ledger;

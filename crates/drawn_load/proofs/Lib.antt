@@ -1,3 +1,6 @@
 mod DrawLaws
 mod Schedules
 mod OneSetup
+mod Counting
+mod Moves
+mod Pieces

@@ -4,3 +4,5 @@ pub mod NoSide
 pub mod Machines
 pub mod Setups
 pub mod SettingUp
+pub mod Summaries
+pub mod Counted

@@ -1,7 +1,7 @@
 //! How many edges pin 0 has in the first clocks of the load of seed 7.
 ghost use Rattle.std.specs.Prelude.{◌≡◌};
 
-use load_summary::summarise;
+use drawn_load::summarise;
 use std::alloc::Global;
 use std::marker::Brand;
 use std::sync::ledger::{Blank, Ledger};

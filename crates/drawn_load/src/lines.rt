@@ -1,7 +1,7 @@
 //! The text of a summary.
 ghost use Rattle.std.specs.Prelude.{◌≡◌};
 ghost use Rattle.pio_edge.specs.Edge.{Takes, PutCounts};
-ghost use Rattle.load_summary.specs.Summaries.{summary_text};
+ghost use Rattle.drawn_load.specs.Summaries.{summary_text};
 
 use crate::summary::Summary;
 use itoa::Buffer;

@@ -12,7 +12,7 @@ use Rattle.block_core.specs.Hosted.{samples, host_of}
 use Rattle.sample_trace.specs.Edges.{edges_in}
 use Rattle.drawn_load.specs.Setups.{setup_of}
 use Rattle.drawn_load.specs.Loads.{lines_of}
-use Rattle.load_summary.specs.declared.summary.Summary.{Summary}
+use Rattle.drawn_load.specs.declared.summary.Summary.{Summary}
 
 -- the block of a load at the start of its run
 abbrev pub start_of : ℕ → Run

@@ -5,7 +5,7 @@ use Rattle.block_core.specs.Block.{Run}
 use Rattle.block_core.specs.Hosted.{hosted_at, samples}
 use Rattle.block_core.specs.Shown.{moved_of}
 use Rattle.sample_trace.specs.Edges.{edges_in}
-use Rattle.load_summary.specs.declared.summary.Summary.{Summary}
+use Rattle.drawn_load.specs.declared.summary.Summary.{Summary}
 
 -- the edges of a run's samples, and what its block says that transfers moved
 unfoldable pub counted_run : Run → List Line → ℕ → Summary

@@ -7,7 +7,7 @@ use Rattle.block_core.specs.Block.{Run}
 use Rattle.block_core.specs.Hosted.{samples, sample_at}
 use Rattle.block_core.specs.Shown.{moved_of}
 use Rattle.sample_trace.specs.Edges.{edge_of, edges_in, most}
-use Rattle.load_summary.specs.declared.summary.Summary.{Summary}
+use Rattle.drawn_load.specs.declared.summary.Summary.{Summary}
 
 one_at_most : (same : Bool) → cond same 0 1 ≤ 1
 one_at_most true = omega arith

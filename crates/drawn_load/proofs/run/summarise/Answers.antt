@@ -1,10 +1,10 @@
 use Rattle.std.proofs.Common.{◌≡◌, ◌≤◌, ◌+◌, ap, ap₂, subst, ◌∙◌}
 use Rattle.block_core.specs.Block.{first_run}
 use Rattle.idle_engine.specs.Worked.{worked_in}
-use Rattle.load_summary.specs.Summaries.{start_of}
-use Rattle.load_summary.specs.Counted.{counted_run}
-use Rattle.load_summary.proofs.Moves.{run_is}
-use Rattle.load_summary.proofs.run.summarise.Goals as goal
+use Rattle.drawn_load.specs.Summaries.{start_of}
+use Rattle.drawn_load.specs.Counted.{counted_run}
+use Rattle.drawn_load.proofs.Moves.{run_is}
+use Rattle.drawn_load.proofs.run.summarise.Goals as goal
 
 pub returns-clause-summary : goal.returns-clause-summary
 returns-clause-summary g c =

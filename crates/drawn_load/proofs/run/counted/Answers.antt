@@ -2,9 +2,9 @@ use Rattle.std.proofs.Common.{◌≡◌, [], ◌∷◌, Some, ap, ◌∙◌, ref
 use Rattle.block_core.specs.Hosted.{hosted_at, samples}
 use Rattle.block_core.specs.Shown.{sample_of}
 use Rattle.sample_trace.specs.Edges.{HasCounted}
-use Rattle.load_summary.specs.Counted.{counted_run}
-use Rattle.load_summary.proofs.Counting.{pin_counted, sent_counted, got_counted, same_summary}
-use Rattle.load_summary.proofs.run.counted.Goals as goal
+use Rattle.drawn_load.specs.Counted.{counted_run}
+use Rattle.drawn_load.proofs.Counting.{pin_counted, sent_counted, got_counted, same_summary}
+use Rattle.drawn_load.proofs.run.counted.Goals as goal
 
 pub returns-clause-summary : goal.returns-clause-summary
 unfolding sample_of counted_run

@@ -2,12 +2,12 @@
 ghost use Rattle.std.specs.Prelude.{◌≡◌, ◌+◌, ◌≤◌, ◌^◌, IfOk};
 ghost use Rattle.drawn_load.specs.Loads.{lines_of};
 ghost use Rattle.idle_engine.specs.Worked.{worked_in};
-ghost use Rattle.load_summary.specs.Counted.{counted_run};
-ghost use Rattle.load_summary.specs.Summaries.{start_of, summary_of};
+ghost use Rattle.drawn_load.specs.Counted.{counted_run};
+ghost use Rattle.drawn_load.specs.Summaries.{start_of, summary_of};
 
+use crate::load::draw_load;
 use crate::summary::Summary;
 use block_core::Block;
-use drawn_load::draw_load;
 use dreq_pacing::Schedule;
 use fifo_pair::{Fifo, RingFifo};
 use idle_engine::simulate;

@@ -1,8 +1,8 @@
 -- The text of a summary, from the pieces that are put.
 use Rattle.std.proofs.Common.{◌≡◌, ◌∙◌, ℕ, List, [], ◌∷◌, ◌++◌, codes, decimal, append_assoc, append-nil, ap}
 use Rattle.std.specs.List.{concat}
-use Rattle.load_summary.specs.declared.summary.Summary.{Summary}
-use Rattle.load_summary.specs.Summaries.{summary_text}
+use Rattle.drawn_load.specs.declared.summary.Summary.{Summary}
+use Rattle.drawn_load.specs.Summaries.{summary_text}
 
 -- the pieces, one after the other
 unfoldable pub pieces : (clocks a b c sent got : List ℕ) → List ℕ

@@ -1,7 +1,7 @@
 use Rattle.std.proofs.Common.{ℕ, List, subst, ◌∙◌}
 use Rattle.pio_edge.specs.Edge.{Takes}
-use Rattle.load_summary.proofs.Pieces.{pieces, pieces-same, pieces-text}
-use Rattle.load_summary.proofs.lines.put_summary.Goals as goal
+use Rattle.drawn_load.proofs.Pieces.{pieces, pieces-same, pieces-text}
+use Rattle.drawn_load.proofs.lines.put_summary.Goals as goal
 
 pub returns-clause-bytes : goal.returns-clause-bytes
 returns-clause-bytes g c =

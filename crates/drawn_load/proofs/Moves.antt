@@ -15,9 +15,9 @@ use Rattle.setup_keys.proofs.Making.{a_setup_says}
 use Rattle.drawn_load.specs.Draws.{letters_of}
 use Rattle.drawn_load.specs.Loads.{lines_of}
 use Rattle.drawn_load.specs.Setups.{load_keys, setup_of}
-use Rattle.load_summary.specs.declared.summary.Summary.{Summary}
-use Rattle.load_summary.specs.Summaries.{start_of, times, sent_to, got_from, edges_of, summary_of}
-use Rattle.load_summary.specs.Counted.{counted_run}
+use Rattle.drawn_load.specs.declared.summary.Summary.{Summary}
+use Rattle.drawn_load.specs.Summaries.{start_of, times, sent_to, got_from, edges_of, summary_of}
+use Rattle.drawn_load.specs.Counted.{counted_run}
 
 -- the place has the machine with this number, and transfers moved so many words into its TX and out of its RX
 record Has (id sent received : ℕ) (place : Option Slot) : Type 0 where
