@@ -8,11 +8,13 @@ import re
 import subprocess
 from dataclasses import dataclass, field
 from pathlib import Path
+from typing import IO
 
 # What is gathered of an output before it leaves in one write, and the most that is put at once: the lines of one clock.
 ROOM, PUT = 131_072, 4_096
 OPENED = re.compile(r'openat\(AT_FDCWD, "(.*)", (\S+)\) = (-?\d+)')
 MOVED = re.compile(r"(read|write)\((\d+), .*\) += (-?\d+)")
+REFUSED = re.compile(r"^write\(1, .*, (\d+)\) += -1", re.M)
 CLOSED = re.compile(r"close\((\d+)\) +=")
 NAMED = re.compile(r"(\w+)\(")
 # The first call of the program itself: a write to a pipe that nobody reads shall be a failure, and no signal.
@@ -89,8 +91,28 @@ def flaws(record: Record, files: list[str], out: int, err: int) -> list[str]:
     return told
 
 
+def recorded(program: str, words: list[str], log: Path, out: int | IO[bytes]) -> tuple[str, subprocess.CompletedProcess[bytes]]:
+    """What strace wrote of one call, and how it ended."""
+    traced_words = ["strace", "-f", "-s", "0", "-o", log, program, *words]
+    ended = subprocess.run(traced_words, stdout=out, stderr=subprocess.PIPE, timeout=60)
+    return "\n".join(re.sub(r"^\d+ +", "", line) for line in log.read_text(errors="replace").splitlines()), ended
+
+
 def traced(program: str, words: list[str], files: list[str], log: Path) -> tuple[list[str], subprocess.CompletedProcess[bytes]]:
     """The flaws of one call under strace, and how it ended."""
-    ended = subprocess.run(["strace", "-f", "-s", "0", "-o", log, program, *words], capture_output=True, timeout=60)
-    text = "\n".join(re.sub(r"^\d+ +", "", line) for line in log.read_text(errors="replace").splitlines())
+    text, ended = recorded(program, words, log, subprocess.PIPE)
     return flaws(record_of(text), files, len(ended.stdout), len(ended.stderr)), ended
+
+
+def goes_on(program: str, words: list[str], log: Path) -> list[str]:
+    """What a call does after an output that is full: one write fails, and nothing is put after it. What the writer holds it tries once
+    more when it is let go, as Rust's does."""
+    with Path("/dev/full").open("wb") as full:
+        text, ended = recorded(program, words, log, full)
+    record, refused = record_of(text), REFUSED.findall(text)
+    told = list(record.faults)
+    if record.writes.get(1) != [-1, -1] or len(set(refused)) != 1:
+        told.append(f"writes to a full output by {record.writes.get(1)}, of {refused} bytes")
+    if record.writes.get(2) != [len(ended.stderr)] or ended.returncode != 5:
+        told.append(f"status {ended.returncode}, {ended.stderr!r}")
+    return told

@@ -7,3 +7,4 @@ pub mod Rows
 pub mod Turns
 pub mod Levels
 pub mod Given
+mod SpacedRows
