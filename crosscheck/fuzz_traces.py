@@ -71,7 +71,7 @@ def observed(program, files, asked):
         shown.append({pin: now[pin] for pin in pins})
     asks = block_words(files, STIMULUS) + ["--clocks", str(clocks)]
     measured = program.call("measure", *asks)
-    wanted = observers_model.seen(block.spans, shown, block.pins["level"])
+    wanted = observers_model.seen(block.spans, shown, block.pins)
     need(measured.out.decode() == wanted, f"measure isn't what the trace shows, {wanted!r}", measured, ran)
     heard = program.call("receive", *asks, "--pin", str(pin), "--bit", str(asked["bit"]))
     wanted = observers_model.received(shown, block.pins["level"], pin, asked["bit"])

@@ -123,7 +123,7 @@ class Reached:
 
     def may_wait(self, address: int) -> bool:
         """Whether the instruction at an address may stall."""
-        return Machine(self.memory, self.setup, {"from_pin": 0, "to_pin": 0, "from_edge": "rise", "to_edge": "rise"}).may_wait(
+        return Machine(self.memory, self.setup, {"from_pin": 0, "to_pin": 0, "from_edge": "rise", "to_edge": "rise", "stalls": []}).may_wait(
             self.memory[address]
         )
 

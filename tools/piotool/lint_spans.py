@@ -49,7 +49,7 @@ class SpanLint:
             return Said(at, "error", sentence(code, name=name, value=other, limit=self.held_by(other or 0, span)), code)
         address = int(verdict.partition(" unproved at ")[2].split()[0])
         at, parts = self.lint.place_of(span["machine"], address), {"name": name, "key": span["to_pin"]}
-        graph = graph_of(self.block.memory, self.block.setups, self.block.pins["level"], span)
+        graph = graph_of(self.block.memory, self.block.setups, self.block.pins, span)
         bad = graph.first_bad()
         parts["value"] = "rise" if span["to_edge"] == "rise" else "fall"
         if code == "U3":
@@ -87,7 +87,7 @@ class SpanLint:
             ages = None
             if " proved opens yes" in verdict and not verdict.endswith(" closes no"):
                 widest = self.block.span(table) | {"min": 0, "max": MOST}
-                graph = graph_of(self.block.memory, self.block.setups, self.block.pins["level"], widest)
+                graph = graph_of(self.block.memory, self.block.setups, self.block.pins, widest)
                 ages = graph.ages_at_ends()
             found.append(ages)
         return found

@@ -9,7 +9,13 @@ from piotool.breaking import Answer, Shown
 from piotool.set_up import SetUp
 
 ROOM = 30  # clocks that a picture shows before the from-edge and after the end
-EDGES = {"rise": ("rises", "risen"), "fall": ("falls", "fallen")}
+# How each edge is written: it does so, and it has done so.
+EDGES = {
+    "rise": ("rises", "risen"),
+    "fall": ("falls", "fallen"),
+    "out": ("becomes an output", "become an output"),
+    "in": ("becomes an input", "become an input"),
+}
 
 
 def bounds_of(span: dict[str, Any]) -> str:
