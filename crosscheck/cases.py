@@ -163,6 +163,7 @@ def observed_spans(random, setups):
             "to_edge": random.choice(["rise", "fall", "rise", "fall", "out", "in"]),
             "unit": random.choice(["ticks", "clocks"]),
             "prompt": random.random() < 0.2,
+            "without": random.choice([[], [], [], ["go"]]),
             "min": 1,
             "max": random.randrange(1, 20),
         }

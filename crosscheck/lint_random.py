@@ -76,6 +76,11 @@ def is_contested(said, run, spans, clocks):
     if name == "stands-still":
         machine, address, clock = numbers[:3]
         return any(state[machine][:2] != (address, True) for state in run.states[clock + 1 :])
+    if name == "prompt-never":
+        number, span = numbers[-1], next(it for it in spans if text.startswith(f"span {it['name']}:"))
+        return any(state[number][1] for state in run.states) and not span.get("stalls")
+    if name == "without-never":
+        return any(state[numbers[-1]][0] == case.setups[numbers[-1]]["start"] for state in run.states)
     if name == "no-machine":
         return numbers[0] in case.setups
     return name == "every-word"  # all of a case's are decimal
