@@ -123,9 +123,9 @@ class Timed(Run):
         for _ in range(1 if self.random.random() < 0.1 else 12):
             span = self.any_span(number)
             graph = span_model.graph_of(self.memory, self.setups, self.pins, span | {"min": 0, "max": MOST})
-            if graph.ages_at_ends():
+            if graph.tight_ages():
                 break
-        return span | dict(zip(("min", "max"), self.bounds(span, graph.ages_at_ends() or (0, 5))))
+        return span | dict(zip(("min", "max"), self.bounds(span, graph.tight_ages() or (0, 5))))
 
     def any_span(self, number):
         """A span of some edges, without bounds."""
@@ -158,7 +158,7 @@ class Timed(Run):
         return self.random.choice(other if self.random.random() < 0.2 else usual)
 
     def bounds(self, span, ages):
-        """Bounds near these ages, the least and the greatest at a to-edge; or any."""
+        """Bounds near these ages, the tight ones; or any."""
         random, kind = self.random, self.random.random()
         if kind < 0.1:
             return 0, MOST

@@ -82,14 +82,14 @@ class SpanLint:
     # Bounds.
 
     def tight(self) -> list[Optional[tuple[int, int]]]:
-        """The tight bounds in ticks of each proved span that opens, as `piotool-tight` finds them; else none."""
+        """The tight bounds in ticks of each proved span that opens and closes, as `piotool-tight` finds them; else none."""
         found: list[Optional[tuple[int, int]]] = []
         for table, verdict in zip(self.tables, self.verdicts):
             ages = None
             if " proved opens yes" in verdict and " closes no" not in verdict:
                 widest = self.block.span(table) | {"min": 0, "max": MOST}
                 graph = graph_of(self.block.memory, self.block.setups, self.block.pins, widest)
-                ages = graph.ages_at_ends()
+                ages = graph.tight_ages()
             found.append(ages)
         return found
 

@@ -390,11 +390,14 @@ class Graph:
                 return context, cause
         return None
 
-    def ages_at_ends(self) -> Optional[tuple[int, int]]:
-        """The least and the greatest age at a to-edge, or None where no open span comes to one."""
-        pairs = (pair for course in self.all_courses() for pair in zip(course.ticks, self.ages_within(course)))
-        ages = [ages for tick, ages in pairs if tick.ends and ages]
-        return (min(least for least, _ in ages), max(most for _, most in ages)) if ages else None
+    def tight_ages(self) -> Optional[tuple[int, int]]:
+        """The least age at a to-edge and the greatest in any tick, or None where no open span comes to a to-edge.
+
+        A span that is left out later may be older than any that comes to its to-edge.
+        """
+        pairs = [pair for course in self.all_courses() for pair in zip(course.ticks, self.ages_within(course)) if pair[1]]
+        ends = [ages[0] for tick, ages in pairs if tick.ends]
+        return (min(ends), max(most for _, (_, most) in pairs)) if ends else None
 
     def ages_within(self, course: Course) -> list[Optional[tuple[int, ...]]]:
         """The ages in each tick of a course, grown, before its edges."""
@@ -418,7 +421,7 @@ class Graph:
 
     def closes(self) -> bool:
         """Whether an open span may come to a to-edge."""
-        return self.ages_at_ends() is not None
+        return self.tight_ages() is not None
 
 
 def all_sharing(setups: dict[int, Setup], span: Span) -> list[int]:
