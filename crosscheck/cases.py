@@ -159,9 +159,11 @@ def observed_spans(random, setups):
             "machine": random.choice(list(setups)),
             "from_pin": random.choice([0, 1, 2, random.randrange(32)]),
             "to_pin": random.choice([0, 1, 2, random.randrange(32)]),
-            "from_edge": random.choice(["rise", "fall"]),
-            "to_edge": random.choice(["rise", "fall"]),
+            "from_edge": random.choice(["rise", "fall", "rise", "fall", "out", "in"]),
+            "to_edge": random.choice(["rise", "fall", "rise", "fall", "out", "in"]),
             "unit": random.choice(["ticks", "clocks"]),
+            "prompt": random.random() < 0.2,
+            "without": random.choice([[], [], [], ["go"]]),
             "min": 1,
             "max": random.randrange(1, 20),
         }
@@ -176,8 +178,13 @@ def lines_of(keys):
 
 def as_tables(spans):
     """The tables of spans in a configuration."""
-    quoted = [{key: f'"{value}"' if isinstance(value, str) else value for key, value in span.items()} for span in spans]
+    quoted = [{key: as_toml(value) for key, value in span.items()} for span in spans]
     return "".join("[[span]]\n" + "".join(f"{key} = {value}\n" for key, value in span.items()) for span in quoted)
+
+
+def as_toml(value):
+    """A value of a span as a configuration says it."""
+    return str(value).lower() if isinstance(value, bool) else f'"{value}"' if isinstance(value, str) else value
 
 
 class SerialLine:
@@ -510,17 +517,19 @@ def span(random, noise):
         "machine": str(random.randrange(4)),
         "from_pin": str(random.randrange(32)),
         "to_pin": str(random.randrange(32)),
-        "from_edge": random.choice(['"rise"', '"fall"']),
-        "to_edge": rarely('"up"', random.choice(['"rise"', '"fall"'])),
+        "from_edge": rarely(random.choice(['"low"', "1"]), random.choice(['"rise"', '"fall"', '"out"', '"in"'])),
+        "to_edge": rarely(random.choice(['"up"', '"Out"']), random.choice(['"rise"', '"fall"', '"out"', '"in"'])),
         "min": random.choice(["0", "5", "100", rarely("inf", "16777215"), rarely("1.5", "7")]),
         "max": random.choice(["100", "16777215", rarely("16777216", "200"), rarely("3", "300"), "inf", "+inf", rarely(random.choice(["-inf", "nan", "9.0"]), "inf")]),
     }
     if random.random() < 0.4:
         keys["unit"] = random.choice(['"ticks"', '"clocks"'])
-    if random.random() < 0.4:
-        keys["stalls"] = str(
-            [random.choice(["ag", "first", "mid"]) for _ in range(random.choice([0, 1, 2, rarely(17, 1)]))]
-        )
+    for key in ("stalls", "without"):
+        if random.random() < 0.4:
+            labels = [random.choice(["ag", "first", "mid"]) for _ in range(random.choice([0, 1, 2, rarely(17, 1)]))]
+            keys[key] = rarely(random.choice(["true", '"ag"', "[1]"]), str(labels))
+    if random.random() < 0.3:
+        keys["prompt"] = rarely(random.choice(["1", '"true"', "[]"]), random.choice(["true", "false"]))
     return keys
 
 

@@ -35,8 +35,9 @@ MACHINE_KEYS = {
     "pending": (0, 65535),
 }
 SPAN_NUMBERS = {"machine": 3, "from_pin": 31, "to_pin": 31, "min": 16777215, "max": 16777215}
-SPAN_WORDS = {"from_edge": ("rise", "fall"), "to_edge": ("rise", "fall"), "unit": ("ticks", "clocks")}
-SPAN_KEYS = ["name", "machine", "from_pin", "to_pin", "from_edge", "to_edge", "unit", "min", "max", "stalls"]
+EDGES = ("rise", "fall", "out", "in")
+SPAN_WORDS = {"from_edge": EDGES, "to_edge": EDGES, "unit": ("ticks", "clocks")}
+SPAN_KEYS = ["name", "machine", "from_pin", "to_pin", "from_edge", "to_edge", "unit", "min", "max", "stalls", "prompt", "without"]
 PIN_KEYS = ["high", "level", "out", "bypass"]
 
 
@@ -143,9 +144,11 @@ class Reader:
         for key in SPAN_KEYS:
             where = f"{at}.{key}"
             if key not in table:
-                need(key in ("unit", "stalls"), where, "C13")
-            elif key == "stalls":
-                self.stalls(where, table)
+                need(key in ("unit", "stalls", "prompt", "without"), where, "C13")
+            elif key in ("stalls", "without"):
+                self.labels(where, table, key)
+            elif key == "prompt":
+                need(isinstance(table[key], bool), where, "C3")
             elif key == "max" and table[key] == inf:
                 pass
             elif key in SPAN_NUMBERS:
@@ -159,11 +162,11 @@ class Reader:
                     is_span_name(table[key]) if key == "name" else table[key] in SPAN_WORDS[key], where, "C4"
                 )
 
-    def stalls(self, where, table):
-        labels = table["stalls"]
+    def labels(self, where, table, key):
+        labels = table[key]
         need(are(str, labels), where, "C3")
         need(len(labels) <= 16, where, "C12")
-        need(table.get("unit") != "clocks" or not labels, where, "C4")
+        need(key != "stalls" or table.get("unit") != "clocks" or not labels, where, "C4")
         need(all(label in self.machines[table["machine"]] for label in labels), where, "C6")
 
 

@@ -53,7 +53,7 @@ def observed(program, files, asked):
     """What spans measure, and the frames of a pin, are those of the trace; proved spans in clocks measure within their bounds.
 
     Why: both are told of the samples that the trace shows; a provable span in clocks is seen within its bounds where no line disables
-    or restarts its machine ("What spans measure", "What a serial line carries", "The promises").
+    or restarts its machine, and it speaks of each pair ("What spans measure", "What a serial line carries", "The promises").
     """
     block, bare = models.Block(files[SOURCE], files.get(CONFIG)), without_spans(files)
     clocks, pin = min(asked["clocks"], 1000), asked["pin"]
@@ -62,16 +62,17 @@ def observed(program, files, asked):
     program.take(files)
     if ran.status != 0:
         return False
-    pins = sorted({pin} | {span[key] for span in block.spans for key in ("from_pin", "to_pin")})
+    pins = {pin} | {span[key] for span in block.spans for key in ("from_pin", "to_pin")}
+    places = sorted(pins | {32 + it for it in pins})  # of levels and of directions
     found, shown, now, place = changes(ran.out), [], {}, 0
     for clock in range(clocks):
         while place < len(found) and found[place][0] == clock:
             now[found[place][1]] = int(found[place][2] == b"1")
             place += 1
-        shown.append({pin: now[pin] for pin in pins})
+        shown.append({it: now[it] for it in places})
     asks = block_words(files, STIMULUS) + ["--clocks", str(clocks)]
     measured = program.call("measure", *asks)
-    wanted = observers_model.seen(block.spans, shown, block.pins["level"])
+    wanted = observers_model.seen(block.spans, shown, block.pins)
     need(measured.out.decode() == wanted, f"measure isn't what the trace shows, {wanted!r}", measured, ran)
     heard = program.call("receive", *asks, "--pin", str(pin), "--bit", str(asked["bit"]))
     wanted = observers_model.received(shown, block.pins["level"], pin, asked["bit"])
@@ -80,7 +81,8 @@ def observed(program, files, asked):
     lines = models.lines_of(files.get(STIMULUS, b""))
     disturbed = {numbers[0] for _, word, numbers in lines if word in ("disable", "restart")}
     for span, verdict, seen in zip(block.spans, told.out.splitlines(), measured.out.split(b"\n")):
-        if b" proved " in verdict and span["unit"] == "clocks" and span["machine"] not in disturbed and b" least " in seen:
+        is_asked = span["unit"] == "clocks" and not span["prompt"] and not span["without"] and span["machine"] not in disturbed
+        if b" proved " in verdict and is_asked and b" least " in seen:
             least, most = int(seen.split()[-3]), int(seen.split()[-1])
             need(span["min"] <= least and most <= span["max"], f"{verdict!r}, but {seen!r}", told, measured)
     return True

@@ -69,13 +69,18 @@ def is_contested(said, run, spans, clocks):
     if name == "set-count":
         return True  # each machine of a case has its own
     if name == "span-not-seen":
-        lines = observers_model.seen(spans, run.samples[:clocks], case.pins["level"]).splitlines()
+        lines = observers_model.seen(spans, run.samples[:clocks], case.pins).splitlines()
         return not any(line == f"span {text.partition(': ')[0].removeprefix('span ')} seen 0" for line in lines)
     if name == "bound-not-tight":
         return is_seen_outside(text, run, spans)
     if name == "stands-still":
         machine, address, clock = numbers[:3]
         return any(state[machine][:2] != (address, True) for state in run.states[clock + 1 :])
+    if name == "prompt-never":
+        number, span = numbers[-1], next(it for it in spans if text.startswith(f"span {it['name']}:"))
+        return any(state[number][1] for state in run.states) and not span.get("stalls")
+    if name == "without-never":
+        return any(state[numbers[-1]][0] == case.setups[numbers[-1]]["start"] for state in run.states)
     if name == "no-machine":
         return numbers[0] in case.setups
     return name == "every-word"  # all of a case's are decimal
@@ -88,7 +93,7 @@ def is_seen_outside(text, run, spans):
     span = next(it for it in spans if it["name"] == name)
     if span["unit"] != "clocks" or any(word in ("disable", "restart") for _, word, _ in run.case.lines):
         return False
-    seen = numbers_in(observers_model.seen([span], run.samples, run.case.pins["level"]).partition(" seen ")[2])
+    seen = numbers_in(observers_model.seen([span], run.samples, run.case.pins).partition(" seen ")[2])
     return len(seen) == 3 and (seen[1] < tight if key == "min" else seen[2] > tight)
 
 

@@ -4,23 +4,28 @@ It shares no code and no form with the crates: edges are lists of clocks, and a 
 """
 
 
-def levels_of(shown, pin, before):
-    """The level of a pin after each clock; the one before clock 0 has the place -1, at the end of the list."""
-    return [values[pin] for values in shown] + [before >> pin & 1]
+def levels_of(shown, pin, before, first=0):
+    """The level of a pin after each clock, or its direction from the place 32 on; what is before clock 0 is at the end of the list."""
+    return [values[first + pin] for values in shown] + [before >> pin & 1]
 
 
-def edges(levels, edge):
-    """The clocks in which the level rises, or falls."""
-    after = 1 if edge == "rise" else 0
+def ends_of(shown, pin, edge, pins):
+    """The clocks of a pin's edges: of its level, or of its direction."""
+    if edge in ("rise", "fall"):
+        return edges(levels_of(shown, pin, pins["level"]), edge == "rise")
+    return edges(levels_of(shown, pin, pins["out"], 32), edge == "out")
+
+
+def edges(levels, after):
+    """The clocks in which the level becomes high, or low."""
     return [clock for clock in range(len(levels) - 1) if levels[clock] == after != levels[clock - 1]]
 
 
-def seen(spans, shown, before):
-    """The line of each span. A span has its name, its pins and its edges, as a configuration says them."""
+def seen(spans, shown, pins):
+    """The line of each span. A span has its name, its pins and its edges, as a configuration says them. `pins` is before clock 0."""
     text = ""
     for span in spans:
-        starts = edges(levels_of(shown, span["from_pin"], before), span["from_edge"])
-        ends = edges(levels_of(shown, span["to_pin"], before), span["to_edge"])
+        starts, ends = (ends_of(shown, span[f"{it}_pin"], span[f"{it}_edge"], pins) for it in ("from", "to"))
         times = [min(end for end in ends if end > start) - start for start in starts if ends and ends[-1] > start]
         text += f"span {span['name']} seen {len(times)}"
         text += f" least {min(times)} most {max(times)}\n" if times else "\n"
@@ -30,7 +35,7 @@ def seen(spans, shown, before):
 def received(shown, before, pin, bit):
     """The line of each frame: a start bit, eight data bits, the lowest first, and a stop bit."""
     levels = levels_of(shown, pin, before)
-    falls, text, free = edges(levels, "fall"), "", 0
+    falls, text, free = edges(levels, 0), "", 0
     for start in falls:
         if start < free:
             continue

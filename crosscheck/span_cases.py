@@ -7,7 +7,8 @@ from cases import Run, as_tables, lines_of
 from config_model import MACHINE_KEYS
 
 MOST = 2**24 - 1  # the greatest bound of a span
-SET_PINS_1, SET_PINS_0, SIDE_AND_DELAY = 0xE001, 0xE000, 0x1F00
+PULSES = {"levels": (0xE001, 0xE000), "directions": (0xE081, 0xE080)}  # SET to 1, and to 0
+SIDE_AND_DELAY = 0x1F00
 # How often each kind of instruction comes, by the style of a case.
 STYLES = {
     "plain": [0, 0, 0, 5, 7, 7, 7, 7, 7],
@@ -23,13 +24,14 @@ class Timed(Run):
     def __init__(self, random):
         self.style = random.choice(["plain", "plain", "waiting", "data", "wild"])
         self.machines = random.choice([1, 1, 1, 2, 2, 3])
+        self.written = random.choice(["levels", "levels", "directions"])  # what the pulses of its programs are of
         super().__init__(random)
         self.spans = [self.span(number) for number in range(random.randrange(1, 5))]
-        self.config += as_tables(span | {"stalls": self.labels(span)} for span in self.spans)
+        self.config += as_tables(span | {key: self.labels(span, key) for key in ("stalls", "without")} for span in self.spans)
 
-    def labels(self, span):
-        """The labels of a span's stalls."""
-        return [f"l{address - self.setups[span['machine']]['at']}" for address in span["stalls"]]
+    def labels(self, span, key):
+        """The labels of a span's stalls, or of the instructions that it leaves out."""
+        return [f"l{address - self.setups[span['machine']]['at']}" for address in span[key]]
 
     def host(self):
         """No stimulus: no verdict depends on one."""
@@ -48,10 +50,10 @@ class Timed(Run):
     def load_program(self, number, at, length):
         """A program whose words all have labels; two of them mostly set pins to 1 and to 0."""
         random, bits = self.random, self.random.choice([0, 0, 1, 1, 1, 2, 3])
-        opt, pindirs = bits < 5 and random.random() < 0.4, random.random() < 0.1
+        opt, pindirs = bits < 5 and random.random() < 0.4, random.random() < (0.5 if self.written == "directions" else 0.1)
         first = random.choice([0, 0, random.randrange(length)])
         last = random.choice([length - 1, length - 1, random.randrange(length)])
-        pulse = dict(zip(random.sample(range(length), min(2, length)), (SET_PINS_1, SET_PINS_0)))
+        pulse = dict(zip(random.sample(range(length), min(2, length)), PULSES[self.written]))
         pulse = pulse if random.random() < 0.7 else {}
         self.source += f".program {self.program}{number}\n"
         if bits or opt:
@@ -120,10 +122,10 @@ class Timed(Run):
         """A span, mostly of edges that the machine may make, with bounds that just hold, or just don't; or with any."""
         for _ in range(1 if self.random.random() < 0.1 else 12):
             span = self.any_span(number)
-            graph = span_model.graph_of(self.memory, self.setups, self.pins["level"], span | {"min": 0, "max": MOST})
-            if graph.ages_at_ends():
+            graph = span_model.graph_of(self.memory, self.setups, self.pins, span | {"min": 0, "max": MOST})
+            if graph.tight_ages():
                 break
-        return span | dict(zip(("min", "max"), self.bounds(span, graph.ages_at_ends() or (0, 5))))
+        return span | dict(zip(("min", "max"), self.bounds(span, graph.tight_ages() or (0, 5))))
 
     def any_span(self, number):
         """A span of some edges, without bounds."""
@@ -134,20 +136,29 @@ class Timed(Run):
         unit = random.choice(["ticks", "ticks", "clocks"])
         addresses = range(setup["at"], setup["at"] + setup["length"])
         stalls = random.choice([0, 0, 1, 3, len(addresses)]) if unit == "ticks" else 0
-        from_pin, edges = random.choice(pins), ["rise", "fall"]
+        without = random.choice([0, 0, 0, 1, 2])
+        from_pin = random.choice(pins)
         return {
             "name": f"s{number}",
             "machine": machine,
             "from_pin": from_pin,
-            "from_edge": random.choice(edges),
+            "from_edge": self.edge(),
             "to_pin": random.choice([from_pin, from_pin, random.choice(pins)]),
-            "to_edge": random.choice(edges),
+            "to_edge": self.edge(),
             "unit": unit,
             "stalls": random.sample(addresses, min(stalls, len(addresses))),
+            "prompt": random.random() < 0.3,
+            "without": random.sample(addresses, min(without, len(addresses))),
         }
 
+    def edge(self):
+        """An edge, mostly of what the pulses are of."""
+        levels, directions = ["rise", "fall"], ["out", "in"]
+        usual, other = (levels, directions) if self.written == "levels" else (directions, levels)
+        return self.random.choice(other if self.random.random() < 0.2 else usual)
+
     def bounds(self, span, ages):
-        """Bounds near these ages, the least and the greatest at a to-edge; or any."""
+        """Bounds near these ages, the tight ones; or any."""
         random, kind = self.random, self.random.random()
         if kind < 0.1:
             return 0, MOST

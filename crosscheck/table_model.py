@@ -46,9 +46,9 @@ def rechecked(block, span, rows):
         return f"unproved by machine {other}: U5"
     setup = block.setups[span["machine"]]
     machine = span_model.Machine(block.memory, setup, span)
-    if machine.start(block.pins["level"]) not in rows:
+    if machine.start(block.pins) not in rows:
         return "table: start"
-    read = Read(machine, span_model.bounds_of(span, setup), set(span["stalls"]), rows)
+    read = Read(machine, span_model.bounds_of(span, setup), rows)
     for context, courses in read.rows.items():
         if not all(is_inside(read.ages_after(course), rows, course.after) for course in courses if course.after is not None):
             return f"table: open at {context}"
@@ -60,8 +60,8 @@ def rechecked(block, span, rows):
 class Read(span_model.Graph):
     """The contexts of a table file with their courses, and with the ages that the file gives them."""
 
-    def __init__(self, machine, bounds, stalls, ages):
-        self.bounds, self.stalls, self.ages = bounds, stalls, Given(ages)
+    def __init__(self, machine, bounds, ages):
+        self.bounds, self.stalls, self.ages = bounds, machine.stalls, Given(ages)
         self.rows = {context: machine.courses(context) for context in ages}
 
     def ages_after(self, course):

@@ -8,6 +8,7 @@ from typing import Any, Optional
 from piotool.machine_model import Setup, period_of, rooms_of
 from piotool.set_up import SetUp
 from piotool.shares_model import Touched
+from piotool.span_model import EDGES
 
 JMP, WAIT, IN, OUT, PUSH_PULL, MOV, IRQ, SET = range(8)
 PINS, X, Y, NULL, PINDIRS, PC, ISR, OSR_OR_EXEC = range(8)
@@ -136,6 +137,9 @@ class Asked:
         self.pins = block.pins
         machines = {number: AskedMachine(number, setup, block.memory) for number, setup in sorted(block.setups.items())}
         self.ends = span["from_pin"], span["to_pin"]
+        # Of each end the signal, 0 a level and 1 a direction, as `written` and a state have them, and the bit after its edge.
+        edges = [EDGES[span[edge]] for edge in ("from_edge", "to_edge")]
+        self.signals, self.wanted = tuple("pd".index(letter) for letter, _ in edges), tuple(bit for _, bit in edges)
         self.machines = [machines[number] for number in sorted(self.chosen(machines))]
         self.others = [it for it in machines.values() if it not in self.machines]
         self.numbers = [it.number for it in self.machines]
@@ -143,14 +147,18 @@ class Asked:
         reads: set[int] = set().union(*(it.touched.reads for it in self.machines))
         levels: set[int] = set().union(*(it.written()[0] for it in self.machines))
         self.directed: set[int] = set().union(*(it.written()[1] for it in self.machines))
-        self.written_levels = levels
         self.kept = sorted(set(self.ends) | (levels | self.directed) & reads)
         self.place = {pin: place for place, pin in enumerate(self.kept)}
         self.looks_back = bool((levels | self.directed) & reads)
-        self.wanted = tuple(int(span[edge] == "rise") for edge in ("from_edge", "to_edge"))
         self.is_alone = len(self.machines) == 1
         self.in_clocks = span["unit"] == "clocks"
-        self.stalls = set(span["stalls"])
+        self.stalls, self.without = set(span["stalls"]), set(span.get("without", []))
+        self.is_prompt = bool(span.get("prompt"))
+
+    def writes_ends(self, machine: AskedMachine) -> bool:
+        """Whether an instruction in reach of a machine may write what the span's edges are of."""
+        written = machine.written()
+        return any(pin in written[signal] for pin, signal in zip(self.ends, self.signals))
 
     def chosen(self, machines: dict[int, AskedMachine]) -> set[int]:
         """The span's machine, and each that a chosen one feels by flags or pins, or that writes a pin of the span."""
@@ -162,7 +170,7 @@ class Asked:
             more = set()
             for number, it in machines.items():
                 levels, directions = written[number]
-                if it.touched.changes & sees or (levels | directions) & reads or levels & set(self.ends):
+                if it.touched.changes & sees or (levels | directions) & reads or self.writes_ends(it):
                     more.add(number)
             more -= found
             if not more:
@@ -170,8 +178,8 @@ class Asked:
             found |= more
 
     def unmoved_from(self) -> bool:
-        """Whether no instruction in reach writes the from-pin, so that no from-edge can come."""
-        return self.ends[0] not in self.written_levels
+        """Whether no instruction in reach writes what the from-edge is of, so that none can come."""
+        return all(self.ends[0] not in it.written()[self.signals[0]] for it in self.machines)
 
     def alone(self) -> SetUp:
         """The set-up without the machines that don't matter."""

@@ -112,7 +112,7 @@ class Runs:
 
 def cut(run: Run, clocks: int) -> Run:
     """The first clocks of a run."""
-    return Run(clocks, [it for it in run.samples if it[0] < clocks], run.ticks)
+    return Run(clocks, [it for it in run.samples if it[0] < clocks], run.ticks, run.stands)
 
 
 def answer_of(source: str | Path, block: SetUp, span: dict[str, Any], seconds: float, is_guided: bool = True) -> Answer:

@@ -2,12 +2,13 @@
 
 from bisect import bisect_right
 
+from piotool.span_model import EDGES
 from piotool.traces import Bit
 
 
 def edges_of(bit: Bit, level: int, edge: str) -> list[int]:
-    """The clocks of a pin's rises, or of its falls; before clock 0 it has this level."""
-    return [when for when, value in bit.edges(level) if value == (edge == "rise")]
+    """The clocks of a pin's edges, of its level or of its direction, which it has before clock 0."""
+    return [when for when, value in bit.edges(level) if value == EDGES[edge][1]]
 
 
 def pairs_of(starts: list[int], ends: list[int]) -> list[tuple[int, int]]:

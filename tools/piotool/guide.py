@@ -10,9 +10,9 @@ from math import inf
 from typing import Any, Callable, Optional
 
 from piotool import span_model
-from piotool.asked import MOV, OUT, PINS, Asked, Word
+from piotool.asked import MOV, OUT, PINDIRS, PINS, Asked
 from piotool.lazy_state import MachineState, State
-from piotool.span_model import Bounds, Context, Course, bounds_of
+from piotool.span_model import Bounds, Context, Course, Wires, bounds_of, mapping, wires
 
 TICK = 0.6  # what a tick weighs that is still to be passed
 MOST_CONTEXTS = 20_000
@@ -21,16 +21,16 @@ MOST_CONTEXTS = 20_000
 class Sharper(span_model.Machine):
     """The machine of the checker's contexts, with fewer ways."""
 
-    def writes(self, word: int) -> list[dict[int, int]]:
+    def writes(self, word: int) -> list[Wires]:
         """What the instruction itself may write."""
         kind, high, setup = word >> 13, word >> 5 & 7, self.setup
-        mapped = [(setup["out_base"] + place) % 32 for place in range(setup["out_count"])]
+        mapped = wires("d" if high == PINDIRS else "p", mapping(setup["out_base"], setup["out_count"]))
         if kind == MOV and high == PINS and word & 7 == 3 and word >> 3 & 3 != 3:
             return [dict.fromkeys(mapped, int(word >> 3 & 3 == 1))]
         found = super().writes(word)
-        if kind == OUT and high == PINS:
+        if kind == OUT and high in (PINS, PINDIRS):
             zeros = dict.fromkeys(mapped[word & 31 or 32 :], 0)
-            found = [{pin: level for pin, level in write.items() if pin not in zeros} | zeros for write in found]
+            found = [{wire: level for wire, level in write.items() if wire not in zeros} | zeros for write in found]
             found = [dict(it) for it in dict.fromkeys(tuple(sorted(write.items())) for write in found)]
         return found
 
@@ -63,10 +63,11 @@ class Guide:
         self.asked, self.own = asked, asked.machines[asked.own]
         self.model = Sharper(block.memory, self.own.setup, span)
         self.bounds, self.stalls = bounds_of(span, self.own.setup), asked.stalls
+        if asked.is_prompt or not self.bounds.is_bounded:
+            self.stalls = frozenset(range(32))  # no wait is one too many
         if not self.bounds.is_bounded:
-            # No count is too great, and no wait is one too many.
-            self.bounds, self.stalls = Bounds(self.bounds.least, inf, False), frozenset(range(32))
-        self.first = self.model.start(block.pins["level"])
+            self.bounds = Bounds(self.bounds.least, inf, False)  # no count is too great
+        self.first = self.model.start(block.pins)
         self.rows: dict[Context, list[Course]] = {}
         ahead = [self.first]
         while ahead and len(self.rows) < MOST_CONTEXTS:
@@ -90,8 +91,7 @@ class Guide:
         """The least ticks from each context to a to-edge."""
         ahead = []
         for context, courses in self.rows.items():
-            ends = (course for course in courses if course.carried() is None)
-            ahead += [(course.counted(0, ended(course) + 1), context.order(), context) for course in ends]
+            ahead += [(ticks, context.order(), context) for course in courses if (ticks := course.ended()) is not None]
         heapq.heapify(ahead)
         found: dict[Context, float] = {}
         while ahead:
@@ -104,13 +104,13 @@ class Guide:
         return found
 
     def most_ticks(self) -> dict[Context, float]:
-        """The most ticks from each context without a to-edge before them; infinite on and before a loop, and where data is run."""
+        """The most ticks from each context while a span stays open; infinite on and before a loop, and where data is run."""
         missing = {context: 0 for context in self.rows}
         most = dict.fromkeys(self.rows, 0.0)
         for context, courses in self.rows.items():
             for course in courses:
                 if course.carried() is None:
-                    most[context] = max(most[context], course.counted(0, ended(course) + 1))
+                    most[context] = max(most[context], lasted(course))
                 else:
                     missing[context] += 1
         ready = [context for context, number in missing.items() if not number]
@@ -154,6 +154,8 @@ class Guide:
         """Whether a from-edge in a tick of the course may lead to a violation."""
         count = 0
         for tick in course.ticks[place + 1 :]:
+            if tick.excuses:
+                return False
             count += not tick.is_late
             if tick.is_late and course.before.address not in self.stalls or count > self.bounds.most:
                 return True
@@ -205,15 +207,16 @@ class Guide:
         return min(nearest, self.to_stall.get(context, inf))
 
 
-def ended(course: Course) -> int:
-    """The place of the first tick with a to-edge."""
-    return next(place for place, tick in enumerate(course.ticks) if tick.ends)
+def lasted(course: Course) -> int:
+    """The ticks of a course up to the to-edge that ends a span, or before the tick that excuses it."""
+    ended = course.ended()
+    return course.counted(0, course.stop()) if ended is None else ended
 
 
 def guide_of(asked: Asked, is_guided: bool = True) -> Any:
     """The guide of a span; none where other machines write its pins, or its machine runs data."""
     others = [it for it in asked.machines if it is not asked.machines[asked.own]]
-    are_shared = any(it.written()[0] & set(asked.ends) for it in others)
+    are_shared = any(asked.writes_ends(it) for it in others)
     if not is_guided or are_shared or asked.machines[asked.own].runs_data:
         return Unguided()
     return Guide(asked)

@@ -125,6 +125,8 @@ class Stretch(Choices):
         """One clock, and then the way to the next one in which something happens."""
         state, asked = self.state, self.asked
         self.flags, self.cache, self.chosen = state.flags, {}, {}
+        if self.is_excused(state.machines[asked.own]):
+            state.newest = state.oldest = None
         ticks: list[Optional[Tick]] = []
         for it, machine in zip(asked.machines, state.machines):
             has_tick = machine.tick * it.period >> 8 == state.clock
@@ -137,18 +139,18 @@ class Stretch(Choices):
             state.flags |= tick.raises
         for it, machine, own in zip(asked.machines, state.machines, ticks):
             settle(it, machine, own is not None and own.takes, own is not None and own.gives, 1)
-        old = state.now[0]
+        old = state.now
         state.earlier, state.before, state.now = state.before, state.now, levels
         own = ticks[asked.own]
-        self.age(old, levels[0], own)
+        self.age(old, levels, own)
         if self.found is not None:
             return
         if own is not None and own.finishes:
-            ends = (levels[0][asked.place[pin]] for pin in asked.ends)
+            ends = (levels[signal][asked.place[pin]] for pin, signal in zip(asked.ends, asked.signals))
             state.context = self.guide.after(state.context, own.address, state.machines[asked.own], *ends)
         state.clock += 1
         if asked.is_alone:
-            self.look_for_turn(own, old == levels[0])
+            self.look_for_turn(own, old == levels)
         self.advance()
 
     def merged(self, ticks: list[Optional[Tick]]) -> tuple[Bits, Bits]:
@@ -162,11 +164,34 @@ class Stretch(Choices):
             for pin, reference in tick.directions:
                 if pin in place:
                     directions[place[pin]] = self.bit(reference)
-        for pin in self.asked.ends:
-            levels[place[pin]] = self.bit(levels[place[pin]])
+        for pin, signal in zip(self.asked.ends, self.asked.signals):
+            if signal == 0:
+                levels[place[pin]] = self.bit(levels[place[pin]])
         return tuple(map(self.now, levels)), tuple(directions)
 
-    def age(self, old: Bits, new: Bits, own: Optional[Tick]) -> None:
+    def is_excused(self, machine: MachineState) -> bool:
+        """Whether the span says nothing any more of a from-edge before this clock, by its machine's state at the clock's start."""
+        asked = self.asked
+        if machine.begun:
+            return asked.is_prompt and machine.pc not in asked.stalls
+        return machine.pc in asked.without and machine.delay == 0 and machine.pending is None
+
+    def excused_from(self, clock: int) -> int:
+        """The first clock before this one in which the span is excused, while mere delays go on; or this one."""
+        machine, asked = self.state.machines[self.asked.own], self.asked
+        if self.is_excused(machine):
+            return self.state.clock
+        if machine.delay and machine.pending is None and machine.pc in asked.without:
+            last = (machine.tick + machine.delay - 1) * asked.machines[asked.own].period >> 8
+            return min(last + 1, clock)
+        return clock
+
+    def has_edge(self, end: int, old: tuple[Bits, Bits], new: tuple[Bits, Bits]) -> bool:
+        """Whether the span's from-edge (0) or its to-edge (1) is between these levels and directions."""
+        signal, place = self.asked.signals[end], self.asked.place[self.asked.ends[end]]
+        return old[signal][place] != new[signal][place] == self.asked.wanted[end]
+
+    def age(self, old: tuple[Bits, Bits], new: tuple[Bits, Bits], own: Optional[Tick]) -> None:
         """Counts the clock's tick, and looks at its edges."""
         state, asked = self.state, self.asked
         if own is not None:
@@ -179,15 +204,13 @@ class Stretch(Choices):
             self.look_for_excess(0, state.clock)
             if self.found is not None:
                 return
-            place = asked.place[asked.ends[1]]
-            if old[place] != new[place] == asked.wanted[1]:
+            if self.has_edge(1, old, new):
                 clock, counted = state.newest
                 count = state.clock - clock if asked.in_clocks else state.counted - counted
                 if count < asked.span["min"]:
                     self.found = state.clock + 1
                 state.newest = state.oldest = None
-        place = asked.place[asked.ends[0]]
-        if old[place] != new[place] == asked.wanted[0]:
+        if self.has_edge(0, old, new):
             state.newest = state.clock, state.counted
             state.oldest = state.oldest or state.newest
 
@@ -214,11 +237,12 @@ class Stretch(Choices):
         clock = min(next_clock(it, machine) for it, machine in zip(asked.machines, state.machines))
         if clock == state.clock or self.found is not None:
             return
+        excused = self.excused_from(clock)
         for place, (it, machine) in enumerate(zip(asked.machines, state.machines)):
             tick = -(-256 * clock // it.period)
             ticks = tick - machine.tick
             if place == asked.own:
-                self.look_for_excess(ticks, clock - 1)
+                self.look_for_excess(ticks, excused - 1)
                 state.counted += ticks
             machine.delay -= ticks
             machine.tick = tick
@@ -226,6 +250,8 @@ class Stretch(Choices):
         state.earlier = state.now if clock - state.clock > 1 else state.before
         state.before = state.now
         state.clock = clock
+        if excused < clock:
+            state.newest = state.oldest = None
 
     # Counted loops.
 

@@ -121,11 +121,13 @@ class Reached:
         takes = any(it.is_push() or it.moves_from(ISR) or it.kind == IN and it.high == ISR for it in self.ops)
         return self.executes or self.setup["autopush"] or takes
 
-    def may_wait(self, address: int) -> bool:
-        """Whether the instruction at an address may stall."""
-        return Machine(self.memory, self.setup, {"from_pin": 0, "to_pin": 0, "from_edge": "rise", "to_edge": "rise"}).may_wait(
-            self.memory[address]
-        )
+    def may_wait(self, word: int) -> bool:
+        """Whether an instruction may stall."""
+        return Machine(self.memory, self.setup, {"from_pin": 0, "to_pin": 0, "from_edge": "rise", "to_edge": "rise", "stalls": []}).may_wait(word)
+
+    def waits_but_at(self, stalls: set[int]) -> bool:
+        """Whether it may wait at another address than these."""
+        return self.executes or any(self.may_wait(it.word) and it.address not in stalls for it in self.ops)
 
 
 class BlockLint:
@@ -148,6 +150,7 @@ class BlockLint:
             yield from self.of_shifts(it)
             yield from self.of_waits(it, stimulus)
         yield from self.of_stalls()
+        yield from self.of_excuses()
         yield from self.of_counts()
 
     # Places.
@@ -258,9 +261,23 @@ class BlockLint:
         for place, table in enumerate(self.block.tables["span"]):
             addresses = self.block.addresses(table["machine"])
             for number_, label in enumerate(table.get("stalls", [])):
-                if not self.machines[table["machine"]].may_wait(addresses[label]):
+                if not self.machines[table["machine"]].may_wait(self.block.memory[addresses[label]]):
                     text = f'span {table["name"]}: the instruction at "{label}" never waits'
                     yield self.warn(self.files.config_place(f"span[{place}].stalls[{number_}]"), "stall-never", text)
+
+    def of_excuses(self) -> Iterator[Said]:
+        """Spans under `prompt` of which no wait is excused, and labels of `without` that are never come to."""
+        for place, table in enumerate(self.block.tables["span"]):
+            machine, addresses = self.machines[table["machine"]], self.block.addresses(table["machine"])
+            stalls = {addresses[label] for label in table.get("stalls", [])}
+            if table.get("prompt") and not machine.waits_but_at(stalls):
+                waits = f"machine {machine.number} never waits" + " but at its stalls" * machine.waits_but_at(set())
+                text = f"span {table['name']}: prompt says nothing: {waits}"
+                yield self.warn(self.files.config_place(f"span[{place}].prompt"), "prompt-never", text)
+            for number_, label in enumerate(table.get("without", [])):
+                if addresses[label] not in machine.touched.reach:
+                    text = f'span {table["name"]}: machine {machine.number} never comes to "{label}"'
+                    yield self.warn(self.files.config_place(f"span[{place}].without[{number_}]"), "without-never", text)
 
     def of_counts(self) -> Iterator[Said]:
         """Two machines whose default set_count meets."""

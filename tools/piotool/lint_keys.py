@@ -9,12 +9,12 @@ KEYS = {
         "pull_threshold", "status_n", "x", "y", "isr", "osr", "isr_count", "osr_count", "pending",
     ),
     "pins": ("high", "level", "out", "bypass"),
-    "span": ("name", "machine", "from_pin", "to_pin", "from_edge", "to_edge", "unit", "min", "max", "stalls"),
+    "span": ("name", "machine", "from_pin", "to_pin", "from_edge", "to_edge", "unit", "min", "max", "stalls", "prompt", "without"),
 }  # fmt: skip
 PIN = "a number from 0 to 31"
 TRUTH = "true or false"
 BOUND = "a number from 0 to 16777215"
-EDGE = '"rise" or "fall"'
+EDGE = '"rise", "fall", "out" or "in"'
 REGISTER = "a number from 0 to 4294967295"
 LIMITS = {
     ("load", "program"): "the name of a program of the source",
@@ -46,6 +46,8 @@ LIMITS = {
     ("span", "min"): BOUND,
     ("span", "max"): f"{BOUND}, or inf",
     ("span", "stalls"): "an array of labels; none in clocks",
+    ("span", "prompt"): TRUTH,
+    ("span", "without"): "an array of labels",
     ("load", "load"): "tables, each below [[load]]",
     ("machine", "machine"): "tables, each below [[machine]]",
     ("span", "span"): "tables, each below [[span]]",

@@ -13,10 +13,11 @@ from piotool.machine_model import period_of
 from piotool.setups import MOST
 from piotool.span_model import Graph, graph_of, mapping, sharing
 from piotool.stimulus_lines import text_of
-from piotool.telling import broken_text
+from piotool.telling import EDGES, broken_text
 from piotool.ways import Way, way_to
 
 MOST_LINES = 3  # of a stimulus that is shown
+NO_EDGE = "nothing that the program does after its from-edge is its to-edge"
 RATE = re.compile(r"(?<![\w.])(?<!at )(\d+(?:[.,]\d+)?) ?([kM]?)Hz\b")
 UNITS = {"": 1, "k": 10**3, "M": 10**6}
 AWAY = 0.02  # how far a rate is from the one of a comment that is surely another
@@ -49,9 +50,9 @@ class SpanLint:
             return Said(at, "error", sentence(code, name=name, value=other, limit=self.held_by(other or 0, span)), code)
         address = int(verdict.partition(" unproved at ")[2].split()[0])
         at, parts = self.lint.place_of(span["machine"], address), {"name": name, "key": span["to_pin"]}
-        graph = graph_of(self.block.memory, self.block.setups, self.block.pins["level"], span)
+        graph = graph_of(self.block.memory, self.block.setups, self.block.pins, span)
         bad = graph.first_bad()
-        parts["value"] = "rise" if span["to_edge"] == "rise" else "fall"
+        parts["value"] = EDGES[span["to_edge"]][2]
         if code == "U3":
             label = self.block.label_at(span["machine"], address)
             parts["value"] = f'"{label}"' if label else "it, since it has no label"
@@ -81,22 +82,23 @@ class SpanLint:
     # Bounds.
 
     def tight(self) -> list[Optional[tuple[int, int]]]:
-        """The tight bounds in ticks of each proved span that opens, as `piotool-tight` finds them; else none."""
+        """The tight bounds in ticks of each proved span that opens and closes, as `piotool-tight` finds them; else none."""
         found: list[Optional[tuple[int, int]]] = []
         for table, verdict in zip(self.tables, self.verdicts):
             ages = None
-            if " proved opens yes" in verdict and not verdict.endswith(" closes no"):
+            if " proved opens yes" in verdict and " closes no" not in verdict:
                 widest = self.block.span(table) | {"min": 0, "max": MOST}
-                graph = graph_of(self.block.memory, self.block.setups, self.block.pins["level"], widest)
-                ages = graph.ages_at_ends()
+                graph = graph_of(self.block.memory, self.block.setups, self.block.pins, widest)
+                ages = graph.tight_ages()
             found.append(ages)
         return found
 
     def unclosed(self) -> Iterator[Said]:
-        """Spans without a greatest bound that no to-edge ends, so that their least is never asked."""
+        """Spans that no to-edge ends, so that their least is never asked."""
         for place, (table, verdict) in enumerate(zip(self.tables, self.verdicts)):
-            if " proved opens yes" in verdict and verdict.endswith(" closes no"):
-                text = f"span {table['name']}: nothing that the program does after its from-edge is its to-edge, so min is never asked"
+            if " proved opens yes" in verdict and " closes no" in verdict:
+                what = "no to-edge comes on the ways that it speaks of" if table.get("prompt") or table.get("without") else NO_EDGE
+                text = f"span {table['name']}: {what}, so min is never asked"
                 yield Said(self.files.config_place(f"span[{place}].to_edge"), "warning", text, "never-closes")
 
     def of_bounds(self, tight: list[Optional[tuple[int, int]]]) -> Iterator[Said]:

@@ -4,17 +4,22 @@ from dataclasses import dataclass
 from fractions import Fraction
 from typing import Optional
 
+from piotool.calls import Fault
 from piotool.captures import Capture
 from piotool.edges_seen import edges_of, pairs_of
 from piotool.real_time import shown
 from piotool.setups import Span, Tables, clocks_allowed, period_of
+from piotool.span_model import EDGES
 
 COLUMNS = ("span", "declared", "seen", "least", "mean", "most", "clocks allowed", "outside", "least at", "most at")
 
 
 @dataclass
 class Measured:
-    """A span's measures, in clocks: each with the clock of its from-edge; the clocks that are allowed, and how many are outside."""
+    """A span's measures, in clocks: each with the clock of its from-edge; the clocks that are allowed, and how many are outside.
+
+    Of a span that speaks of some pairs alone (`prompt`, `without`) all are measured, and none is outside: a capture doesn't say of which.
+    """
 
     span: Span
     measures: list[tuple[Fraction, Fraction]]
@@ -25,6 +30,7 @@ class Measured:
     def cells(self, clock: Fraction) -> list[str]:
         """The cells of its row."""
         allowed = f"{self.least}.. and waits" if self.most is None else f"{self.least}..{self.most}"
+        allowed = allowed if self.span.speaks_of_all else "of some pairs"
         if not self.measures:
             return [self.span.name, self.span.bounds(), "0", "-", "-", "-", allowed, "0", "-", "-"]
         least, most = min(self.measures), max(self.measures, key=lambda it: (it[0], -it[1]))
@@ -37,18 +43,20 @@ class Measured:
 def measured(path: str, tables: Tables, span: Span, capture: Capture, pins: dict[int, str], mhz: Fraction, slack: Fraction) -> Measured:
     """What a capture has of a span: each from-edge with the first to-edge after it."""
     factor = capture.clocks_a_unit(mhz)
-    levels = tables["pins"].get("level", [])
     ends = []
     for pin, edge in ((span.from_pin, span.from_edge), (span.to_pin, span.to_edge)):
-        bit = capture.named(pins[pin])
+        letter, key = EDGES[edge][0], {"p": "level", "d": "out"}[EDGES[edge][0]]
+        if letter == "d" and capture.unit is not None:
+            raise Fault(f"{path}: span {span.name} is of directions, which no capture of pins has")
+        bit = capture.named(pins[pin] if letter == "p" else f"d{pin}")
         # Of a trace the level before clock 0 is the configuration's; of a capture it is the first one.
-        before = int(pin in levels) if capture.unit is None else bit.at(capture.first)
+        before = int(pin in tables["pins"].get(key, [])) if capture.unit is None else bit.at(capture.first)
         ends.append(edges_of(bit, before, edge))
     least = span.min * (period_of(path, tables, span.machine) if span.unit == "ticks" else 256) // 256
     most = (clocks_allowed(path, tables, span) or (0, None))[1]
     found = [((end - start) * factor, (start - capture.first) * factor) for start, end in pairs_of(*ends)]
     outside = sum(length < least - slack or most is not None and length > most + slack for length, _ in found)
-    return Measured(span, found, least, most, outside)
+    return Measured(span, found, least, most, outside if span.speaks_of_all else 0)
 
 
 def table_of(rows: list[Measured], mhz: Fraction) -> str:

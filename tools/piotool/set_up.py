@@ -36,7 +36,7 @@ class Program:
 class SetUp:
     """A block as it is set up: memory, the machines' setups by number, pins as words; labels, lines and spans for who reads them.
 
-    A span has the keys of its table, and the addresses of its stalls.
+    A span has the keys of its table, and the addresses of its stalls and of the labels in `without`.
     """
 
     def __init__(self, programs: dict[str, Program], tables: Tables) -> None:
@@ -78,7 +78,8 @@ class SetUp:
     def span(self, table: Tables) -> Tables:
         """A span as the models take it, of its table."""
         addresses = self.addresses(table["machine"])
-        return {"unit": "ticks"} | table | {"stalls": [addresses[name] for name in table.get("stalls", [])]}
+        named = {key: [addresses[name] for name in table.get(key, [])] for key in ("stalls", "without")}
+        return {"unit": "ticks", "prompt": False} | table | named
 
     @property
     def spans(self) -> list[Tables]:

@@ -13,7 +13,9 @@ from piotool.set_up import Tables
 MOST = 2**24 - 1  # the greatest bound
 LONG = 10**18  # more clocks than any trace has
 NUMBERS = {"machine": 3, "from_pin": 31, "to_pin": 31, "min": MOST, "max": MOST}
-WORDS = {"from_edge": ("rise", "fall"), "to_edge": ("rise", "fall"), "unit": ("ticks", "clocks")}
+EDGES = ("rise", "fall", "out", "in")
+WORDS = {"from_edge": EDGES, "to_edge": EDGES, "unit": ("ticks", "clocks")}
+LABELS = ("stalls", "without")
 
 
 @dataclass(frozen=True)
@@ -30,12 +32,19 @@ class Span:
     min: int
     max: float  # a number, or inf
     stalls: tuple[str, ...]
+    prompt: bool = False
+    without: tuple[str, ...] = ()
 
     def bounds(self) -> str:
         """The declared bounds as a text, as `2..7 ticks`."""
         if self.max == inf:
             return f"at least {self.min} {self.unit}"
         return f"{self.min} {self.unit}" if self.min == self.max else f"{self.min}..{self.max} {self.unit}"
+
+    @property
+    def speaks_of_all(self) -> bool:
+        """Whether it speaks of each pair of its edges."""
+        return not self.prompt and not self.without
 
     @property
     def table(self) -> Tables:
@@ -59,8 +68,8 @@ def read_tables(path: str | Path) -> Tables:
     for key in ("load", "machine", "span"):
         if not isinstance(tables[key], list) or not all(isinstance(table, dict) for table in tables[key]):
             raise Fault(f"{path}: {key} is no array of tables")
-    if not isinstance(tables["pins"], dict) or not isinstance(tables["pins"].get("level", []), list):
-        raise Fault(f"{path}: pins is no table, or its level no array")
+    if not isinstance(tables["pins"], dict) or not all(isinstance(tables["pins"].get(key, []), list) for key in ("level", "out")):
+        raise Fault(f"{path}: pins is no table, or its level or out no array")
     return tables
 
 
@@ -71,18 +80,20 @@ def spans_of(path: str | Path, tables: Tables) -> list[Span]:
 
 def span_of(path: str | Path, at: str, table: Tables) -> Span:
     """The span that a table declares."""
-    table = {"unit": "ticks", "stalls": []} | table
+    table = {"unit": "ticks", "stalls": [], "prompt": False, "without": []} | table
     for key, most in NUMBERS.items():
         if type(table.get(key)) is not int and not (key == "max" and table.get(key) == inf) or not 0 <= table[key] <= most and table[key] != inf:
             raise Fault(f"{path}: {at}.{key} is no number from 0 to {most}{', nor inf' if key == 'max' else ''}")
     for key, words in WORDS.items():
         if not isinstance(table.get(key), str) or table[key] not in words:
-            raise Fault(f"{path}: {at}.{key} is neither {words[0]} nor {words[1]}")
-    stalls = table["stalls"]
-    if not isinstance(table.get("name"), str) or not isinstance(stalls, list) or not all(isinstance(it, str) for it in stalls):
-        raise Fault(f"{path}: {at} has no name, or stalls that are no names")
-    keys = ("name", *NUMBERS, *WORDS)
-    return Span(**{key: table[key] for key in keys}, stalls=tuple(stalls))
+            raise Fault(f"{path}: {at}.{key} is none of {', '.join(words)}")
+    for key in LABELS:
+        if not isinstance(table[key], list) or not all(isinstance(it, str) for it in table[key]):
+            raise Fault(f"{path}: {at}.{key} has no names")
+    if not isinstance(table.get("name"), str) or not isinstance(table["prompt"], bool):
+        raise Fault(f"{path}: {at} has no name, or a prompt that is neither true nor false")
+    keys = ("name", *NUMBERS, *WORDS, "prompt")
+    return Span(**{key: table[key] for key in keys}, **{key: tuple(table[key]) for key in LABELS})
 
 
 def span_named(path: str | Path, spans: list[Span], name: str) -> Span:
@@ -105,9 +116,12 @@ def period_of(path: str | Path, tables: Tables, machine: int) -> int:
 
 
 def clocks_allowed(path: str | Path, tables: Tables, span: Span) -> Optional[tuple[int, int]]:
-    """The clocks that a span allows: ticks count as clocks of the machine's divider. None where it names stalls, whose waits aren't known."""
+    """The clocks that a span allows: ticks count as clocks of the machine's divider.
+
+    None where it names stalls, whose waits aren't known, or speaks of some edges alone.
+    """
     period = period_of(path, tables, span.machine) if span.unit == "ticks" else 256
-    if span.stalls:
+    if span.stalls or not span.speaks_of_all:
         return None
     return span.min * period // 256, LONG if span.max == inf else int(-(-span.max * period // 256))
 

@@ -7,7 +7,9 @@ greatest is that of a longest one: without bound at and after a loop on which a 
 a tick, and else found in the order of the nodes. It proves nothing.
 
 A setup has the keys of a configuration and the places of its program: start, wrap_bottom, wrap_top, side_bits, side_opt,
-side_pindirs. A span has the keys of a configuration; stalls are addresses.
+side_pindirs. A span has the keys of a configuration; stalls and without are addresses. The pins of a block are words: level and out.
+
+A pin has two *wires*, as a trace names them: `p5` is the level that pin 5 is driven to, and `d5` its direction.
 """
 
 import heapq
@@ -16,18 +18,22 @@ from dataclasses import dataclass, field
 from math import inf
 from typing import Any, Iterator, Optional
 
-from piotool.machine_model import Setup, Write, period_of
+from piotool.machine_model import Setup, period_of
 
 Span = dict[str, Any]
+Pins = dict[str, int]
 
 JMP, WAIT, IN, OUT, PUSH_PULL, MOV, IRQ, SET = range(8)
-TO_PINS, TO_X, TO_Y, TO_PC = 0, 1, 2, 5
+TO_PINS, TO_X, TO_Y, TO_PINDIRS, TO_PC = 0, 1, 2, 4, 5
 OUT_EXEC, MOV_EXEC = 7, 4
+# Each edge with the letter of its wire and the bit after it.
+EDGES = {"rise": ("p", 1), "fall": ("p", 0), "out": ("d", 1), "in": ("d", 0)}
+Wires = dict[str, int]  # a bit by wire
 
 
 @dataclass(frozen=True)
 class Context:
-    """A place with what is known there: registers that aren't known are None."""
+    """A place with what is known there: registers that aren't known are None. A level is that of the wire: 1 is high, or out."""
 
     address: int
     x: Optional[int]
@@ -47,12 +53,16 @@ class Context:
 
 @dataclass(frozen=True)
 class Tick:
-    """A tick of a course: the levels after it, its edges, and whether it is late."""
+    """A tick of a course: the levels after it, its edges, and whether it is late.
+
+    Where it excuses, nothing is said any more of a span that was open before it.
+    """
 
     levels: tuple[int, ...]
     begins: bool
     ends: bool
     is_late: bool = False
+    excuses: bool = False
 
 
 @dataclass(frozen=True)
@@ -72,9 +82,18 @@ class Course:
         """How many ticks count, from the place first on and before the place end."""
         return sum(not tick.is_late for tick in self.ticks[first:end])
 
+    def stop(self) -> Optional[int]:
+        """The place of the first tick that ends an open span or excuses it, or None."""
+        return next((place for place, tick in enumerate(self.ticks) if tick.ends or tick.excuses), None)
+
+    def ended(self) -> Optional[int]:
+        """The ticks that an open age gains up to the to-edge that ends it, or None where none does."""
+        stop = self.stop()
+        return None if stop is None or self.ticks[stop].excuses else self.counted(0, stop + 1)
+
     def carried(self) -> Optional[int]:
-        """The ticks that an open age gains by the whole course, or None where the course ends the span."""
-        return None if any(tick.ends for tick in self.ticks) else self.counted()
+        """The ticks that an open age gains by the whole course, or None where the span doesn't stay open over it."""
+        return self.counted() if self.stop() is None else None
 
     def is_carrying(self) -> bool:
         """Whether a span stays open over the course, and an address is known after it."""
@@ -85,7 +104,7 @@ class Course:
         for place in reversed(range(len(self.ticks))):
             if self.ticks[place].begins:
                 return self.counted(place + 1)
-            if self.ticks[place].ends:
+            if self.ticks[place].ends or self.ticks[place].excuses:
                 return None
         return None
 
@@ -121,10 +140,31 @@ def mapping(base: int, count: int) -> list[int]:
     return [(base + place) % 32 for place in range(count)]
 
 
-def held(setup: Setup) -> set[int]:
-    """The pins whose level a machine's mappings hold."""
+def held(setup: Setup) -> set[str]:
+    """The wires that a machine's mappings hold: those of OUT and SET both of each pin, that of side-set one."""
     pins = mapping(setup["out_base"], setup["out_count"]) + mapping(setup["set_base"], setup["set_count"])
-    return set(pins + ([] if setup["side_pindirs"] else mapping(setup["side_base"], setup["side_bits"])))
+    side = wires(side_letter(setup), mapping(setup["side_base"], setup["side_bits"]))
+    return {*wires("p", pins), *wires("d", pins), *side}
+
+
+def side_letter(setup: Setup) -> str:
+    """The letter of the wires that side-set writes."""
+    return "d" if setup["side_pindirs"] else "p"
+
+
+def wires(letter: str, pins: list[int]) -> list[str]:
+    """The wires of these pins, of one kind."""
+    return [f"{letter}{pin}" for pin in pins]
+
+
+def wire_of(span: Span, end: str) -> str:
+    """The wire of a span's from-edge, or of its to-edge."""
+    return EDGES[span[f"{end}_edge"]][0] + str(span[f"{end}_pin"])
+
+
+def bit_of(pins: Pins, wire: str) -> int:
+    """The bit of a wire at the start."""
+    return pins["level" if wire[0] == "p" else "out"] >> int(wire[1:]) & 1
 
 
 class Machine:
@@ -132,13 +172,20 @@ class Machine:
 
     def __init__(self, memory: list[int], setup: Setup, span: Span) -> None:
         self.memory, self.setup = memory, setup
-        self.pins = span["from_pin"], span["to_pin"]
-        self.wanted = tuple(int(span[edge] == "rise") for edge in ("from_edge", "to_edge"))
+        self.wires = wire_of(span, "from"), wire_of(span, "to")
+        self.wanted = tuple(EDGES[span[edge]][1] for edge in ("from_edge", "to_edge"))
+        self.stalls, self.without = set(span["stalls"]), set(span.get("without", []))
+        self.is_prompt = span.get("prompt", False)
 
-    def start(self, level: int) -> Context:
-        """The first context, from the output levels of the pins at the start."""
+    def start(self, pins: Pins) -> Context:
+        """The first context, from the pins at the start."""
         known = [self.setup[name] if self.setup[name] < 32 else None for name in ("x", "y")]
-        return Context(self.setup["start"], *known, *(level >> pin & 1 for pin in self.pins))
+        return Context(self.setup["start"], *known, *(bit_of(pins, wire) for wire in self.wires))
+
+    def excuses(self, address: int, place: int, is_late: bool) -> bool:
+        """Whether a tick of the instruction at an address, the first of a course or a later one, excuses the spans that are open."""
+        waits = self.is_prompt and is_late and address not in self.stalls
+        return waits or place == 0 and address in self.without
 
     def courses(self, context: Context) -> list[Course]:
         """The courses of the instruction at a context."""
@@ -154,36 +201,38 @@ class Machine:
         return list(dict.fromkeys(courses))
 
     def course(
-        self, context: Context, writes: list[tuple[Write, bool]], x: Optional[int], y: Optional[int], address: Optional[int]
+        self, context: Context, writes: list[tuple[Wires, bool]], x: Optional[int], y: Optional[int], address: Optional[int]
     ) -> Course:
         """The course of these writes, tick by tick."""
         levels, ticks = (context.from_level, context.to_level), []
-        for write, is_late in writes:
-            after = tuple(write.get(pin, level) for pin, level in zip(self.pins, levels))
+        for place, (write, is_late) in enumerate(writes):
+            after = tuple(write.get(wire, level) for wire, level in zip(self.wires, levels))
             edges = (old != new == wanted for old, new, wanted in zip(levels, after, self.wanted))
-            ticks.append(Tick(after, *edges, is_late))
+            ticks.append(Tick(after, *edges, is_late, self.excuses(context.address, place, is_late)))
             levels = after
         return Course(context, tuple(ticks), None if address is None else Context(address, x, y, *levels))
 
-    def side_and_delay(self, word: int) -> tuple[Write, int]:
-        """The levels that side-set writes, by pin, and the ticks of the delay."""
+    def side_and_delay(self, word: int) -> tuple[Wires, int]:
+        """What side-set writes, by wire, and the ticks of the delay."""
         bits, has_enable = self.setup["side_bits"], int(self.setup["side_opt"])
         shared, delay_bits = word >> 8 & 31, 5 - bits - has_enable
         value, delay = shared >> delay_bits & (1 << bits) - 1, shared & (1 << delay_bits) - 1
-        if self.setup["side_pindirs"] or has_enable and not shared & 16:
+        if has_enable and not shared & 16:
             return {}, delay
-        return {pin: value >> place & 1 for place, pin in enumerate(mapping(self.setup["side_base"], bits))}, delay
+        side = wires(side_letter(self.setup), mapping(self.setup["side_base"], bits))
+        return {wire: value >> place & 1 for place, wire in enumerate(side)}, delay
 
-    def writes(self, word: int) -> list[Write]:
-        """What the instruction itself may write, by pin: one or more possibilities."""
+    def writes(self, word: int) -> list[Wires]:
+        """What the instruction itself may write, by wire: one or more possibilities."""
         kind, high = word >> 13, word >> 5 & 7
-        if kind == SET and high == TO_PINS:
+        letter = {TO_PINS: "p", TO_PINDIRS: "d"}.get(high)
+        if letter and kind == SET:
             pins = mapping(self.setup["set_base"], self.setup["set_count"])
-            return [{pin: word >> place & 1 for place, pin in enumerate(pins)}]
-        if high != TO_PINS or not (kind == OUT or kind == MOV and is_move(word)):
+            return [{wire: word >> place & 1 for place, wire in enumerate(wires(letter, pins))}]
+        if not letter or not (kind == OUT or kind == MOV and high == TO_PINS and is_move(word)):
             return [{}]
-        free = sorted(set(self.pins) & set(mapping(self.setup["out_base"], self.setup["out_count"])))
-        return [{pin: number >> place & 1 for place, pin in enumerate(free)} for number in range(1 << len(free))]
+        free = sorted(set(self.wires) & set(wires(letter, mapping(self.setup["out_base"], self.setup["out_count"]))))
+        return [{wire: number >> place & 1 for place, wire in enumerate(free)} for number in range(1 << len(free))]
 
     def may_wait(self, word: int) -> bool:
         """Whether the instruction may stall."""
@@ -266,9 +315,9 @@ class Ages:
 class Graph:
     """The contexts that a machine may come to, with their courses and ages."""
 
-    def __init__(self, machine: Machine, level: int, bounds: Bounds, stalls: set[int]) -> None:
-        self.bounds, self.stalls = bounds, stalls
-        self.start, self.rows = machine.start(level), {}
+    def __init__(self, machine: Machine, pins: Pins, bounds: Bounds) -> None:
+        self.machine, self.bounds, self.stalls = machine, bounds, machine.stalls
+        self.start, self.rows = machine.start(pins), {}
         ahead = [self.start]
         while ahead:
             context = ahead.pop()
@@ -341,17 +390,22 @@ class Graph:
                 return context, cause
         return None
 
-    def ages_at_ends(self) -> Optional[tuple[int, int]]:
-        """The least and the greatest age at a to-edge, or None where no open span comes to one."""
-        pairs = (pair for course in self.all_courses() for pair in zip(course.ticks, self.ages_within(course)))
-        ages = [ages for tick, ages in pairs if tick.ends and ages]
-        return (min(least for least, _ in ages), max(most for _, most in ages)) if ages else None
+    def tight_ages(self) -> Optional[tuple[int, int]]:
+        """The least age at a to-edge and the greatest in any tick, or None where no open span comes to a to-edge.
+
+        A span that is left out later may be older than any that comes to its to-edge.
+        """
+        pairs = [pair for course in self.all_courses() for pair in zip(course.ticks, self.ages_within(course)) if pair[1]]
+        ends = [ages[0] for tick, ages in pairs if tick.ends]
+        return (min(ends), max(most for _, (_, most) in pairs)) if ends else None
 
     def ages_within(self, course: Course) -> list[Optional[tuple[int, ...]]]:
         """The ages in each tick of a course, grown, before its edges."""
         cap, found = self.bounds.cap, []
         ages = self.ages.at(course.before, cap)
         for tick in course.ticks:
+            if tick.excuses:
+                ages = None
             if ages and not tick.is_late:
                 ages = tuple(min(age + 1, cap) for age in ages)
             found.append(ages)
@@ -367,36 +421,48 @@ class Graph:
 
     def closes(self) -> bool:
         """Whether an open span may come to a to-edge."""
-        return self.ages_at_ends() is not None
+        return self.tight_ages() is not None
+
+
+def all_sharing(setups: dict[int, Setup], span: Span) -> list[int]:
+    """The other machines whose mappings hold a wire of the span, in order."""
+    own = {wire_of(span, "from"), wire_of(span, "to")}
+    return [number for number in sorted(setups) if number != span["machine"] and held(setups[number]) & own]
 
 
 def sharing(setups: dict[int, Setup], span: Span) -> Optional[int]:
-    """The least other machine whose mappings hold a pin of the span, or None."""
-    pins = {span["from_pin"], span["to_pin"]}
-    return next((number for number in sorted(setups) if number != span["machine"] and held(setups[number]) & pins), None)
+    """The least other machine whose mappings hold a wire of the span, or None."""
+    return next(iter(all_sharing(setups, span)), None)
 
 
-def graph_of(memory: list[int], setups: dict[int, Setup], level: int, span: Span) -> Graph:
+def graph_of(memory: list[int], setups: dict[int, Setup], pins: Pins, span: Span) -> Graph:
     """The graph of a span's machine."""
     setup = setups[span["machine"]]
-    return Graph(Machine(memory, setup, span), level, bounds_of(span, setup), set(span["stalls"]))
+    return Graph(Machine(memory, setup, span), pins, bounds_of(span, setup))
 
 
-def verdict(memory: list[int], setups: dict[int, Setup], level: int, span: Span) -> str:
+def says_closes(span: Span) -> bool:
+    """Whether the line of a proved span says whether it closes, by what the span's keys say."""
+    has_direction = "d" in (EDGES[span["from_edge"]][0], EDGES[span["to_edge"]][0])
+    return bool(span["max"] == inf or has_direction or span.get("prompt") or span.get("without"))
+
+
+def verdict(memory: list[int], setups: dict[int, Setup], pins: Pins, span: Span) -> str:
     """The verdict on a span, as `check` writes it after the span's name."""
     other = sharing(setups, span)
     if other is not None:
         return f"unproved by machine {other}: U5"
-    graph = graph_of(memory, setups, level, span)
+    graph = graph_of(memory, setups, pins, span)
     if bad := graph.first_bad():
         return f"unproved at {bad[0]}: {bad[1]}"
-    closes = "" if graph.bounds.is_bounded else f" closes {'yes' if graph.closes() else 'no'}"
-    return f"proved opens {'yes' if graph.opens() else 'no'}{closes}"
+    closes = f" closes {'yes' if graph.closes() else 'no'}" if says_closes(span) else ""
+    prompt = " under prompt" if span.get("prompt") else ""
+    return f"proved opens {'yes' if graph.opens() else 'no'}{closes}{prompt}"
 
 
-def table(memory: list[int], setups: dict[int, Setup], level: int, span: Span) -> str:
+def table(memory: list[int], setups: dict[int, Setup], pins: Pins, span: Span) -> str:
     """The table of a span that is proved, as `table` writes it."""
-    graph = graph_of(memory, setups, level, span)
+    graph = graph_of(memory, setups, pins, span)
     lines = []
     for context in sorted(graph.rows, key=Context.order):
         registers = ("any" if value is None else value for value in (context.x, context.y))

@@ -14,7 +14,24 @@ from piotool import trace_text
 from piotool.block_model import Block, Line, System, TickLog
 from piotool.machine_model import Machine, period_of
 from piotool.set_up import SetUp
+from piotool.span_model import EDGES, bit_of, wire_of
 from piotool.turns import Turns
+
+
+@dataclass
+class Stand:
+    """Clocks at whose start a machine has begun the instruction at an address, or stands before it; and which of the two."""
+
+    first: int
+    last: int
+    address: int
+    has_begun: bool
+
+    def excuses(self, span: dict[str, Any]) -> bool:
+        """Whether nothing is said of a span that is open then."""
+        if self.has_begun:
+            return bool(span.get("prompt")) and self.address not in span["stalls"]
+        return self.address in span.get("without", [])
 
 
 @dataclass(frozen=True)
@@ -32,6 +49,7 @@ class Run:
     clocks: int
     samples: list[tuple[int, list[int]]]
     ticks: dict[int, TickLog]
+    stands: dict[int, list[Stand]] = field(default_factory=dict)  # of each machine, in order
     is_whole: bool = True
     marks: list["Mark"] = field(default_factory=list)
     places: list[tuple[int, dict[int, int]]] = field(default_factory=list)  # the address of each machine, where marks are asked
@@ -40,14 +58,32 @@ class Run:
         """The value-change text."""
         return trace_text.sparse_trace(self.samples, self.clocks)
 
-    def edges(self, level: int, pin: int, edge: str) -> list[int]:
-        """The clocks of a pin's edges; the level before clock 0 is that of the setup."""
-        found, before, wanted = [], level >> pin & 1, int(edge == "rise")
+    def edges(self, pins: dict[str, int], span: dict[str, Any], end: str) -> list[int]:
+        """The clocks of a span's from-edges, or of its to-edges; what is before clock 0 is that of the setup."""
+        wire, wanted = wire_of(span, end), EDGES[span[f"{end}_edge"]][1]
+        found, before, place = [], bit_of(pins, wire), int(wire[1:]) + 32 * (wire[0] == "d")
         for clock, values in self.samples:
-            if values[pin] != before:
-                before = values[pin]
+            if values[place] != before:
+                before = values[place]
                 found += [clock] if before == wanted else []
         return found
+
+    def excused(self, span: dict[str, Any]) -> "Excused":
+        """The clocks in which a span is excused."""
+        rows = self.stands.get(span["machine"], []) if span.get("prompt") or span.get("without") else []
+        return Excused([it for it in rows if it.excuses(span)])
+
+
+class Excused:
+    """The clocks in which a span is excused, by the state of its machine at their start."""
+
+    def __init__(self, rows: list[Stand]) -> None:
+        self.rows, self.lasts = rows, [it.last for it in rows]
+
+    def within(self, begin: int, last: int) -> bool:
+        """Whether one of them comes after a clock and up to another one."""
+        place = bisect_right(self.lasts, begin)
+        return begin < last and place < len(self.rows) and self.rows[place].first <= last
 
 
 @dataclass(frozen=True)
@@ -75,7 +111,7 @@ def run_of(
     stepped = Block(block.memory, block.setups, block.pins, System(lines))
     own = sorted({line[0] for line in lines} | set(marks))
     samples: list[tuple[int, list[int]]] = []
-    found = Run(clocks, samples, stepped.ticks)
+    found = Run(clocks, samples, stepped.ticks, {number: [] for number in stepped.machines})
     before = last = pads_of(stepped)  # the pads of two clocks ago, and of the one before
     turns = Turns(stepped, own)
     clock = steps = 0
@@ -89,17 +125,37 @@ def run_of(
         if marks:
             found.places.append((clock, {number: machine.pc for number, machine in stepped.machines.items()}))
         turns.note(clock)
+        for number, machine in stepped.machines.items():
+            note_stand(found.stands[number], machine, stepped.ticks[number], clock, clock)
         stepped.begin(clock)
         now = pads_of(stepped)
         samples.append((clock, stepped.step(clock, before, now)))
         after = int(min(clocks, next_clock(stepped, own, clock)))
         for number, machine in stepped.machines.items() if after > clock + 1 else ():
+            note_stand(found.stands[number], machine, stepped.ticks[number], clock + 1, after - 1)
             rest(stepped, machine, stepped.ticks[number], clock + 1, after)
         settled = pads_of(stepped)
         before = last if after == clock + 1 else now if after == clock + 2 else settled
         last = now if after == clock + 1 else settled
         clock = after if marks else turns.leap(after, (before, last), samples[-1][1], clocks)
     return found
+
+
+def note_stand(stands: list[Stand], machine: Machine, log: TickLog, first: int, last: int) -> None:
+    """Notes where a machine is at the start of these clocks, in which at most one instruction begins, or one that only counts goes on."""
+    if machine.delay and not machine.enabled or machine.pending is not None and not machine.begun:
+        return
+    if machine.delay:
+        # It stands before the next instruction from the clock after the last tick of its delay on.
+        tick = log.ticks_before(first, machine.restarted) + machine.delay - 1
+        first = max(first, machine.restarted + (tick * log.period >> 8) + 1)
+    if first > last:
+        return
+    before = stands[-1] if stands else None
+    if before and (before.last, before.address, before.has_begun) == (first - 1, machine.pc, machine.begun):
+        before.last = last
+    else:
+        stands.append(Stand(first, last, machine.pc, machine.begun))
 
 
 def state_of(block: Block, clock: int) -> tuple[Any, ...]:
@@ -177,14 +233,18 @@ def rest(block: Block, machine: Machine, log: TickLog, first: int, after: int) -
 
 
 def broken_at(block: SetUp, span: dict[str, Any], run: Run, lines: list[Line]) -> Optional[Broken]:
-    """How a run breaks a span first, or none. Lines that disable or restart the machine excuse a span in clocks."""
-    begins, ends = (run.edges(block.pins["level"], span[f"{it}_pin"], span[f"{it}_edge"]) for it in ("from", "to"))
+    """How a run breaks a span first, or none. Lines that disable or restart the machine excuse a span in clocks.
+
+    Of a from-edge after which the span is excused, nothing is said (`prompt`, `without`).
+    """
+    begins, ends = (run.edges(block.pins, span, it) for it in ("from", "to"))
+    excused = run.excused(span)
     disturbed = [clock for clock, word, numbers in lines if word in ("disable", "restart") and numbers[0] == span["machine"]]
     for begin in begins:
         place = bisect_right(ends, begin)
         end = ends[place] if place < len(ends) else None
         last = run.clocks - 1 if end is None else end
-        if span["unit"] == "clocks" and any(begin < clock <= last for clock in disturbed):
+        if span["unit"] == "clocks" and any(begin < clock <= last for clock in disturbed) or excused.within(begin, last):
             continue
         count, wait = counted(span, run.ticks[span["machine"]].within(begin, last))
         count = last - begin if span["unit"] == "clocks" else count
@@ -194,9 +254,10 @@ def broken_at(block: SetUp, span: dict[str, Any], run: Run, lines: list[Line]) -
 
 
 def open_at(block: SetUp, span: dict[str, Any], run: Run) -> Optional[Broken]:
-    """The oldest from-edge that no to-edge has ended at the end of a run, with its count, or none."""
-    begins, ends = (run.edges(block.pins["level"], span[f"{it}_pin"], span[f"{it}_edge"]) for it in ("from", "to"))
-    begin = next((it for it in begins if not ends or it >= ends[-1]), None)
+    """The oldest from-edge that no to-edge has ended at the end of a run, and of which something is said; with its count, or none."""
+    begins, ends = (run.edges(block.pins, span, it) for it in ("from", "to"))
+    open_ones, excused = (it for it in begins if not ends or it >= ends[-1]), run.excused(span)
+    begin = next((it for it in open_ones if not excused.within(it, run.clocks - 1)), None)
     if begin is None:
         return None
     count, wait = counted(span, run.ticks[span["machine"]].within(begin, run.clocks - 1))

@@ -9,7 +9,13 @@ from piotool.breaking import Answer, Shown
 from piotool.set_up import SetUp
 
 ROOM = 30  # clocks that a picture shows before the from-edge and after the end
-EDGES = {"rise": ("rises", "risen"), "fall": ("falls", "fallen")}
+# How each edge is written: it does so, it has done so, it may do so.
+EDGES = {
+    "rise": ("rises", "risen", "rise"),
+    "fall": ("falls", "fallen", "fall"),
+    "out": ("becomes an output", "become an output", "become an output"),
+    "in": ("becomes an input", "become an input", "become an input"),
+}
 
 
 def bounds_of(span: dict[str, Any]) -> str:
@@ -35,7 +41,7 @@ def broken_text(block: SetUp, span: dict[str, Any], shown: Shown) -> str:
     """How a run breaks a span."""
     broken, pins = shown.broken, (span["from_pin"], span["to_pin"])
     begins = f"p{pins[0]} {EDGES[span['from_edge']][0]} at clock {broken.begin}"
-    ends, ended = EDGES[span["to_edge"]]
+    ends, ended, _ = EDGES[span["to_edge"]]
     if shown.loop:
         same = f" and never {ends}" if pins[0] == pins[1] else f", and p{pins[1]} never {ends}"
         return f"{begins}{same}: it goes round {place_of(block, span['machine'], shown.loop)} from then on"

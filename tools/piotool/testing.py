@@ -15,7 +15,7 @@ File = Union[str, PathLike[str], Sequence[str]]
 TOLD = re.compile(r"piotool: (source|config|stimulus) (?:line (\d+)|(\S+)): (\w+)\b.*")
 NO_FILE = re.compile(r"piotool: (?:shelf|long) (source|config|stimulus)\b.*|piotool: (source|config|stimulus): .*")
 SPAN = re.compile(r"piotool: (span .*)")
-LINE = re.compile(r"span (\S+) (?:proved opens (yes|no)(?: closes (?:yes|no))?|unproved (?:at (\d+) .*|by machine (\d+)): (U\d))")
+LINE = re.compile(r"span (\S+) (?:proved opens (yes|no)(?: closes (?:yes|no))?(?: under prompt)?|unproved (?:at (\d+) .*|by machine (\d+)): (U\d))")
 NAMES = {"source": "source.pio", "config": "config.toml", "stimulus": "stimulus.stim"}
 TX_LEVEL, RX_LEVEL, WORD = "t", "r", "w"
 
@@ -153,8 +153,8 @@ class Verdict:
     line: str
 
     def __bool__(self) -> bool:
-        """Whether it is proved of a span that opens, and that closes where it has no greatest bound, as a build wants it."""
-        return self.proved and self.opens and not self.line.endswith(" closes no")
+        """Whether it is proved of a span that opens, and that closes where its line says so, as a build wants it."""
+        return self.proved and self.opens and " closes no" not in self.line
 
 
 class Files:

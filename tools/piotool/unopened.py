@@ -4,9 +4,12 @@ from typing import Any
 
 from piotool.machine_model import Setup
 from piotool.set_up import SetUp
-from piotool.span_model import OUT, SET, Context, Graph, Machine, mapping
+from piotool.span_model import Graph, Machine, mapping, wire_of
+from piotool.telling import EDGES
 
-TO_PINDIRS = 4
+# What a wire is by its kind, and the edges of the other kind.
+NAMES = {"p": "level", "d": "direction"}
+OTHER = {"p": ("d", "out", "in"), "d": ("p", "rise", "fall")}
 
 
 def mappings_of(setup: Setup) -> dict[str, list[int]]:
@@ -18,19 +21,10 @@ def mappings_of(setup: Setup) -> dict[str, list[int]]:
     }
 
 
-def writes_direction(machine: Machine, word: int, pin: int) -> bool:
-    """Whether an instruction writes a pin's direction."""
-    kind, high, pins = word >> 13, word >> 5 & 7, mappings_of(machine.setup)
-    setup = machine.setup
-    if setup["side_pindirs"] and pin in pins["side-set"] and (not setup["side_opt"] or word >> 8 & 16):
-        return True
-    return high == TO_PINDIRS and (kind == SET and pin in pins["SET"] or kind == OUT and pin in pins["OUT"])
-
-
-def levels_of(machine: Machine, word: int, pin: int) -> set[int]:
-    """The levels that an instruction may write to a pin."""
+def bits_of(machine: Machine, word: int, wire: str) -> set[int]:
+    """The bits that an instruction may write to a wire."""
     side, _ = machine.side_and_delay(word)
-    return {level for write in machine.writes(word) if (level := {**write, **side}.get(pin)) is not None}
+    return {bit for write in machine.writes(word) if (bit := {**write, **side}.get(wire)) is not None}
 
 
 def pins_text(pins: list[int]) -> str:
@@ -42,26 +36,32 @@ def pins_text(pins: list[int]) -> str:
 
 def why_unopened(block: SetUp, span: dict[str, Any], graph: Graph) -> list[str]:
     """The lines that say why: what writes the from-pin, and what doesn't."""
-    number, pin = span["machine"], span["from_pin"]
-    machine, edge = Machine(block.memory, block.setups[number], span), "rises" if span["from_edge"] == "rise" else "falls"
-    reached = sorted({context.address for context in graph.rows})
-    lines = [f"  the span never opens: no instruction that machine {number} comes to makes an edge at which p{pin} {edge}"]
-    return [*lines, *(f"  {it}" for it in causes_of(block, machine, number, pin, edge, reached, graph.start))]
+    number, edge = span["machine"], f"p{span['from_pin']} {EDGES[span['from_edge']][0]}"
+    line = f"  the span never opens: no instruction that machine {number} comes to makes an edge at which {edge}"
+    return [line, *(f"  {it}" for it in causes_of(block, span, wire_of(span, "from"), graph))]
 
 
-def causes_of(block: SetUp, machine: Machine, number: int, pin: int, edge: str, reached: list[int], start: Context) -> list[str]:
+def named(wire: str) -> str:
+    """A wire in a sentence: the pin for its level."""
+    return wire if wire[0] == "p" else f"the direction of p{wire[1:]}"
+
+
+def causes_of(block: SetUp, span: dict[str, Any], wire: str, graph: Graph) -> list[str]:
     """The causes, each a line; the listing of an instruction comes with it."""
-    words = {address: block.memory[address] for address in reached}
-    levels = {address: found for address, word in words.items() if (found := levels_of(machine, word, pin))}
-    directions = [address for address, word in words.items() if writes_direction(machine, word, pin)]
+    number, pin, (letter, *edges) = span["machine"], span["from_pin"], OTHER[wire[0]]
+    machine, aside = (Machine(block.memory, block.setups[number], it) for it in (span, span | {"from_edge": edges[0]}))
+    words = {address: block.memory[address] for address in sorted({context.address for context in graph.rows})}
+    bits = {address: found for address, word in words.items() if (found := bits_of(machine, word, wire))}
+    others = [address for address, word in words.items() if bits_of(aside, word, f"{letter}{pin}")]
     found = []
-    if levels:
-        always = set().union(*levels.values())
+    if bits:
+        always = set().union(*bits.values())
         what = f"writes {min(always)} to it" if len(always) == 1 else "leaves it as it is there"
-        how = f"p{pin} is {start.from_level} at the start, and each instruction that writes it {what}"
-        found.append(f"{how}: {listed(block, sorted(levels))}")
-    elif directions:
-        found.append(f"only the direction of p{pin} is written, and a span is of levels: {listed(block, directions)}")
+        how = f"{named(wire)} is {graph.start.from_level} at the start, and each instruction that writes it {what}"
+        found.append(f"{how}: {listed(block, sorted(bits))}")
+    elif others:
+        named_edges = " and ".join(f'"{edge}"' for edge in edges)
+        found.append(f"only the {NAMES[letter]} of p{pin} is written, whose edges are {named_edges}: {listed(block, others)}")
     else:
         pins = {name: it for name, it in mappings_of(machine.setup).items() if name != "side-set" or machine.setup["side_bits"]}
         if any(pin in it for it in pins.values()):
@@ -69,12 +69,13 @@ def causes_of(block: SetUp, machine: Machine, number: int, pin: int, edge: str, 
         else:
             mapped = ", ".join(f"{name} has {pins_text(it)}" for name, it in pins.items())
             found.append(f"p{pin} is in no mapping of machine {number}: {mapped}")
-    unreached = [it for it in block_addresses(block, number) if it not in words and levels_of(machine, block.memory[it], pin)]
+    unreached = [it for it in block_addresses(block, number) if it not in words and bits_of(machine, block.memory[it], wire)]
     if unreached:
         found.append(f"of the program it never comes to {listed(block, unreached)}")
     for other in sorted(set(block.setups) - {number}):
         if pin in [it for pins in mappings_of(block.setups[other]).values() for it in pins]:
-            found.append(f"a mapping of machine {other} holds p{pin} for its direction: a span of machine {number} is of its own levels")
+            own = f"a span of machine {number} is of its own {NAMES[wire[0]]}s"
+            found.append(f"a mapping of machine {other} holds p{pin} for its {NAMES[letter]}: {own}")
     return found
 
 

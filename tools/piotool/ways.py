@@ -56,7 +56,7 @@ def opened_within(course: Course, tick: int) -> Optional[int]:
     for place in reversed(range(tick)):
         if course.ticks[place].begins:
             return place
-        if course.ticks[place].ends:
+        if course.ticks[place].ends or course.ticks[place].excuses:
             return None
     return None
 
