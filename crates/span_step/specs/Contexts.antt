@@ -1,5 +1,5 @@
 -- What the checker knows of a machine between two instructions.
---   Context          the address and what is known of X, Y and the levels of the span's two pins
+--   Context          the address and what is known of X, Y and the span's two pins
 --   is_placed        a context's numbers are in range
 --   IsInside         ages lie within others
 --   is_open          there are ages
@@ -7,8 +7,8 @@ use Rattle.std.specs.Prelude.{ℕ, ◌≤◌, Bool, true, false, ◌&&◌, Optio
 use Rattle.span_step.specs.declared.ages.Ages.{Ages}
 use Rattle.span_step.specs.declared.ages.Ages.TheVariants.{Empty, Between}
 
--- What the checker knows before an instruction: where it lies in memory, X and Y where they are known and below 32, and the
--- levels of the span's from-pin and to-pin.
+-- What the checker knows before an instruction: where it lies in memory, X and Y where they are known and below 32, and of the
+-- span's from-pin and to-pin whether the watched signal is high: the level, or the direction where it is out.
 pub record Context : Type 0 where
   pub address : ℕ
   pub x : Option ℕ
