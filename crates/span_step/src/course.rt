@@ -14,18 +14,18 @@ use crate::rules::Rules;
 pub(crate) struct Tick {
     /// It doesn't count: the machine waits, or ends a stall.
     pub(crate) late: bool,
-    /// The level that it writes to the from-pin, if any.
+    /// What it writes to the from-pin's watched signal, if anything.
     pub(crate) from: Option<bool>,
-    /// The level that it writes to the to-pin, if any.
+    /// What it writes to the to-pin's.
     pub(crate) to: Option<bool>,
 }
 
 /// What is known in the middle of a course.
 #[derive(Clone, Copy)]
 pub(crate) struct Watch {
-    /// The level of the from-pin.
+    /// Whether the from-pin's watched signal is high.
     pub(crate) from: bool,
-    /// The level of the to-pin.
+    /// Whether the to-pin's is.
     pub(crate) to: bool,
     pub(crate) ages: Ages,
     /// The causes that came so far.
@@ -34,23 +34,23 @@ pub(crate) struct Watch {
     pub(crate) from_edge: bool,
     /// A to-edge came while a from-edge of an earlier tick was open.
     pub(crate) closes: bool,
-    /// No to-edge came.
+    /// The ages at the start still live: no to-edge came, and no excuse.
     pub(crate) passes: bool,
 }
 
 impl Watch {
-    /// At the start of a course.
-    pub(crate) fn start(context: &Context, ages: Ages) -> Watch
-        ensures { result ≡ spec.start context.now ages }
+    /// At the start of a course: no age lives on where ways through the row are left out.
+    pub(crate) fn start(left_out: bool, context: &Context, ages: Ages) -> Watch
+        ensures { result ≡ spec.start left_out context.now ages }
     {
         Watch {
             from: context.from,
             to: context.to,
-            ages,
+            ages: if left_out { Ages::Empty } else { ages },
             causes: Causes::none(),
             from_edge: false,
             closes: false,
-            passes: true,
+            passes: !left_out,
         }
     }
 
@@ -127,17 +127,23 @@ impl Watch {
         } else {
             self.ages.older(rules.max)
         };
+        let excused = tick.late && rules.excuses;
         let closes = is_edge(rules.to_rise, self.to, to);
         let opens = is_edge(rules.from_rise, self.from, from);
-        let causes = tick_causes(rules, tick.late, closes, self.ages, aged);
+        let causes = if excused {
+            self.causes
+        } else {
+            self.causes
+                .joined(tick_causes(rules, tick.late, closes, self.ages, aged))
+        };
         Watch {
             from,
             to,
-            ages: aged.after_edges(closes, opens),
-            causes: self.causes.joined(causes),
+            ages: aged.after_edges(excused || closes, opens),
+            causes,
             from_edge: self.from_edge || opens,
-            closes: self.closes || (closes && aged.is_open()),
-            passes: self.passes && !closes,
+            closes: self.closes || (closes && !excused && aged.is_open()),
+            passes: self.passes && !(excused || closes),
         }
     }
 }
