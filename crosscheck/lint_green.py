@@ -127,7 +127,7 @@ CASES = [
     ("one name on two spans", SENDS, [("blink.toml", 'name = "rest"', 'name = "clock"')], {"same-name"}),
     ("a line for another machine", RIGHT, [("blink.stim", "feed 0", "feed 1")], {"no-machine", "stands-still", "span-not-seen"}),
     ("EVERY forgotten", RIGHT, [("blink.stim", "1 1 2 3", "0x1 0x2 0x3")], {"every-word"}),
-    ("a wait on the pin beside", RIGHT, [("blink.pio", "    pull", "    wait 1 gpio 9\n    pull")], {"pin-not-driven", "span-not-seen"}),
+    ("a wait on the pin beside", RIGHT, [("blink.pio", "    pull", "    wait 1 gpio 9\n    pull")], {"pin-not-driven", "span-not-seen", "stands-still"}),
     ("a bound too wide", RIGHT, [("blink.toml", "max = 4", "max = 40")], {"bound-not-tight"}),
     ("a push forgotten", RIGHT, [("blink.pio", "    pull", "    in pins, 8\n    pull")], {"in-not-emptied"}),
 ]

@@ -17,6 +17,7 @@ from piotool.lint_files import Files
 
 MORE = 200  # clocks after those of the linter's run
 NUMBER = re.compile(r"\d+")
+STANDS = re.compile(r"machine (\d+) stands still at address (\d+).* from clock (\d+) on: ")
 
 
 class Run:
@@ -74,7 +75,7 @@ def is_contested(said, run, spans, clocks):
     if name == "bound-not-tight":
         return is_seen_outside(text, run, spans)
     if name == "stands-still":
-        machine, address, clock = numbers[:3]
+        machine, address, clock = map(int, STANDS.match(text).groups())
         return any(state[machine][:2] != (address, True) for state in run.states[clock + 1 :])
     if name == "prompt-never":
         number, span = numbers[-1], next(it for it in spans if text.startswith(f"span {it['name']}:"))

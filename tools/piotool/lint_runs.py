@@ -1,11 +1,10 @@
 """Warnings of a run: spans that it never sees, machines that stand still, and lines of its stimulus.
 
-`piotool measure` says what is seen of spans; the model of the block says where a machine stands at the end.
+`piotool measure` says what is seen of spans, and `piotool inspect` where a machine stands at the end.
 """
 
 import re
-from time import process_time
-from typing import Iterator, Optional
+from typing import Any, Iterator, Optional
 
 from piotool.block_model import Line
 from piotool.calls import Fault, piotool
@@ -13,11 +12,10 @@ from piotool.lint_block import IN, IRQ, OUT, WAIT, BlockLint, Op, fields_of_line
 from piotool.lint_files import Files
 from piotool.lint_said import Place, Said
 from piotool.machine_model import period_of
-from piotool.span_runs import Run, run_of
+from piotool.run_ends import ends_of
 
-MOST_STEPS, MOST_SECONDS = 400_000, 10.0
 SEEN = re.compile(r"span (\S+) seen (\d+)(?: least (\d+) most (\d+))?")
-STATE = ("pc", "x", "y", "isr", "osr", "in_count", "out_count", "delay", "pending", "begun", "enabled", "tx", "rx", "phase")
+FLAG, GPIO, PIN = 2, 0, 1  # what a WAIT waits for
 
 
 def lines_of(files: Files) -> tuple[list[Line], list[int]]:
@@ -53,11 +51,15 @@ class RunLint:
                 text = f"EVERY is {fields[3][0]}, which looks like the first word: a feed is CLOCK feed M EVERY WORD .."
                 yield Said(Place(self.files.stimulus or "", place, fields[3][1]), "warning", text, "every-word")
 
+    def words(self) -> list[Any]:
+        """The words of a call that runs the block."""
+        words: list[Any] = ["--source", self.files.whole, *(["--config", self.files.own_config] if self.files.own_config else [])]
+        words += ["--stimulus", self.files.own_stimulus] if self.files.own_stimulus else []
+        return [*words, "--clocks", self.clocks]
+
     def measured(self) -> list[tuple[int, int, int]]:
         """How often each span is seen, and its fewest and most clocks."""
-        words = ["--source", self.files.whole, *(["--config", self.files.own_config] if self.files.own_config else [])]
-        words += ["--stimulus", self.files.own_stimulus] if self.files.own_stimulus else []
-        status, text, told = piotool("measure", *words, "--clocks", self.clocks)
+        status, text, told = piotool("measure", *self.words())
         if status != 0:
             raise Fault(told.removeprefix("piotool: "))
         found = [SEEN.fullmatch(line) for line in text.splitlines()]
@@ -84,30 +86,42 @@ class RunLint:
         """Machines that stand still at the end of the run, and for good."""
         if not self.clocks:
             return
-        run = run_of(self.lint.block, self.lines, self.clocks, MOST_STEPS, process_time() + MOST_SECONDS, (self.clocks - 1,))
-        if not run.is_whole or not run.marks:
+        ends = ends_of(*self.words())
+        if ends is None:
             return
-        states = {it: dict(zip(STATE, state)) for it, state in zip(sorted(self.lint.block.setups), run.marks[0].state[0][0])}
-        waiting = {it: state["pc"] for it, state in states.items() if state["begun"] and not state["delay"] and state["enabled"]}
-        ops = {it: self.op_of(at, states[it]["pending"]) for it, at in waiting.items()}
-        flags = run.marks[0].state[0][4]
-        goes_on = set(states) - {it for it, op in ops.items() if not self.is_there(it, op, flags)}
+        now = {name: value for name, (_, value) in ends.items()}
+        waiting = [it for it in self.lint.machines if now[f"sm{it}.waits"] and now[f"sm{it}.enabled"]]
+        ops = {it: Op(now[f"sm{it}.pc"], now[f"sm{it}.instruction"]) for it in waiting}
+        flags = sum(now[f"f{flag}"] << flag for flag in range(8))
+        goes_on = set(self.lint.machines) - {it for it, op in ops.items() if not self.is_there(it, op, flags)}
         while more := {it for it, op in ops.items() if it not in goes_on and self.may_go_on(it, op, goes_on)}:
             goes_on |= more
         for machine, op in ops.items():
             if machine not in goes_on:
-                clock = stood_from(run, machine, op.address)
-                text = f"machine {machine} stands still at address {op.address} from clock {clock} on: {self.why(machine, op, flags)}"
+                clock, _ = ends[f"sm{machine}.waits"]
+                where = f"machine {machine} stands still at address {op.address}{self.called(machine, op)}"
+                text = f"{where} from clock {clock} on: {self.why(machine, op, flags)}"
                 yield Said(self.lint.place_of(machine, op.address), "warning", text, "stands-still")
 
-    def op_of(self, address: int, pending: Optional[int]) -> Op:
-        """The instruction at which a machine waits."""
-        return Op(address, self.lint.block.memory[address] if pending is None else pending)
+    def called(self, machine: int, op: Op) -> str:
+        """What is said beside an address: the last label before it, or the word that isn't in memory there."""
+        if op.word != self.lint.block.memory[op.address]:
+            return f" in the pending word 0x{op.word:04x}"
+        label = self.lint.block.label_before(machine, op.address)
+        return f" ({label})" if label else ""
 
     def flag_of(self, machine: int, op: Op) -> Optional[int]:
         """The flag that a machine waits for, or none."""
-        is_flag = op.kind == IRQ or op.kind == WAIT and op.word >> 5 & 3 == 2
+        is_flag = op.kind == IRQ or op.kind == WAIT and op.high & 3 == FLAG
         return self.lint.machines[machine].touched.flag(op.low) if is_flag else None
+
+    def still_pin_of(self, machine: int, op: Op) -> Optional[int]:
+        """The pin that a machine waits for where it never changes, or none."""
+        source = op.high & 3
+        if op.kind != WAIT or source not in (GPIO, PIN):
+            return None
+        pin = (self.lint.machines[machine].setup["in_base"] * (source == PIN) + op.low) % 32
+        return pin if self.lint.is_still(pin) and self.lint.level(pin) != op.high >> 2 else None
 
     def is_there(self, machine: int, op: Op, flags: int) -> bool:
         """Whether the flag that a machine waits for is there, so that it goes on at its next tick."""
@@ -126,6 +140,8 @@ class RunLint:
             return bool(own & {"tx", "feed"})
         if op.is_push() or op.kind == IN:
             return bool(own & {"rx", "drain"})
+        if self.still_pin_of(machine, op) is not None:
+            return False
         flag = self.flag_of(machine, op)
         return flag is None or any(it in goes_on for it in self.changing(machine, flag))
 
@@ -135,16 +151,8 @@ class RunLint:
         if flag is not None:
             who = "no machine that goes on" if self.changing(machine, flag) else "no other machine"
             return f"{who} {'lowers' if flags >> flag & 1 else 'raises'} flag {flag}"
+        if (pin := self.still_pin_of(machine, op)) is not None:
+            return f"no machine and no line drives pin {pin}, which is {self.lint.level(pin)}"
         if op.is_push() or op.kind == IN:
             return "RX is full, and no line of the stimulus reads it"
         return "TX is empty, and no line of the stimulus writes to it"
-
-
-def stood_from(run: Run, machine: int, address: int) -> int:
-    """The first clock of the wait at the end of a run."""
-    first = run.clocks - 1
-    for row in reversed(run.ticks[machine].rows):
-        if row.address != address:
-            break
-        first = row.first
-    return first

@@ -75,6 +75,15 @@ class SetUp:
         """A label of a machine's program at an address."""
         return next((name for name, place in self.addresses(machine).items() if place == address), None)
 
+    def label_before(self, machine: int, address: int) -> Optional[str]:
+        """An address of a machine's program by the last label before it: loop, or loop+1."""
+        program = self.program_of[machine]
+        own = range(self.places[program.name], self.places[program.name] + len(program.words))
+        at, name = max(((at, name) for name, at in self.addresses(machine).items() if at <= address), default=(0, None))
+        if name is None or address not in own:
+            return None
+        return name + (f"+{address - at}" if address > at else "")
+
     def span(self, table: Tables) -> Tables:
         """A span as the models take it, of its table."""
         addresses = self.addresses(table["machine"])

@@ -14,7 +14,7 @@ ghost use Rattle.block_core.specs.Stirring.{machines_stir_over, pads_change_over
 ghost use Rattle.block_core.specs.Stirring as spec_stirring;
 
 use crate::Sample;
-use crate::inside::Inside;
+use crate::inside::{Inside, MachineInside};
 use crate::leaps::{begins_now, leap, sooner};
 use crate::merging::{Wanted, outside_after};
 use crate::news::News;
@@ -353,17 +353,30 @@ impl<F: Fifo> Running<F> {
     pub fn inside(&self) -> Inside
         ensures { result ≡ inside_of self.now }
     {
-        let memory = &self.shared.memory;
         Inside {
             sample: self.sample,
             pads: self.shared.sync.last_pad(),
-            machines: [
-                inside(&self.first, memory),
-                inside(&self.second, memory),
-                inside(&self.third, memory),
-                inside(&self.fourth, memory),
-            ],
+            machines: self.machines_inside(),
         }
+    }
+
+    // What is inside its machines. Where there is only the first, no other place is asked.
+    #[inline(always)]
+    #[tactic(auto, unfolding(crate::specs::Inside::inside_of))]
+    fn machines_inside(&self) -> [Option<MachineInside>; 4]
+        ensures { result ≡ (inside_of self.now).machines }
+    {
+        let memory = &self.shared.memory;
+        let first = inside(&self.first, memory);
+        if self.alone {
+            return [first, None, None, None];
+        }
+        [
+            first,
+            inside(&self.second, memory),
+            inside(&self.third, memory),
+            inside(&self.fourth, memory),
+        ]
     }
 
     /// How many words paced transfers have moved into a machine's TX and out of its RX.
