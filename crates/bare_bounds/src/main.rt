@@ -5,7 +5,7 @@
 mod loads;
 
 use loads::{LOADS, TimedProgram, machine_of, memory_of};
-use pin_matrix::{Setup, Span, SpanUnit, Spans, Addresses};
+use pin_matrix::{Addresses, PinSignal, Setup, Span, SpanUnit, Spans};
 use pio_encode::Name;
 use span_bounds::{Ages, Cause, Context, Derived, Table, derive};
 use std::alloc::{AllocError, Global};
@@ -55,13 +55,17 @@ fn found_of(alloc: Global, load: &TimedProgram) -> Option<Derived> {
         name: Name::new(String::from_str(alloc, "s").ok()?),
         machine: 0,
         from_pin: 0,
+        from_signal: PinSignal::Level,
         from_rise: true,
         to_pin: load.to_pin.min(31),
+        to_signal: PinSignal::Level,
         to_rise: false,
         unit: SpanUnit::Ticks,
         min: 0,
         max: Some(MOST),
         stalls: Addresses::empty(alloc),
+        prompt: false,
+        without: Addresses::empty(alloc),
     };
     let mut setup = Setup::of(memory_of(load), Spans::empty(alloc));
     setup.place(machine_of(load));

@@ -6,7 +6,9 @@ ghost use Rattle.pin_matrix.specs.Spans as spec;
 
 use crate::lines::up_to;
 use crate::setup::NO_SIDE;
-use pin_matrix::{MachineSetup, Mapping, Setup, Span, SpanUnit, Spans, Addresses, is_span_name};
+use pin_matrix::{
+    Addresses, MachineSetup, Mapping, PinSignal, Setup, Span, SpanUnit, Spans, is_span_name,
+};
 use pio_encode::Name;
 use std::alloc::{AllocError, Global};
 
@@ -73,13 +75,17 @@ fn in_clocks(alloc: Global, name: Name) -> Span
         name,
         machine: 0,
         from_pin: 0,
+        from_signal: PinSignal::Level,
         from_rise: true,
         to_pin: 0,
+        to_signal: PinSignal::Level,
         to_rise: false,
         unit: SpanUnit::Clocks,
         min: 0,
         max: Some(0),
         stalls: Addresses::empty(alloc),
+        prompt: false,
+        without: Addresses::empty(alloc),
     }
 }
 
@@ -102,6 +108,7 @@ fn tell_setup(alloc: Global, rest: &str, text: &mut String) -> Option<()> {
         return tell_parts(&setup, text).ok();
     };
     let span = in_ticks(
+        alloc,
         named(alloc, "high")?,
         Addresses::new(addresses(alloc, stalls)?)?,
     );
@@ -114,20 +121,24 @@ fn tell_setup(alloc: Global, rest: &str, text: &mut String) -> Option<()> {
 }
 
 /// From a rise of pin 31 to a fall of pin 0, in ticks of machine 3.
-fn in_ticks(name: Name, stalls: Addresses) -> Span
+fn in_ticks(alloc: Global, name: Name, stalls: Addresses) -> Span
     requires { IsTrue (spec.is_span_name name) }
 {
     Span {
         name,
         machine: 3,
         from_pin: 31,
+        from_signal: PinSignal::Level,
         from_rise: true,
         to_pin: 0,
+        to_signal: PinSignal::Level,
         to_rise: false,
         unit: SpanUnit::Ticks,
         min: 2,
         max: Some(16_777_215),
         stalls,
+        prompt: false,
+        without: Addresses::empty(alloc),
     }
 }
 

@@ -18,7 +18,7 @@ use Rattle.span_step.specs.declared.ages.Ages.{Ages}
 use Rattle.span_step.specs.declared.ages.Ages.TheVariants.{Empty}
 use Rattle.span_step.specs.declared.cause.Cause.{Cause}
 use Rattle.span_step.specs.declared.stepped.Next.{Next}
-use Rattle.span_step.specs.Contexts.{Context, is_placed, IsInside}
+use Rattle.span_step.specs.Contexts.{Context, signal_bits, is_placed, IsInside}
 use Rattle.span_step.specs.Laws.{first_cause}
 use Rattle.span_step.specs.Steps.{context_steps}
 use Rattle.span_bounds.specs.declared.entry.Entry.{Entry}
@@ -57,11 +57,11 @@ started (Some s) u sp = record {
   address = s.start;
   x = known_of s.x;
   y = known_of s.y;
-  from = is_high u.level sp.from_pin;
-  to = is_high u.level sp.to_pin;
+  from = is_high (signal_bits sp.from_signal u.level u.out) sp.from_pin;
+  to = is_high (signal_bits sp.to_signal u.level u.out) sp.to_pin;
 }
 
--- where a table starts: the machine's first address, its X and Y, and the initial levels; no ages
+-- where a table starts: the machine's first address, its X and Y, and the initial levels and directions; no ages
 unfoldable pub start_context : Setup → Span → Context
 start_context u sp = started (slice_index_or u.machines sp.machine None) u sp
 

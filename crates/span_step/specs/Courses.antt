@@ -44,8 +44,9 @@ delayed side o delay =
 unfoldable pub courses : (stalls : Bool) → Write → ContextOutcome → ℕ → List (List Tick)
 courses stalls side o delay = prompt side o delay ∷ (if stalls then delayed side o delay ∷ [] else [])
 
--- What the span asks of a row: which edges it goes between, its bounds in ticks, whether it has a greatest bound, and whether
--- stalls at the row's address are left out. Ages stop one above `max`, whether this is a bound or not.
+-- What the span asks of a row: which edges it goes between, its bounds in ticks, whether it has a greatest bound, whether
+-- stalls at the row's address are left out, and whether a stall there excuses open from-edges: the span speaks of none after
+-- which its machine waits there. Ages stop one above `max`, whether this is a bound or not.
 pub record Rules : Type 0 where
   pub from_rise : Bool
   pub to_rise : Bool
@@ -53,6 +54,7 @@ pub record Rules : Type 0 where
   pub max : ℕ
   pub bounded : Bool
   pub named : Bool
+  pub excuses : Bool
 
 -- the level changes in this direction
 abbrev pub is_edge : (rise old new : Bool) → Bool
@@ -103,28 +105,39 @@ tick_causes r late closes before aged = record {
   u4 = false;
 }
 
--- One tick. A late tick doesn't count; any other makes open ages one more. Then the edges of the levels that it writes
--- come. `passes` says that no to-edge came so far, and `closes` that one came while a from-edge of an earlier tick was open.
+-- One tick. A late tick doesn't count; any other makes open ages one more. Then the edges of what it writes come. Where the
+-- row excuses, a late tick first empties the ages, so that it adds no cause and closes nothing; a from-edge of its own opens.
+-- `passes` says that the ages at the start still live: no to-edge came so far, and no excuse. `closes` says that a to-edge came
+-- while a from-edge of an earlier tick was open.
 unfoldable pub watched : Rules → Watch → Tick → Watch
 watched r w t =
     let from = unwrap_or t.from w.from in
     let to = unwrap_or t.to w.to in
     let aged = if t.late then w.ages else older r.max w.ages in
+    let excused = t.late && r.excuses in
     let closes = is_edge r.to_rise w.to to in
     let opens = is_edge r.from_rise w.from from in
     record {
       from = from;
       to = to;
-      ages = after_edges closes opens aged;
-      causes = joined w.causes (tick_causes r t.late closes w.ages aged);
+      ages = after_edges (excused || closes) opens aged;
+      causes = if excused then w.causes else joined w.causes (tick_causes r t.late closes w.ages aged);
       from_edge = w.from_edge || opens;
-      closes = w.closes || (closes && is_open aged);
-      passes = w.passes && not closes;
+      closes = w.closes || (closes && (not excused && is_open aged));
+      passes = w.passes && not (excused || closes);
     }
 
--- at the start of a course
-abbrev pub start : Context → Ages → Watch
-start k ages = record { from = k.from; to = k.to; ages = ages; causes = no_causes; from_edge = false; closes = false; passes = true }
+-- At the start of a course. Where ways through the row are left out, no age lives on.
+abbrev pub start : (left_out : Bool) → Context → Ages → Watch
+start left_out k ages = record {
+  from = k.from;
+  to = k.to;
+  ages = if left_out then Empty else ages;
+  causes = no_causes;
+  from_edge = false;
+  closes = false;
+  passes = not left_out;
+}
 
 -- at the end of a course
 abbrev pub followed : Rules → List Tick → Watch → Watch

@@ -1,6 +1,8 @@
 -- What an instruction can do to a context when it finishes, apart from its side-set and from how long it takes.
 --   ContextOutcome   where it goes, what is known of X and Y after it, and what it writes to the two pins
 --   level_at         what a write of pins does to one pin
+--   written_to       what a known value writes to the two pins
+--   unknown_levels   what an unknown value may write to them
 --   is_wild          an instruction after which the checker knows no address
 --   may_stall        an instruction that may wait
 --   taken            whether a JMP is taken, as far as it is known
@@ -24,11 +26,14 @@ use Rattle.pio_encode.specs.declared.act.SetDestination.TheVariants as set_desti
 use Rattle.pin_matrix.specs.Pins.{writes_of}
 use Rattle.pin_matrix.specs.declared.machine.MachineSetup.{MachineSetup}
 use Rattle.pin_matrix.specs.declared.mapping.Mapping.{Mapping}
+use Rattle.pin_matrix.specs.declared.span.PinSignal.{PinSignal}
+use Rattle.pin_matrix.specs.declared.span.PinSignal.TheVariants.{Level, Direction}
 use Rattle.pin_matrix.specs.declared.span.Span.{Span}
+use Rattle.span_step.specs.declared.levels.Write.{Write}
 use Rattle.span_step.specs.Contexts.{Context}
 
 -- What an instruction does when it finishes: the address that it goes to, if it isn't the next one; what is known of X and Y
--- after it; and the levels that it writes to the span's from-pin and to-pin, where it writes them.
+-- after it; and what it writes to the watched signals of the span's from-pin and to-pin, where it writes them.
 pub record ContextOutcome : Type 0 where
   pub jump : Option ℕ
   pub x : Option ℕ
@@ -48,21 +53,49 @@ level_at p w = if bit_at w.0 p == 1 then Some (bit_at w.1 p == 1) else None
 abbrev pub holds : Mapping → ℕ → Bool
 holds m p = bit_at (writes_of m 0).0 p == 1
 
--- an unknown value may leave a pin of the mapping at either level, and writes no other pin
-abbrev pub either_level : Mapping → ℕ → List (Option Bool)
-either_level m p = if holds m p then Some false ∷ Some true ∷ [] else None ∷ []
+-- the written signal is the watched one
+abbrev pub is_signal : (written watched : PinSignal) → Bool
+is_signal Level Level = true
+is_signal Level Direction = false
+is_signal Direction Level = false
+is_signal Direction Direction = true
 
--- The levels that an unknown value may write to the from-pin and the to-pin: each choice of both, or one and the same
--- where both edges are on one pin.
-abbrev pub unknown_levels : Mapping → Span → List (Option Bool × Option Bool)
-unknown_levels m sp =
-    if sp.from_pin == sp.to_pin
-    then map (λ l. (l, l)) (either_level m sp.from_pin)
-    else flat_map (λ f. map (λ t. (f, t)) (either_level m sp.to_pin)) (either_level m sp.from_pin)
+-- what a write of one signal does to the watched signal of a pin: only a write of levels changes a level, and only a write of
+-- directions a direction
+abbrev pub signal_at : (written watched : PinSignal) → ℕ → ℕ × ℕ → Option Bool
+signal_at written watched p w = if is_signal written watched then level_at p w else None
 
--- OUT PINS and MOV PINS write the mapping of OUT, with a value that isn't known (RP2040 Datasheet, sections 3.4.5 and 3.4.8)
-abbrev pub unknown_pins : MachineSetup → Span → Context → List ContextOutcome
-unknown_pins s sp k = map (λ l. record (nothing_done k) { from = l.0; to = l.1 }) (unknown_levels s.out sp)
+-- what a value that goes to a mapping, as levels or as directions, writes to the from-pin and the to-pin
+abbrev pub written_to : PinSignal → Mapping → ℕ → Span → Write
+written_to signal m value sp = record {
+  from = signal_at signal sp.from_signal sp.from_pin (writes_of m value);
+  to = signal_at signal sp.to_signal sp.to_pin (writes_of m value);
+}
+
+-- a value that goes to a mapping, as levels or as directions, writes the watched signal of a pin
+abbrev pub is_held : (written watched : PinSignal) → Mapping → ℕ → Bool
+is_held written watched m p = is_signal written watched && holds m p
+
+-- an unknown value may leave what it writes either way, and writes nothing else
+abbrev pub either_level : (held : Bool) → List (Option Bool)
+either_level held = if held then Some false ∷ Some true ∷ [] else None ∷ []
+
+-- both edges are of one signal of one pin
+abbrev pub has_one_pin : Span → Bool
+has_one_pin sp = sp.from_pin == sp.to_pin && is_signal sp.from_signal sp.to_signal
+
+-- What an unknown value may write to the from-pin and the to-pin: each choice of both, or one and the same where both edges
+-- are of one signal of one pin.
+abbrev pub unknown_levels : PinSignal → Mapping → Span → List (Option Bool × Option Bool)
+unknown_levels signal m sp =
+    let from = either_level (is_held signal sp.from_signal m sp.from_pin) in
+    let to = either_level (is_held signal sp.to_signal m sp.to_pin) in
+    if has_one_pin sp then map (λ l. (l, l)) from else flat_map (λ f. map (λ t. (f, t)) to) from
+
+-- OUT PINS, MOV PINS and OUT PINDIRS write the mapping of OUT, with a value that isn't known (RP2040 Datasheet, sections 3.4.5
+-- and 3.4.8)
+abbrev pub unknown_pins : PinSignal → MachineSetup → Span → Context → List ContextOutcome
+unknown_pins signal s sp k = map (λ l. record (nothing_done k) { from = l.0; to = l.1 }) (unknown_levels signal s.out sp)
 
 -- one less where that is known: nothing is known after a 0, which falls to 2^32 - 1
 abbrev pub counted_down : Option ℕ → Option ℕ
@@ -114,11 +147,11 @@ ways None address o = record o { jump = Some address } ∷ o ∷ []
 
 -- OUT: the bits aren't known; after OUT PC and OUT EXEC no address is (section 3.4.5)
 abbrev pub out_outcomes : OutDestination → MachineSetup → Span → Context → List ContextOutcome
-out_outcomes out_destination.Pins s sp k = unknown_pins s sp k
+out_outcomes out_destination.Pins s sp k = unknown_pins Level s sp k
 out_outcomes out_destination.X s sp k = record (nothing_done k) { x = None } ∷ []
 out_outcomes out_destination.Y s sp k = record (nothing_done k) { y = None } ∷ []
 out_outcomes out_destination.Null s sp k = nothing_done k ∷ []
-out_outcomes out_destination.Pindirs s sp k = nothing_done k ∷ []
+out_outcomes out_destination.Pindirs s sp k = unknown_pins Direction s sp k
 out_outcomes out_destination.Pc s sp k = []
 out_outcomes out_destination.Isr s sp k = nothing_done k ∷ []
 out_outcomes out_destination.Exec s sp k = []
@@ -132,7 +165,7 @@ copied _ _ k = None
 
 -- MOV; after MOV PC and MOV EXEC no address is known (section 3.4.8)
 abbrev pub mov_outcomes : MovDestination → Option ℕ → MachineSetup → Span → Context → List ContextOutcome
-mov_outcomes mov_destination.Pins word s sp k = unknown_pins s sp k
+mov_outcomes mov_destination.Pins word s sp k = unknown_pins Level s sp k
 mov_outcomes mov_destination.X word s sp k = record (nothing_done k) { x = word } ∷ []
 mov_outcomes mov_destination.Y word s sp k = record (nothing_done k) { y = word } ∷ []
 mov_outcomes mov_destination.Exec word s sp k = []
@@ -140,22 +173,20 @@ mov_outcomes mov_destination.Pc word s sp k = []
 mov_outcomes mov_destination.Isr word s sp k = nothing_done k ∷ []
 mov_outcomes mov_destination.Osr word s sp k = nothing_done k ∷ []
 
--- SET PINS writes the mapping of SET with a known value (section 3.4.10)
-abbrev pub set_pins : ℕ → MachineSetup → Span → Context → ContextOutcome
-set_pins value s sp k = record (nothing_done k) {
-  from = level_at sp.from_pin (writes_of s.set value);
-  to = level_at sp.to_pin (writes_of s.set value);
-}
+-- SET PINS and SET PINDIRS write the mapping of SET with a known value (section 3.4.10)
+abbrev pub set_pins : PinSignal → ℕ → MachineSetup → Span → Context → ContextOutcome
+set_pins signal value s sp k = let write = written_to signal s.set value sp in
+    record (nothing_done k) { from = write.from; to = write.to }
 
 -- SET: the value is known (section 3.4.10)
 abbrev pub set_outcomes : SetDestination → ℕ → MachineSetup → Span → Context → List ContextOutcome
-set_outcomes set_destination.Pins value s sp k = set_pins value s sp k ∷ []
+set_outcomes set_destination.Pins value s sp k = set_pins Level value s sp k ∷ []
 set_outcomes set_destination.X value s sp k = record (nothing_done k) { x = Some value } ∷ []
 set_outcomes set_destination.Y value s sp k = record (nothing_done k) { y = Some value } ∷ []
-set_outcomes set_destination.Pindirs value s sp k = nothing_done k ∷ []
+set_outcomes set_destination.Pindirs value s sp k = set_pins Direction value s sp k ∷ []
 
 -- All that an instruction can do to a context, by its act: none where no address is known after it. IN, PUSH, PULL, WAIT and
--- IRQ change neither X, nor Y, nor a level.
+-- IRQ change neither X, nor Y, nor a pin.
 unfoldable pub outcomes : Act → MachineSetup → Span → Context → List ContextOutcome
 outcomes (Jmp c address) s sp k = ways (taken c k) address (after_count c k)
 outcomes (Wait polarity source index) s sp k = nothing_done k ∷ []

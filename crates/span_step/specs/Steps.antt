@@ -1,6 +1,9 @@
 -- One step of the checker: from a context with its ages to the next ones.
 --   bounds_of        a span's bounds in ticks of its machine
 --   is_bounded       it has a greatest bound
+--   is_named         stalls at an address are left out
+--   is_left_out      ways through an address are left out
+--   is_excused       where a machine stands so that its span doesn't speak of the from-edges before
 --   next_address     the address that follows
 --   side_of          what side-set writes to the two pins
 --   Visit            what all courses of a row share
@@ -8,13 +11,14 @@
 --   is_lost          no address is known after a row
 --   step_by          the step of a machine's row
 --   context_steps    the step of a span's row
-use Rattle.std.specs.Prelude.{ℕ, ◌+◌, ◌-◌, ◌*◌, ◌/◌, ◌%◌, ◌==◌, Bool, true, false, ◌||◌, if◌then◌else◌, Option, Some, None, is_some, option_map, List, [], ◌∷◌, ◌++◌, fold, slice_index, slice_index_or}
+use Rattle.std.specs.Prelude.{ℕ, ◌+◌, ◌-◌, ◌*◌, ◌/◌, ◌%◌, ◌==◌, Bool, true, false, not, ◌&&◌, ◌||◌, if◌then◌else◌, Option, Some, None, is_some, option_map, List, [], ◌∷◌, ◌++◌, fold, slice_index, slice_index_or}
 use Rattle.std.specs.List.{list_any}
 use Rattle.pio_encode.specs.declared.op.Op.{Op}
 use Rattle.pio_encode.specs.Word.{reading_of}
-use Rattle.pin_matrix.specs.Pins.{writes_of}
 use Rattle.pin_matrix.specs.declared.machine.MachineSetup.{MachineSetup}
 use Rattle.pin_matrix.specs.declared.setup.Setup.{Setup}
+use Rattle.pin_matrix.specs.declared.span.PinSignal.{PinSignal}
+use Rattle.pin_matrix.specs.declared.span.PinSignal.TheVariants.{Level, Direction}
 use Rattle.pin_matrix.specs.declared.span.Span.{Span}
 use Rattle.pin_matrix.specs.declared.span.SpanUnit.{SpanUnit}
 use Rattle.pin_matrix.specs.declared.span.SpanUnit.TheVariants.{Ticks, Clocks}
@@ -25,7 +29,7 @@ use Rattle.span_step.specs.declared.levels.Write.{Write}
 use Rattle.span_step.specs.declared.stepped.Next.{Next}
 use Rattle.span_step.specs.declared.stepped.Stepped.{Stepped}
 use Rattle.span_step.specs.Contexts.{Context}
-use Rattle.span_step.specs.Outcomes.{ContextOutcome, level_at, outcomes, is_wild, may_stall}
+use Rattle.span_step.specs.Outcomes.{ContextOutcome, written_to, outcomes, is_wild, may_stall}
 use Rattle.span_step.specs.Courses.{Rules, courses, no_causes, joined, start, followed}
 
 -- the clocks of 256 ticks, at least 256; a divider of 0 means 65,536 (RP2040 Datasheet, section 3.5.5)
@@ -37,11 +41,11 @@ abbrev pub most_or : (least : ℕ) → Option ℕ → ℕ
 most_or least None = least - 1
 most_or least (Some most) = most
 
--- the least number of ticks that takes at least so many clocks, and the greatest that takes at most so many, for any place of
--- the first tick
+-- the least number of ticks that takes at least so many clocks, for any place of the first tick
 abbrev pub least_ticks : (clocks period : ℕ) → ℕ
 least_ticks clocks period = (256 * clocks + period - 1) / period
 
+-- the greatest number of ticks that takes at most so many clocks, for any place of the first tick
 abbrev pub most_ticks : (period clocks : ℕ) → ℕ
 most_ticks period clocks = 256 * clocks / period
 
@@ -63,6 +67,22 @@ is_bounded sp = is_some sp.max
 abbrev pub is_named : Span → ℕ → Bool
 is_named sp address = list_any (λ a. a == address) sp.stalls
 
+-- ways through the instruction at this address are left out
+abbrev pub is_left_out : Span → ℕ → Bool
+is_left_out sp address = list_any (λ a. a == address) sp.without
+
+-- A stall at this address excuses open from-edges: the span speaks only of ways on which its machine doesn't wait, but at the
+-- named addresses.
+abbrev pub is_excusing : Span → ℕ → Bool
+is_excusing sp address = sp.prompt && not (is_named sp address)
+
+-- How a machine stands at the start of a clock so that the span doesn't speak of the from-edges before. It waits at this
+-- address: it has begun the instruction there. It stands before this address: it comes to the instruction there next, with no
+-- delay left, nothing pending and nothing begun.
+abbrev pub is_excused : Span → (address : ℕ) → (waits stands_before : Bool) → Bool
+is_excused sp address waits stands_before =
+    (waits && is_excusing sp address) || (stands_before && is_left_out sp address)
+
 -- what the span asks of a row at this address
 unfoldable pub rules_of : MachineSetup → Span → ℕ → Rules
 rules_of s sp address = let bounds = bounds_of sp s in record {
@@ -72,28 +92,31 @@ rules_of s sp address = let bounds = bounds_of sp s in record {
   max = bounds.1;
   bounded = is_bounded sp;
   named = is_named sp address;
+  excuses = is_excusing sp address;
 }
 
 -- the address that follows: the program wraps after wrap_top, and the memory after 31 (section 3.5.2)
 abbrev pub next_address : MachineSetup → ℕ → ℕ
 next_address s address = if address == s.wrap_top then s.wrap_bottom else (address + 1) % 32
 
--- what side-set writes to the two pins: levels unless the rule sends it to directions (section 3.5.1)
+-- side-set writes levels, unless the rule sends it to directions (section 3.5.1)
+abbrev pub side_signal : MachineSetup → PinSignal
+side_signal s = if s.side_rule.pindirs then Direction else Level
+
+-- what side-set writes to the two pins
 abbrev pub side_of : MachineSetup → Span → Option ℕ → Write
 side_of s sp None = record { from = None; to = None }
-side_of s sp (Some value) =
-    if s.side_rule.pindirs
-    then record { from = None; to = None }
-    else record { from = level_at sp.from_pin (writes_of s.side value); to = level_at sp.to_pin (writes_of s.side value) }
+side_of s sp (Some value) = written_to (side_signal s) s.side value sp
 
 -- what all courses of a row share: what the span asks, side-set, delay, whether there is a stall, the address that follows,
--- and the row
+-- whether ways through the row are left out, and the row
 pub record Visit : Type 0 where
   pub rules : Rules
   pub side : Write
   pub delay : ℕ
   pub stalls : Bool
   pub following : ℕ
+  pub left_out : Bool
   pub context : Context
   pub ages : Ages
 
@@ -105,6 +128,7 @@ visit_of s sp op k ages = record {
   delay = op.delay;
   stalls = may_stall op.act s;
   following = next_address s k.address;
+  left_out = is_left_out sp k.address;
   context = k;
   ages = ages;
 }
@@ -133,7 +157,7 @@ with_end v o found w = record {
 
 -- the end of a course
 abbrev pub end_of : Visit → List Tick → Watch
-end_of v ticks = followed v.rules ticks (start v.context v.ages)
+end_of v ticks = followed v.rules ticks (start v.left_out v.context v.ages)
 
 -- what is found with one more outcome, by each of its courses
 unfoldable pub with_outcome : Visit → Stepped → ContextOutcome → Stepped

@@ -5,10 +5,10 @@ ghost use Rattle.span_step.specs.Contexts.{is_small};
 ghost use Rattle.span_step.specs.Outcomes as spec;
 
 use crate::context::Context;
-use crate::levels::known_levels;
+use crate::levels::{is_signal, written_to};
 use crate::outcome::ContextOutcome;
 use arrayvec::ArrayVec;
-use pin_matrix::{MachineSetup, Mapping, Span, writes_of};
+use pin_matrix::{MachineSetup, Mapping, PinSignal, Span, writes_of};
 use pio_encode::{
     Act, Condition, MovDestination, MovOperation, MovSource, OutDestination, SetDestination,
 };
@@ -159,7 +159,10 @@ fn out_outcomes(
 {
     let mut outcome = ContextOutcome::nothing_done(context);
     match destination {
-        OutDestination::Pins => return unknown_pins(machine, span, context),
+        OutDestination::Pins => return unknown_pins(PinSignal::Level, machine, span, context),
+        OutDestination::Pindirs => {
+            return unknown_pins(PinSignal::Direction, machine, span, context);
+        }
         OutDestination::Pc => return Outcomes::new(),
         OutDestination::Exec => return Outcomes::new(),
         OutDestination::X => outcome.x = None,
@@ -195,7 +198,7 @@ fn mov_outcomes(
 {
     let mut outcome = ContextOutcome::nothing_done(context);
     match destination {
-        MovDestination::Pins => return unknown_pins(machine, span, context),
+        MovDestination::Pins => return unknown_pins(PinSignal::Level, machine, span, context),
         MovDestination::Pc => return Outcomes::new(),
         MovDestination::Exec => return Outcomes::new(),
         MovDestination::X => outcome.x = word,
@@ -218,28 +221,46 @@ fn set_outcomes(
 {
     let mut outcome = ContextOutcome::nothing_done(context);
     match destination {
-        SetDestination::Pins => {
-            let write = known_levels(&machine.set, value, span);
-            outcome.from = write.from;
-            outcome.to = write.to;
+        SetDestination::Pins => return set_pins(PinSignal::Level, value, machine, span, context),
+        SetDestination::Pindirs => {
+            return set_pins(PinSignal::Direction, value, machine, span, context);
         }
         SetDestination::X => outcome.x = Some(value),
         SetDestination::Y => outcome.y = Some(value),
-        SetDestination::Pindirs => {}
     }
     one(outcome)
 }
 
-/// OUT PINS and MOV PINS: each pin of the mapping may be left at either level, and both edges' pins alike where they are
-/// one.
-fn unknown_pins(machine: &MachineSetup, span: &Span, context: &Context) -> Outcomes
-    ensures { result.items ≡ spec.unknown_pins machine.now span.now context.now }
+/// SET PINS and SET PINDIRS.
+fn set_pins(
+    signal: PinSignal,
+    value: u8,
+    machine: &MachineSetup,
+    span: &Span,
+    context: &Context,
+) -> Outcomes
+    requires { value < 32 }
+    ensures { result.items ≡ spec.set_pins signal value machine.now span.now context.now ∷ [] }
 {
-    let from_held = holds(&machine.out, span.from_pin);
-    let to_held = holds(&machine.out, span.to_pin);
+    let write = written_to(signal, &machine.set, value, span);
+    one(writing(context, write.from, write.to))
+}
+
+/// OUT PINS, MOV PINS and OUT PINDIRS: each pin of the mapping may be left either way, and both edges' pins alike where they
+/// are one.
+fn unknown_pins(
+    signal: PinSignal,
+    machine: &MachineSetup,
+    span: &Span,
+    context: &Context,
+) -> Outcomes
+    ensures { result.items ≡ spec.unknown_pins signal machine.now span.now context.now }
+{
+    let from_held = is_held(signal, span.from_signal, &machine.out, span.from_pin);
+    let to_held = is_held(signal, span.to_signal, &machine.out, span.to_pin);
     let low = Some(false);
     let high = Some(true);
-    if span.from_pin == span.to_pin {
+    if has_one_pin(span) {
         if from_held {
             two(writing(context, low, low), writing(context, high, high))
         } else {
@@ -260,7 +281,14 @@ fn unknown_pins(machine: &MachineSetup, span: &Span, context: &Context) -> Outco
     }
 }
 
-/// It goes on, and writes these levels to the span's pins.
+/// Whether both edges are of one signal of one pin.
+fn has_one_pin(span: &Span) -> bool
+    ensures { result ≡ spec.has_one_pin span.now }
+{
+    span.from_pin == span.to_pin && is_signal(span.from_signal, span.to_signal)
+}
+
+/// It goes on, and writes this to the span's pins.
 fn writing(context: &Context, from: Option<bool>, to: Option<bool>) -> ContextOutcome
     ensures { result ≡ record (spec.nothing_done context.now) { from = from; to = to } }
 {
@@ -269,6 +297,14 @@ fn writing(context: &Context, from: Option<bool>, to: Option<bool>) -> ContextOu
         to,
         ..ContextOutcome::nothing_done(context)
     }
+}
+
+/// Whether a value that goes to a mapping writes the watched signal of a pin (0 to 31).
+fn is_held(written: PinSignal, watched: PinSignal, mapping: &Mapping, pin: u8) -> bool
+    requires { pin < 32 }
+    ensures { result ≡ spec.is_held written watched mapping.now pin }
+{
+    is_signal(written, watched) && holds(mapping, pin)
 }
 
 /// Whether a mapping holds a pin (0 to 31).

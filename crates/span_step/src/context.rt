@@ -10,9 +10,9 @@ pub struct Context {
     pub x: Option<u8>,
     /// Y, or `None` where it may be anything.
     pub y: Option<u8>,
-    /// The level of the span's from-pin.
+    /// Whether the watched signal of the span's from-pin is high: its level, or its direction where that is out.
     pub from: bool,
-    /// The level of the span's to-pin.
+    /// Whether that of the to-pin is.
     pub to: bool,
 }
 

@@ -1,5 +1,5 @@
 //! One course of an instruction, tick by tick.
-ghost use Rattle.std.specs.Prelude.{◌≡◌};
+ghost use Rattle.std.specs.Prelude.{◌≡◌, false};
 ghost use Rattle.span_step.specs.Courses as spec;
 
 use crate::ages::Ages;
@@ -14,18 +14,18 @@ use crate::rules::Rules;
 pub(crate) struct Tick {
     /// It doesn't count: the machine waits, or ends a stall.
     pub(crate) late: bool,
-    /// The level that it writes to the from-pin, if any.
+    /// What it writes to the from-pin's watched signal, if anything.
     pub(crate) from: Option<bool>,
-    /// The level that it writes to the to-pin, if any.
+    /// What it writes to the to-pin's.
     pub(crate) to: Option<bool>,
 }
 
 /// What is known in the middle of a course.
 #[derive(Clone, Copy)]
 pub(crate) struct Watch {
-    /// The level of the from-pin.
+    /// Whether the from-pin's watched signal is high.
     pub(crate) from: bool,
-    /// The level of the to-pin.
+    /// Whether the to-pin's is.
     pub(crate) to: bool,
     pub(crate) ages: Ages,
     /// The causes that came so far.
@@ -34,23 +34,23 @@ pub(crate) struct Watch {
     pub(crate) from_edge: bool,
     /// A to-edge came while a from-edge of an earlier tick was open.
     pub(crate) closes: bool,
-    /// No to-edge came.
+    /// The ages at the start still live: no to-edge came, and no excuse.
     pub(crate) passes: bool,
 }
 
 impl Watch {
-    /// At the start of a course.
-    pub(crate) fn start(context: &Context, ages: Ages) -> Watch
-        ensures { result ≡ spec.start context.now ages }
+    /// At the start of a course: no age lives on where ways through the row are left out.
+    pub(crate) fn start(left_out: bool, context: &Context, ages: Ages) -> Watch
+        ensures { result ≡ spec.start left_out context.now ages }
     {
         Watch {
             from: context.from,
             to: context.to,
-            ages,
+            ages: if left_out { Ages::Empty } else { ages },
             causes: Causes::none(),
             from_edge: false,
             closes: false,
-            passes: true,
+            passes: !left_out,
         }
     }
 
@@ -65,12 +65,11 @@ impl Watch {
     ) -> Watch
         ensures { result ≡ spec.followed rules.now (spec.prompt side outcome.now delay) self }
     {
-        let first = Tick {
-            late: false,
+        let first = Write {
             from: over(side.from, outcome.from),
             to: over(side.to, outcome.to),
         };
-        self.watched(rules, first).delayed(rules, delay)
+        self.begun(rules, first).delayed(rules, delay)
     }
 
     /// At the end of the delayed course: side-set in the first tick, the other effects in the last late one.
@@ -84,35 +83,57 @@ impl Watch {
     ) -> Watch
         ensures { result ≡ spec.followed rules.now (spec.delayed side outcome.now delay) self }
     {
-        let first = Tick {
-            late: false,
-            from: side.from,
-            to: side.to,
-        };
         let last = Tick {
             late: true,
             from: outcome.from,
             to: outcome.to,
         };
-        self.watched(rules, first)
+        self.begun(rules, side)
             .watched(rules, last)
             .delayed(rules, delay)
+    }
+
+    /// After the first tick of a course, which counts and in which this is written.
+    fn begun(self, rules: &Rules, write: Write) -> Watch
+        ensures { result
+            ≡ spec.watched rules.now self (record { late = false; from = write.from; to = write.to }) }
+    {
+        match (write.from, write.to) {
+            (None, None) => self.rested(rules),
+            (from, to) => self.watched(
+                rules,
+                Tick {
+                    late: false,
+                    from,
+                    to,
+                },
+            ),
+        }
     }
 
     /// After so many ticks of a delay.
     fn delayed(self, rules: &Rules, delay: u8) -> Watch
         ensures { result ≡ spec.followed rules.now (spec.delay_ticks delay) self }
     {
-        let rest = Tick {
-            late: false,
-            from: None,
-            to: None,
-        };
         let mut watch = self;
         for _tick in 0..delay {
-            watch = watch.watched(rules, rest);
+            watch = watch.rested(rules);
         }
         watch
+    }
+
+    /// After one tick that counts and writes nothing, and so has no edge.
+    #[tactic(auto, using(crate::proofs::Ticks::rested))]
+    fn rested(self, rules: &Rules) -> Watch
+        ensures { result ≡ spec.watched rules.now self spec.delay_tick }
+    {
+        let ages = self.ages.older(rules.max);
+        let causes = tick_causes(rules, false, false, self.ages, ages);
+        Watch {
+            ages,
+            causes: self.causes.joined(causes),
+            ..self
+        }
     }
 
     /// After one tick.
@@ -127,17 +148,23 @@ impl Watch {
         } else {
             self.ages.older(rules.max)
         };
+        let excused = tick.late && rules.excuses;
         let closes = is_edge(rules.to_rise, self.to, to);
         let opens = is_edge(rules.from_rise, self.from, from);
-        let causes = tick_causes(rules, tick.late, closes, self.ages, aged);
+        let causes = if excused {
+            self.causes
+        } else {
+            self.causes
+                .joined(tick_causes(rules, tick.late, closes, self.ages, aged))
+        };
         Watch {
             from,
             to,
-            ages: aged.after_edges(closes, opens),
-            causes: self.causes.joined(causes),
+            ages: aged.after_edges(excused || closes, opens),
+            causes,
             from_edge: self.from_edge || opens,
-            closes: self.closes || (closes && aged.is_open()),
-            passes: self.passes && !closes,
+            closes: self.closes || (closes && !excused && aged.is_open()),
+            passes: self.passes && !(excused || closes),
         }
     }
 }

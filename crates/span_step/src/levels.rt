@@ -1,12 +1,11 @@
 //! What instructions write to the span's two pins.
 ghost use Rattle.std.specs.Prelude.{◌≡◌, ◌<◌};
-ghost use Rattle.pin_matrix.specs.Pins as pins;
 ghost use Rattle.span_step.specs.Outcomes as outcomes;
 ghost use Rattle.span_step.specs.Steps as steps;
 
-use pin_matrix::{MachineSetup, Mapping, Span, writes_of};
+use pin_matrix::{MachineSetup, Mapping, PinSignal, Span, writes_of};
 
-/// What is written to the from-pin and the to-pin: a level, or nothing.
+/// What is written to the watched signals of the from-pin and the to-pin: high, low or nothing.
 #[derive(Clone, Copy)]
 pub(crate) struct Write {
     pub(crate) from: Option<bool>,
@@ -26,29 +25,61 @@ fn level_at(pin: u8, write: (u32, u32)) -> Option<bool>
     }
 }
 
-/// What a value that goes to a mapping writes to the span's pins.
-pub(crate) fn known_levels(mapping: &Mapping, value: u8, span: &Span) -> Write
-    ensures from { result.from
-        ≡ outcomes.level_at span.now.from_pin (pins.writes_of mapping.now value) }
-    ensures to { result.to
-        ≡ outcomes.level_at span.now.to_pin (pins.writes_of mapping.now value) }
+/// Whether the written signal is the watched one.
+pub(crate) fn is_signal(written: PinSignal, watched: PinSignal) -> bool
+    ensures { result ≡ outcomes.is_signal written watched }
 {
-    let write = writes_of(mapping, u32::from(value));
-    Write {
-        from: level_at(span.from_pin, write),
-        to: level_at(span.to_pin, write),
+    match (written, watched) {
+        (PinSignal::Level, PinSignal::Level) => true,
+        (PinSignal::Level, PinSignal::Direction) => false,
+        (PinSignal::Direction, PinSignal::Level) => false,
+        (PinSignal::Direction, PinSignal::Direction) => true,
     }
 }
 
-/// What side-set writes: levels unless the machine's rule sends it to directions.
-pub(crate) fn side_levels(machine: &MachineSetup, span: &Span, side: Option<u8>) -> Write
+/// What a write of one signal does to the watched signal of a pin (0 to 31).
+fn signal_at(written: PinSignal, watched: PinSignal, pin: u8, write: (u32, u32)) -> Option<bool>
+    requires { pin < 32 }
+    ensures { result ≡ outcomes.signal_at written watched pin write }
+{
+    if is_signal(written, watched) {
+        level_at(pin, write)
+    } else {
+        None
+    }
+}
+
+/// What a value that goes to a mapping, as levels or as directions, writes to the span's pins.
+pub(crate) fn written_to(signal: PinSignal, mapping: &Mapping, value: u8, span: &Span) -> Write
+    ensures { result ≡ outcomes.written_to signal mapping.now value span.now }
+{
+    let write = writes_of(mapping, u32::from(value));
+    Write {
+        from: signal_at(signal, span.from_signal, span.from_pin, write),
+        to: signal_at(signal, span.to_signal, span.to_pin, write),
+    }
+}
+
+/// What side-set writes: levels, unless the machine's rule sends it to directions.
+pub(crate) fn side_of(machine: &MachineSetup, span: &Span, side: Option<u8>) -> Write
     ensures { result ≡ steps.side_of machine.now span.now side }
 {
     match side {
-        Some(value) if !machine.side_rule.pindirs => known_levels(&machine.side, value, span),
-        _ => Write {
+        Some(value) => written_to(side_signal(machine), &machine.side, value, span),
+        None => Write {
             from: None,
             to: None,
         },
+    }
+}
+
+/// Whether side-set writes levels or directions.
+fn side_signal(machine: &MachineSetup) -> PinSignal
+    ensures { result ≡ steps.side_signal machine.now }
+{
+    if machine.side_rule.pindirs {
+        PinSignal::Direction
+    } else {
+        PinSignal::Level
     }
 }

@@ -14,9 +14,9 @@ pub(crate) struct ContextOutcome {
     pub(crate) x: Option<u8>,
     /// Y after it, where it is known.
     pub(crate) y: Option<u8>,
-    /// The level that it writes to the from-pin, if any.
+    /// What it writes to the from-pin's watched signal, if anything.
     pub(crate) from: Option<bool>,
-    /// The level that it writes to the to-pin, if any.
+    /// What it writes to the to-pin's.
     pub(crate) to: Option<bool>,
 }
 

@@ -5,8 +5,8 @@ ghost use Rattle.span_step.specs.Steps as spec;
 use pin_matrix::{MachineSetup, Span, SpanUnit};
 use std::marker::Model;
 
-/// The edges, the bounds in ticks, whether `max` is one, and whether stalls at the row's address are left out. The type keeps
-/// `max` below 2^24.
+/// The edges, the bounds in ticks, whether `max` is one, whether stalls at the row's address are left out, and whether they
+/// excuse. The type keeps `max` below 2^24.
 #[derive(Clone, Copy)]
 pub(crate) struct Rules {
     pub(crate) from_rise: bool,
@@ -15,6 +15,7 @@ pub(crate) struct Rules {
     pub(crate) max: u32,
     pub(crate) bounded: bool,
     pub(crate) named: bool,
+    pub(crate) excuses: bool,
 }
 
 impl Model for Rules {
@@ -30,6 +31,7 @@ impl Model for Rules {
       max = r.max;
       bounded = r.bounded;
       named = r.named;
+      excuses = r.excuses;
     } };
 
     ghost invariant = { λ r. r.max < 2 ^ 24 };
@@ -41,6 +43,7 @@ impl Model for Rules {
       max = r.max;
       bounded = r.bounded;
       named = r.named;
+      excuses = r.excuses;
     } };
 }
 
@@ -51,13 +54,15 @@ impl Rules {
         ensures { result ≡ spec.rules_of machine.now span.now address }
     {
         let (min, max) = bounds(span, machine);
+        let named = is_named(span, address);
         Rules {
             from_rise: span.from_rise,
             to_rise: span.to_rise,
             min,
             max,
             bounded: span.max.is_some(),
-            named: is_named(span, address),
+            named,
+            excuses: span.prompt && !named,
         }
     }
 }
@@ -77,6 +82,13 @@ fn is_named(span: &Span, address: u8) -> bool
     ensures { result ≡ spec.is_named span.now address }
 {
     span.stalls.as_slice().iter().any(|named| *named == address)
+}
+
+/// Whether ways through an address are left out.
+pub(crate) fn is_left_out(span: &Span, address: u8) -> bool
+    ensures { result ≡ spec.is_left_out span.now address }
+{
+    span.without.as_slice().iter().any(|left| *left == address)
 }
 
 /// The span's bounds in ticks of the machine.

@@ -12,7 +12,7 @@ use std::marker::Model;
 pub struct Next {
     pub context: Context,
     pub ages: Ages,
-    /// No to-edge came on the way, so that the ages before live on in these.
+    /// The ages before live on in these: no to-edge came on the way, and nothing of which the span doesn't speak.
     pub passes: bool,
 }
 

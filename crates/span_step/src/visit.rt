@@ -6,9 +6,9 @@ use crate::acts::may_stall;
 use crate::ages::Ages;
 use crate::context::Context;
 use crate::course::Watch;
-use crate::levels::{Write, side_levels};
+use crate::levels::{Write, side_of};
 use crate::outcome::ContextOutcome;
-use crate::rules::Rules;
+use crate::rules::{Rules, is_left_out};
 use crate::stepped::{Next, Stepped};
 use pin_matrix::{MachineSetup, Span};
 use pio_encode::Op;
@@ -22,6 +22,7 @@ pub(crate) struct Visit {
     delay: u8,
     stalls: bool,
     following: u8,
+    left_out: bool,
     context: Context,
     ages: Ages,
 }
@@ -38,6 +39,7 @@ impl Model for Visit {
       delay = v.delay;
       stalls = v.stalls;
       following = v.following;
+      left_out = v.left_out;
       context = v.context;
       ages = v.ages;
     } };
@@ -59,10 +61,11 @@ impl Visit {
     {
         Visit {
             rules: Rules::of(machine, span, context.address),
-            side: side_levels(machine, span, op.side),
+            side: side_of(machine, span, op.side),
             delay: op.delay,
             stalls: may_stall(op.act, machine),
             following: next_address(machine, context.address),
+            left_out: is_left_out(span, context.address),
             context: *context,
             ages,
         }
@@ -75,7 +78,7 @@ impl Visit {
         ensures value { found.new ≡ spec.with_outcome self.now found.old outcome.now }
         ensures room { length found.new.nexts ≤ length found.old.nexts + 2 }
     {
-        let start = Watch::start(&self.context, self.ages);
+        let start = Watch::start(self.left_out, &self.context, self.ages);
         self.add_end(
             outcome,
             &start.prompt(&self.rules, self.side, outcome, self.delay),
