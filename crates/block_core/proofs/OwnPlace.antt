@@ -8,6 +8,8 @@ use Rattle.std.specs.List.{AllByRecursion}
 use Rattle.pin_matrix.specs.Pins.{IsWrite, IsFree, merged, last_of}
 use Rattle.pin_matrix.specs.declared.machine.MachineSetup.{MachineSetup}
 use Rattle.pin_matrix.specs.declared.setup.Setup.{Setup}
+use Rattle.pin_matrix.specs.declared.span.PinSignal.{PinSignal}
+use Rattle.pin_matrix.specs.declared.span.PinSignal.TheVariants.{Level, Direction}
 use Rattle.sm_registers.specs.declared.registers.Registers.{Registers}
 use Rattle.sm_registers.specs.View.{View}
 use Rattle.sm_registers.specs.declared.intent.Intent.{Intent}
@@ -20,7 +22,7 @@ use Rattle.sm_registers.specs.Tick.{tick_of}
 use Rattle.dreq_pacing.specs.declared.due.Due.{Due}
 use Rattle.block_core.specs.Slots.{Slot, first_slot, lined, has_tick, acted, place_after, place_intent}
 use Rattle.block_core.specs.Block.{BlockState, Run, TakesLastWrites, first_state, first_place, next_over, stepped, view_of, intents_of, level_writes, direction_writes, wanted_over}
-use Rattle.block_core.specs.Following.{Follows, place_at, intent_in, leaves_level, OthersLeave}
+use Rattle.block_core.specs.Following.{Follows, place_at, intent_in, passes_by, leaves, OthersLeave}
 use Rattle.block_core.proofs.Writes.{two_of}
 
 pub place-start : (s : Setup) (id : ℕ) → id < 4 → place_at (first_state s) id ≡ first_place s id
@@ -48,10 +50,20 @@ TicksWritePins = (s : MachineSetup) (v : View) (q : Queues) (r : Registers) → 
 abbrev pub LastWriteCounts : Type 0
 LastWriteCounts = (p old : ℕ) (ws : List (ℕ × ℕ)) → p < 32 → AllByRecursion IsWrite ws → bit_at (merged old ws) p ≡ last_of p (bit_at old p) ws
 
-abbrev pub TicksWriteOwnPins : Type 0
-TicksWriteOwnPins =
+-- what of its writes goes to levels, and what to directions
+abbrev pub written : PinSignal → Intent → List (ℕ × ℕ)
+written Level i = i.level
+written Direction i = i.direction
+
+abbrev pub TicksWriteOwnPins : PinSignal → Type 0
+TicksWriteOwnPins signal =
     (s : MachineSetup) (v : View) (q : Queues) (r : Registers) (p : ℕ) → p < 32 → holds s.out p ≡ false → holds s.set p ≡ false
-    → (s.side_rule.pindirs || not (holds s.side p)) ≡ true → AllByRecursion (IsFree p) (tick_of s v q r).1.level
+    → (passes_by signal s || not (holds s.side p)) ≡ true → AllByRecursion (IsFree p) (written signal (tick_of s v q r).1)
+
+-- the writes of all machines, of one kind
+abbrev all_written : PinSignal → List Intent → List (ℕ × ℕ)
+all_written Level intents = level_writes intents
+all_written Direction intents = direction_writes intents
 
 pub place_writes : TicksWritePins → IsWrite (0, 0) → (v : View) (d : Due) (place : Option Slot) → AllByRecursion IsWrite (place_intent v d place).level
 place_writes law none v d None = (none, (none, tt))
@@ -87,14 +99,19 @@ free_two p [] h = (bit_at-zero p, (bit_at-zero p, tt))
 free_two p (w ∷ []) h = (h.0, (bit_at-zero p, tt))
 free_two p (w ∷ x ∷ more) h = (h.0, (h.1.0, tt))
 
-place_free : TicksWriteOwnPins → (v : View) (d : Due) (p : ℕ) → p < 32 → (place : Option Slot) → IfSome (option_map (λ (m : Slot). m.machine.setup) place) (λ s. leaves_level p s ≡ true) → AllByRecursion (IsFree p) (two_writes (place_intent v d place).level)
-place_free law v d p inside None h = (bit_at-zero p, (bit_at-zero p, tt))
-place_free law v d p inside (Some m) h =
+none_free : (signal : PinSignal) (p : ℕ) → AllByRecursion (IsFree p) (written signal no_intent)
+none_free Level p = (bit_at-zero p, (bit_at-zero p, tt))
+none_free Direction p = (bit_at-zero p, (bit_at-zero p, tt))
+
+place_free : (signal : PinSignal) → TicksWriteOwnPins signal → (v : View) (d : Due) (p : ℕ) → p < 32 → (place : Option Slot) → IfSome (option_map (λ (m : Slot). m.machine.setup) place) (λ s. leaves p signal s ≡ true) → AllByRecursion (IsFree p) (two_writes (written signal (place_intent v d place)))
+place_free Level law v d p inside None h = (bit_at-zero p, (bit_at-zero p, tt))
+place_free Direction law v d p inside None h = (bit_at-zero p, (bit_at-zero p, tt))
+place_free signal law v d p inside (Some m) h =
     let s = m.machine.setup in
-    let parts = and_parts (not (holds s.out p)) (not (holds s.set p) && (s.side_rule.pindirs || not (holds s.side p))) h in
-    let rest = and_parts (not (holds s.set p)) (s.side_rule.pindirs || not (holds s.side p)) parts.1 in
-    free_two p (place_intent v d (Some m)).level
-    (of_intent (λ i. AllByRecursion (IsFree p) i.level) v d (bit_at-zero p, (bit_at-zero p, tt)) m
+    let parts = and_parts (not (holds s.out p)) (not (holds s.set p) && (passes_by signal s || not (holds s.side p))) h in
+    let rest = and_parts (not (holds s.set p)) (passes_by signal s || not (holds s.side p)) parts.1 in
+    free_two p (written signal (place_intent v d (Some m)))
+    (of_intent (λ i. AllByRecursion (IsFree p) (written signal i)) v d (none_free signal p) m
     (law s v (queues_of m.machine.ports.fifos) m.machine.registers p inside (not-true _ parts.0) (not-true _ rest.0) rest.1))
 
 -- writes that leave a pin, before others
@@ -112,48 +129,74 @@ abbrev pub FreeStays : Type 0
 FreeStays = (p old : ℕ) (ws : List (ℕ × ℕ)) → AllByRecursion (IsFree p) ws → last_of p old ws ≡ old
 
 -- each of the places leaves the pin
-abbrev AllLeave : ℕ → List (Option Slot) → Type 0
-AllLeave p places = (other : ℕ) → IfSome (slice_index_or (map (option_map (λ (m : Slot). m.machine.setup)) places) other None) (λ s. leaves_level p s ≡ true)
+abbrev AllLeave : ℕ → PinSignal → List (Option Slot) → Type 0
+AllLeave p signal places = (other : ℕ) → IfSome (slice_index_or (map (option_map (λ (m : Slot). m.machine.setup)) places) other None) (λ s. leaves p signal s ≡ true)
 
-all_free : TicksWriteOwnPins → (v : View) (d : Due) (p : ℕ) → p < 32 → (places : List (Option Slot)) → AllLeave p places → AllByRecursion (IsFree p) (level_writes (intents_of v d places))
-all_free law v d p inside [] h = tt
-all_free law v d p inside (place ∷ places) h =
-    free_append p (two_writes (place_intent v d place).level) (level_writes (intents_of v d places)) (place_free law v d p inside place (h zero)) (all_free law v d p inside places (λ other. h (suc other)))
+-- of no places, and of one before others
+none-written : (signal : PinSignal) (v : View) (d : Due) → all_written signal (intents_of v d []) ≡ []
+none-written Level v d = refl
+none-written Direction v d = refl
+
+one-written : (signal : PinSignal) (v : View) (d : Due) (place : Option Slot) (places : List (Option Slot)) → all_written signal (intents_of v d (place ∷ places)) ≡ two_writes (written signal (place_intent v d place)) ++ all_written signal (intents_of v d places)
+one-written Level v d place places = refl
+one-written Direction v d place places = refl
+
+all_free : (signal : PinSignal) → TicksWriteOwnPins signal → (v : View) (d : Due) (p : ℕ) → p < 32 → (places : List (Option Slot)) → AllLeave p signal places → AllByRecursion (IsFree p) (all_written signal (intents_of v d places))
+all_free signal law v d p inside [] h = subst (AllByRecursion (IsFree p)) (sym (none-written signal v d)) tt
+all_free signal law v d p inside (place ∷ places) h =
+    subst (AllByRecursion (IsFree p)) (sym (one-written signal v d place places))
+    (free_append p (two_writes (written signal (place_intent v d place))) (all_written signal (intents_of v d places)) (place_free signal law v d p inside place (h zero)) (all_free signal law v d p inside places (λ other. h (suc other))))
+
+none-wanted : (signal : PinSignal) → two_writes (written signal no_intent) ≡ (0, 0) ∷ (0, 0) ∷ []
+none-wanted Level = refl
+none-wanted Direction = refl
 
 -- the writes of the one machine are all that there is
-last-own : TicksWriteOwnPins → FreeStays → (v : View) (d : Due) (p : ℕ) → p < 32 → (places : List (Option Slot)) (id old : ℕ) → OthersLeave id p (map (option_map (λ (m : Slot). m.machine.setup)) places) → last_of p old (level_writes (intents_of v d places)) ≡ last_of p old (two_writes (place_intent v d (slice_index_or places id None)).level)
+last-own : (signal : PinSignal) → TicksWriteOwnPins signal → FreeStays → (v : View) (d : Due) (p : ℕ) → p < 32 → (places : List (Option Slot)) (id old : ℕ) → OthersLeave signal id p (map (option_map (λ (m : Slot). m.machine.setup)) places) → last_of p old (all_written signal (intents_of v d places)) ≡ last_of p old (two_writes (written signal (place_intent v d (slice_index_or places id None))))
 unfolding last_of
-last-own law stays v d p inside [] id old h = sym (stays p old ((0, 0) ∷ (0, 0) ∷ []) (bit_at-zero p, (bit_at-zero p, tt)))
-last-own law stays v d p inside (place ∷ places) zero old h =
-    let own = two_writes (place_intent v d place).level in
-    last_append p old own (level_writes (intents_of v d places))
-    ∙ stays p (last_of p old own) (level_writes (intents_of v d places)) (all_free law v d p inside places (λ other. h (suc other) (λ e. absurd (omega (arith, e)))))
-last-own law stays v d p inside (place ∷ places) (suc id) old h =
-    let first = two_writes (place_intent v d place).level in
-    let free = place_free law v d p inside place (h zero (λ e. absurd (omega (arith, e)))) in
-    last_append p old first (level_writes (intents_of v d places))
-    ∙ ap (λ o. last_of p o (level_writes (intents_of v d places))) (stays p old first free)
-    ∙ last-own law stays v d p inside places id old (λ other apart. h (suc other) (λ e. apart (omega (arith, e))))
+last-own signal law stays v d p inside [] id old h =
+    ap (last_of p old) (none-written signal v d)
+    ∙ sym (stays p old ((0, 0) ∷ (0, 0) ∷ []) (bit_at-zero p, (bit_at-zero p, tt)))
+    ∙ ap (last_of p old) (sym (none-wanted signal))
+last-own signal law stays v d p inside (place ∷ places) zero old h =
+    let own = two_writes (written signal (place_intent v d place)) in
+    ap (last_of p old) (one-written signal v d place places)
+    ∙ last_append p old own (all_written signal (intents_of v d places))
+    ∙ stays p (last_of p old own) (all_written signal (intents_of v d places)) (all_free signal law v d p inside places (λ other. h (suc other) (λ e. absurd (omega (arith, e)))))
+last-own signal law stays v d p inside (place ∷ places) (suc id) old h =
+    let first = two_writes (written signal (place_intent v d place)) in
+    let free = place_free signal law v d p inside place (h zero (λ e. absurd (omega (arith, e)))) in
+    ap (last_of p old) (one-written signal v d place places)
+    ∙ last_append p old first (all_written signal (intents_of v d places))
+    ∙ ap (λ o. last_of p o (all_written signal (intents_of v d places))) (stays p old first free)
+    ∙ last-own signal law stays v d p inside places id old (λ other apart. h (suc other) (λ e. apart (omega (arith, e))))
 
 -- the setups are at their places from the start
 some_first : (P : MachineSetup → Type 0) (s : Option MachineSetup) → IfSome s P → IfSome (option_map (λ (m : Slot). m.machine.setup) (option_map first_slot s)) P
 some_first P None h = tt
 some_first P (Some s) h = h
 
-leave-first : (s : Setup) (id p : ℕ) → OthersLeave id p s.machines → OthersLeave id p (map (option_map (λ (m : Slot). m.machine.setup)) (first_state s).machines)
-leave-first s id p h zero apart = some_first (λ t. leaves_level p t ≡ true) (slice_index_or s.machines 0 None) (h 0 apart)
-leave-first s id p h (suc zero) apart = some_first (λ t. leaves_level p t ≡ true) (slice_index_or s.machines 1 None) (h 1 apart)
-leave-first s id p h (suc (suc zero)) apart = some_first (λ t. leaves_level p t ≡ true) (slice_index_or s.machines 2 None) (h 2 apart)
-leave-first s id p h (suc (suc (suc zero))) apart = some_first (λ t. leaves_level p t ≡ true) (slice_index_or s.machines 3 None) (h 3 apart)
-leave-first s id p h (suc (suc (suc (suc other)))) apart = tt
+leave-first : (s : Setup) (signal : PinSignal) (id p : ℕ) → OthersLeave signal id p s.machines → OthersLeave signal id p (map (option_map (λ (m : Slot). m.machine.setup)) (first_state s).machines)
+leave-first s signal id p h zero apart = some_first (λ t. leaves p signal t ≡ true) (slice_index_or s.machines 0 None) (h 0 apart)
+leave-first s signal id p h (suc zero) apart = some_first (λ t. leaves p signal t ≡ true) (slice_index_or s.machines 1 None) (h 1 apart)
+leave-first s signal id p h (suc (suc zero)) apart = some_first (λ t. leaves p signal t ≡ true) (slice_index_or s.machines 2 None) (h 2 apart)
+leave-first s signal id p h (suc (suc (suc zero))) apart = some_first (λ t. leaves p signal t ≡ true) (slice_index_or s.machines 3 None) (h 3 apart)
+leave-first s signal id p h (suc (suc (suc (suc other)))) apart = tt
 
--- as a premise: of a pin's writes the last gives its level
+-- as a premise: of a pin's writes the last gives its bit
 abbrev pub LastCounts : Type 0
 LastCounts = (p old : ℕ) (ws : List (ℕ × ℕ)) → p < 32 → AllByRecursion IsWrite ws → bit_at (merged old ws) p ≡ last_of p (bit_at old p) ws
 
-pub own_level : TicksWritePins → TicksWriteOwnPins → IsWrite (0, 0) → LastCounts → FreeStays → (s : Setup) (memory : List ℕ) (seen : ℕ) (d : Due) (b : BlockState) (id p : ℕ) → p < 32 → OthersLeave id p s.machines → map (option_map (λ (m : Slot). m.machine.setup)) b.machines ≡ map (option_map (λ (m : Slot). m.machine.setup)) (first_state s).machines → bit_at (stepped memory seen d b).levels p ≡ last_of p (bit_at b.levels p) (two_writes (intent_in memory seen d b id).level)
+pub own_level : TicksWritePins → TicksWriteOwnPins Level → IsWrite (0, 0) → LastCounts → FreeStays → (s : Setup) (memory : List ℕ) (seen : ℕ) (d : Due) (b : BlockState) (id p : ℕ) → p < 32 → OthersLeave Level id p s.machines → map (option_map (λ (m : Slot). m.machine.setup)) b.machines ≡ map (option_map (λ (m : Slot). m.machine.setup)) (first_state s).machines → bit_at (stepped memory seen d b).levels p ≡ last_of p (bit_at b.levels p) (two_writes (intent_in memory seen d b id).level)
 unfolding stepped
 own_level writes law none last stays s memory seen d b id p inside others same =
     let v = view_of memory seen b in
     last p b.levels (level_writes (intents_of v d b.machines)) inside (all_writes writes none v d b.machines)
-    ∙ last-own law stays v d p inside b.machines id (bit_at b.levels p) (subst (OthersLeave id p) (sym same) (leave-first s id p others))
+    ∙ last-own Level law stays v d p inside b.machines id (bit_at b.levels p) (subst (OthersLeave Level id p) (sym same) (leave-first s Level id p others))
+
+pub own_direction : TicksWritePins → TicksWriteOwnPins Direction → IsWrite (0, 0) → LastCounts → FreeStays → (s : Setup) (memory : List ℕ) (seen : ℕ) (d : Due) (b : BlockState) (id p : ℕ) → p < 32 → OthersLeave Direction id p s.machines → map (option_map (λ (m : Slot). m.machine.setup)) b.machines ≡ map (option_map (λ (m : Slot). m.machine.setup)) (first_state s).machines → bit_at (stepped memory seen d b).directions p ≡ last_of p (bit_at b.directions p) (two_writes (intent_in memory seen d b id).direction)
+unfolding stepped
+own_direction writes law none last stays s memory seen d b id p inside others same =
+    let v = view_of memory seen b in
+    last p b.directions (direction_writes (intents_of v d b.machines)) inside (all_turns writes none v d b.machines)
+    ∙ last-own Direction law stays v d p inside b.machines id (bit_at b.directions p) (subst (OthersLeave Direction id p) (sym same) (leave-first s Direction id p others))

@@ -4,6 +4,7 @@ ghost use Rattle.std.specs.Int.{bit_at};
 ghost use Rattle.pin_matrix.specs.Pads.{seen_of};
 ghost use Rattle.pin_matrix.specs.Pins.{last_of};
 ghost use Rattle.pin_matrix.specs.declared.setup.Setup.{Setup};
+ghost use Rattle.pin_matrix.specs.declared.span.PinSignal.TheVariants.{Level, Direction};
 ghost use Rattle.dreq_pacing.specs.declared.due.Due.{Due};
 ghost use Rattle.dreq_pacing.specs.declared.line.Line.{Line};
 ghost use Rattle.sm_registers.specs.Intents.{two_writes};
@@ -52,13 +53,18 @@ pub fn each_place_goes_its_own_way()
 {}
 
 /// The level of a pin to which no other machine is mapped changes only by what this machine writes: its instruction, and then
-/// side-set.
+/// side-set; and so does a direction.
 pub fn a_pin_of_one_machine()
     ensures level { (s : Setup) (memory : List ℕ) (seen : ℕ → ℕ) (host : ℕ → Due) (states : ℕ → BlockState) →
         states 0 ≡ first_state s → Follows memory seen host states → (id p : ℕ) → p < 32 →
-        OthersLeave id p s.machines → (clock : ℕ) →
+        OthersLeave Level id p s.machines → (clock : ℕ) →
         bit_at (states (suc clock)).levels p ≡ last_of p (bit_at (states clock).levels p)
         (two_writes (intent_in memory (seen clock) (host clock) (states clock) id).level) }
+    ensures direction { (s : Setup) (memory : List ℕ) (seen : ℕ → ℕ) (host : ℕ → Due) (states : ℕ → BlockState) →
+        states 0 ≡ first_state s → Follows memory seen host states → (id p : ℕ) → p < 32 →
+        OthersLeave Direction id p s.machines → (clock : ℕ) →
+        bit_at (states (suc clock)).directions p ≡ last_of p (bit_at (states clock).directions p)
+        (two_writes (intent_in memory (seen clock) (host clock) (states clock) id).direction) }
 {
     the_last_write_counts();
     no_write_changes_nothing();
