@@ -1,5 +1,5 @@
 -- What holds of two steps of one context, whose ages alone differ, is shown for one tick, and each course keeps it.
-use Rattle.std.proofs.Common.{◌≡◌, ℕ, Bool, true, false, not, ◌&&◌, cond, if◌then◌else◌, Option, List, [], ◌∷◌, ◌++◌, refl, fold}
+use Rattle.std.proofs.Common.{◌≡◌, ℕ, Bool, true, false, not, ◌&&◌, ◌||◌, cond, if◌then◌else◌, Option, List, [], ◌∷◌, ◌++◌, refl, fold}
 use Rattle.std.proofs.lemmas.List.Folds.{fold_along}
 use Rattle.span_step.specs.declared.ages.Ages.{Ages}
 use Rattle.span_step.specs.declared.ages.Ages.TheVariants.{Empty}
@@ -72,6 +72,10 @@ module _ (r : Rules) (S : Ages → Ages → Type 0) (R : Bool → Ages → Ages 
   counted p true a b h = h
   counted p false a b h = k.further p a b h
 
+  pub chosen : (e : Bool) (a b c d : Causes) → C a b → C c d → C (if e then a else c) (if e then b else d)
+  chosen true a b c d h l = h
+  chosen false a b c d h l = l
+
   -- each tick keeps it
   pub Alike-watched : (w v : Watch) (t : Tick) → Alike R C w v → Alike R C (watched r w t) (watched r v t)
   unfolding watched
@@ -81,13 +85,21 @@ module _ (r : Rules) (S : Ages → Ages → Type 0) (R : Bool → Ages → Ages 
     passes = refl;
     from_edge = refl;
     ages = edges w.passes _ _ _ _ (counted w.passes t.late w.ages v.ages h.ages);
-    causes = k.joins _ _ _ _ h.causes (k.told w.passes t.late _ w.ages v.ages h.ages);
+    causes = chosen (t.late && r.excuses) _ _ _ _ h.causes (k.joins _ _ _ _ h.causes (k.told w.passes t.late _ w.ages v.ages h.ages));
   })
 
   -- the first tick makes it
-  pub Alike-first : (c : Context) (f g : Option Bool) (a b : Ages) → S a b → Alike R C (watched r (start c a) (record { late = false; from = f; to = g })) (watched r (start c b) (record { late = false; from = f; to = g }))
+  pub Alike-first : (l : Bool) (c : Context) (f g : Option Bool) (a b : Ages) → S a b → Alike R C (watched r (start l c a) (record { late = false; from = f; to = g })) (watched r (start l c b) (record { late = false; from = f; to = g }))
   unfolding watched
-  Alike-first c f g a b h = record {
+  Alike-first true c f g a b h = record {
+    from = refl;
+    to = refl;
+    passes = refl;
+    from_edge = refl;
+    ages = edges false _ _ Empty Empty k.ended;
+    causes = k.joins _ _ _ _ k.none (k.told false false _ Empty Empty k.ended);
+  }
+  Alike-first false c f g a b h = record {
     from = refl;
     to = refl;
     passes = refl;
@@ -97,15 +109,15 @@ module _ (r : Rules) (S : Ages → Ages → Type 0) (R : Bool → Ages → Ages 
   }
 
   -- so do the courses
-  pub Alike-prompt : (c : Context) (side : Write) (o : ContextOutcome) (d : ℕ) (a b : Ages) → S a b → Alike R C (followed r (prompt side o d) (start c a)) (followed r (prompt side o d) (start c b))
+  pub Alike-prompt : (l : Bool) (c : Context) (side : Write) (o : ContextOutcome) (d : ℕ) (a b : Ages) → S a b → Alike R C (followed r (prompt side o d) (start l c a)) (followed r (prompt side o d) (start l c b))
   unfolding prompt
-  Alike-prompt c side o d a b h =
-      fold_along (watched r) (watched r) (Alike R C) Alike-watched _ _ (delay_ticks d) (Alike-first c _ _ a b h)
+  Alike-prompt l c side o d a b h =
+      fold_along (watched r) (watched r) (Alike R C) Alike-watched _ _ (delay_ticks d) (Alike-first l c _ _ a b h)
 
-  pub Alike-delayed : (c : Context) (side : Write) (o : ContextOutcome) (d : ℕ) (a b : Ages) → S a b → Alike R C (followed r (delayed side o d) (start c a)) (followed r (delayed side o d) (start c b))
+  pub Alike-delayed : (l : Bool) (c : Context) (side : Write) (o : ContextOutcome) (d : ℕ) (a b : Ages) → S a b → Alike R C (followed r (delayed side o d) (start l c a)) (followed r (delayed side o d) (start l c b))
   unfolding delayed
-  Alike-delayed c side o d a b h =
-      fold_along (watched r) (watched r) (Alike R C) Alike-watched _ _ (delay_ticks d) (Alike-watched _ _ _ (Alike-first c _ _ a b h))
+  Alike-delayed l c side o d a b h =
+      fold_along (watched r) (watched r) (Alike R C) Alike-watched _ _ (delay_ticks d) (Alike-watched _ _ _ (Alike-first l c _ _ a b h))
 
   -- one more end
   pub Together-with_end : (v : Visit) (a b : Ages) (o : ContextOutcome) (s t : Stepped) (x y : Watch) → Together R C s t → Alike R C x y → Together R C (with_end (record v { ages = a }) o s x) (with_end (record v { ages = b }) o t y)
@@ -120,8 +132,8 @@ module _ (r : Rules) (S : Ages → Ages → Type 0) (R : Bool → Ages → Ages 
   pub Together-courses : (stalls : Bool) (v : Visit) (a b : Ages) (o : ContextOutcome) (s t : Stepped) → v.rules ≡ r → S a b → Together R C s t →
       Together R C (fold (λ u ticks. with_end (record v { ages = a }) o u (end_of (record v { ages = a }) ticks)) s (courses stalls v.side o v.delay)) (fold (λ u ticks. with_end (record v { ages = b }) o u (end_of (record v { ages = b }) ticks)) t (courses stalls v.side o v.delay))
   unfolding courses with_end
-  Together-courses true v a b o s t e h l = rw e (Together-with_end v a b o _ _ _ _ (Together-with_end v a b o s t _ _ l (Alike-prompt v.context v.side o v.delay a b h)) (Alike-delayed v.context v.side o v.delay a b h))
-  Together-courses false v a b o s t e h l = rw e (Together-with_end v a b o s t _ _ l (Alike-prompt v.context v.side o v.delay a b h))
+  Together-courses true v a b o s t e h l = rw e (Together-with_end v a b o _ _ _ _ (Together-with_end v a b o s t _ _ l (Alike-prompt v.left_out v.context v.side o v.delay a b h)) (Alike-delayed v.left_out v.context v.side o v.delay a b h))
+  Together-courses false v a b o s t e h l = rw e (Together-with_end v a b o s t _ _ l (Alike-prompt v.left_out v.context v.side o v.delay a b h))
 
   pub Together-with_outcome : (v : Visit) (a b : Ages) → v.rules ≡ r → S a b → (s t : Stepped) (o : ContextOutcome) → Together R C s t → Together R C (with_outcome (record v { ages = a }) s o) (with_outcome (record v { ages = b }) t o)
   unfolding with_outcome

@@ -1,7 +1,9 @@
+pub mod Ticks
 pub mod Kept
 pub mod Periods
 pub mod Wider
 pub mod Alike
 pub mod Aging
+pub mod LeftOut
 pub mod Overdue
 pub mod Placed

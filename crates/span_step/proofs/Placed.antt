@@ -3,6 +3,7 @@ use Rattle.std.proofs.Common.{◌≡◌, ℕ, ◌+◌, ◌-◌, ◌%◌, ◌<◌
 use Rattle.std.proofs.lemmas.Bool.Decides.{nat_tests}
 use Rattle.pin_matrix.specs.declared.machine.MachineSetup.{MachineSetup}
 use Rattle.pin_matrix.specs.declared.setup.Setup.{Setup}
+use Rattle.pin_matrix.specs.declared.span.PinSignal.TheVariants.{Level, Direction}
 use Rattle.pin_matrix.specs.declared.span.Span.{Span}
 use Rattle.pio_encode.specs.declared.op.Op.{Op}
 use Rattle.pio_encode.specs.declared.act.Act.{Act}
@@ -177,17 +178,17 @@ module _ (s : MachineSetup) (sp : Span) (k : Context) (f : ℕ) (low : nat_lt f 
   fine_outcomes (Jmp c address) h = fine_jump c address h
   fine_outcomes (Wait polarity source index) h = (fine_still, tt)
   fine_outcomes (In source count) h = (fine_still, tt)
-  fine_outcomes (Out out_destination.Pins count) h = fine_pins (unknown_levels s.out sp)
+  fine_outcomes (Out out_destination.Pins count) h = fine_pins (unknown_levels Level s.out sp)
   fine_outcomes (Out out_destination.X count) h = (placed_by f None k.y low refl y, tt)
   fine_outcomes (Out out_destination.Y count) h = (placed_by f k.x None low x refl, tt)
   fine_outcomes (Out out_destination.Null count) h = (fine_still, tt)
-  fine_outcomes (Out out_destination.Pindirs count) h = (fine_still, tt)
+  fine_outcomes (Out out_destination.Pindirs count) h = fine_pins (unknown_levels Direction s.out sp)
   fine_outcomes (Out out_destination.Pc count) h = tt
   fine_outcomes (Out out_destination.Isr count) h = (fine_still, tt)
   fine_outcomes (Out out_destination.Exec count) h = tt
   fine_outcomes (Push if_full block) h = (fine_still, tt)
   fine_outcomes (Pull if_empty block) h = (fine_still, tt)
-  fine_outcomes (Mov mov_destination.Pins operation source) h = fine_pins (unknown_levels s.out sp)
+  fine_outcomes (Mov mov_destination.Pins operation source) h = fine_pins (unknown_levels Level s.out sp)
   fine_outcomes (Mov mov_destination.X operation source) h = (placed_by f (copied operation source k) k.y low (copied_small operation source) y, tt)
   fine_outcomes (Mov mov_destination.Y operation source) h = (placed_by f k.x (copied operation source k) low x (copied_small operation source), tt)
   fine_outcomes (Mov mov_destination.Exec operation source) h = tt

@@ -7,6 +7,7 @@
 --   cap_of           the age at which ages stop
 --   ReachesAge       some age is at least this
 --   first_cause      the first cause in the order U1 to U4
+--   NonePass         no course passes
 --   AllPlaced        each next context is in range
 use Rattle.std.specs.Prelude.{◌≡◌, ℕ, ◌+◌, ◌≤◌, Bool, true, false, if◌then◌else◌, Option, Some, None, List, [], ◌∷◌, slice_index_or}
 use Rattle.pin_matrix.specs.declared.machine.MachineSetup.{MachineSetup}
@@ -101,6 +102,11 @@ AllUpTo n (m ∷ ms) = AreUpTo n m.ages × AllUpTo n ms
 abbrev pub AllReach : ℕ → List Next → Type 0
 AllReach n [] = Unit {0}
 AllReach n (m ∷ ms) = (m.passes ≡ true → ReachesAge n m.ages) × AllReach n ms
+
+-- no course passes
+abbrev pub NonePass : List Next → Type 0
+NonePass [] = Unit {0}
+NonePass (m ∷ ms) = (m.passes ≡ false) × NonePass ms
 
 -- each next context is in range
 abbrev pub AllPlaced : List Next → Type 0

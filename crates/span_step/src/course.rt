@@ -1,5 +1,5 @@
 //! One course of an instruction, tick by tick.
-ghost use Rattle.std.specs.Prelude.{◌≡◌};
+ghost use Rattle.std.specs.Prelude.{◌≡◌, false};
 ghost use Rattle.span_step.specs.Courses as spec;
 
 use crate::ages::Ages;
@@ -65,12 +65,11 @@ impl Watch {
     ) -> Watch
         ensures { result ≡ spec.followed rules.now (spec.prompt side outcome.now delay) self }
     {
-        let first = Tick {
-            late: false,
+        let first = Write {
             from: over(side.from, outcome.from),
             to: over(side.to, outcome.to),
         };
-        self.watched(rules, first).delayed(rules, delay)
+        self.begun(rules, first).delayed(rules, delay)
     }
 
     /// At the end of the delayed course: side-set in the first tick, the other effects in the last late one.
@@ -84,35 +83,57 @@ impl Watch {
     ) -> Watch
         ensures { result ≡ spec.followed rules.now (spec.delayed side outcome.now delay) self }
     {
-        let first = Tick {
-            late: false,
-            from: side.from,
-            to: side.to,
-        };
         let last = Tick {
             late: true,
             from: outcome.from,
             to: outcome.to,
         };
-        self.watched(rules, first)
+        self.begun(rules, side)
             .watched(rules, last)
             .delayed(rules, delay)
+    }
+
+    /// After the first tick of a course, which counts and in which this is written.
+    fn begun(self, rules: &Rules, write: Write) -> Watch
+        ensures { result
+            ≡ spec.watched rules.now self (record { late = false; from = write.from; to = write.to }) }
+    {
+        match (write.from, write.to) {
+            (None, None) => self.rested(rules),
+            (from, to) => self.watched(
+                rules,
+                Tick {
+                    late: false,
+                    from,
+                    to,
+                },
+            ),
+        }
     }
 
     /// After so many ticks of a delay.
     fn delayed(self, rules: &Rules, delay: u8) -> Watch
         ensures { result ≡ spec.followed rules.now (spec.delay_ticks delay) self }
     {
-        let rest = Tick {
-            late: false,
-            from: None,
-            to: None,
-        };
         let mut watch = self;
         for _tick in 0..delay {
-            watch = watch.watched(rules, rest);
+            watch = watch.rested(rules);
         }
         watch
+    }
+
+    /// After one tick that counts and writes nothing, and so has no edge.
+    #[tactic(auto, using(crate::proofs::Ticks::rested))]
+    fn rested(self, rules: &Rules) -> Watch
+        ensures { result ≡ spec.watched rules.now self spec.delay_tick }
+    {
+        let ages = self.ages.older(rules.max);
+        let causes = tick_causes(rules, false, false, self.ages, ages);
+        Watch {
+            ages,
+            causes: self.causes.joined(causes),
+            ..self
+        }
     }
 
     /// After one tick.

@@ -1,12 +1,17 @@
 //! Laws of a step, each on a function that does nothing.
-ghost use Rattle.std.specs.Prelude.{◌≡◌, ℕ, ◌+◌, min, map, true, false, Some, IsSome, None, slice_index_or};
+ghost use Rattle.std.specs.Prelude.{◌≡◌, ℕ, ◌+◌, ◌&&◌, if◌then◌else◌, min, map, true, false, Some, IsSome, None, slice_index_or};
 ghost use Rattle.pin_matrix.specs.declared.setup.Setup as setup;
 ghost use Rattle.pin_matrix.specs.declared.span.Span as span;
 ghost use Rattle.span_step.specs.Contexts as contexts;
 ghost use Rattle.span_step.specs.Contexts.{IsInside, is_open, is_placed};
+ghost use Rattle.span_step.specs.Courses as courses;
+ghost use Rattle.span_step.specs.Courses.{is_edge, watched};
 ghost use Rattle.span_step.specs.declared.ages.Ages as ages;
+ghost use Rattle.span_step.specs.declared.ages.Ages.TheVariants.{Empty, Between};
+ghost use Rattle.span_step.specs.declared.course.Tick as tick;
+ghost use Rattle.span_step.specs.declared.course.Watch as watch;
 ghost use Rattle.span_step.specs.Steps.{context_steps, is_left_out};
-ghost use Rattle.span_step.specs.Laws.{aim_of, IsNarrower, AreAlike, GoesLike, OpenAlike, SameAfterEdge, AllUpTo, AllReach, ReachesAge, most_of, first_cause, AllPlaced};
+ghost use Rattle.span_step.specs.Laws.{aim_of, IsNarrower, AreAlike, GoesLike, OpenAlike, SameAfterEdge, AllUpTo, AllReach, ReachesAge, most_of, first_cause, NonePass, AllPlaced};
 
 /// Ages inside others give the same next contexts with ages inside, no more causes and the same from-edge.
 pub fn a_step_is_monotone()
@@ -15,7 +20,8 @@ pub fn a_step_is_monotone()
 {}
 
 /// The next contexts, which of them are reached by a course that passes, and whether a from-edge comes don't depend on the
-/// ages. Nor do the ages after a course that doesn't pass; and whether ages are open afterwards depends on no more than whether they were.
+/// ages. Nor do the ages after a course that doesn't pass; and whether ages are open afterwards depends on no more than whether
+/// they were.
 pub fn next_contexts_do_not_depend_on_ages()
     ensures contexts { (u : setup.Setup) (sp : span.Span) (k : contexts.Context) (a b : ages.Ages)
         → map aim_of (context_steps u sp k a).nexts
@@ -49,6 +55,29 @@ pub fn overdue_ages_are_bad()
         → IsSome (slice_index_or u.machines sp.machine None) → IsSome sp.max
         → ReachesAge (most_of u sp) a → ReachesAge (most_of u sp) b
         → first_cause (context_steps u sp k a).causes ≡ first_cause (context_steps u sp k b).causes }
+{}
+
+/// A row that is left out steps as if no ages were there, and no course of it passes.
+pub fn rows_left_out_lose_ages()
+    ensures ages { (u : setup.Setup) (sp : span.Span) (k : contexts.Context) (a : ages.Ages)
+        → is_left_out sp k.address ≡ true → context_steps u sp k a ≡ context_steps u sp k Empty }
+    ensures passes { (u : setup.Setup) (sp : span.Span) (k : contexts.Context) (a : ages.Ages)
+        → is_left_out sp k.address ≡ true → NonePass (context_steps u sp k a).nexts }
+{}
+
+/// An excused tick, a late one where the row excuses, leaves no age but that of a from-edge of its own. It adds no cause and
+/// closes nothing.
+pub fn an_excused_tick_leaves_a_fresh_age_at_most()
+    ensures ages { (r : courses.Rules) (w : watch.Watch) (t : tick.Tick)
+        → (t.late && r.excuses) ≡ true
+        → (watched r w t).ages
+        ≡ (if is_edge r.from_rise w.from (watched r w t).from then Between 0 0 else Empty) }
+    ensures causes { (r : courses.Rules) (w : watch.Watch) (t : tick.Tick)
+        → (t.late && r.excuses) ≡ true → (watched r w t).causes ≡ w.causes }
+    ensures closes { (r : courses.Rules) (w : watch.Watch) (t : tick.Tick)
+        → (t.late && r.excuses) ≡ true → (watched r w t).closes ≡ w.closes }
+    ensures passes { (r : courses.Rules) (w : watch.Watch) (t : tick.Tick)
+        → (t.late && r.excuses) ≡ true → (watched r w t).passes ≡ false }
 {}
 
 /// After a context whose numbers are in range, each next context's are.

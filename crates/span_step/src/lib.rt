@@ -19,8 +19,9 @@ pub use ages::Ages;
 pub use cause::{Cause, Causes};
 pub use context::Context;
 pub use laws::{
-    a_step_is_monotone, ages_grow_up_to_the_cap, next_contexts_are_in_range,
-    next_contexts_do_not_depend_on_ages, overdue_ages_are_bad,
+    a_step_is_monotone, ages_grow_up_to_the_cap, an_excused_tick_leaves_a_fresh_age_at_most,
+    next_contexts_are_in_range, next_contexts_do_not_depend_on_ages, overdue_ages_are_bad,
+    rows_left_out_lose_ages,
 };
 pub use stepped::{Next, Nexts, Stepped};
 pub use stepping::{age_cap, step};

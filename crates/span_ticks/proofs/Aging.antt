@@ -1,5 +1,5 @@
 -- What one tick of a course makes of an open age.
-use Rattle.std.proofs.Common.{◌≡◌, ℕ, ◌+◌, ◌≤◌, min, Bool, true, false, not, ◌&&◌, if◌then◌else◌, nat_lt, refl, sym, ◌∙◌, arith}
+use Rattle.std.proofs.Common.{◌≡◌, ℕ, ◌+◌, ◌≤◌, min, Bool, true, false, not, ◌&&◌, ◌||◌, if◌then◌else◌, nat_lt, refl, sym, ◌∙◌, arith}
 use Rattle.std.proofs.lemmas.Bool.Decides.{nat_tests}
 use Rattle.pin_matrix.specs.declared.machine.MachineSetup.{MachineSetup}
 use Rattle.pin_matrix.specs.declared.span.Span.{Span}
@@ -8,10 +8,10 @@ use Rattle.span_step.specs.declared.ages.Ages.{Ages}
 use Rattle.span_step.specs.declared.ages.Ages.TheVariants.{Empty, Between}
 use Rattle.span_step.specs.Contexts.{IsInside, is_open}
 use Rattle.span_step.specs.Courses.{watched, older, is_above, is_below, with_fresh, after_edges, is_edge}
-use Rattle.span_step.specs.Steps.{bounds_of, is_bounded, is_named, rules_of}
+use Rattle.span_step.specs.Steps.{bounds_of, is_bounded, is_named, is_excusing, rules_of}
 use Rattle.span_ticks.specs.UnderWay.{Watch}
 use Rattle.span_ticks.specs.Following.{InAges, IsAged, closes, opens, is_late}
-use Rattle.span_ticks.proofs.Clean.{Tick, IsClean, clean_right}
+use Rattle.span_ticks.proofs.Clean.{Tick, IsClean, clean_tick}
 
 false≢true : false ≡ true → ⊥
 false≢true e = cc
@@ -79,18 +79,26 @@ zero_kept bounded a ends false e = cc
 zero_kept bounded a true true e = zero_fresh bounded Empty
 zero_kept bounded a false true e = zero_fresh bounded a
 
+pub and_no : (a b : Bool) → b ≡ false → (a && b) ≡ false
+and_no true b h = h
+and_no false b h = refl
+
+or_no : (a b : Bool) → a ≡ false → b ≡ false → (a || b) ≡ false
+or_no true b h k = cc
+or_no false b h k = k
+
 -- one tick
 pub tick_ages : (s : MachineSetup) (sp : Span) (address : ℕ) (kind : Kind) (w : Watch) (t : Tick) → is_late kind ≡ t.late
-    → IsClean (watched (rules_of s sp address) w t).causes → (n : ℕ) → InAges (is_bounded sp) n w.ages
+    → (t.late && is_excusing sp address) ≡ false → IsClean (watched (rules_of s sp address) w t).causes → (n : ℕ) → InAges (is_bounded sp) n w.ages
     → IsAged s sp address kind w (watched (rules_of s sp address) w t) n
 unfolding watched rules_of
-tick_ages s sp address kind w t late clean n i =
-    let told = clean_right w.causes _ clean in
+tick_ages s sp address kind w t late free clean n i =
+    let told = clean_tick (t.late && is_excusing sp address) w.causes _ free clean in
     let m = counted_ages (is_late kind) t.late (is_named sp address) (is_bounded sp) (bounds_of sp s).1 n w.ages late i told.u1 told.u3 in
     record {
       most = up_to_most (is_bounded sp) _ _ _ m told.u1;
       least = from_least (is_bounded sp) _ _ _ _ m told.u2;
-      stays = kept_ages (is_bounded sp) _ _ _ _ m;
+      stays = λ h. kept_ages (is_bounded sp) _ _ _ _ m (or_no _ _ free h);
       named = λ b h. named_late t.late (is_bounded sp) (is_named sp address) n w.ages i told.u3 b (sym late ∙ h);
     }
 
@@ -98,7 +106,7 @@ pub tick_fresh : (s : MachineSetup) (sp : Span) (address : ℕ) (w : Watch) (t :
     → InAges (is_bounded sp) 0 (watched (rules_of s sp address) w t).ages
 unfolding watched rules_of
 tick_fresh s sp address w t h =
-    zero_kept (is_bounded sp) (if t.late then w.ages else older (bounds_of sp s).1 w.ages) (closes sp w (watched (rules_of s sp address) w t)) _ h
+    zero_kept (is_bounded sp) (if t.late then w.ages else older (bounds_of sp s).1 w.ages) ((t.late && is_excusing sp address) || closes sp w (watched (rules_of s sp address) w t)) _ h
 
 no_edge : (rise level : Bool) → is_edge rise level level ≡ false
 no_edge true true = refl
@@ -117,9 +125,9 @@ waiting_age bounded false named n (Between lo hi) l h i = cc
 
 -- a tick of one that waits on, between the first tick of a course and a late one
 pub waiting_ages : (s : MachineSetup) (sp : Span) (address : ℕ) (kind : Kind) (w : Watch) (t : Tick) → is_late kind ≡ true → t.late ≡ true
-    → IsClean (watched (rules_of s sp address) w t).causes → (n : ℕ) → InAges (is_bounded sp) n w.ages → IsAged s sp address kind w w n
-waiting_ages s sp address kind w t late also clean n i =
-    let a : IsAged s sp address kind w (watched (rules_of s sp address) w t) n = tick_ages s sp address kind w t (late ∙ sym also) clean n i in
+    → is_excusing sp address ≡ false → IsClean (watched (rules_of s sp address) w t).causes → (n : ℕ) → InAges (is_bounded sp) n w.ages → IsAged s sp address kind w w n
+waiting_ages s sp address kind w t late also free clean n i =
+    let a : IsAged s sp address kind w (watched (rules_of s sp address) w t) n = tick_ages s sp address kind w t (late ∙ sym also) (and_no t.late _ free) clean n i in
     record {
       most = a.most;
       least = λ h. absurd (false≢true (sym (no_edge sp.to_rise w.to) ∙ h));

@@ -1,5 +1,5 @@
 -- Where no cause is there at the end of a course, there was none on the way.
-use Rattle.std.proofs.Common.{◌≡◌, Bool, true, false, ◌||◌, None, List, [], ◌∷◌, refl}
+use Rattle.std.proofs.Common.{◌≡◌, Bool, true, false, ◌&&◌, ◌||◌, if◌then◌else◌, None, List, [], ◌∷◌, refl}
 use Rattle.span_step.specs.declared.cause.Causes.{Causes}
 use Rattle.span_step.specs.Courses.{Rules, watched, followed, delay_tick, joined}
 use Rattle.span_step.specs.Contexts.{Context}
@@ -51,7 +51,15 @@ clean_right a b h = record {
 
 pub clean_watched : (r : Rules) (w : Watch) (t : Tick) → IsClean (watched r w t).causes → IsClean w.causes
 unfolding watched
-clean_watched r w t h = clean_left _ _ h
+clean_watched r w t h = by (t.late && r.excuses) _ h where
+  by : (z : Bool) (c : Causes) → IsClean (if z then w.causes else joined w.causes c) → IsClean w.causes
+  by true c k = k
+  by false c k = clean_left _ _ k
+
+-- a tick that isn't excused adds none
+pub clean_tick : (z : Bool) (a b : Causes) → z ≡ false → IsClean (if z then a else joined a b) → IsClean b
+clean_tick true a b e h = cc
+clean_tick false a b e h = clean_right a b h
 
 pub clean_followed : (r : Rules) (ts : List Tick) (w : Watch) → IsClean (followed r ts w).causes → IsClean w.causes
 clean_followed r [] w h = h

@@ -1,5 +1,6 @@
 -- What an instruction does when it finishes is one of the outcomes that the checker knows of.
-use Rattle.std.proofs.Common.{◌≡◌, ℕ, ◌-◌, ◌==◌, nat_lt, Bool, true, false, not, cond, if◌then◌else◌, Option, Some, None, List, [], ◌∷◌, ◌++◌, map, flat_map, refl, sym, ap, ◌∙◌, rules, arith}
+use Rattle.std.proofs.Common.{◌≡◌, ℕ, ◌-◌, ◌==◌, nat_lt, Bool, true, false, not, ◌&&◌, cond, if◌then◌else◌, Option, Some, None, List, [], ◌∷◌, ◌++◌, map, flat_map, refl, sym, ap, subst, ◌∙◌, rules, arith}
+use Rattle.std.proofs.lemmas.Bool.{and_parts}
 use Rattle.std.proofs.lemmas.Bool.Decides.{nat_tests}
 use Rattle.std.proofs.lemmas.Nat.Bits.{bit_at-zero}
 use Rattle.std.specs.Int.{bit_at}
@@ -21,15 +22,22 @@ use Rattle.pio_encode.specs.declared.act.SetDestination.TheVariants as set_desti
 use Rattle.pin_matrix.specs.Pins.{writes_of}
 use Rattle.pin_matrix.specs.declared.machine.MachineSetup.{MachineSetup}
 use Rattle.pin_matrix.specs.declared.mapping.Mapping.{Mapping}
+use Rattle.pin_matrix.specs.declared.span.PinSignal.{PinSignal}
+use Rattle.pin_matrix.specs.declared.span.PinSignal.TheVariants.{Level, Direction}
 use Rattle.pin_matrix.specs.declared.span.Span.{Span}
 use Rattle.sm_registers.specs.declared.registers.Registers.{Registers}
 use Rattle.sm_registers.specs.View.{View}
 use Rattle.sm_registers.specs.Queues.{Queues}
 use Rattle.sm_registers.specs.Effects.{Effect, fallen, counted_down, jumps, jmp_effect, wait_effect, in_effect, autopushed, out_to, out_effect, push_effect, pulled, pull_effect, mov_word, operated, mov_to, mov_effect, irq_effect, set_effect, effect_of}
 use Rattle.span_step.specs.Contexts.{Context, is_small}
-use Rattle.span_step.specs.Outcomes.{ContextOutcome, nothing_done, level_at, holds, either_level, unknown_levels, unknown_pins, is_zero, is_nonzero, differ, taken, after_count, ways, out_outcomes, copied, mov_outcomes, set_outcomes, outcomes, is_wild, may_stall}
+use Rattle.span_step.specs.Outcomes.{ContextOutcome, nothing_done, level_at, signal_at, is_signal, is_held, either_level, has_one_pin, unknown_levels, unknown_pins, is_zero, is_nonzero, differ, taken, after_count, ways, out_outcomes, copied, mov_outcomes, set_outcomes, outcomes, is_wild, may_stall}
 use Rattle.span_step.specs.Outcomes as outcome
 use Rattle.span_ticks.specs.UnderWay.{Covers, flow_of}
+
+-- an effect's write to levels, or to directions
+abbrev pub effect_write : PinSignal → Effect → ℕ × ℕ
+effect_write Level e = e.level
+effect_write Direction e = e.direction
 
 -- an effect that finishes is as this outcome says
 pub record Explains (sp : Span) (e : Effect) (o : ContextOutcome) : Type 0 where
@@ -37,8 +45,8 @@ pub record Explains (sp : Span) (e : Effect) (o : ContextOutcome) : Type 0 where
   pub pending : e.pending ≡ None
   pub x : Covers o.x e.registers.x
   pub y : Covers o.y e.registers.y
-  pub from : level_at sp.from_pin e.level ≡ o.from
-  pub to : level_at sp.to_pin e.level ≡ o.to
+  pub from : level_at sp.from_pin (effect_write sp.from_signal e) ≡ o.from
+  pub to : level_at sp.to_pin (effect_write sp.to_signal e) ≡ o.to
 
 -- what holds of all outcomes holds of one that explains the effect
 pub record Picked (P : ContextOutcome → Type 0) (sp : Span) (e : Effect) : Type 0 where
@@ -49,15 +57,32 @@ pub record Picked (P : ContextOutcome → Type 0) (sp : Span) (e : Effect) : Typ
 pub level_none : (p : ℕ) → level_at p (0, 0) ≡ None
 level_none p = ap (λ b. cond (b == 1) (Some (bit_at 0 p == 1)) None) (bit_at-zero p)
 
+-- an effect that writes nothing
+pub writes_none : (signal : PinSignal) (p : ℕ) (e : Effect) → e.level ≡ (0, 0) → e.direction ≡ (0, 0) → level_at p (effect_write signal e) ≡ None
+writes_none Level p e l d = ap (level_at p) l ∙ level_none p
+writes_none Direction p e l d = ap (level_at p) d ∙ level_none p
+
+-- one that writes levels, or directions, and nothing else
+abbrev IsWriteTo : PinSignal → ℕ × ℕ → Effect → Type 0
+IsWriteTo Level w e = (e.level ≡ w) × (e.direction ≡ (0, 0))
+IsWriteTo Direction w e = (e.direction ≡ w) × (e.level ≡ (0, 0))
+
+writes_one : (signal watched : PinSignal) (p : ℕ) (e : Effect) (w : ℕ × ℕ) → IsWriteTo signal w e → level_at p (effect_write watched e) ≡ signal_at signal watched p w
+writes_one Level Level p e w h = ap (level_at p) h.0
+writes_one Level Direction p e w h = ap (level_at p) h.1 ∙ level_none p
+writes_one Direction Level p e w h = ap (level_at p) h.1 ∙ level_none p
+writes_one Direction Direction p e w h = ap (level_at p) h.0
+
 -- an effect that does nothing that the checker follows
 record IsSilent (r : Registers) (e : Effect) : Type 0 where
   jump : e.jump ≡ None
   pending : e.pending ≡ None
   level : e.level ≡ (0, 0)
+  direction : e.direction ≡ (0, 0)
   flow : flow_of e.registers ≡ flow_of r
 
-silent_by : (r : Registers) (e : Effect) → e.jump ≡ None → e.pending ≡ None → e.level ≡ (0, 0) → flow_of e.registers ≡ flow_of r → IsSilent r e
-silent_by r e h k l m = record { jump = h; pending = k; level = l; flow = m }
+silent_by : (r : Registers) (e : Effect) → e.jump ≡ None → e.pending ≡ None → e.level ≡ (0, 0) → e.direction ≡ (0, 0) → flow_of e.registers ≡ flow_of r → IsSilent r e
+silent_by r e h k l d m = record { jump = h; pending = k; level = l; direction = d; flow = m }
 
 silent_if : (r : Registers) (b : Bool) (x y : Effect) → IsSilent r x → IsSilent r y → IsSilent r (cond b x y)
 silent_if r true x y h k = h
@@ -72,7 +97,7 @@ silent_in s q false r x h = silent_autopushed s q r x h
 
 silent_pulled : (front : Option ℕ) (block : Bool) (r : Registers) → IsSilent r (pulled front block r)
 silent_pulled None block r = search (rules, silent_if, silent_by)
-silent_pulled (Some word) block r = silent_by r _ refl refl refl refl
+silent_pulled (Some word) block r = silent_by r _ refl refl refl refl refl
 
 -- X and Y after such an effect
 explains_silent : (sp : Span) (k : Context) (r : Registers) (e : Effect) → Covers k.x r.x → Covers k.y r.y → IsSilent r e → Explains sp e (nothing_done k)
@@ -81,8 +106,8 @@ explains_silent sp k r e x y h = record {
   pending = h.pending;
   x = rw (ap (λ f. f.x) h.flow) x;
   y = rw (ap (λ f. f.y) h.flow) y;
-  from = ap (level_at sp.from_pin) h.level ∙ level_none sp.from_pin;
-  to = ap (level_at sp.to_pin) h.level ∙ level_none sp.to_pin;
+  from = writes_none sp.from_signal sp.from_pin e h.level h.direction;
+  to = writes_none sp.to_signal sp.to_pin e h.level h.direction;
 }
 
 picked_silent : (P : ContextOutcome → Type 0) (sp : Span) (k : Context) (r : Registers) (e : Effect) → AllByRecursion P (nothing_done k ∷ []) → Covers k.x r.x → Covers k.y r.y
@@ -164,8 +189,8 @@ module _ (P : ContextOutcome → Type 0) (c : Condition) (address : ℕ) (s : Ma
       pending = refl;
       x = p.0;
       y = p.1;
-      from = level_none sp.from_pin ∙ sym n.0;
-      to = level_none sp.to_pin ∙ sym n.1;
+      from = writes_none sp.from_signal sp.from_pin _ refl refl ∙ sym n.0;
+      to = writes_none sp.to_signal sp.to_pin _ refl refl ∙ sym n.1;
     };
   }
 
@@ -179,8 +204,8 @@ module _ (P : ContextOutcome → Type 0) (c : Condition) (address : ℕ) (s : Ma
       pending = refl;
       x = p.0;
       y = p.1;
-      from = level_none sp.from_pin ∙ sym n.0;
-      to = level_none sp.to_pin ∙ sym n.1;
+      from = writes_none sp.from_signal sp.from_pin _ refl refl ∙ sym n.0;
+      to = writes_none sp.to_signal sp.to_pin _ refl refl ∙ sym n.1;
     };
   }
 
@@ -208,42 +233,85 @@ all_flat : {A B : Type 0} (P : B → Type 0) (f : A → List B) (xs : List A) �
 all_flat P f [] h = tt
 all_flat P f (x ∷ xs) h = let p = all_front P (f x) (flat_map f xs) h in (p.0, all_flat P f xs p.1)
 
--- the level that a value gives a pin of a mapping is either
-all_either : (Q : Option Bool → Type 0) (held level : Bool) → AllByRecursion Q (cond held (Some false ∷ Some true ∷ []) (None ∷ [])) → Q (cond held (Some level) None)
+-- what a value writes to a pin that is held is either
+all_either : (Q : Option Bool → Type 0) (held level : Bool) → AllByRecursion Q (either_level held) → Q (cond held (Some level) None)
 all_either Q true true h = h.1.0
 all_either Q true false h = h.0
 all_either Q false level h = h.0
 
-pub all_levels : (Q : Option Bool × Option Bool → Type 0) (m : Mapping) (sp : Span) (value : ℕ) → AllByRecursion Q (unknown_levels m sp)
-    → Q (level_at sp.from_pin (writes_of m value), level_at sp.to_pin (writes_of m value))
-all_levels Q m sp value = by (sp.from_pin == sp.to_pin) refl where
-  one : AllByRecursion Q (map (λ l. (l, l)) (either_level m sp.from_pin)) → Q (level_at sp.from_pin (writes_of m value), level_at sp.from_pin (writes_of m value))
-  one h = all_either (λ l. Q (l, l)) (holds m sp.from_pin) (bit_at (writes_of m value).1 sp.from_pin == 1) (all_map Q (λ l. (l, l)) (either_level m sp.from_pin) h)
+held_at : (signal watched : PinSignal) (m : Mapping) (p value : ℕ) → cond (is_held signal watched m p) (Some (bit_at (writes_of m value).1 p == 1)) None ≡ signal_at signal watched p (writes_of m value)
+held_at Level Level m p value = refl
+held_at Level Direction m p value = refl
+held_at Direction Level m p value = refl
+held_at Direction Direction m p value = refl
 
-  two : AllByRecursion Q (flat_map (λ f. map (λ t. (f, t)) (either_level m sp.to_pin)) (either_level m sp.from_pin)) → Q (level_at sp.from_pin (writes_of m value), level_at sp.to_pin (writes_of m value))
-  two h = let rows = all_flat Q (λ f. map (λ t. (f, t)) (either_level m sp.to_pin)) (either_level m sp.from_pin) h in
-      let row = all_either (λ f. AllByRecursion Q (map (λ t. (f, t)) (either_level m sp.to_pin))) (holds m sp.from_pin) (bit_at (writes_of m value).1 sp.from_pin == 1) rows in
-      all_either (λ t. Q (level_at sp.from_pin (writes_of m value), t)) (holds m sp.to_pin) (bit_at (writes_of m value).1 sp.to_pin == 1) (all_map Q (λ t. (level_at sp.from_pin (writes_of m value), t)) (either_level m sp.to_pin) row)
+all_signal : (Q : Option Bool → Type 0) (signal watched : PinSignal) (m : Mapping) (p value : ℕ) → AllByRecursion Q (either_level (is_held signal watched m p)) → Q (signal_at signal watched p (writes_of m value))
+all_signal Q signal watched m p value h = subst Q (held_at signal watched m p value) (all_either Q (is_held signal watched m p) (bit_at (writes_of m value).1 p == 1) h)
 
-  by : (z : Bool) → (sp.from_pin == sp.to_pin) ≡ z
-      → AllByRecursion Q (cond z (map (λ l. (l, l)) (either_level m sp.from_pin)) (flat_map (λ f. map (λ t. (f, t)) (either_level m sp.to_pin)) (either_level m sp.from_pin)))
-      → Q (level_at sp.from_pin (writes_of m value), level_at sp.to_pin (writes_of m value))
-  by true e h = let same : sp.to_pin ≡ sp.from_pin = grind (arith, nat_tests) in rw same (one h)
+same_signal : (a b : PinSignal) → is_signal a b ≡ true → b ≡ a
+same_signal Level Level h = refl
+same_signal Level Direction h = cc
+same_signal Direction Level h = cc
+same_signal Direction Direction h = refl
+
+pub all_levels : (Q : Option Bool × Option Bool → Type 0) (signal : PinSignal) (m : Mapping) (sp : Span) (value : ℕ) → AllByRecursion Q (unknown_levels signal m sp)
+    → Q (signal_at signal sp.from_signal sp.from_pin (writes_of m value), signal_at signal sp.to_signal sp.to_pin (writes_of m value))
+all_levels Q signal m sp value = by (has_one_pin sp) refl where
+  from : List (Option Bool)
+  from = either_level (is_held signal sp.from_signal m sp.from_pin)
+
+  to : List (Option Bool)
+  to = either_level (is_held signal sp.to_signal m sp.to_pin)
+
+  f : Option Bool
+  f = signal_at signal sp.from_signal sp.from_pin (writes_of m value)
+
+  t : Option Bool
+  t = signal_at signal sp.to_signal sp.to_pin (writes_of m value)
+
+  one : AllByRecursion Q (map (λ l. (l, l)) from) → Q (f, f)
+  one h = all_signal (λ l. Q (l, l)) signal sp.from_signal m sp.from_pin value (all_map Q (λ l. (l, l)) from h)
+
+  two : AllByRecursion Q (flat_map (λ f. map (λ t. (f, t)) to) from) → Q (f, t)
+  two h = let rows = all_flat Q (λ f. map (λ t. (f, t)) to) from h in
+      let row = all_signal (λ f. AllByRecursion Q (map (λ t. (f, t)) to)) signal sp.from_signal m sp.from_pin value rows in
+      all_signal (λ t. Q (f, t)) signal sp.to_signal m sp.to_pin value (all_map Q (λ t. (f, t)) to row)
+
+  same : has_one_pin sp ≡ true → t ≡ f
+  same e =
+      let parts = and_parts (sp.from_pin == sp.to_pin) (is_signal sp.from_signal sp.to_signal) e in
+      let pin : sp.to_pin ≡ sp.from_pin = is_same sp.from_pin sp.to_pin parts.0 in
+      let kind : sp.to_signal ≡ sp.from_signal = same_signal sp.from_signal sp.to_signal parts.1 in
+      ap (λ p. signal_at signal sp.to_signal p (writes_of m value)) pin ∙ ap (λ k. signal_at signal k sp.from_pin (writes_of m value)) kind where
+        is_same : (a b : ℕ) → (a == b) ≡ true → b ≡ a
+        is_same a b h = grind (arith, nat_tests)
+
+  by : (z : Bool) → has_one_pin sp ≡ z → AllByRecursion Q (cond z (map (λ l. (l, l)) from) (flat_map (λ f. map (λ t. (f, t)) to) from)) → Q (f, t)
+  by true e h = subst (λ x. Q (f, x)) (sym (same e)) (one h)
   by false e h = two h
 
--- OUT PINS and MOV PINS
-picked_pins : (P : ContextOutcome → Type 0) (value : ℕ) (s : MachineSetup) (sp : Span) (k : Context) (e : Effect) → AllByRecursion P (unknown_pins s sp k)
-    → e.jump ≡ None → e.pending ≡ None → Covers k.x e.registers.x → Covers k.y e.registers.y → e.level ≡ writes_of s.out value → Picked P sp e
-picked_pins P value s sp k e all j p x y l = record {
-  outcome = record (nothing_done k) { from = level_at sp.from_pin (writes_of s.out value); to = level_at sp.to_pin (writes_of s.out value) };
-  holds = all_levels (λ l. P (record (nothing_done k) { from = l.0; to = l.1 })) s.out sp value (all_map P (λ l. record (nothing_done k) { from = l.0; to = l.1 }) (unknown_levels s.out sp) all);
-  explains = record { jump = j; pending = p; x = x; y = y; from = ap (level_at sp.from_pin) l; to = ap (level_at sp.to_pin) l };
-}
+-- OUT PINS, MOV PINS and OUT PINDIRS
+picked_pins : (P : ContextOutcome → Type 0) (signal : PinSignal) (value : ℕ) (s : MachineSetup) (sp : Span) (k : Context) (e : Effect) → AllByRecursion P (unknown_pins signal s sp k)
+    → e.jump ≡ None → e.pending ≡ None → Covers k.x e.registers.x → Covers k.y e.registers.y → IsWriteTo signal (writes_of s.out value) e → Picked P sp e
+picked_pins P signal value s sp k e all j p x y l =
+    let write = writes_of s.out value in
+    record {
+      outcome = record (nothing_done k) { from = signal_at signal sp.from_signal sp.from_pin write; to = signal_at signal sp.to_signal sp.to_pin write };
+      holds = all_levels (λ l. P (record (nothing_done k) { from = l.0; to = l.1 })) signal s.out sp value (all_map P (λ l. record (nothing_done k) { from = l.0; to = l.1 }) (unknown_levels signal s.out sp) all);
+      explains = record {
+        jump = j;
+        pending = p;
+        x = x;
+        y = y;
+        from = writes_one signal sp.from_signal sp.from_pin e write l;
+        to = writes_one signal sp.to_signal sp.to_pin e write l;
+      };
+    }
 
--- one that writes no levels and has one outcome
+-- one that writes no pins and has one outcome
 picked_one : (P : ContextOutcome → Type 0) (sp : Span) (o : ContextOutcome) (e : Effect) → AllByRecursion P (o ∷ []) → e.jump ≡ o.jump → e.pending ≡ None → Covers o.x e.registers.x
-    → Covers o.y e.registers.y → e.level ≡ (0, 0) → o.from ≡ None → o.to ≡ None → Picked P sp e
-picked_one P sp o e all j p x y l f t = record {
+    → Covers o.y e.registers.y → e.level ≡ (0, 0) → e.direction ≡ (0, 0) → o.from ≡ None → o.to ≡ None → Picked P sp e
+picked_one P sp o e all j p x y l d f t = record {
   outcome = o;
   holds = all.0;
   explains = record {
@@ -251,21 +319,21 @@ picked_one P sp o e all j p x y l f t = record {
     pending = p;
     x = x;
     y = y;
-    from = ap (level_at sp.from_pin) l ∙ (level_none sp.from_pin ∙ sym f);
-    to = ap (level_at sp.to_pin) l ∙ (level_none sp.to_pin ∙ sym t);
+    from = writes_none sp.from_signal sp.from_pin e l d ∙ sym f;
+    to = writes_none sp.to_signal sp.to_pin e l d ∙ sym t;
   };
 }
 
 picked_out : (P : ContextOutcome → Type 0) (d : OutDestination) (value n : ℕ) (s : MachineSetup) (sp : Span) (k : Context) (r : Registers) → is_wild (Out d n) ≡ false → Covers k.x r.x → Covers k.y r.y
     → AllByRecursion P (out_outcomes d s sp k) → Picked P sp (out_to d value n s r)
 unfolding is_wild
-picked_out P out_destination.Pins value n s sp k r w x y h = picked_pins P value s sp k _ h refl refl x y refl
-picked_out P out_destination.X value n s sp k r w x y h = picked_one P sp _ _ h refl refl tt y refl refl refl
-picked_out P out_destination.Y value n s sp k r w x y h = picked_one P sp _ _ h refl refl x tt refl refl refl
-picked_out P out_destination.Null value n s sp k r w x y h = picked_one P sp _ _ h refl refl x y refl refl refl
-picked_out P out_destination.Pindirs value n s sp k r w x y h = picked_one P sp _ _ h refl refl x y refl refl refl
+picked_out P out_destination.Pins value n s sp k r w x y h = picked_pins P Level value s sp k _ h refl refl x y (refl, refl)
+picked_out P out_destination.X value n s sp k r w x y h = picked_one P sp _ _ h refl refl tt y refl refl refl refl
+picked_out P out_destination.Y value n s sp k r w x y h = picked_one P sp _ _ h refl refl x tt refl refl refl refl
+picked_out P out_destination.Null value n s sp k r w x y h = picked_one P sp _ _ h refl refl x y refl refl refl refl
+picked_out P out_destination.Pindirs value n s sp k r w x y h = picked_pins P Direction value s sp k _ h refl refl x y (refl, refl)
 picked_out P out_destination.Pc value n s sp k r w x y h = cc
-picked_out P out_destination.Isr value n s sp k r w x y h = picked_one P sp _ _ h refl refl x y refl refl refl
+picked_out P out_destination.Isr value n s sp k r w x y h = picked_one P sp _ _ h refl refl x y refl refl refl refl
 picked_out P out_destination.Exec value n s sp k r w x y h = cc
 
 copy_covers : (o : MovOperation) (source : MovSource) (s : MachineSetup) (v : View) (q : Queues) (k : Context) (r : Registers) → Covers k.x r.x → Covers k.y r.y
@@ -283,21 +351,37 @@ copy_covers mov_operation.Reverse source s v q k r x y = tt
 picked_mov : (P : ContextOutcome → Type 0) (d : MovDestination) (o : MovOperation) (source : MovSource) (word : Option ℕ) (value : ℕ) (s : MachineSetup) (sp : Span) (k : Context) (r : Registers) → is_wild (Mov d o source) ≡ false
     → Covers word value → Covers k.x r.x → Covers k.y r.y → AllByRecursion P (mov_outcomes d word s sp k) → Picked P sp (mov_to d value s r)
 unfolding is_wild
-picked_mov P mov_destination.Pins o source word value s sp k r w c x y h = picked_pins P value s sp k _ h refl refl x y refl
-picked_mov P mov_destination.X o source word value s sp k r w c x y h = picked_one P sp _ _ h refl refl c y refl refl refl
-picked_mov P mov_destination.Y o source word value s sp k r w c x y h = picked_one P sp _ _ h refl refl x c refl refl refl
+picked_mov P mov_destination.Pins o source word value s sp k r w c x y h = picked_pins P Level value s sp k _ h refl refl x y (refl, refl)
+picked_mov P mov_destination.X o source word value s sp k r w c x y h = picked_one P sp _ _ h refl refl c y refl refl refl refl
+picked_mov P mov_destination.Y o source word value s sp k r w c x y h = picked_one P sp _ _ h refl refl x c refl refl refl refl
 picked_mov P mov_destination.Exec o source word value s sp k r w c x y h = cc
 picked_mov P mov_destination.Pc o source word value s sp k r w c x y h = cc
-picked_mov P mov_destination.Isr o source word value s sp k r w c x y h = picked_one P sp _ _ h refl refl x y refl refl refl
-picked_mov P mov_destination.Osr o source word value s sp k r w c x y h = picked_one P sp _ _ h refl refl x y refl refl refl
+picked_mov P mov_destination.Isr o source word value s sp k r w c x y h = picked_one P sp _ _ h refl refl x y refl refl refl refl
+picked_mov P mov_destination.Osr o source word value s sp k r w c x y h = picked_one P sp _ _ h refl refl x y refl refl refl refl
+
+-- SET PINS and SET PINDIRS
+picked_known : (P : ContextOutcome → Type 0) (signal : PinSignal) (value : ℕ) (s : MachineSetup) (sp : Span) (k : Context) (e : Effect) → AllByRecursion P (outcome.set_pins signal value s sp k ∷ [])
+    → e.jump ≡ None → e.pending ≡ None → Covers k.x e.registers.x → Covers k.y e.registers.y → IsWriteTo signal (writes_of s.set value) e → Picked P sp e
+picked_known P signal value s sp k e all j p x y l = record {
+  outcome = outcome.set_pins signal value s sp k;
+  holds = all.0;
+  explains = record {
+    jump = j;
+    pending = p;
+    x = x;
+    y = y;
+    from = writes_one signal sp.from_signal sp.from_pin e (writes_of s.set value) l;
+    to = writes_one signal sp.to_signal sp.to_pin e (writes_of s.set value) l;
+  };
+}
 
 picked_set : (P : ContextOutcome → Type 0) (d : SetDestination) (value : ℕ) (s : MachineSetup) (sp : Span) (k : Context) (r : Registers) → Covers k.x r.x → Covers k.y r.y
     → AllByRecursion P (set_outcomes d value s sp k) → Picked P sp (set_effect d value s r)
 unfolding set_effect
-picked_set P set_destination.Pins value s sp k r x y h = record { outcome = outcome.set_pins value s sp k; holds = h.0; explains = record { jump = refl; pending = refl; x = x; y = y; from = refl; to = refl } }
-picked_set P set_destination.X value s sp k r x y h = picked_one P sp _ _ h refl refl refl y refl refl refl
-picked_set P set_destination.Y value s sp k r x y h = picked_one P sp _ _ h refl refl x refl refl refl refl
-picked_set P set_destination.Pindirs value s sp k r x y h = picked_one P sp _ _ h refl refl x y refl refl refl
+picked_set P set_destination.Pins value s sp k r x y h = picked_known P Level value s sp k _ h refl refl x y (refl, refl)
+picked_set P set_destination.X value s sp k r x y h = picked_one P sp _ _ h refl refl refl y refl refl refl refl
+picked_set P set_destination.Y value s sp k r x y h = picked_one P sp _ _ h refl refl x refl refl refl refl refl
+picked_set P set_destination.Pindirs value s sp k r x y h = picked_known P Direction value s sp k _ h refl refl x y (refl, refl)
 
 -- an OUT that doesn't stall
 out_done : (P : Effect → Type 0) (b : Bool) (x y : Effect) → x.stalled ≡ true → (cond b x y).stalled ≡ false → P y → P (cond b x y)
@@ -318,4 +402,4 @@ explained P (Pull if_empty block) s sp k v q r w low lower x y ends h = picked_s
 explained P (Mov d o source) s sp k v q r w low lower x y ends h = picked_mov P d o source _ _ s sp k r w (copy_covers o source s v q k r x y) x y h
 explained P (Irq clear waits index) s sp k v q r w low lower x y ends h = picked_silent P sp k r _ h x y (search (rules, silent_if, silent_by) depth 20)
 explained P (Set d value) s sp k v q r w low lower x y ends h = picked_set P d value s sp k r x y h
-explained P Nothing s sp k v q r w low lower x y ends h = picked_silent P sp k r _ h x y (silent_by r _ refl refl refl refl)
+explained P Nothing s sp k v q r w low lower x y ends h = picked_silent P sp k r _ h x y (silent_by r _ refl refl refl refl refl)

@@ -1,5 +1,5 @@
 -- A delay, tick by tick, and where an instruction that has finished rests.
-use Rattle.std.proofs.Common.{◌≡◌, ℕ, zero, suc, ◌-◌, ◌<◌, true, false, Option, None, refl, sym, ap, ◌∙◌, inl, subst, arith}
+use Rattle.std.proofs.Common.{◌≡◌, ℕ, zero, suc, ◌-◌, ◌<◌, Bool, true, false, Option, None, refl, sym, ap, ◌∙◌, inl, subst, arith}
 use Rattle.pin_matrix.specs.declared.machine.MachineSetup.{MachineSetup}
 use Rattle.pin_matrix.specs.declared.setup.Setup.{Setup}
 use Rattle.pin_matrix.specs.declared.span.Span.{Span}
@@ -17,8 +17,7 @@ use Rattle.span_ticks.specs.UnderWay.{Watch, Flow, flow_of, rested, IsResting, C
 use Rattle.span_ticks.specs.Following.{IsFollowed}
 use Rattle.span_ticks.proofs.Clean.{IsClean, clean_of, none_of, clean_followed}
 use Rattle.span_ticks.proofs.Aging.{tick_ages, tick_fresh}
-use Rattle.span_ticks.proofs.Explained.{level_none}
-use Rattle.span_ticks.proofs.Opened.{flow_delay, two_levels}
+use Rattle.span_ticks.proofs.Opened.{flow_delay, delay_levels}
 
 pub rested_none : (s : MachineSetup) (sp : Span) (f : Flow) (w : Watch) → f.delay ≡ 0 → rested s sp f w ≡ w
 rested_none s sp f w h = ap (λ d. followed (rules_of s sp f.pc) (delay_ticks d) w) h
@@ -58,14 +57,14 @@ delay_rests sp rows s r w more h =
     }
 
 pub delay_followed : (u : Setup) (sp : Span) (rows : Context → Option Ages) (s : MachineSetup) (q : Queues) (r : Registers) (w : Watch) → 0 < r.delay → IsResting sp rows s (flow_of r) w
-    → IsFollowed u sp rows s r.pc w (tick_delay s q r)
+    → (z : Bool) → IsFollowed u sp rows s r.pc z w (tick_delay s q r)
 unfolding tick_delay watched
-delay_followed u sp rows s q r w more h = record {
+delay_followed u sp rows s q r w more h z = record {
   after = watched (rules_of s sp r.pc) w delay_tick;
   under_way = inl (subst (λ f. IsResting sp rows s f (watched (rules_of s sp r.pc) w delay_tick)) (sym (flow_delay s q r)) (delay_rests sp rows s r w more h));
-  from = two_levels sp.from_pin (0, 0) (0, 0) None None w.from (level_none sp.from_pin) (level_none sp.from_pin);
-  to = two_levels sp.to_pin (0, 0) (0, 0) None None w.to (level_none sp.to_pin) (level_none sp.to_pin);
-  ages = λ n i. tick_ages s sp r.pc Delay w delay_tick refl (delay_clean sp rows s r w more h) n i;
+  from = delay_levels sp.from_signal sp.from_pin s q r w.from;
+  to = delay_levels sp.to_signal sp.to_pin s q r w.to;
+  ages = λ free n i. tick_ages s sp r.pc Delay w delay_tick refl refl (delay_clean sp rows s r w more h) n i;
   fresh = λ o. tick_fresh s sp r.pc w delay_tick o;
 }
 

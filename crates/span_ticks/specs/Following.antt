@@ -1,12 +1,15 @@
 -- How a tick of a machine goes on along the rows of a table.
 --   InAges           a number is one of the ages, or of a span without a greatest bound at least the least of them
---   level_after      a pin's level after writes
+--   writes_to        a tick's writes to levels, or to directions
+--   level_after      a pin's level after writes, or its direction
 --   older_by         an age after a tick
 --   IsAged           what comes of an open age in a tick
 --   IsFollowed       what comes of a tick
 use Rattle.std.specs.Prelude.{◌≡◌, ℕ, ◌+◌, ◌≤◌, Bool, true, false, ◌&&◌, if◌then◌else◌, Option, List, fold, unwrap_or}
 use Rattle.pin_matrix.specs.declared.machine.MachineSetup.{MachineSetup}
 use Rattle.pin_matrix.specs.declared.setup.Setup.{Setup}
+use Rattle.pin_matrix.specs.declared.span.PinSignal.{PinSignal}
+use Rattle.pin_matrix.specs.declared.span.PinSignal.TheVariants.{Level, Direction}
 use Rattle.pin_matrix.specs.declared.span.Span.{Span}
 use Rattle.sm_registers.specs.declared.intent.Intent.{Intent}
 use Rattle.sm_registers.specs.declared.intent.Kind.{Kind}
@@ -26,7 +29,12 @@ abbrev pub InAges : (bounded : Bool) → ℕ → Ages → Type 0
 InAges bounded n Empty = ⊥
 InAges bounded n (Between lo hi) = (lo ≤ n) × (bounded ≡ true → n ≤ hi)
 
--- a pin's level after writes, of which a later one replaces an earlier one
+-- what of a tick's writes is to levels, and what to directions
+abbrev pub writes_to : PinSignal → Intent → List (ℕ × ℕ)
+writes_to Level i = i.level
+writes_to Direction i = i.direction
+
+-- a pin's level after writes, of which a later one replaces an earlier one; and whether it is out after writes to directions
 abbrev pub level_after : ℕ → List (ℕ × ℕ) → Bool → Bool
 level_after p writes level = fold (λ old w. unwrap_or (level_at p w) old) level writes
 
@@ -59,13 +67,13 @@ pub record IsAged (s : MachineSetup) (sp : Span) (address : ℕ) (kind : Kind) (
   pub named : is_bounded sp ≡ true → is_late kind ≡ true → is_named sp address ≡ true
 
 -- What comes of a tick at an address, which leaves these registers and this intent: some watch after it, with which the
--- machine is under way again. The pins' levels are those that the tick writes; each open age is as `IsAged` says, and a
--- from-edge adds the age 0.
-pub record IsFollowed (u : Setup) (sp : Span) (rows : Context → Option Ages) (s : MachineSetup) (address : ℕ)
+-- machine is under way again. What is watched of the pins is as the tick writes it; each open age is as `IsAged` says, unless the
+-- machine was excused before the tick, and a from-edge adds the age 0.
+pub record IsFollowed (u : Setup) (sp : Span) (rows : Context → Option Ages) (s : MachineSetup) (address : ℕ) (excused : Bool)
     (before : Watch) (tick : Registers × Intent) : Type 0 where
   pub after : Watch
   pub under_way : IsUnderWay u sp rows s (flow_of tick.0) after
-  pub from : after.from ≡ level_after sp.from_pin tick.1.level before.from
-  pub to : after.to ≡ level_after sp.to_pin tick.1.level before.to
-  pub ages : (n : ℕ) → InAges (is_bounded sp) n before.ages → IsAged s sp address tick.1.kind before after n
+  pub from : after.from ≡ level_after sp.from_pin (writes_to sp.from_signal tick.1) before.from
+  pub to : after.to ≡ level_after sp.to_pin (writes_to sp.to_signal tick.1) before.to
+  pub ages : excused ≡ false → (n : ℕ) → InAges (is_bounded sp) n before.ages → IsAged s sp address tick.1.kind before after n
   pub fresh : opens sp before after ≡ true → InAges (is_bounded sp) 0 after.ages

@@ -1,12 +1,13 @@
 -- Where a machine is on its way through the rows of a table.
 --   Watch            what is known in the middle of a course
 --   Flow             what of a machine's registers the checker follows
+--   is_excused_in    a machine stands so that its span doesn't speak of the from-edges before
 --   Covers           what is known of X or Y agrees with it
 --   IsContextOf      a context agrees with a machine
 --   IsResting        at an instruction, or in the delay before it
 --   IsBegun          at an instruction that has stalled
 --   IsUnderWay       either
-use Rattle.std.specs.Prelude.{◌≡◌, ℕ, ◌⊎◌, Bool, true, false, Option, Some, None, slice_index}
+use Rattle.std.specs.Prelude.{◌≡◌, ℕ, ◌⊎◌, ◌==◌, Bool, true, false, not, ◌&&◌, Option, Some, None, is_some, slice_index}
 use Rattle.pio_encode.specs.declared.op.Op.{Op}
 use Rattle.pio_encode.specs.Word.{reading_of}
 use Rattle.pin_matrix.specs.declared.machine.MachineSetup.{MachineSetup}
@@ -19,17 +20,17 @@ use Rattle.span_step.specs.Contexts.{Context, is_placed}
 use Rattle.span_step.specs.Outcomes.{may_stall}
 use Rattle.span_step.specs.Courses.{watched, followed, start, delay_ticks}
 use Rattle.span_step.specs.Laws.{first_cause}
-use Rattle.span_step.specs.Steps.{rules_of, side_of}
+use Rattle.span_step.specs.Steps.{rules_of, side_of, is_left_out, is_excused}
 use Rattle.span_ticks.specs.Rows.{IsInRow}
 
 -- the type of a function's values
 abbrev pub ValueOf : {A B : Type 0} → (A → B) → Type 0
 ValueOf {A} {B} f = B
 
--- What is known in the middle of a course: the levels of the span's pins, the ages of its open from-edges, and the causes so
+-- What is known in the middle of a course: what is watched of the span's pins, the ages of its open from-edges, and the causes so
 -- far. It is what a course starts with; its crate gives the type no name to others.
 abbrev pub Watch : Type 0
-Watch = ValueOf (λ (k : Context). start k Empty)
+Watch = ValueOf (λ (k : Context). start false k Empty)
 
 -- What of a machine's registers the checker follows: PC, X and Y, the ticks of delay that are left, the pending word, and
 -- whether the instruction has begun. The shift registers and their counts are not among them.
@@ -44,6 +45,15 @@ pub record Flow : Type 0 where
 -- that of registers
 abbrev pub flow_of : Registers → Flow
 flow_of r = record { pc = r.pc; x = r.x; y = r.y; delay = r.delay; pending = r.pending; begun = r.begun }
+
+-- a machine comes to the instruction in memory at PC next: no delay is left, no word is pending, and none has begun
+abbrev pub stands_before : Flow → Bool
+stands_before f = f.delay == 0 && (not (is_some f.pending) && not f.begun)
+
+-- A machine waits at an address that its span doesn't name, where the span speaks of none that waits; or it comes to one next
+-- through which ways are left out.
+abbrev pub is_excused_in : Span → Flow → Bool
+is_excused_in sp f = is_excused sp f.pc f.begun (stands_before f)
 
 -- what is known of X or Y, if anything, is its value
 abbrev pub Covers : Option ℕ → ℕ → Type 0
@@ -82,7 +92,7 @@ op_at u s address = reading_of (slice_index u.memory address) s.side_rule
 abbrev pub stalled_from : Setup → Span → MachineSetup → Context → Ages → Watch
 stalled_from u sp s k a =
     let side = side_of s sp (op_at u s k.address).side in
-    watched (rules_of s sp k.address) (start k a) (record { late = false; from = side.from; to = side.to })
+    watched (rules_of s sp k.address) (start (is_left_out sp k.address) k a) (record { late = false; from = side.from; to = side.to })
 
 -- At an instruction that may stall, and has: the first tick of its row's delayed course is over.
 pub record IsBegun (u : Setup) (sp : Span) (rows : Context → Option Ages) (s : MachineSetup) (f : Flow) (w : Watch) : Type 0 where

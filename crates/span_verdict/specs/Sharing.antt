@@ -1,6 +1,6 @@
 -- Which machines may write the pins of a span.
 --   holds            a mapping holds a pin
---   writes_pin       a level mapping of a machine holds a pin
+--   writes_pin       a mapping of a machine writes the level of a pin, or its direction
 --   shares           a machine of this number may write a pin of the span, which isn't its own
 --   IsUnshared       no other machine does
 --   IsLeastSharer    the least other machine that does
@@ -9,27 +9,35 @@ use Rattle.pin_matrix.specs.Pins.{place_of}
 use Rattle.pin_matrix.specs.declared.mapping.Mapping.{Mapping}
 use Rattle.pin_matrix.specs.declared.machine.MachineSetup.{MachineSetup}
 use Rattle.pin_matrix.specs.declared.setup.Setup.{Setup}
+use Rattle.pin_matrix.specs.declared.span.PinSignal.{PinSignal}
+use Rattle.pin_matrix.specs.declared.span.PinSignal.TheVariants.{Level, Direction}
 use Rattle.pin_matrix.specs.declared.span.Span.{Span}
 
 -- a mapping holds a pin: the pin's place is below the mapping's count
 abbrev pub holds : Mapping → ℕ → Bool
 holds m p = nat_lt (place_of m p) m.count
 
--- The mapping of OUT, of SET, or of side-set that goes to levels holds the pin (RP2040 Datasheet, section 3.5.6).
-abbrev pub writes_pin : MachineSetup → ℕ → Bool
-writes_pin s p = holds s.out p || (holds s.set p || (not s.side_rule.pindirs && holds s.side p))
+-- side-set writes levels, or directions where its rule says so
+abbrev pub side_writes : MachineSetup → PinSignal → Bool
+side_writes s Level = not s.side_rule.pindirs
+side_writes s Direction = s.side_rule.pindirs
 
--- the same of the span's from-pin or to-pin
+-- The mapping of OUT, of SET, or of side-set that writes levels holds the pin; or that writes directions (RP2040 Datasheet,
+-- section 3.5.6).
+abbrev pub writes_pin : MachineSetup → PinSignal → ℕ → Bool
+writes_pin s signal p = holds s.out p || (holds s.set p || (side_writes s signal && holds s.side p))
+
+-- what the span watches of its from-pin, or of its to-pin, is so written
 abbrev pub writes_span : MachineSetup → Span → Bool
-writes_span s sp = writes_pin s sp.from_pin || writes_pin s sp.to_pin
+writes_span s sp = writes_pin s sp.from_signal sp.from_pin || writes_pin s sp.to_signal sp.to_pin
 
--- there is a machine here, and it may write a pin of the span
+-- there is a machine here, and it may write a watched pin of the span
 abbrev pub may_write : Option MachineSetup → Span → Bool
 may_write None sp = false
 may_write (Some s) sp = writes_span s sp
 
--- Of these machines, the one of this number isn't the span's own, it is configured, and one of its level mappings holds a pin
--- of the span.
+-- Of these machines, the one of this number isn't the span's own, it is configured, and one of its mappings writes what the span
+-- watches of a pin.
 unfoldable pub shares : List (Option MachineSetup) → Span → ℕ → Bool
 shares machines sp m = not (m == sp.machine) && may_write (slice_index_or machines m None) sp
 
