@@ -5,12 +5,12 @@ author of the case says. Each is known to be broken, since its docstring says by
 SETUP = '[[load]]\nprogram = "q"\n[[machine]]\nid = 0\nprogram = "q"\n'
 
 
-def pulse(least, most, stalls=(), unit="ticks"):
-    """The table of a span: how long pin 0 is high."""
+def pulse(least, most, stalls=(), unit="ticks", edges=("rise", "fall"), more=""):
+    """The table of a span: how long pin 0 is high, or from one of these edges to the other."""
     named = f"stalls = {list(stalls)}\n".replace("'", '"')
     return (
-        '[[span]]\nname = "high"\nmachine = 0\nfrom_pin = 0\nfrom_edge = "rise"\nto_pin = 0\nto_edge = "fall"\n'
-        f'unit = "{unit}"\nmin = {least}\nmax = {most}\n' + (named if stalls else "")
+        f'[[span]]\nname = "high"\nmachine = 0\nfrom_pin = 0\nfrom_edge = "{edges[0]}"\nto_pin = 0\nto_edge = "{edges[1]}"\n'
+        f'unit = "{unit}"\nmin = {least}\nmax = {most}\n' + (named if stalls else "") + more
     )
 
 
@@ -276,7 +276,83 @@ end:
     return source, SETUP + f"x = {turns}\nset_count = 1\n[pins]\nout = [0]\n" + pulse(0, ticks - 1)
 
 
+def line_let_go_late(random):
+    """A line is held low by its direction for longer where a byte is one of 256: a run with that word."""
+    key, wide = random.randrange(32), random.randrange(1, 9)
+    source = f"""
+.program q
+    set x, {key}
+.wrap_target
+    pull
+    out y, {random.randrange(5, 9)}
+    set pindirs, 1 [{wide}]
+    jmp x!=y right
+    nop
+right:
+    set pindirs, 0
+.wrap
+"""
+    return source, SETUP + pulse(wide + 2, wide + 2, edges=("out", "in"), unit=random.choice(["ticks", "clocks"]))
+
+
+def either_direction(random):
+    """A direction comes from data: a run in which it stays out for two words or more."""
+    every, turns = random.randrange(1, 9), random.randrange(1, 4)
+    source = f"""
+.program q
+.wrap_target
+    out pindirs, 1 [{every - 1}]
+.wrap
+"""
+    keys = "out_count = 1\nautopull = true\npull_threshold = 1\n"
+    return source, SETUP + keys + pulse(1, every * turns, edges=("out", "in"), more="prompt = true\n")
+
+
+def slow_though_prompt(random):
+    """A pulse waits for the system, and is excused then; it is longer, too, where the word is one of some: a run in which it came before."""
+    key, wide = random.randrange(32), random.randrange(1, 9)
+    source = f"""
+.program q
+    set x, {key}
+.wrap_target
+    set pins, 1 [{wide}]
+    pull
+    out y, {random.randrange(5, 9)}
+    jmp x!=y right
+    nop
+right:
+    set pins, 0
+.wrap
+"""
+    keys = "[pins]\nout = [0]\n"
+    return source, SETUP + keys + pulse(wide + 4, wide + 4, unit=random.choice(["ticks", "clocks"]), more="prompt = true\n")
+
+
+def another_way(random):
+    """A pulse has three ways, one of which is left out; of the others one is longer: a run with the word that leads there."""
+    short = random.randrange(1, 5)
+    source = f"""
+.program q
+.wrap_target
+    pull
+    out y, 2
+    set x, {random.choice([1, 2])}
+    set pins, 1
+    jmp !y aside
+    jmp x!=y right
+    nop [{short}]
+right:
+    set pins, 0
+.wrap
+aside:
+    nop [31]
+    jmp right
+"""
+    return source, SETUP + "[pins]\nout = [0]\n" + pulse(3, 3, unit=random.choice(["ticks", "clocks"]), more='without = ["aside"]\n')
+
+
 KINDS = (
+    line_let_go_late, either_direction, slow_though_prompt, another_way,
     secret_word, late_frame, pattern_of_pin, deep_fifo, full_fifo, counted_by_data, nested_loops,
     flag_of_another, jump_by_data, run_by_data, slow_wait, written_by_another, millions_of_ticks,
 )  # fmt: skip

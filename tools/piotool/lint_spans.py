@@ -102,15 +102,15 @@ class SpanLint:
                 yield Said(self.files.config_place(f"span[{place}].to_edge"), "warning", text, "never-closes")
 
     def of_bounds(self, tight: list[Optional[tuple[int, int]]]) -> Iterator[Said]:
-        """Bounds that are off by more than half of the tight ones."""
+        """Bounds that are off by more than half of the tight ones. A least alone is what a device asks for, and isn't compared."""
         for place, (table, ages) in enumerate(zip(self.tables, tight)):
-            if ages is None:
+            if ages is None or table["max"] == inf:
                 continue
             period = period_of(self.block.setups[table["machine"]]) if table.get("unit", "ticks") == "clocks" else 256
             least, most = ages[0] * period // 256, -(-ages[1] * period // 256)
             for key, bound, is_wide in (
                 ("min", least, 2 * (least - table["min"]) > least),
-                ("max", most, table["max"] != inf and 2 * (table["max"] - most) > most),
+                ("max", most, 2 * (table["max"] - most) > most),
             ):
                 if is_wide:
                     text = f"span {table['name']}: {key} is {table[key]}, and the tight one is {bound}"
