@@ -1,6 +1,6 @@
 """What the pages say of the repository itself: its crates and their storeys, names, paths, counts, what a change costs.
 
-`crosscheck/pages` asks `findings`, and `crosscheck/pages --costs` prints the rows of `costs`, to put into docs/ARCHITECTURE.md.
+`crosscheck/pages` asks `findings`, and `crosscheck/pages --costs` prints the rows of `costs`.
 """
 
 import re
@@ -51,21 +51,28 @@ class Crates:
 
 
 def paid():
-    """The CPU seconds of each crate for proof, tests and edits, by the table of bench/GATE.md, which is of an earlier commit."""
-    rows = re.findall(r"^\| `(\w+)` \| (\d+) \| (\d+) \| (\d+) \|$", text_of("bench/GATE.md"), re.M)
+    """The CPU seconds of each crate for proof, tests and edits, by bench/costs.txt, which is of an earlier commit."""
+    rows = re.findall(r"^\| `(\w+)` \| (\d+) \| (\d+) \| (\d+) \|$", text_of("bench/costs.txt"), re.M)
     return {name: tuple(map(int, seconds)) for name, *seconds in rows}
 
 
+def proved_again(crates):
+    """What a change of each crate proves again: its CPU minutes and its crates."""
+    seconds = paid()
+    found = {}
+    for name in crates.order:
+        again = crates.above(name)
+        found[name] = round(sum(sum(seconds.get(it, (0,))) for it in again) / 60), len(again)
+    return found
+
+
 def costs():
-    """The rows of "What a change proves again": CPU minutes and crates, dearest first in each storey."""
-    crates, seconds = Crates(), paid()
+    """The same in a row for each storey, the dearest first."""
+    crates = Crates()
+    found = proved_again(crates)
     for storey, names in crates.storeys.items():
-        found = []
-        for name in names:
-            again = crates.above(name)
-            found.append((round(sum(sum(seconds.get(it, (0,))) for it in again) / 60), len(again), name))
-        found.sort(key=lambda it: (-it[0], it[2]))
-        yield f"| {storey} | " + ", ".join(f"`{name}` {minutes} ({count})" for minutes, count, name in found) + " |"
+        dearest = sorted(names, key=lambda name: (-found[name][0], name))
+        yield f"| {storey} | " + ", ".join(f"`{name}` {found[name][0]} ({found[name][1]})" for name in dearest) + " |"
 
 
 def of_crates(crates):
@@ -161,13 +168,13 @@ def of_counts(crates):
     page, text = "bench/GATE.md", text_of("bench/GATE.md")
     seconds = paid()
     sums = [sum(it[kind] for it in seconds.values()) for kind in range(3)]
-    told = re.search(r"^\| all \| (\d+) \| (\d+) \| (\d+) \|$", text, re.M)
+    told = re.search(r"^\| all \| (\d+) \| (\d+) \| (\d+) \|$", text_of("bench/costs.txt"), re.M)
     if not told or sums != [int(it) for it in told.groups()]:
-        yield page, 1, f"the columns of what the gate costs come to {sums}"
+        yield "bench/costs.txt", 1, f"its columns sum to {sums}"
     minutes = [round(sum(sums) / 60), *(round(it / 60) for it in sums)]
-    said = re.search(r"comes to (\d+) CPU minutes: (\d+) for proofs, (\d+) for tests and (\d+) for edits", text)
+    said = re.search(r"sums to (\d+) CPU minutes: (\d+) for proofs, (\d+) for tests and (\d+) for edits", text)
     if not said or minutes != [int(it) for it in said.groups()]:
-        yield page, 1, f"the table comes to {minutes[0]} CPU minutes: {minutes[1]}, {minutes[2]} and {minutes[3]}"
+        yield page, 1, f"the table sums to {minutes[0]} CPU minutes: {minutes[1]}, {minutes[2]} and {minutes[3]}"
     edits = {it.stem for it in TOP.glob("crates/*/must-fail/*.edit")}
     count = len(list(TOP.glob("crates/*/must-fail/*.edit")))
     kept = re.search(r"^\| edits \| (\d+) in (\d+) crates", text, re.M)
@@ -199,9 +206,10 @@ def of_counts(crates):
         if any("#[test]" in path.read_text() for path in TOP.glob(f"crates/{name}/src/**/*.rt")):
             yield page, 1, f"{name} has tests: what they ask are rows of a program of rows"
     part = text.partition("## What a change proves again")[2]
-    for row in costs():
-        if row not in part:
-            yield page, line_of(text, len(text) - len(part)), f"of what a change proves again the row is\n{row}"
+    again = proved_again(crates)
+    for name, minutes, count in re.findall(r"`(\w+)` (\d+)(?: minutes)? \((\d+)(?: crates)?\)", part):
+        if (int(minutes), int(count)) != again.get(name):
+            yield page, line_of(text, len(text) - len(part)), f"a change of {name} proves again {again.get(name)}"
 
 
 def of_version(crates):
