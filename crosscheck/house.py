@@ -1,6 +1,6 @@
-"""What the pages say of the repository itself: its crates and their storeys, names, paths, counts, what a change costs.
+"""What the pages say of the repository itself: its crates and their storeys, names, paths, links, counts, what a change costs.
 
-`crosscheck/pages` asks `findings`, and `crosscheck/pages --costs` prints the rows of `costs`.
+`crosscheck/pages` asks `findings`; with `--costs` it prints the rows of `costs`, and with `--words` those of `lengths`.
 """
 
 import re
@@ -9,6 +9,7 @@ from pathlib import Path
 TOP = Path(__file__).resolve().parent.parent
 CODE = re.compile(r"^```.*?^```$", re.M | re.S)
 SPAN = re.compile(r"`([^`\n]+)`")
+LINK = re.compile(r"(?<!!)\[[^]\n]*\]\(([^)\s]+)\)")
 NAME = re.compile(r"(?<![\w-])[a-z][a-z0-9]*(?:_[a-z0-9]+)+\b(?!\.\d)")
 # Names that are no name of this repository: directives of a later pioasm, which FAULTS and SPECIFICATION refuse.
 FOREIGN = {"clock_div", "mov_status"}
@@ -21,6 +22,34 @@ def text_of(name):
 
 def line_of(text, at):
     return text.count("\n", 0, at) + 1
+
+
+def pages_of():
+    """All pages of README.md, docs/, the crates, the examples, and the folders of scripts."""
+    return [TOP / "README.md", *TOP.glob("docs/*.md"), *TOP.glob("crates/*/README.md"), *TOP.glob("*/README.md"), *TOP.glob("examples/*/*.md")]
+
+
+def without_code(text):
+    """A page without its blocks of code, line by line as it was."""
+    return CODE.sub(lambda it: "\n" * it[0].count("\n"), text)
+
+
+def words_of(text):
+    """How many words a text has: what blanks part, and what has a letter or a digit."""
+    return sum(any(letter.isalnum() for letter in word) for word in text.split())
+
+
+def lengths():
+    """The words of each page, those of them that aren't in blocks of code, and the sums."""
+    groups = {
+        "README and docs": [TOP / "README.md", *TOP.glob("docs/*.md")],
+        "examples, tools, crosscheck, bench": [it for name in ("examples", "tools", "crosscheck", "bench") for it in TOP.glob(f"{name}/**/*.md")],
+        "crates": [*TOP.glob("crates/README.md"), *TOP.glob("crates/*/README.md")],
+    }
+    for name, pages in groups.items():
+        counts = [(words_of(text), words_of(without_code(text)), page) for page in sorted(pages) for text in [page.read_text()]]
+        yield from (f"{count:7}{prose:7}  {page.relative_to(TOP)}" for count, prose, page in counts)
+        yield f"{sum(it[0] for it in counts):7}{sum(it[1] for it in counts):7}  {name}"
 
 
 class Crates:
@@ -110,10 +139,8 @@ def of_names(crates):
         if path.is_file() and path.suffix != ".md" and not {".git", "out", "dist", "docs", "__pycache__"} & set(inside):
             known.add(path.stem)
             known.update(re.findall(r"[A-Za-z_]\w*", path.read_text(errors="replace")))
-    pages = [TOP / "README.md", *TOP.glob("docs/*.md"), *TOP.glob("crates/*/README.md"), *TOP.glob("*/README.md"), *TOP.glob("examples/*/*.md")]
-    for path in pages:
-        page, text = str(path.relative_to(TOP)), path.read_text()
-        prose = CODE.sub(lambda it: "\n" * it[0].count("\n"), text)
+    for path in pages_of():
+        page, prose = str(path.relative_to(TOP)), without_code(path.read_text())
         for it in re.finditer(r"\bcrates/(\w+)", prose):
             if it[1] not in ("NAME", "README") and it[1] not in crates.uses:
                 yield page, line_of(prose, it.start()), f"no crate has the name {it[1]}"
@@ -122,6 +149,26 @@ def of_names(crates):
             for name in NAME.findall(it[1]):
                 if name not in known:
                     yield page, line_of(prose, it.start()), f"{name} is nowhere in the repository"
+
+
+def places_of(text):
+    """The places of a page that a link can name: its headings, in the form that viewers of Markdown give them."""
+    found = {}
+    for heading in re.findall(r"^#+ (.*)$", without_code(text), re.M):
+        place = re.sub(r"[^\w\s-]", "", heading.strip().lower()).replace(" ", "-")
+        found[place] = found.get(place, -1) + 1
+    return {f"{place}-{number}" if number else place for place, most in found.items() for number in range(most + 1)}
+
+
+def of_links(crates):
+    """Links to a file, or to a place in a page, that isn't there."""
+    for path in dict.fromkeys(pages_of()):
+        prose = without_code(path.read_text())
+        for it in LINK.finditer(prose):
+            name, _, place = it[1].partition("#")
+            to = (path.parent / name).resolve() if name else path
+            if "://" not in it[1] and (not to.exists() or place and place not in places_of(to.read_text())):
+                yield str(path.relative_to(TOP)), line_of(prose, it.start()), f"no {it[1]}"
 
 
 def of_paths(crates):
@@ -226,5 +273,5 @@ def of_version(crates):
 def findings():
     """What is wrong: the page, its line, and what it is."""
     crates = Crates()
-    for ask in (of_crates, of_names, of_paths, of_borders, of_counts, of_version):
+    for ask in (of_crates, of_names, of_links, of_paths, of_borders, of_counts, of_version):
         yield from ask(crates)
