@@ -1,6 +1,6 @@
-"""What the pages say of the repository itself: its crates and their storeys, names, paths, counts, what a change costs.
+"""What the pages say of the repository itself: its crates and their storeys, names, paths, links, counts, what a change costs.
 
-`crosscheck/pages` asks `findings`, and `crosscheck/pages --costs` prints the rows of `costs`, to put into docs/ARCHITECTURE.md.
+`crosscheck/pages` asks `findings`; with `--costs` it prints the rows of `costs`, and with `--words` those of `lengths`.
 """
 
 import re
@@ -9,6 +9,7 @@ from pathlib import Path
 TOP = Path(__file__).resolve().parent.parent
 CODE = re.compile(r"^```.*?^```$", re.M | re.S)
 SPAN = re.compile(r"`([^`\n]+)`")
+LINK = re.compile(r"(?<!!)\[[^]\n]*\]\(([^)\s]+)\)")
 NAME = re.compile(r"(?<![\w-])[a-z][a-z0-9]*(?:_[a-z0-9]+)+\b(?!\.\d)")
 # Names that are no name of this repository: directives of a later pioasm, which FAULTS and SPECIFICATION refuse.
 FOREIGN = {"clock_div", "mov_status"}
@@ -21,6 +22,34 @@ def text_of(name):
 
 def line_of(text, at):
     return text.count("\n", 0, at) + 1
+
+
+def pages_of():
+    """All pages of README.md, docs/, the crates, the examples, and the folders of scripts."""
+    return [TOP / "README.md", *TOP.glob("docs/*.md"), *TOP.glob("crates/*/README.md"), *TOP.glob("*/README.md"), *TOP.glob("examples/*/*.md")]
+
+
+def without_code(text):
+    """A page without its blocks of code, line by line as it was."""
+    return CODE.sub(lambda it: "\n" * it[0].count("\n"), text)
+
+
+def words_of(text):
+    """How many words a text has: what blanks part, and what has a letter or a digit."""
+    return sum(any(letter.isalnum() for letter in word) for word in text.split())
+
+
+def lengths():
+    """The words of each page, those of them that aren't in blocks of code, and the sums."""
+    groups = {
+        "README and docs": [TOP / "README.md", *TOP.glob("docs/*.md")],
+        "examples, tools, crosscheck, bench": [it for name in ("examples", "tools", "crosscheck", "bench") for it in TOP.glob(f"{name}/**/*.md")],
+        "crates": [*TOP.glob("crates/README.md"), *TOP.glob("crates/*/README.md")],
+    }
+    for name, pages in groups.items():
+        counts = [(words_of(text), words_of(without_code(text)), page) for page in sorted(pages) for text in [page.read_text()]]
+        yield from (f"{count:7}{prose:7}  {page.relative_to(TOP)}" for count, prose, page in counts)
+        yield f"{sum(it[0] for it in counts):7}{sum(it[1] for it in counts):7}  {name}"
 
 
 class Crates:
@@ -51,21 +80,28 @@ class Crates:
 
 
 def paid():
-    """The CPU seconds of each crate for proof, tests and edits, by the table of bench/GATE.md, which is of an earlier commit."""
-    rows = re.findall(r"^\| `(\w+)` \| (\d+) \| (\d+) \| (\d+) \|$", text_of("bench/GATE.md"), re.M)
+    """The CPU seconds of each crate for proof, tests and edits, by bench/costs.txt, which is of an earlier commit."""
+    rows = re.findall(r"^\| `(\w+)` \| (\d+) \| (\d+) \| (\d+) \|$", text_of("bench/costs.txt"), re.M)
     return {name: tuple(map(int, seconds)) for name, *seconds in rows}
 
 
+def proved_again(crates):
+    """What a change of each crate proves again: its CPU minutes and its crates."""
+    seconds = paid()
+    found = {}
+    for name in crates.order:
+        again = crates.above(name)
+        found[name] = round(sum(sum(seconds.get(it, (0,))) for it in again) / 60), len(again)
+    return found
+
+
 def costs():
-    """The rows of "What a change proves again": CPU minutes and crates, dearest first in each storey."""
-    crates, seconds = Crates(), paid()
+    """The same in a row for each storey, the dearest first."""
+    crates = Crates()
+    found = proved_again(crates)
     for storey, names in crates.storeys.items():
-        found = []
-        for name in names:
-            again = crates.above(name)
-            found.append((round(sum(sum(seconds.get(it, (0,))) for it in again) / 60), len(again), name))
-        found.sort(key=lambda it: (-it[0], it[2]))
-        yield f"| {storey} | " + ", ".join(f"`{name}` {minutes} ({count})" for minutes, count, name in found) + " |"
+        dearest = sorted(names, key=lambda name: (-found[name][0], name))
+        yield f"| {storey} | " + ", ".join(f"`{name}` {found[name][0]} ({found[name][1]})" for name in dearest) + " |"
 
 
 def of_crates(crates):
@@ -103,10 +139,8 @@ def of_names(crates):
         if path.is_file() and path.suffix != ".md" and not {".git", "out", "dist", "docs", "__pycache__"} & set(inside):
             known.add(path.stem)
             known.update(re.findall(r"[A-Za-z_]\w*", path.read_text(errors="replace")))
-    pages = [TOP / "README.md", *TOP.glob("docs/*.md"), *TOP.glob("crates/*/README.md"), *TOP.glob("*/README.md"), *TOP.glob("examples/*/*.md")]
-    for path in pages:
-        page, text = str(path.relative_to(TOP)), path.read_text()
-        prose = CODE.sub(lambda it: "\n" * it[0].count("\n"), text)
+    for path in pages_of():
+        page, prose = str(path.relative_to(TOP)), without_code(path.read_text())
         for it in re.finditer(r"\bcrates/(\w+)", prose):
             if it[1] not in ("NAME", "README") and it[1] not in crates.uses:
                 yield page, line_of(prose, it.start()), f"no crate has the name {it[1]}"
@@ -115,6 +149,26 @@ def of_names(crates):
             for name in NAME.findall(it[1]):
                 if name not in known:
                     yield page, line_of(prose, it.start()), f"{name} is nowhere in the repository"
+
+
+def places_of(text):
+    """The places of a page that a link can name: its headings, in the form that viewers of Markdown give them."""
+    found = {}
+    for heading in re.findall(r"^#+ (.*)$", without_code(text), re.M):
+        place = re.sub(r"[^\w\s-]", "", heading.strip().lower()).replace(" ", "-")
+        found[place] = found.get(place, -1) + 1
+    return {f"{place}-{number}" if number else place for place, most in found.items() for number in range(most + 1)}
+
+
+def of_links(crates):
+    """Links to a file, or to a place in a page, that isn't there."""
+    for path in dict.fromkeys(pages_of()):
+        prose = without_code(path.read_text())
+        for it in LINK.finditer(prose):
+            name, _, place = it[1].partition("#")
+            to = (path.parent / name).resolve() if name else path
+            if "://" not in it[1] and (not to.exists() or place and place not in places_of(to.read_text())):
+                yield str(path.relative_to(TOP)), line_of(prose, it.start()), f"no {it[1]}"
 
 
 def of_paths(crates):
@@ -161,13 +215,13 @@ def of_counts(crates):
     page, text = "bench/GATE.md", text_of("bench/GATE.md")
     seconds = paid()
     sums = [sum(it[kind] for it in seconds.values()) for kind in range(3)]
-    told = re.search(r"^\| all \| (\d+) \| (\d+) \| (\d+) \|$", text, re.M)
+    told = re.search(r"^\| all \| (\d+) \| (\d+) \| (\d+) \|$", text_of("bench/costs.txt"), re.M)
     if not told or sums != [int(it) for it in told.groups()]:
-        yield page, 1, f"the columns of what the gate costs come to {sums}"
+        yield "bench/costs.txt", 1, f"its columns sum to {sums}"
     minutes = [round(sum(sums) / 60), *(round(it / 60) for it in sums)]
-    said = re.search(r"comes to (\d+) CPU minutes: (\d+) for proofs, (\d+) for tests and (\d+) for edits", text)
+    said = re.search(r"sums to (\d+) CPU minutes: (\d+) for proofs, (\d+) for tests and (\d+) for edits", text)
     if not said or minutes != [int(it) for it in said.groups()]:
-        yield page, 1, f"the table comes to {minutes[0]} CPU minutes: {minutes[1]}, {minutes[2]} and {minutes[3]}"
+        yield page, 1, f"the table sums to {minutes[0]} CPU minutes: {minutes[1]}, {minutes[2]} and {minutes[3]}"
     edits = {it.stem for it in TOP.glob("crates/*/must-fail/*.edit")}
     count = len(list(TOP.glob("crates/*/must-fail/*.edit")))
     kept = re.search(r"^\| edits \| (\d+) in (\d+) crates", text, re.M)
@@ -199,9 +253,10 @@ def of_counts(crates):
         if any("#[test]" in path.read_text() for path in TOP.glob(f"crates/{name}/src/**/*.rt")):
             yield page, 1, f"{name} has tests: what they ask are rows of a program of rows"
     part = text.partition("## What a change proves again")[2]
-    for row in costs():
-        if row not in part:
-            yield page, line_of(text, len(text) - len(part)), f"of what a change proves again the row is\n{row}"
+    again = proved_again(crates)
+    for name, minutes, count in re.findall(r"`(\w+)` (\d+)(?: minutes)? \((\d+)(?: crates)?\)", part):
+        if (int(minutes), int(count)) != again.get(name):
+            yield page, line_of(text, len(text) - len(part)), f"a change of {name} proves again {again.get(name)}"
 
 
 def of_version(crates):
@@ -218,5 +273,5 @@ def of_version(crates):
 def findings():
     """What is wrong: the page, its line, and what it is."""
     crates = Crates()
-    for ask in (of_crates, of_names, of_paths, of_borders, of_counts, of_version):
+    for ask in (of_crates, of_names, of_links, of_paths, of_borders, of_counts, of_version):
         yield from ask(crates)
