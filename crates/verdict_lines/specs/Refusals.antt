@@ -22,7 +22,7 @@ is_of_direction Direction = true
 -- whether it closes, since it may be proved where nothing ends it.
 abbrev pub says_more : Span → Bool
 says_more sp =
-    not (is_bounded sp) || (is_of_direction sp.from_signal || (is_of_direction sp.to_signal || (sp.prompt || not (length sp.without == 0))))
+    (((not (is_bounded sp) || is_of_direction sp.from_signal) || is_of_direction sp.to_signal) || sp.prompt) || not (length sp.without == 0)
 
 -- whether the span opens, where it says more whether it closes, and whether it is prompt
 abbrev pub finding_of : Span → (opens closes : Bool) → Finding
