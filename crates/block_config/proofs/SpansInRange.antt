@@ -10,12 +10,13 @@ use Rattle.pin_matrix.specs.Spans.{is_in_ticks, is_span_name}
 use Rattle.block_config.specs.Answer.{ConfigRefusal}
 use Rattle.block_config.specs.Arrays.{count_items, all_items, gather}
 use Rattle.setup_keys.specs.Block.{MachineKeys, SpanKeys}
+use Rattle.block_config.specs.declared.edges.Edge.{Edge}
 use Rattle.block_config.specs.declared.fault.ConfigKind.{ConfigKind}
 use Rattle.block_config.specs.declared.fault.ConfigKind.TheVariants.{Many, WrongType, Range}
 use Rattle.block_config.specs.declared.path.Section.TheVariants.{Span}
 use Rattle.block_config.specs.Programs.{Loaded}
-use Rattle.block_config.specs.Spans.{span_names, required, name_of, name_at, configured, machine_at, span_pins, edge_at, SpanEnds, ends_at, unit_at, least_at, is_endless, most_of, most_at, Bounds, is_under, ordered, bounds_at, load_of_machine, stall_addresses, stalls_in, stalls_of, stalls_at, SpanValues, values_at, span_keys_of, span_of_table, span_in, all_spans}
-use Rattle.block_config.specs.Tables.{and_then, number_at, each_at}
+use Rattle.block_config.specs.Spans.{span_names, required, name_of, name_at, configured, machine_at, span_pins, edge_at, SpanEnds, ends_at, unit_at, least_at, is_endless, most_of, most_at, Bounds, is_under, ordered, bounds_at, load_of_machine, label_addresses, labels_in, labels_of, stalls_at, prompt_key, without_at, Exempt, exempt_at, SpanValues, values_at, span_keys_of, span_of_table, span_in, all_spans}
+use Rattle.block_config.specs.Tables.{and_then, number_at, flag_at, each_at}
 use Rattle.block_config.specs.Values.{map_ok, number_in, text_of}
 use Rattle.setup_keys.specs.InRange.{IsSpan}
 use Rattle.block_config.proofs.Gathered.{gather_keeps, read_table}
@@ -56,14 +57,14 @@ machine_within machines t id e =
     let high : read.value ≤ 3 = within.1 in
     omega arith
 
-ends_read : (machines : List (Option MachineKeys)) (t : Members) (ends : SpanEnds) (machine : Result ℕ ConfigRefusal) (pins : Result (List ℕ) ConfigRefusal) (from to : Result Bool ConfigRefusal)
+ends_read : (machines : List (Option MachineKeys)) (t : Members) (ends : SpanEnds) (machine : Result ℕ ConfigRefusal) (pins : Result (List ℕ) ConfigRefusal) (from to : Result Edge ConfigRefusal)
     → machine_at machines t ≡ machine → each_at (number_at t) span_pins ≡ pins
-    → and_then machine (λ machine. and_then pins (λ pins. and_then from (λ from_rise. and_then to (λ to_rise.
-    Ok (record { machine = machine; from_pin = slice_index pins 0; to_pin = slice_index pins 1; from_rise = from_rise; to_rise = to_rise }))))) ≡ Ok ends
+    → and_then machine (λ machine. and_then pins (λ pins. and_then from (λ from_edge. and_then to (λ to_edge.
+    Ok (record { machine = machine; from_pin = slice_index pins 0; to_pin = slice_index pins 1; from_edge = from_edge; to_edge = to_edge }))))) ≡ Ok ends
     → AreEnds ends
 ends_read machines t ends (Ok machine) (Ok pins) (Ok from) (Ok to) m p e =
     let w = all_within t span_pins pins [] 0 (all_defaulted span_pins refl) refl p in
-    subst AreEnds (ok_same (record { machine = machine; from_pin = slice_index pins 0; to_pin = slice_index pins 1; from_rise = from; to_rise = to }) ends e)
+    subst AreEnds (ok_same (record { machine = machine; from_pin = slice_index pins 0; to_pin = slice_index pins 1; from_edge = from; to_edge = to }) ends e)
     (record { machine = machine_within machines t machine m; from_pin = omega (arith, w.1); to_pin = omega (arith, w.2.1) })
 ends_read machines t ends (Err r) pins from to m p e = cc
 ends_read machines t ends (Ok machine) (Err r) from to m p e = cc
@@ -116,33 +117,41 @@ none_in_ticks : (ticks : Bool) → (ticks || true) ≡ true
 none_in_ticks true = refl
 none_in_ticks false = refl
 
-no_addresses : (load : Option Loaded) (ds : Items) (stalls : List ℕ) → count_items ds ≡ 0 → stall_addresses load ds ≡ Ok stalls → [] ≡ stalls
+no_addresses : (load : Option Loaded) (ds : Items) (stalls : List ℕ) → count_items ds ≡ 0 → label_addresses load ds ≡ Ok stalls → [] ≡ stalls
 unfolding gather
 no_addresses load no_items stalls none e = ok_same [] stalls e
 no_addresses load (item d ds) stalls none e = absurd (omega arith)
 
-addresses_in_ticks : (ticks : Bool) (load : Option Loaded) (ds : Items) (stalls : List ℕ) (b : Bool) → (ticks || count_items ds == 0) ≡ b → cond b (stall_addresses load ds) (Err Range) ≡ Ok stalls → (ticks || length stalls == 0) ≡ true
+addresses_in_ticks : (ticks : Bool) (load : Option Loaded) (ds : Items) (stalls : List ℕ) (b : Bool) → (ticks || count_items ds == 0) ≡ b → cond b (label_addresses load ds) (Err Range) ≡ Ok stalls → (ticks || length stalls == 0) ≡ true
 addresses_in_ticks true load ds stalls b is e = refl
 addresses_in_ticks false load ds stalls true is e =
     let none : count_items ds ≡ 0 = eqb-true (count_items ds) 0 is in
     subst (λ (s : List ℕ). (length s == 0) ≡ true) (no_addresses load ds stalls none e) refl
 addresses_in_ticks false load ds stalls false is e = cc
 
-array_in_ticks : (unit : SpanUnit) (load : Option Loaded) (ds : Items) (stalls : List ℕ) (texts few : Bool)
-    → cond texts (cond few (cond (is_in_ticks unit || count_items ds == 0) (stall_addresses load ds) (Err Range)) (Err Many)) (Err WrongType) ≡ Ok stalls → AreInTicks unit stalls
-array_in_ticks unit load ds stalls true true e = addresses_in_ticks (is_in_ticks unit) load ds stalls _ refl e
-array_in_ticks unit load ds stalls true false e = cc
-array_in_ticks unit load ds stalls false few e = cc
+array_in_ticks : (ticks : Bool) (load : Option Loaded) (ds : Items) (stalls : List ℕ) (texts few : Bool)
+    → cond texts (cond few (cond (ticks || count_items ds == 0) (label_addresses load ds) (Err Range)) (Err Many)) (Err WrongType) ≡ Ok stalls → (ticks || length stalls == 0) ≡ true
+array_in_ticks ticks load ds stalls true true e = addresses_in_ticks ticks load ds stalls _ refl e
+array_in_ticks ticks load ds stalls true false e = cc
+array_in_ticks ticks load ds stalls false few e = cc
 
-in_ticks : (unit : SpanUnit) (load : Option Loaded) (o : Option Items) (stalls : List ℕ) → stalls_in unit load o ≡ Ok stalls → AreInTicks unit stalls
-in_ticks unit load None stalls e = cc
-in_ticks unit load (Some ds) stalls e = array_in_ticks unit load ds stalls (all_items (λ d. is_some (as_str d)) ds) (nat_le (count_items ds) 16) e
+in_ticks : (ticks : Bool) (load : Option Loaded) (o : Option Items) (stalls : List ℕ) → labels_in ticks load o ≡ Ok stalls → (ticks || length stalls == 0) ≡ true
+in_ticks ticks load None stalls e = cc
+in_ticks ticks load (Some ds) stalls e = array_in_ticks ticks load ds stalls (all_items (λ d. is_some (as_str d)) ds) (nat_le (count_items ds) 16) e
 
-value_in_ticks : (unit : SpanUnit) (load : Option Loaded) (o : Option Data) (stalls : List ℕ) → stalls_of unit load o ≡ Ok stalls → AreInTicks unit stalls
-value_in_ticks unit load None stalls e = subst (AreInTicks unit) (ok_same [] stalls e) (none_in_ticks (is_in_ticks unit))
-value_in_ticks unit load (Some d) stalls e = in_ticks unit load (as_array d) stalls e
+value_in_ticks : (ticks : Bool) (load : Option Loaded) (o : Option Data) (stalls : List ℕ) → labels_of ticks load o ≡ Ok stalls → (ticks || length stalls == 0) ≡ true
+value_in_ticks ticks load None stalls e = subst (λ (s : List ℕ). (ticks || length s == 0) ≡ true) (ok_same [] stalls e) (none_in_ticks ticks)
+value_in_ticks ticks load (Some d) stalls e = in_ticks ticks load (as_array d) stalls e
 
-parts_in_range : (name : List ℕ) (v : SpanValues) → is_span_name name ≡ true → AreEnds v.ends → AreOrdered v.bounds → AreInTicks v.bounds.unit v.stalls → IsSpan (span_keys_of name v)
+exempt_in_ticks : (unit : SpanUnit) (load : Option Loaded) (t : Members) (x : Exempt) → exempt_at unit load t ≡ Ok x → AreInTicks unit x.stalls
+exempt_in_ticks unit load t x e =
+    let stalls = goes_on (stalls_at unit load t) (λ stalls. and_then (flag_at t prompt_key) (λ prompt. and_then (without_at load t) (λ without. Ok (record { stalls = stalls; prompt = prompt; without = without })))) x e in
+    let prompt = goes_on (flag_at t prompt_key) (λ prompt. and_then (without_at load t) (λ without. Ok (record { stalls = stalls.value; prompt = prompt; without = without }))) x stalls.rest in
+    let without = goes_on (without_at load t) (λ without. Ok (record { stalls = stalls.value; prompt = prompt.value; without = without })) x prompt.rest in
+    subst (λ (y : Exempt). AreInTicks unit y.stalls) (ok_same (record { stalls = stalls.value; prompt = prompt.value; without = without.value }) x without.rest)
+    (value_in_ticks (is_in_ticks unit) load (get_member (codes "stalls") t) stalls.value (off_key (codes "stalls") _ stalls.value stalls.found))
+
+parts_in_range : (name : List ℕ) (v : SpanValues) → is_span_name name ≡ true → AreEnds v.ends → AreOrdered v.bounds → AreInTicks v.bounds.unit v.exempt.stalls → IsSpan (span_keys_of name v)
 parts_in_range name v n e b s = record {
   named = n;
   machine_in_block = e.machine;
@@ -158,23 +167,22 @@ parts_in_range name v n e b s = record {
 record AreValues (v : SpanValues) : Type 0 where
   ends : AreEnds v.ends
   bounds : AreOrdered v.bounds
-  stalls : AreInTicks v.bounds.unit v.stalls
+  stalls : AreInTicks v.bounds.unit v.exempt.stalls
 
-values_read : (t : Members) (v : SpanValues) (load : Option Loaded) (ends : SpanEnds) (bounds : Bounds) (stalls : Result (List ℕ) ConfigRefusal) → AreEnds ends → AreOrdered bounds
-    → stalls_at bounds.unit load t ≡ stalls → and_then stalls (λ stalls. Ok (record { ends = ends; bounds = bounds; stalls = stalls })) ≡ Ok v → AreValues v
-values_read t v load ends bounds (Ok stalls) a o is e =
-    let told : AreInTicks bounds.unit stalls = value_in_ticks bounds.unit load (get_member (codes "stalls") t) stalls (off_key (codes "stalls") _ stalls is) in
-    subst AreValues (ok_same (record { ends = ends; bounds = bounds; stalls = stalls }) v e) (record { ends = a; bounds = o; stalls = told })
+values_read : (t : Members) (v : SpanValues) (load : Option Loaded) (ends : SpanEnds) (bounds : Bounds) (exempt : Result Exempt ConfigRefusal) → AreEnds ends → AreOrdered bounds
+    → exempt_at bounds.unit load t ≡ exempt → and_then exempt (λ exempt. Ok (record { ends = ends; bounds = bounds; exempt = exempt })) ≡ Ok v → AreValues v
+values_read t v load ends bounds (Ok exempt) a o is e =
+    subst AreValues (ok_same (record { ends = ends; bounds = bounds; exempt = exempt }) v e) (record { ends = a; bounds = o; stalls = exempt_in_ticks bounds.unit load t exempt is })
 values_read t v load ends bounds (Err r) a o is e = cc
 
 values_bounded : (machines : List (Option MachineKeys)) (loads : List Loaded) (t : Members) (v : SpanValues) (ends : Result SpanEnds ConfigRefusal) (bounds : Result Bounds ConfigRefusal)
     → ends_at machines t ≡ ends → bounds_at t ≡ bounds
-    → and_then ends (λ ends. and_then bounds (λ bounds. and_then (stalls_at bounds.unit (load_of_machine loads (slice_index_or machines ends.machine None)) t) (λ stalls.
-    Ok (record { ends = ends; bounds = bounds; stalls = stalls })))) ≡ Ok v
+    → and_then ends (λ ends. and_then bounds (λ bounds. and_then (exempt_at bounds.unit (load_of_machine loads (slice_index_or machines ends.machine None)) t) (λ exempt.
+    Ok (record { ends = ends; bounds = bounds; exempt = exempt })))) ≡ Ok v
     → AreValues v
 values_bounded machines loads t v (Ok ends) (Ok bounds) a o e =
     let load = load_of_machine loads (slice_index_or machines ends.machine None) in
-    values_read t v load ends bounds (stalls_at bounds.unit load t) (are_ends machines t ends a) (are_ordered t bounds o) refl e
+    values_read t v load ends bounds (exempt_at bounds.unit load t) (are_ends machines t ends a) (are_ordered t bounds o) refl e
 values_bounded machines loads t v (Err r) bounds a o e = cc
 values_bounded machines loads t v (Ok ends) (Err r) a o e = cc
 

@@ -1,8 +1,9 @@
 -- The tables of spans: the keys of one in order, the span that it says, and all spans (choice of this profile).
 --   name_at     its name
---   ends_at     the machine and the two edges, Ends by name
+--   ends_at     the machine and the two edges, SpanEnds by name
 --   bounds_at   what is counted, from where to where, Bounds by name
---   stalls_at   the addresses at which stalls don't count
+--   labels_at   the addresses of a list of labels
+--   exempt_at   which stalls don't count, and of which from-edges nothing is said, Exempt by name
 --   span_in     the span of the table at a place
 --   all_spans   the spans of all tables
 use Rattle.std.specs.Prelude.{ℕ, nat_le, nat_lt, ◌==◌, ◌&&◌, ◌||◌, not, Float, is_some, Bool, true, false, if◌then◌else◌, slice_index, slice_index_or, Option, Some, None, List, [], ◌∷◌, Result, Ok, Err, codes}
@@ -10,27 +11,30 @@ use Rattle.std.specs.Float.{float_is_infinite, is_sign_negative}
 use Rattle.std.specs.List.{find}
 use Rattle.std.specs.Str.{bytes_eq}
 use Rattle.toml.specs.Data.{Data, Items, Members, get_member, as_array, as_float, as_str, as_table}
+use Rattle.pin_matrix.specs.declared.span.PinSignal.{PinSignal}
+use Rattle.pin_matrix.specs.declared.span.PinSignal.TheVariants.{Level, Direction}
 use Rattle.pin_matrix.specs.declared.span.SpanUnit.{SpanUnit}
 use Rattle.pin_matrix.specs.declared.span.SpanUnit.TheVariants.{Ticks, Clocks}
 use Rattle.pin_matrix.specs.Spans.{is_in_ticks, is_span_name}
 use Rattle.block_config.specs.declared.fault.ConfigKind.{ConfigKind}
 use Rattle.block_config.specs.declared.fault.ConfigKind.TheVariants.{Missing, Range, WrongType, NoProgram, NoLabel, Many}
+use Rattle.block_config.specs.declared.edges.Edge.{Edge}
 use Rattle.block_config.specs.declared.path.Section.TheVariants.{Span}
 use Rattle.block_config.specs.Answer.{ConfigRefusal, refused}
 use Rattle.block_config.specs.Arrays.{count_items, all_items, gather}
 use Rattle.setup_keys.specs.Block.{MachineKeys, SpanKeys}
-use Rattle.block_config.specs.Keys.{Numbered}
+use Rattle.block_config.specs.Keys.{Numbered, Flagged}
 use Rattle.block_config.specs.Loads.{covers}
-use Rattle.block_config.specs.Machines.{moved_place}
+use Rattle.block_config.specs.Machines.{flag, moved_place}
 use Rattle.block_config.specs.Programs.{Loaded, label_of}
-use Rattle.block_config.specs.Tables.{and_then, on_key, number_at, each_at, section_at, element_of}
+use Rattle.block_config.specs.Tables.{and_then, on_key, number_at, flag_at, each_at, section_at, element_of}
 use Rattle.block_config.specs.Values.{map_ok, number_in, text_of}
 
 -- every key of a span's table
 abbrev pub span_names : List (List ℕ)
 span_names =
     codes "name" ∷ codes "machine" ∷ codes "from_pin" ∷ codes "to_pin" ∷ codes "from_edge" ∷ codes "to_edge" ∷ codes "unit"
-    ∷ codes "min" ∷ codes "max" ∷ codes "stalls" ∷ []
+    ∷ codes "min" ∷ codes "max" ∷ codes "stalls" ∷ codes "prompt" ∷ codes "without" ∷ []
 
 -- a number that is required
 abbrev pub required : List ℕ → (high : ℕ) → Numbered
@@ -57,13 +61,18 @@ machine_at machines t = and_then (number_at t (required (codes "machine") 3)) (c
 abbrev pub span_pins : List Numbered
 span_pins = required (codes "from_pin") 31 ∷ required (codes "to_pin") 31 ∷ []
 
--- whether an edge is a rise, else it is a fall
-abbrev pub edge_of : Option (List ℕ) → Result Bool ConfigKind
+-- the level rises or falls, or the direction becomes out or in
+abbrev pub edge_of : Option (List ℕ) → Result Edge ConfigKind
 edge_of None = Err Missing
-edge_of (Some word) = if bytes_eq word (codes "rise") then Ok true else if bytes_eq word (codes "fall") then Ok false else Err Range
+edge_of (Some word) =
+    if bytes_eq word (codes "rise") then Ok (record { signal = Level; rise = true })
+    else if bytes_eq word (codes "fall") then Ok (record { signal = Level; rise = false })
+    else if bytes_eq word (codes "out") then Ok (record { signal = Direction; rise = true })
+    else if bytes_eq word (codes "in") then Ok (record { signal = Direction; rise = false })
+    else Err Range
 
 -- the edge of a key
-abbrev pub edge_at : Members → List ℕ → Result Bool ConfigRefusal
+abbrev pub edge_at : Members → List ℕ → Result Edge ConfigRefusal
 edge_at t key = on_key key (and_then (text_of (get_member key t)) edge_of)
 
 -- from where to where a span goes
@@ -71,15 +80,15 @@ pub record SpanEnds : Type 0 where
   pub machine : ℕ
   pub from_pin : ℕ
   pub to_pin : ℕ
-  pub from_rise : Bool
-  pub to_rise : Bool
+  pub from_edge : Edge
+  pub to_edge : Edge
 
 -- the machine, the pins and the edges of a table
 abbrev pub ends_at : List (Option MachineKeys) → Members → Result SpanEnds ConfigRefusal
 ends_at machines t =
     and_then (machine_at machines t) (λ machine. and_then (each_at (number_at t) span_pins) (λ pins.
-    and_then (edge_at t (codes "from_edge")) (λ from_rise. and_then (edge_at t (codes "to_edge")) (λ to_rise.
-    Ok (record { machine = machine; from_pin = slice_index pins 0; to_pin = slice_index pins 1; from_rise = from_rise; to_rise = to_rise })))))
+    and_then (edge_at t (codes "from_edge")) (λ from_edge. and_then (edge_at t (codes "to_edge")) (λ to_edge.
+    Ok (record { machine = machine; from_pin = slice_index pins 0; to_pin = slice_index pins 1; from_edge = from_edge; to_edge = to_edge })))))
 
 -- what the bounds count: ticks where nothing is said
 abbrev pub unit_of : Option (List ℕ) → Result SpanUnit ConfigKind
@@ -141,45 +150,69 @@ label_in None name = Err NoLabel
 label_in (Some l) name = moved_place l.address (label_of l.program name)
 
 -- the address of an element that names a label
-abbrev pub stall_of : Option Loaded → Option (List ℕ) → Result ℕ ConfigKind
-stall_of load None = Err WrongType
-stall_of load (Some name) = label_in load name
+abbrev pub label_of_element : Option Loaded → Option (List ℕ) → Result ℕ ConfigKind
+label_of_element load None = Err WrongType
+label_of_element load (Some name) = label_in load name
 
 -- the addresses of all elements
-abbrev pub stall_addresses : Option Loaded → Items → Result (List ℕ) ConfigKind
-stall_addresses load ds = gather (λ place front d. stall_of load (as_str d)) 0 [] ds
+abbrev pub label_addresses : Option Loaded → Items → Result (List ℕ) ConfigKind
+label_addresses load ds = gather (λ place front d. label_of_element load (as_str d)) 0 [] ds
 
--- Texts come first, then that they aren't too many; a span in clocks has none.
-abbrev pub stalls_in : SpanUnit → Option Loaded → Option Items → Result (List ℕ) ConfigKind
-stalls_in unit load None = Err WrongType
-stalls_in unit load (Some ds) =
+-- Texts come first, then that they aren't too many; where none may be named there are none.
+abbrev pub labels_in : (may : Bool) → Option Loaded → Option Items → Result (List ℕ) ConfigKind
+labels_in may load None = Err WrongType
+labels_in may load (Some ds) =
     if all_items (λ d. is_some (as_str d)) ds
     then (if nat_le (count_items ds) 16
-    then (if is_in_ticks unit || count_items ds == 0 then stall_addresses load ds else Err Range)
+    then (if may || count_items ds == 0 then label_addresses load ds else Err Range)
     else Err Many)
     else Err WrongType
 
--- the stalls of a value, none where it is absent
-abbrev pub stalls_of : SpanUnit → Option Loaded → Option Data → Result (List ℕ) ConfigKind
-stalls_of unit load None = Ok []
-stalls_of unit load (Some d) = stalls_in unit load (as_array d)
+-- the labels of a value, none where it is absent
+abbrev pub labels_of : (may : Bool) → Option Loaded → Option Data → Result (List ℕ) ConfigKind
+labels_of may load None = Ok []
+labels_of may load (Some d) = labels_in may load (as_array d)
 
--- the stalls of a table
+-- the labels of a key
+abbrev pub labels_at : List ℕ → (may : Bool) → Option Loaded → Members → Result (List ℕ) ConfigRefusal
+labels_at key may load t = on_key key (labels_of may load (get_member key t))
+
+-- the addresses at which stalls don't count, which a span in clocks has none of
 abbrev pub stalls_at : SpanUnit → Option Loaded → Members → Result (List ℕ) ConfigRefusal
-stalls_at unit load t = on_key (codes "stalls") (stalls_of unit load (get_member (codes "stalls") t))
+stalls_at unit load t = labels_at (codes "stalls") (is_in_ticks unit) load t
+
+-- whether nothing is said of a from-edge after which the machine waits
+abbrev pub prompt_key : Flagged
+prompt_key = flag (codes "prompt") false
+
+-- the addresses of which each excuses a from-edge after which the machine comes there
+abbrev pub without_at : Option Loaded → Members → Result (List ℕ) ConfigRefusal
+without_at load t = labels_at (codes "without") true load t
+
+-- which stalls don't count, and of which from-edges nothing is said
+pub record Exempt : Type 0 where
+  pub stalls : List ℕ
+  pub prompt : Bool
+  pub without : List ℕ
+
+-- what of a table is exempt, at labels of the program that is loaded so
+abbrev pub exempt_at : SpanUnit → Option Loaded → Members → Result Exempt ConfigRefusal
+exempt_at unit load t =
+    and_then (stalls_at unit load t) (λ stalls. and_then (flag_at t prompt_key) (λ prompt. and_then (without_at load t) (λ without.
+    Ok (record { stalls = stalls; prompt = prompt; without = without }))))
 
 -- what a span says after its name
 pub record SpanValues : Type 0 where
   pub ends : SpanEnds
   pub bounds : Bounds
-  pub stalls : List ℕ
+  pub exempt : Exempt
 
 -- the values of a table
 abbrev pub values_at : List (Option MachineKeys) → List Loaded → Members → Result SpanValues ConfigRefusal
 values_at machines loads t =
     and_then (ends_at machines t) (λ ends. and_then (bounds_at t) (λ bounds.
-    and_then (stalls_at bounds.unit (load_of_machine loads (slice_index_or machines ends.machine None)) t) (λ stalls.
-    Ok (record { ends = ends; bounds = bounds; stalls = stalls }))))
+    and_then (exempt_at bounds.unit (load_of_machine loads (slice_index_or machines ends.machine None)) t) (λ exempt.
+    Ok (record { ends = ends; bounds = bounds; exempt = exempt }))))
 
 -- a span of its parts
 abbrev pub span_keys_of : List ℕ → SpanValues → SpanKeys
@@ -187,13 +220,17 @@ span_keys_of name v = record {
   name = name;
   machine = v.ends.machine;
   from_pin = v.ends.from_pin;
-  from_rise = v.ends.from_rise;
+  from_signal = v.ends.from_edge.signal;
+  from_rise = v.ends.from_edge.rise;
   to_pin = v.ends.to_pin;
-  to_rise = v.ends.to_rise;
+  to_signal = v.ends.to_edge.signal;
+  to_rise = v.ends.to_edge.rise;
   unit = v.bounds.unit;
   least = v.bounds.least;
   most = v.bounds.most;
-  stalls = v.stalls;
+  stalls = v.exempt.stalls;
+  prompt = v.exempt.prompt;
+  without = v.exempt.without;
 }
 
 -- the span of a table

@@ -335,9 +335,13 @@ pub const MAX: &str = "max";
 
 pub const STALLS: &str = "stalls";
 
+pub const PROMPT: &str = "prompt";
+
+pub const WITHOUT: &str = "without";
+
 /// All keys of a span.
-pub const SPAN_KEYS: [&str; 10] = [
-    NAME, MACHINE, FROM_PIN, TO_PIN, FROM_EDGE, TO_EDGE, UNIT, MIN, MAX, STALLS,
+pub const SPAN_KEYS: [&str; 12] = [
+    NAME, MACHINE, FROM_PIN, TO_PIN, FROM_EDGE, TO_EDGE, UNIT, MIN, MAX, STALLS, PROMPT, WITHOUT,
 ];
 
 /// A span's machine.
@@ -370,4 +374,10 @@ pub const SPAN_MIN: NumberKey = NumberKey {
     low: 0,
     high: 16_777_215,
     default: None,
+};
+
+/// Whether a span speaks only of from-edges after which its machine doesn't wait.
+pub const SPAN_PROMPT: FlagKey = FlagKey {
+    name: PROMPT,
+    default: false,
 };

@@ -4,8 +4,10 @@
 mod arrays;
 mod config;
 mod defaults;
+mod edges;
 mod fault;
 mod keys;
+mod labels;
 mod laws;
 mod loads;
 mod machines;
@@ -16,7 +18,6 @@ mod pins;
 mod programs;
 mod sections;
 mod spans;
-mod stalls;
 mod table;
 mod value;
 

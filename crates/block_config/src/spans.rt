@@ -11,15 +11,16 @@ ghost use Rattle.block_config.specs.Spans as spec;
 ghost use Rattle.block_config.specs.Tables.{and_then, section_at, seen};
 ghost use Rattle.block_config.specs.Values.{map_ok, text_of};
 
+use crate::edges::{Edge, edge_at};
 use crate::fault::{ConfigFault, ConfigKind};
 use crate::keys;
+use crate::labels::labels_at;
 use crate::path::{Section, fault_at, fault_of_key, fault_of_section};
 use crate::programs::LoadedProgram;
-use crate::stalls::stalls_at;
-use crate::table::{Lack, are_known, number_at, numbers_at, value_at};
+use crate::table::{Lack, are_known, flag_at, number_at, numbers_at, value_at};
 use crate::value::{number_in, text_of};
 use arrayvec::ArrayVec;
-use pin_matrix::{MachineSetup, Span, SpanUnit, Spans, Addresses, is_span_name};
+use pin_matrix::{Addresses, MachineSetup, Span, SpanUnit, Spans, is_span_name};
 use pio_encode::Name;
 use std::alloc::Global;
 use toml::{Table, Value};
@@ -128,9 +129,8 @@ fn name_of<'t>(value: Option<&'t Value>) -> Result<&'t str, ConfigKind>
 pub struct SpanValues {
     pub ends: EndValues,
     pub bounds: BoundValues,
-    pub stalls: ArrayVec<u8, 16>,
-    pub ghost in_memory: { IsTrue (are_addresses stalls.items) },
-    pub ghost in_ticks: { IsTrue (is_in_ticks bounds.unit || length stalls.items == 0) },
+    pub exempt: ExemptValues,
+    pub ghost in_ticks: { IsTrue (is_in_ticks bounds.unit || length exempt.stalls.items == 0) },
 }
 
 impl SpanValues {
@@ -164,43 +164,50 @@ impl SpanValues {
         let ends = EndValues::read(table, machines)?;
         let bounds = BoundValues::read(table)?;
         let load = Self::load_of(loads, &machines[usize::from(ends.machine)]);
-        let stalls = stalls_at(table, bounds.unit, load)?;
+        let exempt = ExemptValues::read(table, bounds.unit, load)?;
         Ok(SpanValues {
             ends,
             bounds,
-            stalls,
+            exempt,
         })
     }
+
     /// The span of this name; only for want of memory there is none.
     fn span(&self, alloc: Global, name: &str) -> Result<Span, ConfigFault>
         requires { IsTrue (is_span_name name.now) }
         ensures { Gives told keys_of_span result (Ok (spec.span_keys_of name.now (values_view self.now))) }
     {
         let text = name.to_string(alloc)?;
-        let stalls = self.stalls(alloc)?;
+        let stalls = addresses_of(alloc, &self.exempt.stalls)?;
+        let without = addresses_of(alloc, &self.exempt.without)?;
         Ok(Span {
             name: Name::new(text),
             machine: self.ends.machine,
             from_pin: self.ends.from_pin,
-            from_rise: self.ends.from_rise,
+            from_signal: self.ends.from_edge.signal,
+            from_rise: self.ends.from_edge.rise,
             to_pin: self.ends.to_pin,
-            to_rise: self.ends.to_rise,
+            to_signal: self.ends.to_edge.signal,
+            to_rise: self.ends.to_edge.rise,
             unit: self.bounds.unit,
             min: self.bounds.min,
             max: self.bounds.max,
             stalls,
+            prompt: self.exempt.prompt,
+            without,
         })
     }
+}
 
-    /// The stalls of the span.
-    fn stalls(&self, alloc: Global) -> Result<Addresses, ConfigFault>
-        ensures { Gives told (λ s. s) result (Ok self.now.stalls.items) }
-    {
-        let addresses = self.stalls.as_slice().to_vec(alloc)?;
-        match Addresses::new(addresses) {
-            Some(stalls) => Ok(stalls),
-            None => Ok(Addresses::empty(alloc)),
-        }
+/// The addresses of labels.
+fn addresses_of(alloc: Global, labels: &ArrayVec<u8, 16>) -> Result<Addresses, ConfigFault>
+    requires { IsTrue (are_addresses labels.now.items) }
+    ensures { Gives told (λ a. a) result (Ok labels.now.items) }
+{
+    let addresses = labels.as_slice().to_vec(alloc)?;
+    match Addresses::new(addresses) {
+        Some(addresses) => Ok(addresses),
+        None => Ok(Addresses::empty(alloc)),
     }
 }
 
@@ -210,8 +217,8 @@ pub struct EndValues {
     pub machine: u8,
     pub from_pin: u8,
     pub to_pin: u8,
-    pub from_rise: bool,
-    pub to_rise: bool,
+    pub from_edge: Edge,
+    pub to_edge: Edge,
     pub ghost machine_in_block: { machine < 4 },
     pub ghost from_pin_is_a_pin: { from_pin < 32 },
     pub ghost to_pin_is_a_pin: { to_pin < 32 },
@@ -238,33 +245,6 @@ impl EndValues {
         }
     }
 
-    /// Whether the edge of a key is a rise.
-    fn edge(table: &Table, key: &'static str) -> Result<bool, Lack>
-        ensures { seen (λ b. b) result ≡ spec.edge_at (table_view table.now) key.now }
-    {
-        match Self::edge_of(value_at(table, key)) {
-            Ok(rise) => Ok(rise),
-            Err(kind) => Err(Lack { key, kind }),
-        }
-    }
-
-    /// Whether the edge that a value names is a rise.
-    fn edge_of(value: Option<&Value>) -> Result<bool, ConfigKind>
-        ensures { result
-            ≡ and_then (text_of (option_map (λ v. view v.now) value.entry)) spec.edge_of }
-    {
-        let Some(word) = text_of(value)? else {
-            return Err(ConfigKind::Missing);
-        };
-        if word == "rise" {
-            Ok(true)
-        } else if word == "fall" {
-            Ok(false)
-        } else {
-            Err(ConfigKind::Range)
-        }
-    }
-
     /// The machine, the pins and the edges of a table.
     #[tactic(auto, unfolding(crate::specs::Tables::each_at))]
     fn read(table: &Table, machines: &[Option<MachineSetup>; 4]) -> Result<Self, Lack>
@@ -273,14 +253,14 @@ impl EndValues {
     {
         let machine = Self::machine(table, machines)?;
         let pins = numbers_at(table, &keys::SPAN_PINS)?;
-        let from_rise = Self::edge(table, keys::FROM_EDGE)?;
-        let to_rise = Self::edge(table, keys::TO_EDGE)?;
+        let from_edge = edge_at(table, keys::FROM_EDGE)?;
+        let to_edge = edge_at(table, keys::TO_EDGE)?;
         Ok(EndValues {
             machine,
             from_pin: pins[0] as u8,
             to_pin: pins[1] as u8,
-            from_rise,
-            to_rise,
+            from_edge,
+            to_edge,
         })
     }
 }
@@ -388,6 +368,45 @@ impl BoundValues {
             min,
             max: Some(max),
         })
+    }
+}
+
+/// Which stalls don't count, and of which from-edges nothing is said.
+#[derive(Drop)]
+pub struct ExemptValues {
+    pub stalls: ArrayVec<u8, 16>,
+    pub prompt: bool,
+    pub without: ArrayVec<u8, 16>,
+    pub ghost stalls_in_memory: { IsTrue (are_addresses stalls.items) },
+    pub ghost without_in_memory: { IsTrue (are_addresses without.items) },
+}
+
+impl ExemptValues {
+    ghost use Rattle.block_config.specs.SpanView.{exempt_view};
+
+    /// What of a table is exempt, at labels of the program that is loaded so.
+    fn read(table: &Table, unit: SpanUnit, load: Option<LoadedProgram>) -> Result<Self, Lack>
+        ensures value { seen exempt_view result
+            ≡ spec.exempt_at unit (option_map loaded_of load.entry) (table_view table.now) }
+        ensures in_ticks { IfOk result (λ e. IsTrue (is_in_ticks unit || length e.stalls.items == 0)) }
+    {
+        let stalls = labels_at(table, keys::STALLS, in_ticks(unit), load)?;
+        let prompt = flag_at(table, &keys::SPAN_PROMPT)?;
+        let without = labels_at(table, keys::WITHOUT, true, load)?;
+        Ok(ExemptValues {
+            stalls,
+            prompt,
+            without,
+        })
+    }
+}
+
+fn in_ticks(unit: SpanUnit) -> bool
+    ensures { result ≡ is_in_ticks unit }
+{
+    match unit {
+        SpanUnit::Ticks => true,
+        SpanUnit::Clocks => false,
     }
 }
 

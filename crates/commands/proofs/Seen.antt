@@ -3,8 +3,9 @@ use Rattle.std.proofs.Common.{◌≡◌, ◌∙◌, ℕ, List, [], ◌∷◌, le
 use Rattle.std.proofs.lemmas.List.{length-map}
 use Rattle.block_core.specs.declared.sample.Sample.{Sample}
 use Rattle.pin_matrix.specs.declared.span.Span.{Span}
+use Rattle.span_meter.specs.declared.pins.ShownPins.{ShownPins}
 use Rattle.span_meter.specs.declared.seen.SeenDistances.{SeenDistances}
-use Rattle.span_meter.specs.Measured.{SpanEdges, ends_in, measured, seen_of}
+use Rattle.span_meter.specs.Measured.{SpanEdges, ends_in, measured, pins_in, seen_of}
 use Rattle.span_meter.specs.Meters.{HasMeasured, Meters, first_told, seen_so_far, watched}
 use Rattle.dreq_pacing.specs.declared.line.Line.{Line}
 use Rattle.block_core.specs.Block.{Run}
@@ -13,25 +14,25 @@ use Rattle.commands.specs.Tasks.{measured_text, seen_in}
 use Rattle.commands.specs.Lines.{seen_lines}
 use Rattle.commands.proofs.LineByLine.{lines_of_each}
 
--- a fresh meter names its levels and its edges
-pub names : (levels : ℕ) (ends : List SpanEdges) (t : Meters) → HasMeasured levels ends [] t → first_told t.first (watched t.meters) ≡ first_told levels ends
-names levels ends t h = ap₂ first_told h.first h.watches
+-- a fresh meter names its pins and its edges
+pub names : (pins : ShownPins) (ends : List SpanEdges) (t : Meters) → HasMeasured pins ends [] t → first_told t.first (watched t.meters) ≡ first_told pins ends
+names pins ends t h = ap₂ first_told h.first h.watches
 
-each_span : (levels : ℕ) (told : List Sample) (spans : List Span)
-    → map (λ e. seen_of (measured e levels told)) (map ends_in spans) ≡ map (λ sp. seen_of (measured (ends_in sp) levels told)) spans
-each_span levels told [] = refl
-each_span levels told (sp ∷ spans) = ap (λ rest. seen_of (measured (ends_in sp) levels told) ∷ rest) (each_span levels told spans)
+each_span : (pins : ShownPins) (told : List Sample) (spans : List Span)
+    → map (λ e. seen_of (measured e pins told)) (map ends_in spans) ≡ map (λ sp. seen_of (measured (ends_in sp) pins told)) spans
+each_span pins told [] = refl
+each_span pins told (sp ∷ spans) = ap (λ rest. seen_of (measured (ends_in sp) pins told) ∷ rest) (each_span pins told spans)
 
 -- of spans a meter has seen what they measure
-pub seen_of_spans : (levels : ℕ) (told : List Sample) (spans : List Span) (t : Meters) → HasMeasured levels (map ends_in spans) told t
-    → seen_so_far t ≡ map (λ sp. seen_of (measured (ends_in sp) levels told)) spans
-seen_of_spans levels told spans t h = h.seen ∙ each_span levels told spans
+pub seen_of_spans : (pins : ShownPins) (told : List Sample) (spans : List Span) (t : Meters) → HasMeasured pins (map ends_in spans) told t
+    → seen_so_far t ≡ map (λ sp. seen_of (measured (ends_in sp) pins told)) spans
+seen_of_spans pins told spans t h = h.seen ∙ each_span pins told spans
 
 -- the same of a run from a start
-pub seen_in_run : (start now : Run) (levels : ℕ) (spans slice : List Span) (lines : List Line) (clocks : ℕ) (t : Meters) → now ≡ start → levels ≡ now.state.levels → slice ≡ spans
-    → HasMeasured levels (map ends_in slice) (samples now lines clocks) t → seen_so_far t ≡ map (λ sp. seen_in start sp lines clocks) spans
-seen_in_run start now levels spans slice lines clocks t run first all h =
-    seen_of_spans levels (samples now lines clocks) slice t h
+pub seen_in_run : (start now : Run) (pins : ShownPins) (spans slice : List Span) (lines : List Line) (clocks : ℕ) (t : Meters) → now ≡ start → pins ≡ pins_in now.state → slice ≡ spans
+    → HasMeasured pins (map ends_in slice) (samples now lines clocks) t → seen_so_far t ≡ map (λ sp. seen_in start sp lines clocks) spans
+seen_in_run start now pins spans slice lines clocks t run first all h =
+    seen_of_spans pins (samples now lines clocks) slice t h
     ∙ ap (λ before. map (λ sp. seen_of (measured (ends_in sp) before (samples now lines clocks))) slice) first
     ∙ ap (λ r. map (λ sp. seen_in r sp lines clocks) slice) run
     ∙ ap (map (λ sp. seen_in start sp lines clocks)) all

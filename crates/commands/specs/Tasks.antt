@@ -13,7 +13,7 @@ use Rattle.fault_lines.specs.declared.fault.File.TheVariants.{Source, Words, Tab
 use Rattle.vcd_trace.specs.InsideText.{inside_text}
 use Rattle.vcd_trace.specs.TwinText.{twin_text}
 use Rattle.vcd_trace.specs.VcdText.{vcd_text}
-use Rattle.span_meter.specs.Measured.{ends_in, measured, seen_of}
+use Rattle.span_meter.specs.Measured.{ends_in, measured, pins_in, seen_of}
 use Rattle.span_meter.specs.SeenText.{seen_line}
 use Rattle.span_meter.specs.declared.seen.SeenDistances.{SeenDistances}
 use Rattle.serial_receiver.specs.Frames.{frames, levels_of}
@@ -72,9 +72,9 @@ twin_trace_text start first second clocks = twin_text (twin_samples start first 
 unfoldable pub inspected_text : Setup → List Line → ℕ → List ℕ
 inspected_text s lines clocks = inside_text (map is_some s.machines) (insides (first_run s) lines clocks)
 
--- what a span measures in so many clocks from a start, beside the lines of a stimulus: before clock 0 the levels are the start's
+-- what a span measures in so many clocks from a start, beside the lines of a stimulus: before clock 0 the pins are the start's
 abbrev pub seen_in : Run → Span → List Line → ℕ → SeenDistances
-seen_in start sp lines clocks = seen_of (measured (ends_in sp) start.state.levels (samples start lines clocks))
+seen_in start sp lines clocks = seen_of (measured (ends_in sp) (pins_in start.state) (samples start lines clocks))
 
 -- the line of what each span measures, in order
 unfoldable pub measured_text : Run → List Span → List Line → ℕ → List ℕ

@@ -1,5 +1,5 @@
 //! The command `measure`: what each span of a configuration measures in the first clocks of a run.
-ghost use Rattle.std.specs.Prelude.{◌≡◌, ◌+◌, ◌≤◌, ◌^◌, ℕ, IfOk, List, [], map, option_map};
+ghost use Rattle.std.specs.Prelude.{◌≡◌, ◌+◌, ◌≤◌, ◌^◌, IfOk, List, [], map, option_map};
 ghost use Rattle.block_core.specs.Block.{first_run};
 ghost use Rattle.block_core.specs.Hosted.{samples};
 ghost use Rattle.block_core.specs.Stirring.{stirring};
@@ -9,6 +9,7 @@ ghost use Rattle.commands.specs.Outside.{call_by};
 ghost use Rattle.commands.specs.Promise.{CommandAsks, CommandEnds};
 ghost use Rattle.commands.specs.Worked.{most_worked};
 ghost use Rattle.commands.specs.Written.{SinkWrites};
+ghost use Rattle.span_meter.specs.declared.pins.ShownPins.{ShownPins};
 ghost use Rattle.span_meter.specs.Measured.{SpanEdges};
 ghost use Rattle.span_meter.specs.Meters.{HasMeasured, seen_so_far};
 
@@ -22,7 +23,7 @@ use idle_engine::simulate;
 use pin_matrix::Setup;
 use pio_edge::{Shelf, Sink};
 use sample_trace::TraceFailed;
-use span_meter::SpanMeter;
+use span_meter::{ShownPins, SpanMeter};
 use stages::prepare;
 use std::alloc::{AllocError, Global};
 use std::sync::ledger::Ledger;
@@ -94,7 +95,12 @@ fn metered<L: Ledger>(
     ensures stirring { steps.new ≤ steps.old + stirring (first_run setup.now) schedule.now clocks + 1 }
 {
     let mut block = Block::<RingFifo>::new(alloc, setup)?;
-    let mut meter = SpanMeter::new(alloc, setup.spans.as_slice(), block.view().level)?;
+    let shown = block.view();
+    let pins = ShownPins {
+        level: shown.level,
+        direction: shown.direction,
+    };
+    let mut meter = SpanMeter::new(alloc, setup.spans.as_slice(), pins)?;
     meter_run(&mut block, schedule, clocks, &mut meter, steps);
     Ok(meter)
 }
@@ -109,8 +115,8 @@ fn meter_run<F: Fifo, L: Ledger>(
 )
     requires fresh { block.old.run.clock ≡ 0 }
     requires within { clocks ≤ 10 ^ 12 }
-    ensures measured { (levels : ℕ) (ends : List SpanEdges) → HasMeasured levels ends [] meter.old
-        → HasMeasured levels ends (samples block.old.run schedule.now clocks) meter.new }
+    ensures measured { (pins : ShownPins) (ends : List SpanEdges) → HasMeasured pins ends [] meter.old
+        → HasMeasured pins ends (samples block.old.run schedule.now clocks) meter.new }
     ensures steps { steps.new ≤ steps.old + clocks }
     ensures stirring { steps.new ≤ steps.old + stirring block.old.run schedule.now clocks + 1 }
 {

@@ -1,6 +1,6 @@
 //! Setups as short texts.
 use block_config::OwningSetup;
-use pin_matrix::{MachineSetup, Setup, Span, SpanUnit};
+use pin_matrix::{MachineSetup, PinSignal, Setup, Span, SpanUnit};
 use std::alloc::AllocError;
 
 /// Adds what a setup says, in one line: the memory's words that aren't 0 by their address, the machines, the pins and the
@@ -82,19 +82,51 @@ fn tell_span(span: &Span, text: &mut String) -> Result<(), AllocError> {
         SpanUnit::Ticks => "ticks",
         SpanUnit::Clocks => "clocks",
     };
+    let from = edge_text(span.from_signal, span.from_rise);
+    let to = edge_text(span.to_signal, span.to_rise);
     write!(
         text,
-        " {} m{} {} {} {} {}",
-        span.name, span.machine, span.from_pin, span.from_rise, span.to_pin, span.to_rise
+        " {} m{} {} {from} {} {to}",
+        span.name, span.machine, span.from_pin, span.to_pin
     )?;
     write!(text, " {unit} {}-", span.min)?;
     match span.max {
         Some(max) => write!(text, "{max} [")?,
         None => text.push_str("inf [")?,
     }
-    for (place, address) in span.stalls.as_slice().iter().enumerate() {
+    tell_addresses(span.stalls.as_slice(), text)?;
+    text.push_str("]")?;
+    tell_unsaid(span, text)
+}
+
+/// Adds of which from-edges a span says nothing, where there are such.
+fn tell_unsaid(span: &Span, text: &mut String) -> Result<(), AllocError> {
+    if span.prompt {
+        text.push_str(" prompt")?;
+    }
+    let without = span.without.as_slice();
+    if !without.is_empty() {
+        text.push_str(" without [")?;
+        tell_addresses(without, text)?;
+        text.push_str("]")?;
+    }
+    Ok(())
+}
+
+fn tell_addresses(addresses: &[u8], text: &mut String) -> Result<(), AllocError> {
+    for (place, address) in addresses.iter().enumerate() {
         let gap = if place == 0 { "" } else { " " };
         write!(text, "{gap}{address}")?;
     }
-    text.push_str("]")
+    Ok(())
+}
+
+/// An edge: of a level whether it rises, of a direction what it becomes.
+fn edge_text(signal: PinSignal, rise: bool) -> &'static str {
+    match signal {
+        PinSignal::Level if rise => "true",
+        PinSignal::Level => "false",
+        PinSignal::Direction if rise => "out",
+        PinSignal::Direction => "in",
+    }
 }

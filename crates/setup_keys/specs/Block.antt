@@ -4,6 +4,7 @@
 use Rattle.std.specs.Prelude.{ℕ, Bool, Option, option_map, List, map}
 use Rattle.pio_encode.specs.declared.rule.SideRule.{SideRule}
 use Rattle.pin_matrix.specs.declared.machine.MachineSetup.{MachineSetup}
+use Rattle.pin_matrix.specs.declared.span.PinSignal.{PinSignal}
 use Rattle.pin_matrix.specs.declared.span.SpanUnit.{SpanUnit}
 use Rattle.pin_matrix.specs.declared.span.Span.{Span}
 use Rattle.pin_matrix.specs.declared.setup.Setup.{Setup}
@@ -48,13 +49,17 @@ pub record SpanKeys : Type 0 where
   pub name : List ℕ
   pub machine : ℕ
   pub from_pin : ℕ
+  pub from_signal : PinSignal
   pub from_rise : Bool
   pub to_pin : ℕ
+  pub to_signal : PinSignal
   pub to_rise : Bool
   pub unit : SpanUnit
   pub least : ℕ
   pub most : Option ℕ
   pub stalls : List ℕ
+  pub prompt : Bool
+  pub without : List ℕ
 
 -- what a block's setup says: its machines at their places
 pub record BlockKeys : Type 0 where
@@ -109,13 +114,17 @@ keys_of_span s = record {
   name = s.name;
   machine = s.machine;
   from_pin = s.from_pin;
+  from_signal = s.from_signal;
   from_rise = s.from_rise;
   to_pin = s.to_pin;
+  to_signal = s.to_signal;
   to_rise = s.to_rise;
   unit = s.unit;
   least = s.min;
   most = s.max;
   stalls = s.stalls;
+  prompt = s.prompt;
+  without = s.without;
 }
 
 -- what a block's setup says

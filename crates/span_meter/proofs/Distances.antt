@@ -1,7 +1,8 @@
 -- The least and the greatest of distances, and how many there are.
 use Rattle.std.proofs.Common.{◌≡◌, ℕ, suc, ◌≤◌, Bool, true, false, cond, List, [], ◌∷◌, ◌++◌, Option, Some, None, length, min, max, refl, arith}
 use Rattle.block_core.specs.declared.sample.Sample.{Sample}
-use Rattle.span_meter.specs.Measured.{SpanEdges, clocks_to, greatest_of, is_from, least_with, measured, with_distance}
+use Rattle.span_meter.specs.declared.pins.ShownPins.{ShownPins}
+use Rattle.span_meter.specs.Measured.{SpanEdges, clocks_to, greatest_of, is_from, least_with, measured, pins_of, with_distance}
 
 -- the greatest of two rows
 pub greatest-append : (xs ys : List ℕ) → greatest_of (xs ++ ys) ≡ max (greatest_of xs) (greatest_of ys)
@@ -26,8 +27,8 @@ some_more true between ds n h = one_more between ds n h
 some_more false between ds n h = omega arith
 
 -- the last clock ends a pair, but begins none: there are fewer pairs than clocks
-pub fewer : (e : SpanEdges) (before : ℕ) (s : Sample) (rest : List Sample) → length (measured e before (s ∷ rest)) ≤ length rest
+pub fewer : (e : SpanEdges) (before : ShownPins) (s : Sample) (rest : List Sample) → length (measured e before (s ∷ rest)) ≤ length rest
 unfolding measured clocks_to
-fewer e before s [] = none_more (is_from e before s.level)
+fewer e before s [] = none_more (is_from e before (pins_of s))
 fewer e before s (r ∷ rest) =
-    some_more (is_from e before s.level) (clocks_to e s.level (r ∷ rest)) (measured e s.level (r ∷ rest)) (length rest) (fewer e s.level r rest)
+    some_more (is_from e before (pins_of s)) (clocks_to e (pins_of s) (r ∷ rest)) (measured e (pins_of s) (r ∷ rest)) (length rest) (fewer e (pins_of s) r rest)

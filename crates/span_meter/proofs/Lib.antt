@@ -1,4 +1,4 @@
-pub mod HeldLevels
+pub mod HeldPins
 pub mod Distances
 pub mod Counting
 pub mod Telling

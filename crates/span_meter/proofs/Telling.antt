@@ -5,15 +5,17 @@ use Rattle.std.specs.List.{AllByRecursion}
 use Rattle.pin_matrix.specs.declared.span.Span.{Span}
 use Rattle.block_core.specs.declared.sample.Sample.{Sample}
 use Rattle.sample_trace.specs.Told.{held_to, last_of, IsNext}
-use Rattle.sample_trace.specs.Edges.{levels_after}
-use Rattle.span_meter.proofs.HeldLevels.{held-levels, last-levels-of, levels-append}
+use Rattle.span_meter.proofs.HeldPins.{held-pins, last-pins-of, pins-append}
 use Rattle.span_meter.specs.declared.edges.Edges.{Edges}
 use Rattle.span_meter.specs.declared.meter.Meter.{Meter}
+use Rattle.span_meter.specs.declared.pins.ShownPins.{ShownPins}
+use Rattle.pin_matrix.specs.declared.span.PinSignal.{PinSignal}
+use Rattle.pin_matrix.specs.declared.span.PinSignal.TheVariants.{Level, Direction}
 use Rattle.pin_matrix.specs.Pins.{is_high}
 use Rattle.block_core.specs.Edges.{changes, has_edge}
-use Rattle.span_meter.specs.Measured.{SpanEdges, clocks_to, ends_in, is_from, is_to, measured, seen_of, with_distance}
+use Rattle.span_meter.specs.Measured.{SpanEdges, clocks_to, ends_in, is_from, is_to, measured, pins_after, pins_of, seen_of, signal_of, with_distance}
 use Rattle.span_meter.specs.Kept.{ends_of}
-use Rattle.span_meter.specs.Meters.{IsCountOf, HasMeasured, Measures, Meters, after_clock, closed_at, closing, direction, ended, ends_code, first_told, fresh, most, moved, opened_at, seen_by, watched}
+use Rattle.span_meter.specs.Meters.{IsCountOf, HasMeasured, Measures, Meters, after_clock, closed_at, closing, ended, ends_code, first_told, fresh, most, moved, opened_at, rise_code, seen_by, signal_code, watched}
 use Rattle.span_meter.proofs.Distances.{fewer}
 use Rattle.span_meter.proofs.Counting.{closes, later, opens, starts_after, step}
 
@@ -40,91 +42,93 @@ no_rest true c = refl
 no_rest false c = refl
 
 -- what is measured with one sample more
-one_more : (e : SpanEdges) (levels : ℕ) (told : List Sample) (m : Meter) (s : Sample) → (h : Measures e levels told m)
-    → measured e levels (told ++ s ∷ []) ≡ measured e levels told ++ ended (length told) h.starts (cond (is_to e (levels_after levels told) s.level) (Some 0) None)
+one_more : (e : SpanEdges) (pins : ShownPins) (told : List Sample) (m : Meter) (s : Sample) → (h : Measures e pins told m)
+    → measured e pins (told ++ s ∷ []) ≡ measured e pins told ++ ended (length told) h.starts (cond (is_to e (pins_after pins told) (pins_of s)) (Some 0) None)
 unfolding measured clocks_to
-one_more e levels told m s h =
-    let b = levels_after levels told in
-    let ends = ended (length told) h.starts (cond (is_to e b s.level) (Some 0) None) in
-    h.going (s ∷ []) ∙ ap (λ x. measured e levels told ++ (ends ++ x)) (no_rest (is_from e b s.level) None) ∙ ap (λ x. measured e levels told ++ x) (append-nil ends)
+one_more e pins told m s h =
+    let b = pins_after pins told in
+    let ends = ended (length told) h.starts (cond (is_to e b (pins_of s)) (Some 0) None) in
+    h.going (s ∷ []) ∙ ap (λ x. measured e pins told ++ (ends ++ x)) (no_rest (is_from e b (pins_of s)) None) ∙ ap (λ x. measured e pins told ++ x) (append-nil ends)
 
 length-more : (told : List Sample) (s : Sample) → length (told ++ s ∷ []) ≡ suc (length told)
 length-more told s = length-append told (s ∷ []) ∙ (let e : length told + 1 ≡ suc (length told) = omega arith in e)
 
-fewer_than : (e : SpanEdges) (levels : ℕ) (told : List Sample) → length told ≤ 2 ^ 64 → length (measured e levels told) ≤ most
+fewer_than : (e : SpanEdges) (pins : ShownPins) (told : List Sample) → length told ≤ 2 ^ 64 → length (measured e pins told) ≤ most
 unfolding measured
-fewer_than e levels [] h = omega arith
-fewer_than e levels (s ∷ rest) h = let f = fewer e levels s rest in omega arith
+fewer_than e pins [] h = omega arith
+fewer_than e pins (s ∷ rest) h = let f = fewer e pins s rest in omega arith
 
-levels-more : (levels : ℕ) (told : List Sample) (s : Sample) → levels_after levels (told ++ s ∷ []) ≡ s.level
-unfolding levels_after
-levels-more levels told s = levels-append levels told (s ∷ [])
+pins-more : (pins : ShownPins) (told : List Sample) (s : Sample) → pins_after pins (told ++ s ∷ []) ≡ pins_of s
+unfolding pins_after
+pins-more pins told s = pins-append pins told (s ∷ [])
 
 -- one clock more
-pub told_one : (e : SpanEdges) (levels : ℕ) (told : List Sample) (m : Meter) (s : Sample) → length told < 2 ^ 64 → Measures e levels told m
-    → Measures e levels (told ++ s ∷ []) (moved (is_to e (levels_after levels told) s.level) (is_from e (levels_after levels told) s.level) (length told) m)
+pub told_one : (e : SpanEdges) (pins : ShownPins) (told : List Sample) (m : Meter) (s : Sample) → length told < 2 ^ 64 → Measures e pins told m
+    → Measures e pins (told ++ s ∷ []) (moved (is_to e (pins_after pins told) (pins_of s)) (is_from e (pins_after pins told) (pins_of s)) (length told) m)
 unfolding measured clocks_to
-told_one e levels told m s few h =
-    let b = levels_after levels told in
+told_one e pins told m s few h =
+    let b = pins_after pins told in
     let n = length told in
-    let to = is_to e b s.level in
-    let from = is_from e b s.level in
+    let to = is_to e b (pins_of s) in
+    let from = is_from e b (pins_of s) in
     let long = length-more told s in
-    let more = one_more e levels told m s h in
-    let ds = measured e levels told ++ ended n h.starts (cond to (Some 0) None) in
+    let more = one_more e pins told m s h in
+    let ds = measured e pins told ++ ended n h.starts (cond to (Some 0) None) in
     let starts = starts_after to from n h.starts in
-    let short : length ds ≤ most = subst (λ (xs : List ℕ). length xs ≤ most) more (fewer_than e levels (told ++ s ∷ []) (omega arith)) in
+    let short : length ds ≤ most = subst (λ (xs : List ℕ). length xs ≤ most) more (fewer_than e pins (told ++ s ∷ []) (omega arith)) in
     record {
       starts = starts;
       counts =
-          subst (λ k. IsCountOf (measured e levels (told ++ s ∷ [])) starts k (moved to from n m)) (sym long)
-          (subst (λ (xs : List ℕ). IsCountOf xs starts (suc n) (moved to from n m)) (sym more) (counts_after to from n (measured e levels told) h.starts m h.counts short));
+          subst (λ k. IsCountOf (measured e pins (told ++ s ∷ [])) starts k (moved to from n m)) (sym long)
+          (subst (λ (xs : List ℕ). IsCountOf xs starts (suc n) (moved to from n m)) (sym more) (counts_after to from n (measured e pins told) h.starts m h.counts short));
       going = λ rest.
-          ap (measured e levels) (append_assoc told (s ∷ []) rest)
+          ap (measured e pins) (append_assoc told (s ∷ []) rest)
           ∙ h.going (s ∷ rest)
-          ∙ step to from n h.starts (measured e levels told) (clocks_to e s.level rest) (measured e s.level rest)
-          ∙ ap (λ x. x ++ (ended (suc n) starts (clocks_to e s.level rest) ++ measured e s.level rest)) (sym more)
-          ∙ ap (λ k. measured e levels (told ++ s ∷ []) ++ (ended k starts (clocks_to e s.level rest) ++ measured e s.level rest)) (sym long)
-          ∙ ap (λ v. measured e levels (told ++ s ∷ []) ++ (ended (length (told ++ s ∷ [])) starts (clocks_to e v rest) ++ measured e v rest)) (sym (levels-more levels told s));
+          ∙ step to from n h.starts (measured e pins told) (clocks_to e (pins_of s) rest) (measured e (pins_of s) rest)
+          ∙ ap (λ x. x ++ (ended (suc n) starts (clocks_to e (pins_of s) rest) ++ measured e (pins_of s) rest)) (sym more)
+          ∙ ap (λ k. measured e pins (told ++ s ∷ []) ++ (ended k starts (clocks_to e (pins_of s) rest) ++ measured e (pins_of s) rest)) (sym long)
+          ∙ ap (λ v. measured e pins (told ++ s ∷ []) ++ (ended (length (told ++ s ∷ [])) starts (clocks_to e v rest) ++ measured e v rest)) (sym (pins-more pins told s));
     }
 
--- a level that stays has no edge
+-- a signal that stays has no edge
 no_change : (rise b : Bool) → changes rise b b ≡ false
 no_change true true = refl
 no_change true false = refl
 no_change false true = refl
 no_change false false = refl
 
-no_edge : (pin : ℕ) (rise : Bool) (b v : ℕ) → v ≡ b → has_edge pin rise b v ≡ false
-no_edge pin rise b v h = ap (λ (x : ℕ). changes rise (is_high b pin) (is_high x pin)) h ∙ no_change rise (is_high b pin)
+no_edge : (signal : PinSignal) (pin : ℕ) (rise : Bool) (b v : ShownPins) → v ≡ b → has_edge pin rise (signal_of signal b) (signal_of signal v) ≡ false
+no_edge signal pin rise b v h =
+    let was : Bool = is_high (signal_of signal b) pin in
+    ap (λ (x : ShownPins). changes rise was (is_high (signal_of signal x) pin)) h ∙ no_change rise was
 
--- a sample that repeats the levels changes nothing
-told_same : (e : SpanEdges) (levels : ℕ) (told : List Sample) (m : Meter) (s : Sample) → length told < 2 ^ 64 → s.level ≡ levels_after levels told
-    → Measures e levels told m → Measures e levels (told ++ s ∷ []) m
-told_same e levels told m s few same h =
-    let b = levels_after levels told in
+-- a sample that repeats the pins changes nothing
+told_same : (e : SpanEdges) (pins : ShownPins) (told : List Sample) (m : Meter) (s : Sample) → length told < 2 ^ 64 → pins_of s ≡ pins_after pins told
+    → Measures e pins told m → Measures e pins (told ++ s ∷ []) m
+told_same e pins told m s few same h =
+    let b = pins_after pins told in
     let n = length told in
-    let P : Bool → Bool → Type 0 = λ to from. Measures e levels (told ++ s ∷ []) (moved to from n m) in
-    let once = subst (λ to. P to (is_from e b s.level)) (no_edge e.to_pin e.to_rise b s.level same) (told_one e levels told m s few h) in
-    subst (P false) (no_edge e.from_pin e.from_rise b s.level same) once
+    let P : Bool → Bool → Type 0 = λ to from. Measures e pins (told ++ s ∷ []) (moved to from n m) in
+    let once = subst (λ to. P to (is_from e b (pins_of s))) (no_edge e.to_signal e.to_pin e.to_rise b (pins_of s) same) (told_one e pins told m s few h) in
+    subst (P false) (no_edge e.from_signal e.from_pin e.from_rise b (pins_of s) same) once
 
 -- nor do more of them
-told_many : (e : SpanEdges) (levels : ℕ) (told : List Sample) (m : Meter) (s : Sample) (n : ℕ) → length told + n ≤ 2 ^ 64 → s.level ≡ levels_after levels told
-    → Measures e levels told m → Measures e levels (told ++ replicate n s) m
-told_many e levels told m s zero few same h = subst (λ (xs : List Sample). Measures e levels xs m) (sym (append-nil told)) h
-told_many e levels told m s (suc n) few same h =
-    let one = told_same e levels told m s (omega arith) same h in
+told_many : (e : SpanEdges) (pins : ShownPins) (told : List Sample) (m : Meter) (s : Sample) (n : ℕ) → length told + n ≤ 2 ^ 64 → pins_of s ≡ pins_after pins told
+    → Measures e pins told m → Measures e pins (told ++ replicate n s) m
+told_many e pins told m s zero few same h = subst (λ (xs : List Sample). Measures e pins xs m) (sym (append-nil told)) h
+told_many e pins told m s (suc n) few same h =
+    let one = told_same e pins told m s (omega arith) same h in
     let long = length-more told s in
-    subst (λ (xs : List Sample). Measures e levels xs m) (append_assoc told (s ∷ []) (replicate n s))
-    (told_many e levels (told ++ s ∷ []) m s n (omega arith) (sym (levels-more levels told s)) one)
+    subst (λ (xs : List Sample). Measures e pins xs m) (append_assoc told (s ∷ []) (replicate n s))
+    (told_many e pins (told ++ s ∷ []) m s n (omega arith) (sym (pins-more pins told s)) one)
 
 -- the clocks that were left out
-pub told_held : (e : SpanEdges) (levels : ℕ) (told : List Sample) (m : Meter) (clock : ℕ) → clock ≤ 2 ^ 64 → IsNext told clock
-    → Measures e levels told m → Measures e levels (held_to clock told) m
-told_held e levels [] m clock few next h = h
-told_held e levels (s ∷ rest) m clock few next h =
+pub told_held : (e : SpanEdges) (pins : ShownPins) (told : List Sample) (m : Meter) (clock : ℕ) → clock ≤ 2 ^ 64 → IsNext told clock
+    → Measures e pins told m → Measures e pins (held_to clock told) m
+told_held e pins [] m clock few next h = h
+told_held e pins (s ∷ rest) m clock few next h =
     let after : length (s ∷ rest) ≤ clock = next.after in
-    told_many e levels (s ∷ rest) m (last_of s rest) (clock - length (s ∷ rest)) (omega arith) (last-levels-of levels s rest) h
+    told_many e pins (s ∷ rest) m (last_of s rest) (clock - length (s ∷ rest)) (omega arith) (last-pins-of pins s rest) h
 
 length-held : (clock : ℕ) (told : List Sample) → IsNext told clock → length (held_to clock told) ≡ clock
 length-held clock [] next = sym (next.first refl)
@@ -134,9 +138,9 @@ length-held clock (s ∷ rest) next =
     omega (arith, length-append rest (replicate n (last_of s rest)), length-replicate n (last_of s rest))
 
 -- a meter that was told of nothing
-pub told_none : (e : SpanEdges) (levels : ℕ) (edges : Edges) → Measures e levels [] (fresh edges)
-unfolding measured clocks_to levels_after
-told_none e levels edges = record {
+pub told_none : (e : SpanEdges) (pins : ShownPins) (edges : Edges) → Measures e pins [] (fresh edges)
+unfolding measured clocks_to pins_after
+told_none e pins edges = record {
   starts = [];
   counts = record {
     seen = refl;
@@ -146,75 +150,75 @@ told_none e levels edges = record {
     greatest = λ e none. absurd (omega arith);
     least = λ e none. absurd (omega arith);
   };
-  going = λ rest. on (clocks_to e levels rest) (measured e levels rest);
+  going = λ rest. on (clocks_to e pins rest) (measured e pins rest);
 } where
   on : (c : Option ℕ) (ds : List ℕ) → ds ≡ ended 0 [] c ++ ds
   on None ds = refl
   on (Some k) ds = refl
 
 -- what all meters say, where each has measured
-seen_by_all : (levels : ℕ) (told : List Sample) (ms : List Meter) → AllByRecursion (λ m. Measures (ends_of m.edges) levels told m) ms
-    → map seen_by ms ≡ map (λ e. seen_of (measured e levels told)) (watched ms)
-seen_by_all levels told [] h = refl
-seen_by_all levels told (m ∷ ms) h =
+seen_by_all : (pins : ShownPins) (told : List Sample) (ms : List Meter) → AllByRecursion (λ m. Measures (ends_of m.edges) pins told m) ms
+    → map seen_by ms ≡ map (λ e. seen_of (measured e pins told)) (watched ms)
+seen_by_all pins told [] h = refl
+seen_by_all pins told (m ∷ ms) h =
     ap (λ x. x ∷ map seen_by ms) h.0.counts.seen
-    ∙ ap (λ xs. seen_of (measured (ends_of m.edges) levels told) ∷ xs) (seen_by_all levels told ms h.1)
+    ∙ ap (λ xs. seen_of (measured (ends_of m.edges) pins told) ∷ xs) (seen_by_all pins told ms h.1)
 
-measured_by : (levels : ℕ) (ends : List SpanEdges) (told : List Sample) (t : Meters) → t.first ≡ levels → t.last ≡ levels_after levels told → length told ≤ 2 ^ 64
-    → watched t.meters ≡ ends → AllByRecursion (λ m. Measures (ends_of m.edges) levels told m) t.meters → HasMeasured levels ends told t
-measured_by levels ends told t first last few w each = record {
+measured_by : (pins : ShownPins) (ends : List SpanEdges) (told : List Sample) (t : Meters) → t.first ≡ pins → t.last ≡ pins_after pins told → length told ≤ 2 ^ 64
+    → watched t.meters ≡ ends → AllByRecursion (λ m. Measures (ends_of m.edges) pins told m) t.meters → HasMeasured pins ends told t
+measured_by pins ends told t first last few w each = record {
   first = first;
   last = last;
   few = few;
   watches = w;
   each = each;
-  seen = seen_by_all levels told t.meters each ∙ ap (map (λ e. seen_of (measured e levels told))) w;
+  seen = seen_by_all pins told t.meters each ∙ ap (map (λ e. seen_of (measured e pins told))) w;
 }
 
-all_fresh : (levels : ℕ) (ms : List Meter) → AllByRecursion (λ m. Measures (ends_of m.edges) levels [] m) (map (λ m. fresh m.edges) ms)
-all_fresh levels [] = tt
-all_fresh levels (m ∷ ms) = (told_none (ends_of m.edges) levels m.edges, all_fresh levels ms)
+all_fresh : (pins : ShownPins) (ms : List Meter) → AllByRecursion (λ m. Measures (ends_of m.edges) pins [] m) (map (λ m. fresh m.edges) ms)
+all_fresh pins [] = tt
+all_fresh pins (m ∷ ms) = (told_none (ends_of m.edges) pins m.edges, all_fresh pins ms)
 
 watched-fresh : (ms : List Meter) → watched (map (λ m. fresh m.edges) ms) ≡ watched ms
 watched-fresh [] = refl
 watched-fresh (m ∷ ms) = ap (λ xs. ends_of m.edges ∷ xs) (watched-fresh ms)
 
 -- fresh meters have measured what is in no sample
-pub begin_measured : (levels : ℕ) (ends : List SpanEdges) (ms : List Meter) (t : Meters) → watched ms ≡ ends → t.first ≡ levels → t.last ≡ levels
-    → t.meters ≡ map (λ m. fresh m.edges) ms → HasMeasured levels ends [] t
-unfolding levels_after
-begin_measured levels ends ms t w first last fresh_ones =
-    measured_by levels ends [] t first last (omega arith) (ap watched fresh_ones ∙ watched-fresh ms ∙ w)
-    (subst (AllByRecursion (λ m. Measures (ends_of m.edges) levels [] m)) (sym fresh_ones) (all_fresh levels ms))
+pub begin_measured : (pins : ShownPins) (ends : List SpanEdges) (ms : List Meter) (t : Meters) → watched ms ≡ ends → t.first ≡ pins → t.last ≡ pins
+    → t.meters ≡ map (λ m. fresh m.edges) ms → HasMeasured pins ends [] t
+unfolding pins_after
+begin_measured pins ends ms t w first last fresh_ones =
+    measured_by pins ends [] t first last (omega arith) (ap watched fresh_ones ∙ watched-fresh ms ∙ w)
+    (subst (AllByRecursion (λ m. Measures (ends_of m.edges) pins [] m)) (sym fresh_ones) (all_fresh pins ms))
 
-all_held : (levels : ℕ) (told : List Sample) (clock : ℕ) → clock ≤ 2 ^ 64 → IsNext told clock → (ms : List Meter)
-    → AllByRecursion (λ m. Measures (ends_of m.edges) levels told m) ms → AllByRecursion (λ m. Measures (ends_of m.edges) levels (held_to clock told) m) ms
-all_held levels told clock few next [] h = tt
-all_held levels told clock few next (m ∷ ms) h = (told_held (ends_of m.edges) levels told m clock few next h.0, all_held levels told clock few next ms h.1)
+all_held : (pins : ShownPins) (told : List Sample) (clock : ℕ) → clock ≤ 2 ^ 64 → IsNext told clock → (ms : List Meter)
+    → AllByRecursion (λ m. Measures (ends_of m.edges) pins told m) ms → AllByRecursion (λ m. Measures (ends_of m.edges) pins (held_to clock told) m) ms
+all_held pins told clock few next [] h = tt
+all_held pins told clock few next (m ∷ ms) h = (told_held (ends_of m.edges) pins told m clock few next h.0, all_held pins told clock few next ms h.1)
 
 -- the samples held to a clock
-pub held_measured : (levels : ℕ) (ends : List SpanEdges) (told : List Sample) (t : Meters) (clock : ℕ) → clock ≤ 2 ^ 64 → IsNext told clock
-    → HasMeasured levels ends told t → HasMeasured levels ends (held_to clock told) t
-held_measured levels ends told t clock few next h =
+pub held_measured : (pins : ShownPins) (ends : List SpanEdges) (told : List Sample) (t : Meters) (clock : ℕ) → clock ≤ 2 ^ 64 → IsNext told clock
+    → HasMeasured pins ends told t → HasMeasured pins ends (held_to clock told) t
+held_measured pins ends told t clock few next h =
     let long = length-held clock told next in
-    measured_by levels ends (held_to clock told) t h.first (h.last ∙ sym (held-levels levels clock told)) (omega arith) h.watches
-    (all_held levels told clock few next t.meters h.each)
+    measured_by pins ends (held_to clock told) t h.first (h.last ∙ sym (held-pins pins clock told)) (omega arith) h.watches
+    (all_held pins told clock few next t.meters h.each)
 
-all_told : (levels : ℕ) (told : List Sample) (s : Sample) → length told < 2 ^ 64 → (ms : List Meter)
-    → AllByRecursion (λ m. Measures (ends_of m.edges) levels told m) ms
-    → AllByRecursion (λ m. Measures (ends_of m.edges) levels (told ++ s ∷ []) m) (map (after_clock (length told) (levels_after levels told) s.level) ms)
+all_told : (pins : ShownPins) (told : List Sample) (s : Sample) → length told < 2 ^ 64 → (ms : List Meter)
+    → AllByRecursion (λ m. Measures (ends_of m.edges) pins told m) ms
+    → AllByRecursion (λ m. Measures (ends_of m.edges) pins (told ++ s ∷ []) m) (map (after_clock (length told) (pins_after pins told) (pins_of s)) ms)
 unfolding after_clock
-all_told levels told s few [] h = tt
-all_told levels told s few (m ∷ ms) h =
+all_told pins told s few [] h = tt
+all_told pins told s few (m ∷ ms) h =
     let e = ends_of m.edges in
-    let to = is_to e (levels_after levels told) s.level in
-    let from = is_from e (levels_after levels told) s.level in
+    let to = is_to e (pins_after pins told) (pins_of s) in
+    let from = is_from e (pins_after pins told) (pins_of s) in
     let next = moved to from (length told) m in (
-      subst (λ (x : Edges). Measures (ends_of x) levels (told ++ s ∷ []) next) (sym (same_edges to from (length told) m)) (told_one e levels told m s few h.0),
-      all_told levels told s few ms h.1,
+      subst (λ (x : Edges). Measures (ends_of x) pins (told ++ s ∷ []) next) (sym (same_edges to from (length told) m)) (told_one e pins told m s few h.0),
+      all_told pins told s few ms h.1,
     )
 
-watched-told : (clock before after : ℕ) (ms : List Meter) → watched (map (after_clock clock before after) ms) ≡ watched ms
+watched-told : (clock : ℕ) (before after : ShownPins) (ms : List Meter) → watched (map (after_clock clock before after) ms) ≡ watched ms
 unfolding after_clock
 watched-told clock before after [] = refl
 watched-told clock before after (m ∷ ms) =
@@ -223,37 +227,47 @@ watched-told clock before after (m ∷ ms) =
     ∙ ap (λ xs. e ∷ xs) (watched-told clock before after ms)
 
 -- one sample more
-pub sample_measured : (levels : ℕ) (ends : List SpanEdges) (told : List Sample) (t u : Meters) (s : Sample) (clock : ℕ) → length told ≡ clock → clock < 2 ^ 64
-    → HasMeasured levels ends told t → u.first ≡ t.first → u.last ≡ s.level → u.meters ≡ map (after_clock clock t.last s.level) t.meters
-    → HasMeasured levels ends (told ++ s ∷ []) u
-sample_measured levels ends told t u s clock long few h first last meters =
+pub sample_measured : (pins : ShownPins) (ends : List SpanEdges) (told : List Sample) (t u : Meters) (s : Sample) (clock : ℕ) → length told ≡ clock → clock < 2 ^ 64
+    → HasMeasured pins ends told t → u.first ≡ t.first → u.last ≡ pins_of s → u.meters ≡ map (after_clock clock t.last (pins_of s)) t.meters
+    → HasMeasured pins ends (told ++ s ∷ []) u
+sample_measured pins ends told t u s clock long few h first last meters =
     let more = length-more told s in
-    let same : u.meters ≡ map (after_clock (length told) (levels_after levels told) s.level) t.meters =
-    meters ∙ ap (λ c. map (after_clock c t.last s.level) t.meters) (sym long) ∙ ap (λ b. map (after_clock (length told) b s.level) t.meters) h.last in
-    measured_by levels ends (told ++ s ∷ []) u (first ∙ h.first) (last ∙ sym (levels-more levels told s)) (omega arith)
-    (ap watched same ∙ watched-told (length told) (levels_after levels told) s.level t.meters ∙ h.watches)
-    (subst (AllByRecursion (λ m. Measures (ends_of m.edges) levels (told ++ s ∷ []) m)) (sym same) (all_told levels told s (omega arith) t.meters h.each))
+    let same : u.meters ≡ map (after_clock (length told) (pins_after pins told) (pins_of s)) t.meters =
+    meters ∙ ap (λ c. map (after_clock c t.last (pins_of s)) t.meters) (sym long) ∙ ap (λ b. map (after_clock (length told) b (pins_of s)) t.meters) h.last in
+    measured_by pins ends (told ++ s ∷ []) u (first ∙ h.first) (last ∙ sym (pins-more pins told s)) (omega arith)
+    (ap watched same ∙ watched-told (length told) (pins_after pins told) (pins_of s) t.meters ∙ h.watches)
+    (subst (AllByRecursion (λ m. Measures (ends_of m.edges) pins (told ++ s ∷ []) m)) (sym same) (all_told pins told s (omega arith) t.meters h.each))
 
 -- a sample at a clock, after those that were told
-pub told_measured : (levels : ℕ) (ends : List SpanEdges) (told : List Sample) (t u : Meters) (s : Sample) (clock : ℕ) → clock < 2 ^ 64 → IsNext told clock
-    → HasMeasured levels ends told t → u.first ≡ t.first → u.last ≡ s.level → u.meters ≡ map (after_clock clock t.last s.level) t.meters
-    → HasMeasured levels ends (held_to clock told ++ s ∷ []) u
-told_measured levels ends told t u s clock few next h first last meters =
-    sample_measured levels ends (held_to clock told) t u s clock (length-held clock told next) few
-    (held_measured levels ends told t clock (omega arith) next h) first last meters
+pub told_measured : (pins : ShownPins) (ends : List SpanEdges) (told : List Sample) (t u : Meters) (s : Sample) (clock : ℕ) → clock < 2 ^ 64 → IsNext told clock
+    → HasMeasured pins ends told t → u.first ≡ t.first → u.last ≡ pins_of s → u.meters ≡ map (after_clock clock t.last (pins_of s)) t.meters
+    → HasMeasured pins ends (held_to clock told ++ s ∷ []) u
+told_measured pins ends told t u s clock few next h first last meters =
+    sample_measured pins ends (held_to clock told) t u s clock (length-held clock told next) few
+    (held_measured pins ends told t clock (omega arith) next h) first last meters
 
--- spans and levels are known from what is told for them
-same_direction : (a b : Bool) → direction a ≡ direction b → a ≡ b
-same_direction true true h = refl
-same_direction false false h = refl
-same_direction true false h = absurd (omega arith)
-same_direction false true h = absurd (omega arith)
+-- spans and pins are known from what is told for them
+same_rise : (a b : Bool) → rise_code a ≡ rise_code b → a ≡ b
+same_rise true true h = refl
+same_rise false false h = refl
+same_rise true false h = absurd (omega arith)
+same_rise false true h = absurd (omega arith)
 
-same_ends : (a b : SpanEdges) → a.from_pin ≡ b.from_pin → a.from_rise ≡ b.from_rise → a.to_pin ≡ b.to_pin → a.to_rise ≡ b.to_rise → a ≡ b
-same_ends a b p q r s =
-    let mk : ℕ → Bool → ℕ → Bool → SpanEdges = λ w x y z. record { from_pin = w; from_rise = x; to_pin = y; to_rise = z } in
-    ap (λ x. mk x a.from_rise a.to_pin a.to_rise) p ∙ ap (λ x. mk b.from_pin x a.to_pin a.to_rise) q
-    ∙ ap (λ x. mk b.from_pin b.from_rise x a.to_rise) r ∙ ap (λ x. mk b.from_pin b.from_rise b.to_pin x) s
+same_signal : (a b : PinSignal) → signal_code a ≡ signal_code b → a ≡ b
+same_signal Level Level h = refl
+same_signal Direction Direction h = refl
+same_signal Level Direction h = absurd (omega arith)
+same_signal Direction Level h = absurd (omega arith)
+
+same_from : (a b : SpanEdges) → a.from_pin ≡ b.from_pin → a.from_signal ≡ b.from_signal → a.from_rise ≡ b.from_rise → a ≡ record a { from_pin = b.from_pin; from_signal = b.from_signal; from_rise = b.from_rise }
+same_from a b p q r =
+    let mk : ℕ → PinSignal → Bool → SpanEdges = λ x y z. record a { from_pin = x; from_signal = y; from_rise = z } in
+    ap (λ x. mk x a.from_signal a.from_rise) p ∙ ap (λ x. mk b.from_pin x a.from_rise) q ∙ ap (λ x. mk b.from_pin b.from_signal x) r
+
+same_to : (a b : SpanEdges) → a.to_pin ≡ b.to_pin → a.to_signal ≡ b.to_signal → a.to_rise ≡ b.to_rise → record a { from_pin = b.from_pin; from_signal = b.from_signal; from_rise = b.from_rise } ≡ b
+same_to a b p q r =
+    let mk : ℕ → PinSignal → Bool → SpanEdges = λ x y z. record b { to_pin = x; to_signal = y; to_rise = z } in
+    ap (λ x. mk x a.to_signal a.to_rise) p ∙ ap (λ x. mk b.to_pin x a.to_rise) q ∙ ap (λ x. mk b.to_pin b.to_signal x) r
 
 code_tells : (xs ys : List SpanEdges) → ends_code xs ≡ ends_code ys → xs ≡ ys
 code_tells [] [] h = refl
@@ -261,19 +275,27 @@ code_tells [] (y ∷ ys) h = cc
 code_tells (x ∷ xs) [] h = cc
 code_tells (x ∷ xs) (y ∷ ys) h =
     let p : x.from_pin ≡ y.from_pin = cc in
-    let q : direction x.from_rise ≡ direction y.from_rise = cc in
-    let r : x.to_pin ≡ y.to_pin = cc in
-    let s : direction x.to_rise ≡ direction y.to_rise = cc in
+    let q : signal_code x.from_signal ≡ signal_code y.from_signal = cc in
+    let r : rise_code x.from_rise ≡ rise_code y.from_rise = cc in
+    let s : x.to_pin ≡ y.to_pin = cc in
+    let t : signal_code x.to_signal ≡ signal_code y.to_signal = cc in
+    let u : rise_code x.to_rise ≡ rise_code y.to_rise = cc in
     let rest : ends_code xs ≡ ends_code ys = cc in
-    let one = same_ends x y p (same_direction _ _ q) r (same_direction _ _ s) in
+    let one = same_from x y p (same_signal _ _ q) (same_rise _ _ r) ∙ same_to x y s (same_signal _ _ t) (same_rise _ _ u) in
     let more = code_tells xs ys rest in
-    cc
+    ap (λ (e : SpanEdges). e ∷ xs) one ∙ ap (λ (es : List SpanEdges). y ∷ es) more
 
-pub tells : (levels l : ℕ) (ends es : List SpanEdges) → first_told levels ends ≡ first_told l es → (levels ≡ l) × (ends ≡ es)
-tells levels l ends es h =
-    let p : levels ≡ l = cc in
-    let q : ends_code ends ≡ ends_code es = cc in
-    (p, code_tells ends es q)
+same_pins : (a b : ShownPins) → a.level ≡ b.level → a.direction ≡ b.direction → a ≡ b
+same_pins a b p q =
+    let mk : ℕ → ℕ → ShownPins = λ x y. record { level = x; direction = y } in
+    ap (λ x. mk x a.direction) p ∙ ap (λ x. mk b.level x) q
+
+pub tells : (pins l : ShownPins) (ends es : List SpanEdges) → first_told pins ends ≡ first_told l es → (pins ≡ l) × (ends ≡ es)
+tells pins l ends es h =
+    let p : pins.level ≡ l.level = cc in
+    let q : pins.direction ≡ l.direction = cc in
+    let r : ends_code ends ≡ ends_code es = cc in
+    (same_pins pins l p q, code_tells ends es r)
 
 map_push : {X Y : Type 0} (f : X → Y) (xs : List X) (x : X) → map f (xs ++ x ∷ []) ≡ map f xs ++ f x ∷ []
 map_push f xs x = map-append f xs (x ∷ [])

@@ -1,38 +1,71 @@
 -- What the edges of a span measure in samples, in clocks.
 --   SpanEdges      the edges that a span goes between
+--   signal_of      the levels or the directions of the pins
+--   pins_after     the pins after samples
 --   clocks_to      how many clocks pass before the first to-edge
 --   measured       the clocks from each from-edge to the first to-edge after it
 --   seen_of        how many there are, the least and the greatest
 use Rattle.std.specs.Prelude.{ℕ, suc, Bool, Option, Some, None, List, [], ◌∷◌, length, min, max, if◌then◌else◌}
 use Rattle.std.specs.Option.{option_map}
+use Rattle.pin_matrix.specs.declared.span.PinSignal.{PinSignal}
+use Rattle.pin_matrix.specs.declared.span.PinSignal.TheVariants.{Level, Direction}
 use Rattle.pin_matrix.specs.declared.span.Span.{Span}
 use Rattle.block_core.specs.declared.sample.Sample.{Sample}
+use Rattle.block_core.specs.Block.{BlockState}
 use Rattle.block_core.specs.Edges.{has_edge}
+use Rattle.span_meter.specs.declared.pins.ShownPins.{ShownPins}
 use Rattle.span_meter.specs.declared.seen.SeenDistances.{SeenDistances}
 
--- the edges that a span goes between: each a rise of a pin, or else a fall
+-- the edges that a span goes between: each a rise of a pin, whose level rises or whose direction becomes out, or else a fall
 pub record SpanEdges : Type 0 where
   pub from_pin : ℕ
+  pub from_signal : PinSignal
   pub from_rise : Bool
   pub to_pin : ℕ
+  pub to_signal : PinSignal
   pub to_rise : Bool
 
 -- those of a span of a configuration
 abbrev pub ends_in : Span → SpanEdges
-ends_in sp = record { from_pin = sp.from_pin; from_rise = sp.from_rise; to_pin = sp.to_pin; to_rise = sp.to_rise }
+ends_in sp = record {
+  from_pin = sp.from_pin;
+  from_signal = sp.from_signal;
+  from_rise = sp.from_rise;
+  to_pin = sp.to_pin;
+  to_signal = sp.to_signal;
+  to_rise = sp.to_rise;
+}
+
+-- the pins that a sample shows
+abbrev pub pins_of : Sample → ShownPins
+pins_of s = record { level = s.level; direction = s.direction }
+
+-- the pins of a block
+abbrev pub pins_in : BlockState → ShownPins
+pins_in b = record { level = b.levels; direction = b.directions }
+
+-- of all pins, the levels or the directions
+abbrev pub signal_of : PinSignal → ShownPins → ℕ
+signal_of Level p = p.level
+signal_of Direction p = p.direction
+
+-- the pins after samples, with these before them
+unfoldable pub pins_after : ShownPins → List Sample → ShownPins
+pins_after before [] = before
+pins_after before (s ∷ rest) = pins_after (pins_of s) rest
 
 -- the from-edge comes in this clock
-abbrev pub is_from : SpanEdges → (before after : ℕ) → Bool
-is_from e before after = has_edge e.from_pin e.from_rise before after
+abbrev pub is_from : SpanEdges → (before after : ShownPins) → Bool
+is_from e before after = has_edge e.from_pin e.from_rise (signal_of e.from_signal before) (signal_of e.from_signal after)
 
 -- the to-edge comes in this clock
-abbrev pub is_to : SpanEdges → (before after : ℕ) → Bool
-is_to e before after = has_edge e.to_pin e.to_rise before after
+abbrev pub is_to : SpanEdges → (before after : ShownPins) → Bool
+is_to e before after = has_edge e.to_pin e.to_rise (signal_of e.to_signal before) (signal_of e.to_signal after)
 
--- how many of these clocks pass before the one in which the first to-edge comes, with these levels before them
-unfoldable pub clocks_to : SpanEdges → (before : ℕ) → List Sample → Option ℕ
+-- how many of these clocks pass before the one in which the first to-edge comes, with these pins before them
+unfoldable pub clocks_to : SpanEdges → (before : ShownPins) → List Sample → Option ℕ
 clocks_to e before [] = None
-clocks_to e before (s ∷ rest) = if is_to e before s.level then Some 0 else option_map suc (clocks_to e s.level rest)
+clocks_to e before (s ∷ rest) = if is_to e before (pins_of s) then Some 0 else option_map suc (clocks_to e (pins_of s) rest)
 
 -- One distance more, where a to-edge comes so many clocks after the next clock.
 abbrev pub with_distance : Option ℕ → List ℕ → List ℕ
@@ -40,11 +73,11 @@ with_distance None distances = distances
 with_distance (Some between) distances = suc between ∷ distances
 
 -- For each clock with a from-edge, in order, how many clocks later the first to-edge after it comes. A from-edge after which none
--- comes has no distance. Before the first sample the levels are these.
-unfoldable pub measured : SpanEdges → (before : ℕ) → List Sample → List ℕ
+-- comes has no distance. Before the first sample the pins are these.
+unfoldable pub measured : SpanEdges → (before : ShownPins) → List Sample → List ℕ
 measured e before [] = []
 measured e before (s ∷ rest) =
-    if is_from e before s.level then with_distance (clocks_to e s.level rest) (measured e s.level rest) else measured e s.level rest
+    if is_from e before (pins_of s) then with_distance (clocks_to e (pins_of s) rest) (measured e (pins_of s) rest) else measured e (pins_of s) rest
 
 -- the least of a distance and those after it
 abbrev pub least_with : ℕ → List ℕ → ℕ

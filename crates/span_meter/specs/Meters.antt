@@ -1,22 +1,24 @@
 -- What a meter keeps, and what it says: the trace's own words.
 --   Meters         what it keeps
---   first_told     how it tells its callers which spans and levels it measures
+--   first_told     how it tells its callers which spans and pins it measures
 --   HasMeasured    what it has measured
 --   closed_at, opened_at   a to-edge and a from-edge, as one span's meter counts them
 use Rattle.std.specs.Prelude.{◌≡◌, ℕ, ◌+◌, ◌-◌, ◌^◌, ◌<◌, ◌≤◌, ◌==◌, Bool, true, false, Option, Some, None, List, [], ◌∷◌, ◌++◌, length, map, min, max, if◌then◌else◌}
 use Rattle.std.specs.List.{AllByRecursion}
+use Rattle.pin_matrix.specs.declared.span.PinSignal.{PinSignal}
+use Rattle.pin_matrix.specs.declared.span.PinSignal.TheVariants.{Level, Direction}
 use Rattle.block_core.specs.declared.sample.Sample.{Sample}
-use Rattle.sample_trace.specs.Edges.{levels_after}
 use Rattle.span_meter.specs.declared.edges.Edges.{Edges}
 use Rattle.span_meter.specs.declared.meter.Meter.{Meter}
+use Rattle.span_meter.specs.declared.pins.ShownPins.{ShownPins}
 use Rattle.span_meter.specs.declared.seen.SeenDistances.{SeenDistances}
 use Rattle.span_meter.specs.Kept.{ends_of}
-use Rattle.span_meter.specs.Measured.{SpanEdges, clocks_to, greatest_of, is_from, is_to, least_of, measured, seen_of}
+use Rattle.span_meter.specs.Measured.{SpanEdges, clocks_to, greatest_of, is_from, is_to, least_of, measured, pins_after, seen_of}
 
--- the output levels before the first sample and after the last, and a meter for each span
+-- the pins before the first sample and after the last, and a meter for each span
 pub record Meters : Type 0 where
-  pub first : ℕ
-  pub last : ℕ
+  pub first : ShownPins
+  pub last : ShownPins
   pub meters : List Meter
 
 -- the edges that its meters look for
@@ -31,20 +33,27 @@ seen_by m = record { pairs = m.pairs; least = m.least; most = m.most }
 abbrev pub seen_so_far : Meters → List SeenDistances
 seen_so_far t = map seen_by t.meters
 
--- a direction as a number
-abbrev pub direction : Bool → ℕ
-direction true = 1
-direction false = 0
+-- whether an edge rises, as a number
+abbrev pub rise_code : Bool → ℕ
+rise_code true = 1
+rise_code false = 0
 
--- the edges of spans as numbers, four a span
+-- levels or directions as a number
+abbrev pub signal_code : PinSignal → ℕ
+signal_code Level = 0
+signal_code Direction = 1
+
+-- the edges of spans as numbers, six a span
 abbrev pub ends_code : List SpanEdges → List ℕ
 ends_code [] = []
-ends_code (e ∷ es) = e.from_pin ∷ direction e.from_rise ∷ e.to_pin ∷ direction e.to_rise ∷ ends_code es
+ends_code (e ∷ es) =
+    e.from_pin ∷ signal_code e.from_signal ∷ rise_code e.from_rise
+    ∷ e.to_pin ∷ signal_code e.to_signal ∷ rise_code e.to_rise ∷ ends_code es
 
--- A meter has no sink. In the place of what a sink had taken it names the levels before the first sample and the edges that it
+-- A meter has no sink. In the place of what a sink had taken it names the pins before the first sample and the edges that it
 -- looks for.
-abbrev pub first_told : (levels : ℕ) → List SpanEdges → Option (List ℕ)
-first_told levels ends = Some (levels ∷ ends_code ends)
+abbrev pub first_told : ShownPins → List SpanEdges → Option (List ℕ)
+first_told pins ends = Some (pins.level ∷ pins.direction ∷ ends_code ends)
 
 -- the most that a count may be
 abbrev pub most : ℕ
@@ -80,7 +89,7 @@ abbrev pub moved : (to from : Bool) (clock : ℕ) → Meter → Meter
 moved to from clock m = if from then opened_at clock (ended_where to clock m) else ended_where to clock m
 
 -- one meter after a clock
-unfoldable pub after_clock : (clock before after : ℕ) → Meter → Meter
+unfoldable pub after_clock : (clock : ℕ) → (before after : ShownPins) → Meter → Meter
 after_clock clock before after m = moved (is_to (ends_of m.edges) before after) (is_from (ends_of m.edges) before after) clock m
 
 -- the meter of a span before the first sample
@@ -103,22 +112,22 @@ pub record IsCountOf (distances starts : List ℕ) (n : ℕ) (m : Meter) : Type 
 
 -- What one meter has measured. `starts` are the clocks of the from-edges after which no to-edge came yet: the distances in more
 -- samples are those so far, those that end in them, and those that begin in them.
-pub record Measures (e : SpanEdges) (levels : ℕ) (told : List Sample) (m : Meter) : Type 0 where
+pub record Measures (e : SpanEdges) (pins : ShownPins) (told : List Sample) (m : Meter) : Type 0 where
   pub starts : List ℕ
-  pub counts : IsCountOf (measured e levels told) starts (length told) m
-  pub going : (rest : List Sample) → measured e levels (told ++ rest)
-      ≡ measured e levels told
-      ++ (ended (length told) starts (clocks_to e (levels_after levels told) rest) ++ measured e (levels_after levels told) rest)
+  pub counts : IsCountOf (measured e pins told) starts (length told) m
+  pub going : (rest : List Sample) → measured e pins (told ++ rest)
+      ≡ measured e pins told
+      ++ (ended (length told) starts (clocks_to e (pins_after pins told) rest) ++ measured e (pins_after pins told) rest)
 
--- What a meter says of the samples that it was told, with these levels before them: of each span exactly what it measures in them.
-pub record HasMeasured (levels : ℕ) (ends : List SpanEdges) (told : List Sample) (t : Meters) : Type 0 where
-  pub first : t.first ≡ levels
-  pub last : t.last ≡ levels_after levels told
+-- What a meter says of the samples that it was told, with these pins before them: of each span exactly what it measures in them.
+pub record HasMeasured (pins : ShownPins) (ends : List SpanEdges) (told : List Sample) (t : Meters) : Type 0 where
+  pub first : t.first ≡ pins
+  pub last : t.last ≡ pins_after pins told
   pub few : length told ≤ 2 ^ 64
   pub watches : watched t.meters ≡ ends
-  pub each : AllByRecursion (λ m. Measures (ends_of m.edges) levels told m) t.meters
-  pub seen : seen_so_far t ≡ map (λ e. seen_of (measured e levels told)) ends
+  pub each : AllByRecursion (λ m. Measures (ends_of m.edges) pins told m) t.meters
+  pub seen : seen_so_far t ≡ map (λ e. seen_of (measured e pins told)) ends
 
 -- a meter of these edges that was told of no sample
-abbrev pub fresh_meters : (levels : ℕ) → List Edges → Meters
-fresh_meters levels edges = record { first = levels; last = levels; meters = map fresh edges }
+abbrev pub fresh_meters : ShownPins → List Edges → Meters
+fresh_meters pins edges = record { first = pins; last = pins; meters = map fresh edges }

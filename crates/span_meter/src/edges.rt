@@ -2,14 +2,17 @@
 ghost use Rattle.std.specs.Prelude.{◌≡◌, ◌<◌};
 
 use crate::levels::has_edge;
-use pin_matrix::Span;
+use crate::pins::ShownPins;
+use pin_matrix::{PinSignal, Span};
 
-/// The edges of a span: each a rise of a pin, else a fall.
+/// The edges of a span: each a rise of a pin's level or its direction, which becomes out, else a fall.
 #[derive(Clone, Copy)]
 pub(crate) struct Edges {
     from_pin: u8,
+    from_signal: PinSignal,
     from_rise: bool,
     to_pin: u8,
+    to_signal: PinSignal,
     to_rise: bool,
     ghost from_pin_is_a_pin: { from_pin < 32 },
     ghost to_pin_is_a_pin: { to_pin < 32 },
@@ -26,23 +29,30 @@ impl Edges {
     {
         Edges {
             from_pin: span.from_pin,
+            from_signal: span.from_signal,
             from_rise: span.from_rise,
             to_pin: span.to_pin,
+            to_signal: span.to_signal,
             to_rise: span.to_rise,
         }
     }
 
-    /// Whether the from-edge comes, by the output levels before and after a clock.
-    pub(crate) fn is_from(&self, before: u32, after: u32) -> bool
+    /// Whether the from-edge comes, by what is shown before and after a clock.
+    pub(crate) fn is_from(&self, before: ShownPins, after: ShownPins) -> bool
         ensures { result ≡ spec.is_from (ends_of self.now) before after }
     {
-        has_edge(self.from_pin, self.from_rise, before, after)
+        let (was, is) = (
+            before.signal(self.from_signal),
+            after.signal(self.from_signal),
+        );
+        has_edge(self.from_pin, self.from_rise, was, is)
     }
 
     /// Whether the to-edge comes.
-    pub(crate) fn is_to(&self, before: u32, after: u32) -> bool
+    pub(crate) fn is_to(&self, before: ShownPins, after: ShownPins) -> bool
         ensures { result ≡ spec.is_to (ends_of self.now) before after }
     {
-        has_edge(self.to_pin, self.to_rise, before, after)
+        let (was, is) = (before.signal(self.to_signal), after.signal(self.to_signal));
+        has_edge(self.to_pin, self.to_rise, was, is)
     }
 }

@@ -5,9 +5,11 @@ mod edges;
 mod levels;
 mod line;
 mod meter;
+mod pins;
 mod seen;
 mod trace;
 
 pub use line::put_seen;
+pub use pins::ShownPins;
 pub use seen::SeenDistances;
 pub use trace::SpanMeter;

@@ -3,6 +3,7 @@ ghost use Rattle.std.specs.Prelude.{◌≡◌};
 ghost use Rattle.span_meter.specs.Meters as spec;
 
 use crate::edges::Edges;
+use crate::pins::ShownPins;
 use crate::seen::SeenDistances;
 
 /// What is known of the pairs of one span.
@@ -48,13 +49,13 @@ impl Meter {
         }
     }
 
-    /// The meter after a clock, by the output levels before and after it.
+    /// The meter after a clock, by what is shown before and after it.
     #[tactic(auto, unfolding(crate::specs::Meters::after_clock))]
-    pub(crate) fn after(self, clock: u64, before: u32, level: u32) -> Meter
-        ensures { result ≡ spec.after_clock clock before level self }
+    pub(crate) fn after(self, clock: u64, before: ShownPins, pins: ShownPins) -> Meter
+        ensures { result ≡ spec.after_clock clock before pins self }
     {
-        let to = self.edges.is_to(before, level);
-        let from = self.edges.is_from(before, level);
+        let to = self.edges.is_to(before, pins);
+        let from = self.edges.is_from(before, pins);
         self.moved(to, from, clock)
     }
 

@@ -1,10 +1,12 @@
 //! The trace that measures spans.
-ghost use Rattle.std.specs.Prelude.{◌≡◌, ◌<◌, ℕ, Some, List, [], false, IfOk, length, map, slice_get};
+ghost use Rattle.std.specs.Prelude.{◌≡◌, ◌<◌, Some, List, [], false, IfOk, length, map, slice_get};
+ghost use Rattle.span_meter.specs.declared.pins.ShownPins.{ShownPins};
 ghost use Rattle.span_meter.specs.Measured.{SpanEdges, ends_in};
 ghost use Rattle.span_meter.specs.Meters.{HasMeasured, after_clock, first_told, fresh, seen_so_far, watched};
 
 use crate::edges::Edges;
 use crate::meter::Meter;
+use crate::pins::ShownPins;
 use crate::seen::SeenDistances;
 use block_core::Sample;
 use pin_matrix::Span;
@@ -15,8 +17,8 @@ use std::marker::Model;
 /// What spans measure in the samples that it was told of, in clocks for spans of either unit. It never fails.
 #[derive(Drop)]
 pub struct SpanMeter {
-    first: u32,
-    last: u32,
+    first: ShownPins,
+    last: ShownPins,
     meters: Vec<Meter>,
 }
 
@@ -29,15 +31,15 @@ impl Model for SpanMeter {
 }
 
 impl SpanMeter {
-    /// A meter of these spans that was told of no sample. Before the first one the output levels are these; bit i is pin i.
+    /// A meter of these spans that was told of no sample. Before the first one the pins are these.
     /// The error is want of memory; no other call takes any.
-    pub fn new(alloc: Global, spans: &[Span], levels: u32) -> Result<SpanMeter, AllocError>
-        ensures { IfOk result (λ t. HasMeasured levels (map ends_in spans.now) [] t) }
+    pub fn new(alloc: Global, spans: &[Span], pins: ShownPins) -> Result<SpanMeter, AllocError>
+        ensures { IfOk result (λ t. HasMeasured pins (map ends_in spans.now) [] t) }
     {
         let meters = meters_of(alloc, spans)?;
         Ok(SpanMeter {
-            first: levels,
-            last: levels,
+            first: pins,
+            last: pins,
             meters,
         })
     }
@@ -60,8 +62,8 @@ impl Trace<Sample> for SpanMeter {
 
     ghost ready = { λ t b. b ≡ first_told t.first (watched t.meters) };
 
-    ghost holds = { λ t b l _. (levels : ℕ) (ends : List SpanEdges) → b ≡ first_told levels ends
-        → HasMeasured levels ends l t };
+    ghost holds = { λ t b l _. (pins : ShownPins) (ends : List SpanEdges) → b ≡ first_told pins ends
+        → HasMeasured pins ends l t };
 
     ghost broken = { λ _ _ _ _. ⊥ };
 
@@ -72,8 +74,12 @@ impl Trace<Sample> for SpanMeter {
     }
 
     fn sample(&mut self, clock: u64, sample: &Sample) -> Result<(), TraceFailed> {
-        tell_all(&mut self.meters, clock, self.last, sample.level);
-        self.last = sample.level;
+        let pins = ShownPins {
+            level: sample.level,
+            direction: sample.direction,
+        };
+        tell_all(&mut self.meters, clock, self.last, pins);
+        self.last = pins;
         Ok(())
     }
 
@@ -107,11 +113,11 @@ fn begin_all(meters: &mut [Meter])
     }
 }
 
-/// Tells each meter of a clock, by the output levels before and after it.
-fn tell_all(meters: &mut [Meter], clock: u64, before: u32, level: u32)
-    ensures { meters.new ≡ map (after_clock clock before level) meters.old }
+/// Tells each meter of a clock, by what is shown before and after it.
+fn tell_all(meters: &mut [Meter], clock: u64, before: ShownPins, pins: ShownPins)
+    ensures { meters.new ≡ map (after_clock clock before pins) meters.old }
 {
     for meter in meters {
-        *meter = meter.after(clock, before, level);
+        *meter = meter.after(clock, before, pins);
     }
 }

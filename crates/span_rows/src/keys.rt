@@ -1,5 +1,5 @@
 //! What a row says of a machine and of its span, by the names that a configuration has for it.
-use pin_matrix::SpanUnit;
+use pin_matrix::{PinSignal, SpanUnit};
 use pio_encode::SideRule;
 use row_tables::side_rule_of;
 
@@ -22,13 +22,15 @@ pub struct Keys<'a> {
     pub set_count: u8,
     pub side_base: u8,
     pub side_count: u8,
-    pub from_rise: bool,
+    pub from_edge: (PinSignal, bool),
     pub to_pin: u8,
-    pub to_rise: bool,
+    pub to_edge: (PinSignal, bool),
     pub unit: SpanUnit,
     pub min: u32,
     pub max: Option<u32>,
     pub stalls: &'a str,
+    pub prompt: bool,
+    pub without: &'a str,
 }
 
 /// No side-set.
@@ -58,13 +60,15 @@ impl<'a> Keys<'a> {
             set_count: 5,
             side_base: 0,
             side_count: 0,
-            from_rise: true,
+            from_edge: (PinSignal::Level, true),
             to_pin: 0,
-            to_rise: false,
+            to_edge: (PinSignal::Level, false),
             unit: SpanUnit::Ticks,
             min: 0,
             max: Some(0),
             stalls: "",
+            prompt: false,
+            without: "",
         }
     }
 
@@ -120,13 +124,23 @@ impl<'a> Keys<'a> {
     /// Takes a key of the span: whether it is one.
     fn take_of_span(&mut self, key: &str, value: &'a str) -> Option<bool> {
         match key {
-            "from_edge" => self.from_rise = is_rise(value)?,
+            "from_edge" => self.from_edge = edge_of(value)?,
             "to_pin" => self.to_pin = value.parse().ok()?,
-            "to_edge" => self.to_rise = is_rise(value)?,
+            "to_edge" => self.to_edge = edge_of(value)?,
             "unit" => self.unit = unit_of(value)?,
             "min" => self.min = value.parse().ok()?,
             "max" => self.max = most_of(value)?,
+            _ => return self.take_of_waits(key, value),
+        }
+        Some(true)
+    }
+
+    /// Takes a key of what the span leaves out: whether it is one.
+    fn take_of_waits(&mut self, key: &str, value: &'a str) -> Option<bool> {
+        match key {
             "stalls" => self.stalls = value,
+            "prompt" => self.prompt = truth(value)?,
+            "without" => self.without = value,
             _ => return Some(false),
         }
         Some(true)
@@ -150,10 +164,13 @@ fn truth(value: &str) -> Option<bool> {
     }
 }
 
-fn is_rise(value: &str) -> Option<bool> {
+/// What of the pin changes, and whether it rises or becomes out.
+fn edge_of(value: &str) -> Option<(PinSignal, bool)> {
     match value {
-        "rise" => Some(true),
-        "fall" => Some(false),
+        "rise" => Some((PinSignal::Level, true)),
+        "fall" => Some((PinSignal::Level, false)),
+        "out" => Some((PinSignal::Direction, true)),
+        "in" => Some((PinSignal::Direction, false)),
         _ => None,
     }
 }

@@ -45,10 +45,16 @@ fn tell_taken(sink: &MemSink, passes: bool, text: &mut String) -> Option<()> {
     text.push_str(if passes { "" } else { ", and fails" }).ok()
 }
 
-/// `opens`, `never opens`, the same and ` and closes` or ` and never closes`, or a refusal.
+/// `opens`, `never opens`, the same and ` and closes` or ` and never closes`, with ` under prompt` behind it or without, or a
+/// refusal.
 fn verdict_of(verdict: &str) -> Option<Result<Finding, Refusal>> {
-    let (opening, closes) = match verdict.split_once(" and ") {
-        None => (verdict, None),
+    let (found, prompt) = match verdict.split_once(" under ") {
+        None => (verdict, false),
+        Some((found, "prompt")) => (found, true),
+        Some(_) => return None,
+    };
+    let (opening, closes) = match found.split_once(" and ") {
+        None => (found, None),
         Some((opening, "closes")) => (opening, Some(true)),
         Some((opening, "never closes")) => (opening, Some(false)),
         Some(_) => return None,
@@ -57,10 +63,12 @@ fn verdict_of(verdict: &str) -> Option<Result<Finding, Refusal>> {
         "opens" => Some(Ok(Finding {
             opens: true,
             closes,
+            prompt,
         })),
         "never opens" => Some(Ok(Finding {
             opens: false,
             closes,
+            prompt,
         })),
         _ => Some(Err(refusal_of(verdict)?)),
     }

@@ -4,7 +4,7 @@ ghost use Rattle.std.specs.Option.{ForSome};
 ghost use Rattle.pin_matrix.specs.Spans as spec;
 
 use crate::keys::Keys;
-use pin_matrix::{MachineSetup, Mapping, Setup, Span, SpanUnit, Addresses, is_span_name};
+use pin_matrix::{Addresses, MachineSetup, Mapping, Setup, Span, SpanUnit, is_span_name};
 use pio_encode::Name;
 use std::alloc::Global;
 
@@ -50,7 +50,7 @@ fn set_mapping(base: u8, count: u8) -> Option<Mapping>
 
 /// The span of this name on machine 0, from an edge of pin 0, where its keys are in their ranges and there is memory.
 pub fn span_of(alloc: Global, keys: &Keys, name: &str) -> Option<Span> {
-    let stalls = stalls_of(alloc, keys.stalls)?;
+    let stalls = addresses_of(alloc, keys.stalls)?;
     if keys.to_pin > 31 || keys.unit == SpanUnit::Clocks && !stalls.is_empty() {
         return None;
     }
@@ -59,13 +59,17 @@ pub fn span_of(alloc: Global, keys: &Keys, name: &str) -> Option<Span> {
         name: name_of(alloc, name)?,
         machine: 0,
         from_pin: 0,
-        from_rise: keys.from_rise,
+        from_signal: keys.from_edge.0,
+        from_rise: keys.from_edge.1,
         to_pin: keys.to_pin,
-        to_rise: keys.to_rise,
+        to_signal: keys.to_edge.0,
+        to_rise: keys.to_edge.1,
         unit: keys.unit,
         min: keys.min,
         max,
         stalls: Addresses::new(stalls)?,
+        prompt: keys.prompt,
+        without: Addresses::new(addresses_of(alloc, keys.without)?)?,
     })
 }
 
@@ -93,14 +97,14 @@ fn name_of(alloc: Global, text: &str) -> Option<Name>
 }
 
 /// The addresses of a list with blanks between.
-fn stalls_of(alloc: Global, list: &str) -> Option<Vec<u8>> {
-    let mut stalls = Vec::new(alloc);
+fn addresses_of(alloc: Global, list: &str) -> Option<Vec<u8>> {
+    let mut addresses = Vec::new(alloc);
     for address in list.split(' ') {
         if !address.is_empty() {
-            stalls.push(address.parse().ok()?).ok()?;
+            addresses.push(address.parse().ok()?).ok()?;
         }
     }
-    Some(stalls)
+    Some(addresses)
 }
 
 /// Whether the machine of a span is configured, where it is machine 0.

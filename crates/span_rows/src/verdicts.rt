@@ -6,6 +6,7 @@ use span_bounds::{Cause, Context};
 use span_check::{check, recheck};
 use span_verdict::Verdict;
 use std::alloc::{AllocError, Global};
+use verdict_lines::{Finding, Refusal, found_by};
 
 /// Adds what a row says of its verdict, and the verdict.
 pub fn tell_verdict(
@@ -25,41 +26,42 @@ fn tell_checked(alloc: Global, setup: &Setup, span: &Span, text: &mut String) ->
     if !is_configured(setup, span) {
         return None;
     }
-    match check(alloc, setup, span).ok()? {
-        Verdict::Proved {
-            table,
-            opens,
-            closes,
-        } => {
-            let is_right = recheck(&table, setup, span);
-            tell_proved(span, opens, closes, is_right, text).ok()
-        }
-        Verdict::Unproved(context, cause) => tell_unproved(&context, cause, text).ok(),
-        Verdict::Shared(machine) => write!(text, "shared by machine {machine}").ok(),
+    let verdict = check(alloc, setup, span).ok()?;
+    let passes = is_rechecked(&verdict, setup, span);
+    match found_by(verdict, span) {
+        Ok(finding) => tell_proved(finding, passes, text).ok(),
+        Err(Refusal::Unproved(context, cause)) => tell_unproved(&context, cause, text).ok(),
+        Err(Refusal::Shared(machine)) => write!(text, "shared by machine {machine}").ok(),
     }
 }
 
-/// Adds whether the span opens, whether it closes where it has no greatest bound, and whether the table passes when it is looked
-/// through anew.
-fn tell_proved(
-    span: &Span,
-    opens: bool,
-    closes: bool,
-    is_right: bool,
-    text: &mut String,
-) -> Result<(), AllocError> {
-    let how = if opens { "opens" } else { "never opens" };
-    let ends = match (span.max, closes) {
-        (Some(_), _) => "",
-        (None, true) => " and closes",
-        (None, false) => " and never closes",
+/// Whether the table of a proved span passes when it is looked through anew.
+fn is_rechecked(verdict: &Verdict, setup: &Setup, span: &Span) -> bool {
+    match verdict {
+        Verdict::Proved { table, .. } => recheck(table, setup, span),
+        _ => true,
+    }
+}
+
+/// Adds whether the span opens, where that is told whether it closes and under which premise, and whether its table passes.
+fn tell_proved(finding: Finding, passes: bool, text: &mut String) -> Result<(), AllocError> {
+    let how = if finding.opens {
+        "opens"
+    } else {
+        "never opens"
     };
-    let passes = if is_right {
+    let ends = match finding.closes {
+        None => "",
+        Some(true) => " and closes",
+        Some(false) => " and never closes",
+    };
+    let premise = if finding.prompt { " under prompt" } else { "" };
+    let flaw = if passes {
         ""
     } else {
         ", but its table doesn't pass"
     };
-    write!(text, "proved, {how}{ends}{passes}")
+    write!(text, "proved, {how}{ends}{premise}{flaw}")
 }
 
 /// Adds the first bad context's address, X and from-level, and its cause.

@@ -20,7 +20,7 @@ use Rattle.block_config.specs.Owning.{OwningKeys, keys_of_owning}
 use Rattle.block_config.specs.declared.owning.OwningSetup.{OwningSetup}
 use Rattle.block_config.specs.Pins.{pins_in}
 use Rattle.block_config.specs.Programs.{Loaded}
-use Rattle.block_config.specs.Spans.{span_names, configured, machine_at, span_pins, edge_at, required, SpanEnds, ends_at, bounds_at, stalls_at, load_of_machine, SpanValues, values_at, span_keys_of, name_at, span_of_table, span_in, all_spans}
+use Rattle.block_config.specs.Spans.{span_names, configured, machine_at, span_pins, edge_at, required, SpanEnds, ends_at, bounds_at, exempt_at, load_of_machine, SpanValues, values_at, span_keys_of, name_at, span_of_table, span_in, all_spans}
 use Rattle.block_config.specs.declared.pins.BlockNumber.{BlockNumber}
 use Rattle.block_config.specs.declared.pins.BlockNumber.TheVariants.{First, Second}
 use Rattle.block_config.specs.declared.path.Section.{Section}
@@ -59,19 +59,19 @@ machine_placed machines t id e =
 -- the ends after a machine
 ends_after : Members → ℕ → Result SpanEnds ConfigRefusal
 ends_after t machine =
-    and_then (each_at (number_at t) span_pins) (λ pins. and_then (edge_at t (codes "from_edge")) (λ from_rise. and_then (edge_at t (codes "to_edge")) (λ to_rise.
-    Ok (record { machine = machine; from_pin = slice_index pins 0; to_pin = slice_index pins 1; from_rise = from_rise; to_rise = to_rise }))))
+    and_then (each_at (number_at t) span_pins) (λ pins. and_then (edge_at t (codes "from_edge")) (λ from_edge. and_then (edge_at t (codes "to_edge")) (λ to_edge.
+    Ok (record { machine = machine; from_pin = slice_index pins 0; to_pin = slice_index pins 1; from_edge = from_edge; to_edge = to_edge }))))
 
 -- what the rest keeps of the machine
 ends_keep : (t : Members) (machine : ℕ) (ends : SpanEnds) → ends_after t machine ≡ Ok ends → ends.machine ≡ machine
 unfolding ends_after
 ends_keep t machine ends e =
-    let pins = goes_on (each_at (number_at t) span_pins) (λ pins. and_then (edge_at t (codes "from_edge")) (λ from_rise. and_then (edge_at t (codes "to_edge")) (λ to_rise.
-    Ok (record { machine = machine; from_pin = slice_index pins 0; to_pin = slice_index pins 1; from_rise = from_rise; to_rise = to_rise })))) ends e in
-    let from = goes_on (edge_at t (codes "from_edge")) (λ from_rise. and_then (edge_at t (codes "to_edge")) (λ to_rise.
-    Ok (record { machine = machine; from_pin = slice_index pins.value 0; to_pin = slice_index pins.value 1; from_rise = from_rise; to_rise = to_rise }))) ends pins.rest in
-    let to = goes_on (edge_at t (codes "to_edge")) (λ to_rise.
-    Ok (record { machine = machine; from_pin = slice_index pins.value 0; to_pin = slice_index pins.value 1; from_rise = from.value; to_rise = to_rise })) ends from.rest in
+    let pins = goes_on (each_at (number_at t) span_pins) (λ pins. and_then (edge_at t (codes "from_edge")) (λ from_edge. and_then (edge_at t (codes "to_edge")) (λ to_edge.
+    Ok (record { machine = machine; from_pin = slice_index pins 0; to_pin = slice_index pins 1; from_edge = from_edge; to_edge = to_edge })))) ends e in
+    let from = goes_on (edge_at t (codes "from_edge")) (λ from_edge. and_then (edge_at t (codes "to_edge")) (λ to_edge.
+    Ok (record { machine = machine; from_pin = slice_index pins.value 0; to_pin = slice_index pins.value 1; from_edge = from_edge; to_edge = to_edge }))) ends pins.rest in
+    let to = goes_on (edge_at t (codes "to_edge")) (λ to_edge.
+    Ok (record { machine = machine; from_pin = slice_index pins.value 0; to_pin = slice_index pins.value 1; from_edge = from.value; to_edge = to_edge })) ends from.rest in
     sym (ap (λ (x : SpanEnds). x.machine) (ok_same _ ends to.rest))
 
 ends_placed : (machines : List (Option MachineKeys)) (t : Members) (ends : SpanEnds) → ends_at machines t ≡ Ok ends → IsPlaced machines ends.machine
@@ -82,11 +82,11 @@ ends_placed machines t ends e =
 
 values_placed : (machines : List (Option MachineKeys)) (loads : List Loaded) (t : Members) (v : SpanValues) → values_at machines loads t ≡ Ok v → IsPlaced machines v.ends.machine
 values_placed machines loads t v e =
-    let ends = goes_on (ends_at machines t) (λ ends. and_then (bounds_at t) (λ bounds. and_then (stalls_at bounds.unit (load_of_machine loads (slice_index_or machines ends.machine None)) t) (λ stalls. Ok (record { ends = ends; bounds = bounds; stalls = stalls })))) v e in
+    let ends = goes_on (ends_at machines t) (λ ends. and_then (bounds_at t) (λ bounds. and_then (exempt_at bounds.unit (load_of_machine loads (slice_index_or machines ends.machine None)) t) (λ exempt. Ok (record { ends = ends; bounds = bounds; exempt = exempt })))) v e in
     let load = load_of_machine loads (slice_index_or machines ends.value.machine None) in
-    let bounds = goes_on (bounds_at t) (λ bounds. and_then (stalls_at bounds.unit load t) (λ stalls. Ok (record { ends = ends.value; bounds = bounds; stalls = stalls }))) v ends.rest in
-    let stalls = goes_on (stalls_at bounds.value.unit load t) (λ stalls. Ok (record { ends = ends.value; bounds = bounds.value; stalls = stalls })) v bounds.rest in
-    subst (λ (x : SpanValues). IsPlaced machines x.ends.machine) (ok_same _ v stalls.rest) (ends_placed machines t ends.value ends.found)
+    let bounds = goes_on (bounds_at t) (λ bounds. and_then (exempt_at bounds.unit load t) (λ exempt. Ok (record { ends = ends.value; bounds = bounds; exempt = exempt }))) v ends.rest in
+    let exempt = goes_on (exempt_at bounds.value.unit load t) (λ exempt. Ok (record { ends = ends.value; bounds = bounds.value; exempt = exempt })) v bounds.rest in
+    subst (λ (x : SpanValues). IsPlaced machines x.ends.machine) (ok_same _ v exempt.rest) (ends_placed machines t ends.value ends.found)
 
 table_placed : (machines : List (Option MachineKeys)) (loads : List Loaded) (t : Members) (s : SpanKeys) → span_of_table machines loads t ≡ Ok s → IsPlaced machines s.machine
 table_placed machines loads t s e =

@@ -42,19 +42,24 @@ cause_text U4 = codes "U4"
 abbrev pub opening_line : (front name opens : List ℕ) → List ℕ
 opening_line front name opens = front ++ codes "span " ++ name ++ codes " proved opens " ++ opens ++ codes "\n"
 
--- the same with one for whether it closes
-abbrev pub closing_line : (front name opens closes : List ℕ) → List ℕ
-closing_line front name opens closes =
-    front ++ codes "span " ++ name ++ codes " proved opens " ++ opens ++ codes " closes " ++ closes ++ codes "\n"
+-- of a prompt span, under which premise it is proved
+abbrev pub premise_text : (prompt : Bool) → List ℕ
+premise_text false = codes ""
+premise_text true = codes " under prompt"
+
+-- the same with a word for whether it closes, and the premise
+abbrev pub closing_line : (front name opens closes premise : List ℕ) → List ℕ
+closing_line front name opens closes premise =
+    front ++ codes "span " ++ name ++ codes " proved opens " ++ opens ++ codes " closes " ++ closes ++ premise ++ codes "\n"
 
 -- the one or the other
-abbrev pub line_by : (front name opens : List ℕ) → Option Bool → List ℕ
-line_by front name opens None = opening_line front name opens
-line_by front name opens (Some closes) = closing_line front name opens (yes_text closes)
+abbrev pub line_by : (front name opens premise : List ℕ) → Option Bool → List ℕ
+line_by front name opens premise None = opening_line front name opens
+line_by front name opens premise (Some closes) = closing_line front name opens (yes_text closes) premise
 
 -- the line of a span that is proved
 abbrev pub proved_line : (front name : List ℕ) → Finding → List ℕ
-proved_line front name f = line_by front name (yes_text f.opens) f.closes
+proved_line front name f = line_by front name (yes_text f.opens) (premise_text f.prompt) f.closes
 
 -- the line of a bad context, with these words for what is known of it
 abbrev pub context_line : (front name : List ℕ) → (address : ℕ) → (x y levels cause : List ℕ) → List ℕ

@@ -1,7 +1,10 @@
 -- What a verdict comes to without its table.
+--   says_more        a span says what is asked more than two levels and two bounds
 --   finding_of       what is told of a span that is proved
 --   found_by         that, or why it isn't proved
-use Rattle.std.specs.Prelude.{Bool, if◌then◌else◌, Some, None, Result, Ok, Err}
+use Rattle.std.specs.Prelude.{Bool, true, false, ◌||◌, ◌==◌, not, length, if◌then◌else◌, Some, None, Result, Ok, Err}
+use Rattle.pin_matrix.specs.declared.span.PinSignal.{PinSignal}
+use Rattle.pin_matrix.specs.declared.span.PinSignal.TheVariants.{Level, Direction}
 use Rattle.pin_matrix.specs.declared.span.Span.{Span}
 use Rattle.span_step.specs.Steps.{is_bounded}
 use Rattle.span_verdict.specs.declared.verdict.Verdict.{Verdict}
@@ -10,9 +13,20 @@ use Rattle.verdict_lines.specs.declared.refusal.Finding.{Finding}
 use Rattle.verdict_lines.specs.declared.refusal.Refusal.{Refusal}
 use Rattle.verdict_lines.specs.declared.refusal.Refusal.TheVariants as refusal
 
--- whether the span opens, and where it has no greatest bound whether it closes
+-- an edge is of a direction
+abbrev pub is_of_direction : PinSignal → Bool
+is_of_direction Level = false
+is_of_direction Direction = true
+
+-- A span has no greatest bound, or has an edge of a direction, or says nothing of some from-edges: of such a one it is told
+-- whether it closes, since it may be proved where nothing ends it.
+abbrev pub says_more : Span → Bool
+says_more sp =
+    (((not (is_bounded sp) || is_of_direction sp.from_signal) || is_of_direction sp.to_signal) || sp.prompt) || not (length sp.without == 0)
+
+-- whether the span opens, where it says more whether it closes, and whether it is prompt
 abbrev pub finding_of : Span → (opens closes : Bool) → Finding
-finding_of sp opens closes = record { opens = opens; closes = if is_bounded sp then None else Some closes }
+finding_of sp opens closes = record { opens = opens; closes = if says_more sp then Some closes else None; prompt = sp.prompt }
 
 -- what is told of a span that is proved, or why it isn't
 abbrev pub found_by : Span → Verdict → Result Finding Refusal

@@ -9,8 +9,8 @@ use pio_edge::{Sink, SinkFailed, put_all};
 use pio_encode::Name;
 use span_bounds::{Cause, Context};
 
-/// Puts the line of a verdict on the span with this name: whether it opens, and closes where that is told; or why it isn't
-/// proved.
+/// Puts the line of a verdict on the span with this name: whether it opens, and where that is told whether it closes and under
+/// which premise; or why it isn't proved.
 pub fn put_verdict<S: Sink>(
     sink: &mut S,
     name: &Name,
@@ -32,7 +32,13 @@ fn put_proved<S: Sink>(sink: &mut S, name: &[u8], finding: Finding) -> Result<()
 {
     match finding.closes {
         None => put_opening(sink, name, yes_text(finding.opens)),
-        Some(closes) => put_closing(sink, name, yes_text(finding.opens), yes_text(closes)),
+        Some(closes) => put_closing(
+            sink,
+            name,
+            yes_text(finding.opens),
+            yes_text(closes),
+            premise_text(finding.prompt),
+        ),
     }
 }
 
@@ -42,8 +48,10 @@ fn put_closing<S: Sink>(
     name: &[u8],
     opens: &str,
     closes: &str,
+    premise: &str,
 ) -> Result<(), SinkFailed>
-    ensures bytes { Takes (S.taken sink.old) (spec.closing_line [] name.now opens.now closes.now) (S.taken sink.new) result }
+    ensures bytes { Takes (S.taken sink.old)
+        (spec.closing_line [] name.now opens.now closes.now premise.now) (S.taken sink.new) result }
     ensures cause { PutCounts (S.faults sink.old) (S.faults sink.new) result }
 {
     put_all(
@@ -55,6 +63,7 @@ fn put_closing<S: Sink>(
             opens.as_bytes(),
             " closes ".as_bytes(),
             closes.as_bytes(),
+            premise.as_bytes(),
             "\n".as_bytes(),
         ],
     )
@@ -207,6 +216,13 @@ fn yes_text(is_so: bool) -> &'static str
     ensures { result.now ≡ spec.yes_text is_so }
 {
     if is_so { "yes" } else { "no" }
+}
+
+/// Under which premise a span is proved.
+fn premise_text(prompt: bool) -> &'static str
+    ensures { result.now ≡ spec.premise_text prompt }
+{
+    if prompt { " under prompt" } else { "" }
 }
 
 /// The code of a cause.

@@ -2,7 +2,7 @@
 ghost use Rattle.std.specs.Prelude.{◌≡◌};
 ghost use Rattle.verdict_lines.specs.Refusals as spec;
 
-use pin_matrix::Span;
+use pin_matrix::{PinSignal, Span};
 use span_bounds::{Cause, Context};
 use span_verdict::Verdict;
 
@@ -11,8 +11,11 @@ use span_verdict::Verdict;
 pub struct Finding {
     /// Whether it opens.
     pub opens: bool,
-    /// Whether it closes. It is told exactly where the span has no greatest bound.
+    /// Whether it closes. It is told exactly where the span has no greatest bound, an edge of a direction, or from-edges of
+    /// which it says nothing.
     pub closes: Option<bool>,
+    /// Whether nothing is said of a from-edge after which the machine waits.
+    pub prompt: bool,
 }
 
 /// Why a span isn't proved.
@@ -37,14 +40,31 @@ pub fn found_by(verdict: Verdict, span: &Span) -> Result<Finding, Refusal>
             drop(table);
             Ok(Finding {
                 opens,
-                closes: if span.max.is_some() {
-                    None
-                } else {
-                    Some(closes)
-                },
+                closes: if says_more(span) { Some(closes) } else { None },
+                prompt: span.prompt,
             })
         }
         Verdict::Unproved(context, cause) => Err(Refusal::Unproved(context, cause)),
         Verdict::Shared(machine) => Err(Refusal::Shared(machine)),
+    }
+}
+
+/// Whether a span has no greatest bound, an edge of a direction, or from-edges of which it says nothing.
+fn says_more(span: &Span) -> bool
+    ensures { result ≡ spec.says_more span.now }
+{
+    span.max.is_none()
+        || is_of_direction(span.from_signal)
+        || is_of_direction(span.to_signal)
+        || span.prompt
+        || !span.without.as_slice().is_empty()
+}
+
+fn is_of_direction(signal: PinSignal) -> bool
+    ensures { result ≡ spec.is_of_direction signal }
+{
+    match signal {
+        PinSignal::Level => false,
+        PinSignal::Direction => true,
     }
 }

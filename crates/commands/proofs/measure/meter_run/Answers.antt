@@ -4,6 +4,6 @@ use Rattle.commands.proofs.Seen.{names}
 use Rattle.commands.proofs.measure.meter_run.Goals as goal
 
 pub returns-clause-measured : goal.returns-clause-measured
-returns-clause-measured g c = λ levels ends h.
+returns-clause-measured g c = λ pins ends h.
     let t = c.args.meter.now in
-    c.in-Ok.ensures.ok (first_told t.first (watched t.meters)) refl levels ends (names levels ends t h)
+    c.in-Ok.ensures.ok (first_told t.first (watched t.meters)) refl pins ends (names pins ends t h)

@@ -8,7 +8,7 @@ use Rattle.span_meter.proofs.trace.tell_all.Goals as goal
 
 pub loop-meter-preserved : goal.loop-meter-preserved
 loop-meter-preserved c =
-    let f : Meter → Meter = after_clock c.args.clock c.args.before c.args.level in
+    let f : Meter → Meter = after_clock c.args.clock c.args.before c.args.pins in
     let items = c.loop-meter.meter-items in
     let i = c.loop-meter.meter-index in
     let item = c.meter-item.result in
@@ -17,5 +17,5 @@ loop-meter-preserved c =
 
 pub returns : goal.returns
 returns c =
-    let f : Meter → Meter = after_clock c.args.clock c.args.before c.args.level in
+    let f : Meter → Meter = after_clock c.args.clock c.args.before c.args.pins in
     map_done f c.args.meters.now c.loop-meter.meter-items c.loop-meter.meter-index (omega arith) c.loop-meter.invariant

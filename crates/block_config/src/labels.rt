@@ -1,6 +1,6 @@
-//! The labels at which a span's stalls don't count, as addresses.
+//! A list of labels of a machine's program, as addresses.
 ghost use Rattle.std.specs.Prelude.{◌≡◌, ◌≤◌, ◌<◌, ◌==◌, ◌||◌, Some, length, option_map, IfOk, IsTrue};
-ghost use Rattle.pin_matrix.specs.Spans.{are_addresses, is_in_ticks};
+ghost use Rattle.pin_matrix.specs.Spans.{are_addresses};
 ghost use Rattle.toml.specs.Data.{as_str};
 ghost use Rattle.toml.specs.View.{items_view, table_view, view};
 ghost use Rattle.block_config.specs.Arrays.{count_items};
@@ -11,48 +11,44 @@ ghost use Rattle.block_config.specs.Values.{map_ok};
 
 use crate::arrays::{Element, are_all, count_of};
 use crate::fault::ConfigKind;
-use crate::keys;
 use crate::programs::{LoadedProgram, label_of};
 use crate::table::{Lack, value_at};
 use arrayvec::ArrayVec;
-use pin_matrix::SpanUnit;
 use toml::{Table, Value};
 
-/// The addresses of a table's stalls, at labels of the program that is loaded so.
-pub fn stalls_at(
+/// The addresses of a key's labels, of the program that is loaded so. Only a key that may have some has some.
+pub fn labels_at(
     table: &Table,
-    unit: SpanUnit,
+    key: &'static str,
+    may: bool,
     load: Option<LoadedProgram>,
 ) -> Result<ArrayVec<u8, 16>, Lack>
     ensures value { seen (λ v. v.items) result
-        ≡ spec.stalls_at unit (option_map loaded_of load.entry) (table_view table.now) }
+        ≡ spec.labels_at key.now may (option_map loaded_of load.entry) (table_view table.now) }
     ensures in_memory { IfOk result (λ v. IsTrue (are_addresses v.items)) }
-    ensures in_ticks { IfOk result (λ v. IsTrue (is_in_ticks unit || length v.items == 0)) }
+    ensures only { IfOk result (λ v. IsTrue (may || length v.items == 0)) }
 {
-    match stalls_of(value_at(table, keys::STALLS), unit, load) {
+    match labels_of(value_at(table, key), may, load) {
         Ok(addresses) => Ok(addresses),
-        Err(kind) => Err(Lack {
-            key: keys::STALLS,
-            kind,
-        }),
+        Err(kind) => Err(Lack { key, kind }),
     }
 }
 
 /// The addresses of a value, none where it is absent.
-fn stalls_of(
+fn labels_of(
     value: Option<&Value>,
-    unit: SpanUnit,
+    may: bool,
     load: Option<LoadedProgram>,
 ) -> Result<ArrayVec<u8, 16>, ConfigKind>
     ensures value { map_ok (λ v. v.items) result
-        ≡ spec.stalls_of unit (option_map loaded_of load.entry)
+        ≡ spec.labels_of may (option_map loaded_of load.entry)
         (option_map (λ v. view v.now) value.entry) }
     ensures in_memory { IfOk result (λ v. IsTrue (are_addresses v.items)) }
-    ensures in_ticks { IfOk result (λ v. IsTrue (is_in_ticks unit || length v.items == 0)) }
+    ensures only { IfOk result (λ v. IsTrue (may || length v.items == 0)) }
 {
     match value {
         Some(value) => match value.as_array() {
-            Some(values) => stalls_in(values, unit, load),
+            Some(values) => labels_in(values, may, load),
             None => Err(ConfigKind::WrongType),
         },
         None => Ok(ArrayVec::new()),
@@ -60,15 +56,15 @@ fn stalls_of(
 }
 
 /// The addresses of an array.
-fn stalls_in(
+fn labels_in(
     values: &[Value],
-    unit: SpanUnit,
+    may: bool,
     load: Option<LoadedProgram>,
 ) -> Result<ArrayVec<u8, 16>, ConfigKind>
     ensures value { map_ok (λ v. v.items) result
-        ≡ spec.stalls_in unit (option_map loaded_of load.entry) (Some (items_view values.now)) }
+        ≡ spec.labels_in may (option_map loaded_of load.entry) (Some (items_view values.now)) }
     ensures in_memory { IfOk result (λ v. IsTrue (are_addresses v.items)) }
-    ensures in_ticks { IfOk result (λ v. IsTrue (is_in_ticks unit || length v.items == 0)) }
+    ensures only { IfOk result (λ v. IsTrue (may || length v.items == 0)) }
 {
     if !are_all(values, Element::Text) {
         return Err(ConfigKind::WrongType);
@@ -77,45 +73,36 @@ fn stalls_in(
     if count > 16 {
         return Err(ConfigKind::Many);
     }
-    if in_ticks(unit) || count == 0 {
-        stall_addresses(values, load)
+    if may || count == 0 {
+        label_addresses(values, load)
     } else {
         Err(ConfigKind::Range)
     }
 }
 
-fn in_ticks(unit: SpanUnit) -> bool
-    ensures { result ≡ is_in_ticks unit }
-{
-    match unit {
-        SpanUnit::Ticks => true,
-        SpanUnit::Clocks => false,
-    }
-}
-
 /// The addresses of all elements.
-fn stall_addresses(
+fn label_addresses(
     values: &[Value],
     load: Option<LoadedProgram>,
 ) -> Result<ArrayVec<u8, 16>, ConfigKind>
     requires { count_items (items_view values.now) ≤ 16 }
     ensures value { map_ok (λ v. v.items) result
-        ≡ spec.stall_addresses (option_map loaded_of load.entry) (items_view values.now) }
+        ≡ spec.label_addresses (option_map loaded_of load.entry) (items_view values.now) }
     ensures in_memory { IfOk result (λ v. IsTrue (are_addresses v.items)) }
     ensures count { IfOk result (λ v. length v.items ≡ count_items (items_view values.now)) }
 {
     let mut addresses = ArrayVec::new();
     for place in 0..values.len() {
-        let address = stall_of(load, &values[place])?;
+        let address = label_of_element(load, &values[place])?;
         addresses.push(address);
     }
     Ok(addresses)
 }
 
 /// The address of an element.
-fn stall_of(load: Option<LoadedProgram>, value: &Value) -> Result<u8, ConfigKind>
+fn label_of_element(load: Option<LoadedProgram>, value: &Value) -> Result<u8, ConfigKind>
     ensures value { result
-        ≡ spec.stall_of (option_map loaded_of load.entry) (as_str (view value.now)) }
+        ≡ spec.label_of_element (option_map loaded_of load.entry) (as_str (view value.now)) }
     ensures in_memory { IfOk result (λ a. a < 32) }
 {
     match value.as_str() {
