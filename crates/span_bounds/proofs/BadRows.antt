@@ -4,6 +4,7 @@ use Rattle.pio_encode.specs.Word.{reading_of, act_of, delay_of, side_of, set_at}
 use Rattle.pin_matrix.specs.declared.mapping.Mapping.{Mapping}
 use Rattle.pin_matrix.specs.declared.machine.MachineSetup.{MachineSetup}
 use Rattle.pin_matrix.specs.declared.setup.Setup.{Setup}
+use Rattle.pin_matrix.specs.declared.span.PinSignal.TheVariants.{Level}
 use Rattle.pin_matrix.specs.declared.span.Span.{Span}
 use Rattle.pin_matrix.specs.declared.span.SpanUnit.TheVariants.{Ticks}
 use Rattle.pin_matrix.proofs.Greatest.{of_some}
@@ -93,13 +94,17 @@ two_ticks = record {
   name = 97 ∷ [];
   machine = 0;
   from_pin = 0;
+  from_signal = Level;
   from_rise = true;
   to_pin = 0;
+  to_signal = Level;
   to_rise = false;
   unit = Ticks;
   min = 2;
   max = Some 2;
   stalls = [];
+  prompt = false;
+  without = [];
   named = refl;
   machine_in_block = omega arith;
   from_pin_is_a_pin = omega arith;

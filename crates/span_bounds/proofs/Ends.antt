@@ -12,11 +12,12 @@ use Rattle.span_step.specs.declared.cause.Cause.TheVariants.{U1, U2, U3, U4}
 use Rattle.span_step.specs.declared.cause.Causes.{Causes}
 use Rattle.span_step.specs.declared.stepped.Next.{Next}
 use Rattle.span_step.specs.Contexts.{Context, IsInside}
-use Rattle.span_step.specs.Laws.{AllImplied, AllReach, ReachesAge, most_of, first_cause}
-use Rattle.span_step.specs.Steps.{context_steps}
+use Rattle.span_step.specs.Laws.{AllImplied, AllReach, ReachesAge, most_of, first_cause, NonePass}
+use Rattle.span_step.specs.Steps.{context_steps, is_left_out}
 use Rattle.span_step.proofs.Wider.{IsNarrower-context_steps}
 use Rattle.span_step.proofs.Aging.{AllReach-context_steps}
 use Rattle.span_step.proofs.Periods.{most_small}
+use Rattle.span_step.proofs.LeftOut.{left_out_stops}
 use Rattle.span_step.proofs.Overdue.{overdue_alike, overdue_bad, IsConfigured}
 use Rattle.span_bounds.specs.declared.entry.Entry.{Entry}
 use Rattle.span_bounds.specs.declared.entry.Entry.TheVariants.{Absent, Present}
@@ -154,6 +155,12 @@ each_row_at P g e h = each_row P 0 g (λ i a l q. subst (λ y. P (record { conte
   zero_plus : (i : ℕ) → 0 + i ≡ i
   zero_plus i = omega arith
 
+-- where no course passes there are no passages
+no_passage : (v : ℕ) (ns : List Next) → NonePass ns → passages v ns ≡ 0
+unfolding passages
+no_passage v [] h = refl
+no_passage v (n ∷ ns) h = rw (h.0, no_passage v ns h.1) refl
+
 -- only a span with a greatest bound has rows that are left
 abbrev pub LeftAreBounded : Span → List Entry → Type 0
 LeftAreBounded sp l = (i : ℕ) → i < 139392 → open_at (at l i) ≡ true → IsSome sp.max
@@ -164,9 +171,20 @@ some_none {A} {o} h e = bad (rw e at h) where
   bad q = cc
 
 module _ (u : Setup) (sp : Span) (l x : List Entry) (t : IsTaken u sp l x) (ready : IsConfigured u sp) where
-  -- a row that is left is bad by ages above any bound
-  left_bad : LeftAreBounded sp l → (i : ℕ) → i < 139392 → open_at (at l i) ≡ true → IsSome (cause_at u sp l x i)
-  left_bad bounded i m o = rw o (overdue_bad u sp (context_at i) (Between 0 (2 ^ 32 - 1)) ready (bounded i m o) (most_fits u sp))
+  -- a row that is left is bad by ages above any bound, if ways through it aren't left out
+  left_bad : LeftAreBounded sp l → (i : ℕ) → i < 139392 → is_left_out sp (context_at i).address ≡ false → open_at (at l i) ≡ true → IsSome (cause_at u sp l x i)
+  left_bad bounded i m e o = rw o (overdue_bad u sp (context_at i) (Between 0 (2 ^ 32 - 1)) ready (bounded i m o) e (most_fits u sp))
+
+  -- a row that is left is passed to by one through which ways aren't left out
+  passed_to : (i : ℕ) → i < 139392 → open_at (at l i) ≡ true → (w : ℕ) × ((w < 139392) × ((open_at (at l w) ≡ true) × (is_left_out sp (context_at w).address ≡ false)))
+  unfolding nexts_at
+  passed_to i m o = (b.0, (b.1.0, (b.1.1.0, on (is_left_out sp (context_at b.0).address) refl))) where
+    b : (w : ℕ) × ((w < 139392) × ((open_at (at l w) ≡ true) × ((c : Ages) → 1 ≤ passages i (nexts_at u sp w c))))
+    b = t.blocked i m o
+
+    on : (z : Bool) → is_left_out sp (context_at b.0).address ≡ z → is_left_out sp (context_at b.0).address ≡ false
+    on true e = let none : passages i (context_steps u sp (context_at b.0) Empty).nexts ≡ 0 = no_passage i _ (left_out_stops u sp (context_at b.0) Empty e) in absurd (omega (arith, none, b.1.1.1 Empty))
+    on false e = e
 
   pub starts : LiesAt Empty (at x (number_of (start_context u sp)))
   starts = on (at t.reach (number_of (start_context u sp))) refl (cases_lt (number_of (start_context u sp)) 139392) t.reached.sweep.begins where
@@ -182,7 +200,7 @@ module _ (u : Setup) (sp : Span) (l x : List Entry) (t : IsTaken u sp l x) (read
     not_left : (i : ℕ) → i < 139392 → open_at (at l i) ≡ false
     not_left i m = on (open_at (at l i)) refl where
       on : (z : Bool) → open_at (at l i) ≡ z → open_at (at l i) ≡ false
-      on true o = absurd (some_none (left_bad bounded i m o) (good.good i m))
+      on true o = let w = passed_to i m o in absurd (some_none (left_bad bounded w.0 w.1.0 w.1.1.1 w.1.1.0) (good.good w.0 w.1.0))
       on false o = o
 
     table_closed : IsClosed u sp (rows_from 0 x)

@@ -2,7 +2,7 @@
 use Rattle.std.proofs.Common.{◌≡◌, ℕ, zero, suc, ◌+◌, ◌<◌, ◌≤◌, nat_lt, Bool, true, false, ◌⊎◌, inl, inr, cond, refl, sym, subst, arith}
 use Rattle.std.proofs.lemmas.Bool.Decides.{nat_tests}
 use Rattle.span_check.specs.Marks.{Mark}
-use Rattle.span_check.specs.Holding.{counted, IsQuiet}
+use Rattle.span_check.specs.Holding.{counted, IsQuiet, IsUnexcused}
 
 -- 1 where it is so
 abbrev pub one_if : Bool → ℕ
@@ -34,13 +34,16 @@ counted-suc m s c h = rw (lt_yes s c h) refl
 pub quiet-before : (m : ℕ → Mark) (s c : ℕ) → IsQuiet m s (suc c) → IsQuiet m s c
 quiet-before m s c h d after before = h d after (omega arith)
 
--- what holds of each from-edge before clock c that is open there
+pub free-before : (m : ℕ → Mark) (s c : ℕ) → IsUnexcused m s (suc c) → IsUnexcused m s c
+free-before m s c h d after before = h d after (omega arith)
+
+-- what holds of each from-edge before clock c that is open there and spoken of
 abbrev pub AreOpen : (ℕ → Mark) → (ℕ → Type 0) → ℕ → Type 0
-AreOpen m P c = (s : ℕ) → s < c → (m s).from ≡ true → IsQuiet m s c → P s
+AreOpen m P c = (s : ℕ) → s < c → (m s).from ≡ true → IsQuiet m s c → IsUnexcused m s c → P s
 
 -- what becomes of it in clock c
-pub open-after : (m : ℕ → Mark) (P Q : ℕ → Type 0) (c : ℕ) → ((s : ℕ) → s < c → (m c).to ≡ false → P s → Q s) → ((m c).from ≡ true → Q c) → AreOpen m P c → AreOpen m Q (suc c)
-open-after m P Q c stays fresh h s before from quiet = elim (before_suc s c before) [
-  | inl earlier ↦ stays s earlier (quiet c earlier (omega arith)) (h s earlier from (quiet-before m s c quiet))
+pub open-after : (m : ℕ → Mark) (P Q : ℕ → Type 0) (c : ℕ) → ((s : ℕ) → s < c → (m c).to ≡ false → (m c).excused ≡ false → P s → Q s) → ((m c).from ≡ true → Q c) → AreOpen m P c → AreOpen m Q (suc c)
+open-after m P Q c stays fresh h s before from quiet free = elim (before_suc s c before) [
+  | inl earlier ↦ stays s earlier (quiet c earlier (omega arith)) (free c earlier (omega arith)) (h s earlier from (quiet-before m s c quiet) (free-before m s c free))
   | inr now ↦ subst Q (sym now) (fresh (subst (λ (k : ℕ). (m k).from ≡ true) now from))
 ]

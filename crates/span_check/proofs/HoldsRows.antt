@@ -1,18 +1,23 @@
 -- Rows of what it means that a span holds, worked by hand on the marks of some clocks, and of which lines break one.
 use Rattle.std.proofs.Common.{◌≡◌, ℕ, zero, suc, ◌-◌, ◌<◌, ◌≤◌, ◌==◌, Bool, true, false, Some, None, IsSome, [], ◌∷◌, map, refl, sym, subst, arith}
 use Rattle.std.proofs.lemmas.Bool.Decides.{nat_tests}
+use Rattle.pin_matrix.specs.declared.span.SpanUnit.{SpanUnit}
 use Rattle.pin_matrix.specs.declared.span.SpanUnit.TheVariants.{Ticks, Clocks}
 use Rattle.dreq_pacing.specs.declared.due.Due.{Due}
 use Rattle.dreq_pacing.specs.declared.line.LineAct.TheVariants.{Pin, Tx, Rx, Feed, Drain, Enable, Disable, Restart}
 use Rattle.dreq_pacing.specs.Due.{quiet}
 use Rattle.span_check.specs.Marks.{Mark, is_broken}
-use Rattle.span_check.specs.Holding.{counted, IsQuiet, IsFirstToEdge, IsUnbroken, Holds, HoldsFrom}
+use Rattle.span_check.specs.Holding.{counted, IsQuiet, IsFirstToEdge, IsUnbroken, IsUnbrokenIn, IsSpokenOf, Holds, HoldsFrom}
 use Rattle.span_check.specs.Runs.{is_breaking}
 
 -- The from-edge comes in clock 2, and the to-edge in clock 4. Each clock has a tick that counts. These clocks have a line that breaks
 -- the span, and these a late tick at an address that it doesn't name.
 abbrev marks : (breaks strays : ℕ → Bool) → ℕ → Mark
-marks breaks strays c = record { from = c == 2; to = c == 4; counts = true; strays = strays c; breaks = breaks c }
+marks breaks strays c = record { from = c == 2; to = c == 4; counts = true; strays = strays c; breaks = breaks c; excused = false }
+
+-- none is excused
+spoken_row : (breaks strays : ℕ → Bool) (unit : SpanUnit) (end : ℕ) → IsUnbrokenIn unit (marks breaks strays) 2 end → IsSpokenOf unit (marks breaks strays) 2 end
+spoken_row breaks strays unit end h = record { free = λ c after before. refl; unbroken = h }
 
 abbrev nowhere : ℕ → Bool
 nowhere c = false
@@ -42,21 +47,21 @@ none_between (suc (suc (suc (suc zero)))) after before = refl
 none_between (suc (suc (suc (suc (suc c))))) after before = absurd (omega (arith, before))
 
 early_in_clocks : Holds Clocks 3 (Some 9) early 5 → ⊥
-early_in_clocks holds = omega (arith, (holds 2 (omega arith) refl).least 4 (first_row _ _) (omega arith) none_between)
+early_in_clocks holds = omega (arith, (holds 2 (omega arith) refl).least 4 (first_row _ _) (omega arith) (spoken_row _ _ Clocks 5 none_between))
 
 -- with at most 1 neither
 early_in_clocks_late : Holds Clocks 0 (Some 1) early 5 → ⊥
-early_in_clocks_late holds = omega (arith, (holds 2 (omega arith) refl).most 4 (first_row _ _) (omega arith) none_between)
+early_in_clocks_late holds = omega (arith, (holds 2 (omega arith) refl).most 4 (first_row _ _) (omega arith) (spoken_row _ _ Clocks 5 none_between))
 
 -- a line breaks clock 3, while the span is open: in ticks it is spoken of all the same
 abbrev disturbed : ℕ → Mark
 disturbed = marks (λ c. c == 3) nowhere
 
 disturbed_in_ticks : Holds Ticks 3 (Some 9) disturbed 5 → ⊥
-disturbed_in_ticks holds = omega (arith, (holds 2 (omega arith) refl).least 4 (first_row _ _) (omega arith) tt, two_row (λ c. c == 3) nowhere)
+disturbed_in_ticks holds = omega (arith, (holds 2 (omega arith) refl).least 4 (first_row _ _) (omega arith) (spoken_row _ _ Ticks 5 tt), two_row (λ c. c == 3) nowhere)
 
 disturbed_in_ticks_late : Holds Ticks 0 (Some 1) disturbed 5 → ⊥
-disturbed_in_ticks_late holds = omega (arith, (holds 2 (omega arith) refl).most 4 (first_row _ _) (omega arith) tt, two_row (λ c. c == 3) nowhere)
+disturbed_in_ticks_late holds = omega (arith, (holds 2 (omega arith) refl).most 4 (first_row _ _) (omega arith) (spoken_row _ _ Ticks 5 tt), two_row (λ c. c == 3) nowhere)
 
 -- in clocks nothing is said of it
 disturbed_in_clocks : IsUnbroken disturbed 2 5 → ⊥
@@ -70,11 +75,11 @@ quiet_before_3 : IsQuiet straying 2 3
 quiet_before_3 c after before = absurd (omega (arith, after, before))
 
 straying_in_ticks : (min max : ℕ) → Holds Ticks min (Some max) straying 5 → ⊥
-straying_in_ticks min max holds = let e = (holds 2 (omega arith) refl).strays refl 3 (omega arith) (omega arith) quiet_before_3 tt in cc
+straying_in_ticks min max holds = let e = (holds 2 (omega arith) refl).strays refl 3 (omega arith) (omega arith) quiet_before_3 (spoken_row _ _ Ticks 4 tt) in cc
 
 straying_in_clocks : (min max : ℕ) → Holds Clocks min (Some max) straying 5 → ⊥
 straying_in_clocks min max holds =
-    let e = (holds 2 (omega arith) refl).strays refl 3 (omega arith) (omega arith) quiet_before_3 (λ c after before. refl) in cc
+    let e = (holds 2 (omega arith) refl).strays refl 3 (omega arith) (omega arith) quiet_before_3 (spoken_row _ _ Clocks 4 (λ c after before. refl)) in cc
 
 -- Without a greatest bound it holds with at least 2, in both units: neither the wait nor a longer time is amiss.
 no_bound : IsSome {T = ℕ} None → ⊥
@@ -101,15 +106,15 @@ straying_freely_in_clocks s below from = subst (HoldsFrom Clocks 2 None straying
 
 -- with at least 3 it doesn't: a to-edge still comes too early
 early_in_ticks_freely : Holds Ticks 3 None straying 5 → ⊥
-early_in_ticks_freely holds = omega (arith, (holds 2 (omega arith) refl).least 4 (first_row _ _) (omega arith) tt, two_row nowhere (λ c. c == 3))
+early_in_ticks_freely holds = omega (arith, (holds 2 (omega arith) refl).least 4 (first_row _ _) (omega arith) (spoken_row _ _ Ticks 5 tt), two_row nowhere (λ c. c == 3))
 
 early_in_clocks_freely : Holds Clocks 3 None straying 5 → ⊥
-early_in_clocks_freely holds = omega (arith, (holds 2 (omega arith) refl).least 4 (first_row _ _) (omega arith) (λ c after before. refl))
+early_in_clocks_freely holds = omega (arith, (holds 2 (omega arith) refl).least 4 (first_row _ _) (omega arith) (spoken_row _ _ Clocks 5 (λ c after before. refl)))
 
--- The from-edge comes in clock 2, and no to-edge. Up to any clock this holds without a greatest bound, whatever the least; with at
+-- The from-edge comes in clock 2, and no to-edge; in clock 6 the machine excuses it. Up to any clock this holds without a greatest bound, whatever the least; with at
 -- most 2 it doesn't up to clock 6, when three ticks and clocks have gone by.
 abbrev endless : ℕ → Mark
-endless c = record { from = c == 2; to = false; counts = true; strays = false; breaks = false }
+endless c = record { from = c == 2; to = false; counts = true; strays = false; breaks = false; excused = c == 6 }
 
 never_true : false ≡ true → ⊥
 never_true e = cc
@@ -126,11 +131,57 @@ three_row : counted endless 2 6 ≡ 3
 unfolding counted
 three_row = refl
 
+free_until_6 : (c : ℕ) → 2 < c → c < 6 → (endless c).excused ≡ false
+free_until_6 c after before = let e : (c == 6) ≡ false = grind (arith, nat_tests, before) in e
+
 endless_in_ticks : Holds Ticks 0 (Some 2) endless 6 → ⊥
-endless_in_ticks holds = omega (arith, (holds 2 (omega arith) refl).unclosed (λ c after before. refl) tt, three_row)
+endless_in_ticks holds = omega (arith, (holds 2 (omega arith) refl).unclosed (λ c after before. refl) (record { free = free_until_6; unbroken = tt }), three_row)
 
 endless_in_clocks : Holds Clocks 0 (Some 2) endless 6 → ⊥
-endless_in_clocks holds = omega (arith, (holds 2 (omega arith) refl).unclosed (λ c after before. refl) (λ c after before. refl))
+endless_in_clocks holds = omega (arith, (holds 2 (omega arith) refl).unclosed (λ c after before. refl) (record { free = free_until_6; unbroken = λ c after before. refl }))
+
+-- up to clock 7 nothing is said of it
+endless_excused : (unit : SpanUnit) → IsSpokenOf unit endless 2 7 → ⊥
+endless_excused unit spoken = let e = spoken.free 6 (omega arith) (omega arith) in cc
+
+-- The from-edge comes in clock 2 and the to-edge in clock 4, and the machine excuses from-edges in this clock.
+abbrev excusing : (clock : ℕ) → ℕ → Mark
+excusing clock c = record { from = c == 2; to = c == 4; counts = true; strays = false; breaks = false; excused = c == clock }
+
+-- in the clock after the from-edge, and in that of the to-edge: nothing is said of it
+excused_between : (unit : SpanUnit) → IsSpokenOf unit (excusing 3) 2 5 → ⊥
+excused_between unit spoken = let e = spoken.free 3 (omega arith) (omega arith) in cc
+
+excused_at_the_end : (unit : SpanUnit) → IsSpokenOf unit (excusing 4) 2 5 → ⊥
+excused_at_the_end unit spoken = let e = spoken.free 4 (omega arith) (omega arith) in cc
+
+-- in that of the from-edge, and in that after the to-edge: it is spoken of, and with at least 3 doesn't hold
+quiet_row : (clock c : ℕ) → 2 < c → c < 4 → (excusing clock c).to ≡ false
+quiet_row clock c after before = let e : c ≡ 3 = omega (arith, after, before) in rw e refl
+
+not_between : (P : ℕ → Type 0) → P 3 → P 4 → (c : ℕ) → 2 < c → c < 5 → P c
+not_between P three four zero after before = absurd (omega (arith, after))
+not_between P three four (suc zero) after before = absurd (omega (arith, after))
+not_between P three four (suc (suc zero)) after before = absurd (omega (arith, after))
+not_between P three four (suc (suc (suc zero))) after before = three
+not_between P three four (suc (suc (suc (suc zero)))) after before = four
+not_between P three four (suc (suc (suc (suc (suc c))))) after before = absurd (omega (arith, before))
+
+excused_before : Holds Clocks 3 (Some 9) (excusing 2) 5 → ⊥
+excused_before holds =
+    omega (
+      arith,
+      (holds 2 (omega arith) refl).least 4 (record { after = omega arith; first = quiet_row 2; edge = refl }) (omega arith)
+          (record { free = not_between (λ c. (excusing 2 c).excused ≡ false) refl refl; unbroken = λ c after before. refl }),
+    )
+
+excused_after : Holds Clocks 3 (Some 9) (excusing 5) 5 → ⊥
+excused_after holds =
+    omega (
+      arith,
+      (holds 2 (omega arith) refl).least 4 (record { after = omega arith; first = quiet_row 5; edge = refl }) (omega arith)
+          (record { free = not_between (λ c. (excusing 5 c).excused ≡ false) refl refl; unbroken = λ c after before. refl }),
+    )
 
 -- of the lines that name machine 1 a disable and a restart break its spans, and no other line does
 kinds_row : map (is_breaking 1) (Pin 1 true ∷ Tx 1 1 ∷ Rx 1 ∷ Feed 1 1 (1 ∷ []) ∷ Drain 1 1 ∷ Enable 1 ∷ Disable 1 ∷ Restart 1 ∷ [])
@@ -150,5 +201,5 @@ broken_row : map (is_broken busy) (0 ∷ 1 ∷ 2 ∷ 3 ∷ []) ≡ false ∷ fal
 broken_row = refl
 
 -- where nothing is done no machine's spans are broken
-quiet_row : map (is_broken quiet) (0 ∷ 1 ∷ 2 ∷ 3 ∷ []) ≡ false ∷ false ∷ false ∷ false ∷ []
-quiet_row = refl
+idle_row : map (is_broken quiet) (0 ∷ 1 ∷ 2 ∷ 3 ∷ []) ≡ false ∷ false ∷ false ∷ false ∷ []
+idle_row = refl

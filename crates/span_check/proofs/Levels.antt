@@ -2,6 +2,8 @@
 use Rattle.std.proofs.Common.{◌≡◌, ℕ, Bool, true, false, cond, List, [], ◌∷◌, nat_lt, refl}
 use Rattle.std.proofs.lemmas.Nat.Bits.{bit_at-zero}
 use Rattle.pin_matrix.specs.declared.machine.MachineSetup.{MachineSetup}
+use Rattle.pin_matrix.specs.declared.span.PinSignal.{PinSignal}
+use Rattle.pin_matrix.specs.declared.span.PinSignal.TheVariants.{Level, Direction}
 use Rattle.sm_registers.specs.declared.intent.Kind.{Kind}
 use Rattle.sm_registers.specs.declared.intent.Kind.TheVariants.{First, Late, Delay}
 use Rattle.sm_registers.specs.Intents.{no_intent, two_writes}
@@ -13,12 +15,13 @@ use Rattle.pio_encode.specs.declared.op.Op.{Op}
 use Rattle.pio_encode.specs.Word.{reading_of}
 use Rattle.sm_registers.specs.Tick.{tick_of, tick_delay, tick_word, tick_by, current_word, side_writes}
 use Rattle.span_step.specs.Courses.{is_edge}
-use Rattle.span_ticks.specs.Following.{level_after}
+use Rattle.span_ticks.specs.Following.{writes_to, level_after}
 use Rattle.block_core.specs.Edges.{changes}
 
 -- nothing is written
-pub level-none : (p : ℕ) (level : Bool) → level_after p (two_writes no_intent.level) level ≡ level
-level-none p level = rw (bit_at-zero p) refl
+pub level-none : (signal : PinSignal) (p : ℕ) (level : Bool) → level_after p (two_writes (writes_to signal no_intent)) level ≡ level
+level-none Level p level = rw (bit_at-zero p) refl
+level-none Direction p level = rw (bit_at-zero p) refl
 
 pub changes-is_edge : (rise a b : Bool) → changes rise a b ≡ is_edge rise a b
 changes-is_edge true a b = refl
@@ -31,15 +34,25 @@ no-edge true false = refl
 no-edge false true = refl
 no-edge false false = refl
 
--- a fact of the intent of a tick: it is no clock without a tick, and has two writes to levels
-pub of-tick : (P : Kind → List (ℕ × ℕ) → Type 0) → ((w x : ℕ × ℕ) → P Delay (w ∷ x ∷ [])) → ((w x : ℕ × ℕ) → P First (w ∷ x ∷ [])) → ((w x : ℕ × ℕ) → P Late (w ∷ x ∷ [])) → (s : MachineSetup) (v : View) (q : Queues) (r : Registers) → P (tick_of s v q r).1.kind (tick_of s v q r).1.level
+-- a fact of the intent of a tick: it is no clock without a tick, and has two writes to levels and two to directions
+pub of-tick : (signal : PinSignal) (P : Kind → List (ℕ × ℕ) → Type 0) → ((w x : ℕ × ℕ) → P Delay (w ∷ x ∷ [])) → ((w x : ℕ × ℕ) → P First (w ∷ x ∷ [])) → ((w x : ℕ × ℕ) → P Late (w ∷ x ∷ [])) → (s : MachineSetup) (v : View) (q : Queues) (r : Registers) → P (tick_of s v q r).1.kind (writes_to signal (tick_of s v q r).1)
 unfolding tick_of tick_delay tick_word tick_by
-of-tick P delay first late s v q r =
+of-tick Level P delay first late s v q r =
     let op : Op = reading_of (current_word v r) s.side_rule in
     elim (nat_lt 0 r.delay) as (λ b. let t = cond b (tick_delay s q r) (tick_word op s v q r) in P t.1.kind t.1.level) [
       | true ↦ delay (0, 0) (0, 0)
       | false ↦
           elim (r.begun) as (λ b. P (cond b Late First) ((effect_of op.act s v q r).level ∷ cond s.side_rule.pindirs (0, 0) (side_writes op.side r.begun s) ∷ [])) [
+            | true ↦ late _ _
+            | false ↦ first _ _
+          ]
+    ]
+of-tick Direction P delay first late s v q r =
+    let op : Op = reading_of (current_word v r) s.side_rule in
+    elim (nat_lt 0 r.delay) as (λ b. let t = cond b (tick_delay s q r) (tick_word op s v q r) in P t.1.kind t.1.direction) [
+      | true ↦ delay (0, 0) (0, 0)
+      | false ↦
+          elim (r.begun) as (λ b. P (cond b Late First) ((effect_of op.act s v q r).direction ∷ cond s.side_rule.pindirs (side_writes op.side r.begun s) (0, 0) ∷ [])) [
             | true ↦ late _ _
             | false ↦ first _ _
           ]

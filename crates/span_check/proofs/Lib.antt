@@ -1,4 +1,5 @@
 pub mod WorkedSetups
+pub mod Plain
 pub mod WorkedRows
 pub mod Breaking
 pub mod Counting

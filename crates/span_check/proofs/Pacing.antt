@@ -6,6 +6,8 @@ use Rattle.clock_divider.specs.Timing.{Timing}
 use Rattle.clock_divider.specs.Timing as timing
 use Rattle.clock_divider.specs.Ticks.{IsTickClock, is_tick}
 use Rattle.pin_matrix.specs.Pins.{last_of}
+use Rattle.pin_matrix.specs.declared.span.PinSignal.{PinSignal}
+use Rattle.pin_matrix.specs.declared.span.PinSignal.TheVariants.{Level}
 use Rattle.pin_matrix.specs.declared.span.Span.{Span}
 use Rattle.sm_registers.specs.declared.intent.Intent.{Intent}
 use Rattle.sm_registers.specs.Intents.{no_intent, two_writes}
@@ -19,6 +21,8 @@ use Rattle.block_core.specs.Block.{BlockState, view_of}
 use Rattle.block_core.specs.Following.{place_at, intent_in}
 use Rattle.pin_matrix.specs.Pins.{is_high}
 use Rattle.block_core.specs.Edges.{changes}
+use Rattle.span_step.specs.Contexts.{signal_bits}
+use Rattle.span_ticks.specs.Following.{writes_to}
 use Rattle.span_check.specs.Marks.{Mark, mark_of, counts, names}
 use Rattle.span_check.specs.Holding.{counted, IsUnbroken}
 use Rattle.span_check.specs.Runs.{marks_over}
@@ -79,7 +83,7 @@ all_count sp memory seen d b a m slot none = rw (slot, none m.machine.registers.
   by true e =
       let v = view_of memory seen b in
       let tick : counts (tick_of m.machine.setup v (queues_of m.machine.ports.fifos) m.machine.registers).1.kind false ≡ true =
-      of-tick (λ kind level. counts kind false ≡ true) (λ w x. refl) (λ w x. refl) (λ w x. refl) m.machine.setup v (queues_of m.machine.ports.fifos) m.machine.registers in
+      of-tick Level (λ kind writes. counts kind false ≡ true) (λ w x. refl) (λ w x. refl) (λ w x. refl) m.machine.setup v (queues_of m.machine.ports.fifos) m.machine.registers in
       ap (λ (x : Registers × Intent). counts x.1.kind false) (tick_intent v d m e) ∙ tick ∙ sym e
   by false e = ap (λ (i : Intent). counts i.kind false) (idle_intent (view_of memory seen b) d m e) ∙ sym e
 
@@ -125,19 +129,25 @@ pub record IsRun (sp : Span) (period : ℕ) (memory : List ℕ) (seen : ℕ → 
 
 -- in a run, for a span that names no address
 module _ (laws : Laws) (sp : Span) (period : ℕ) (long : 256 ≤ period) (none : (address : ℕ) → names sp address ≡ false) (memory : List ℕ) (seen : ℕ → ℕ) (host : ℕ → Due) (states : ℕ → BlockState) (r : IsRun sp period memory seen host states) where
-  -- a level that nothing is written to stays
-  same_level : (p old new : ℕ) → new ≡ last_of p old (two_writes no_intent.level) → (new == 1) ≡ (old == 1)
-  same_level p old new e = ap (λ n. n == 1) e ∙ sym (laws.levels p (two_writes no_intent.level) old) ∙ level-none p (old == 1)
+  -- a level that nothing is written to stays, and so does a direction
+  same_level : (signal : PinSignal) (p old new : ℕ) → new ≡ last_of p old (two_writes (writes_to signal no_intent)) → (new == 1) ≡ (old == 1)
+  same_level signal p old new e = ap (λ n. n == 1) e ∙ sym (laws.levels p (two_writes (writes_to signal no_intent)) old) ∙ level-none signal p (old == 1)
 
   -- the from-edge comes only in a tick
   edge_ticks : (sees : ℕ) (d : Due) (b a : BlockState) (m : Slot) → IsAfter sp memory sees d b a → place_at b sp.machine ≡ Some m → (mark_of sp memory sees d b a).from ≡ true → has_tick (lined d m) ≡ true
   unfolding mark_of
   edge_ticks sees d b a m h slot edge = by (has_tick (lined d m)) refl where
-    unmoved : has_tick (lined d m) ≡ false → changes sp.from_rise (is_high b.levels sp.from_pin) (is_high a.levels sp.from_pin) ≡ false
+    old : ℕ
+    old = signal_bits sp.from_signal b.levels b.directions
+
+    new : ℕ
+    new = signal_bits sp.from_signal a.levels a.directions
+
+    unmoved : has_tick (lined d m) ≡ false → changes sp.from_rise (is_high old sp.from_pin) (is_high new sp.from_pin) ≡ false
     unmoved off =
         let intent : intent_in memory sees d b sp.machine ≡ no_intent = ap (place_intent (view_of memory sees b) d) slot ∙ idle_intent (view_of memory sees b) d m off in
-        no_change sp.from_rise (is_high b.levels sp.from_pin) (is_high a.levels sp.from_pin)
-        (same_level sp.from_pin (bit_at b.levels sp.from_pin) (bit_at a.levels sp.from_pin) (h.from ∙ ap (λ (i : Intent). last_of sp.from_pin (bit_at b.levels sp.from_pin) (two_writes i.level)) intent))
+        no_change sp.from_rise (is_high old sp.from_pin) (is_high new sp.from_pin)
+        (same_level sp.from_signal sp.from_pin (bit_at old sp.from_pin) (bit_at new sp.from_pin) (h.from ∙ ap (λ (i : Intent). last_of sp.from_pin (bit_at old sp.from_pin) (two_writes (writes_to sp.from_signal i))) intent))
 
     by : (t : Bool) → has_tick (lined d m) ≡ t → has_tick (lined d m) ≡ true
     by true e = e

@@ -1,6 +1,6 @@
 -- Rows of spans that don't hold in a run, worked by hand: of one block beside a stimulus that disturbs it, and of two blocks, of which
 -- the second owns pin 0.
-use Rattle.std.proofs.Common.{◌≡◌, ℕ, true, false, Some, [], ◌∷◌, refl, arith}
+use Rattle.std.proofs.Common.{◌≡◌, ℕ, true, false, Some, [], ◌∷◌, refl, subst, arith}
 use Rattle.clock_divider.specs.Ticks.{is_tick}
 use Rattle.fifo_pair.specs.Fifos.{settled}
 use Rattle.pio_encode.specs.Word.{reading_of, act_of, push_or_pull_at, delay_of, side_of, mov_at, set_at}
@@ -38,20 +38,25 @@ at_least_two : Span
 at_least_two = span_of true false 2 9 (omega arith) (omega arith) []
 
 -- a pulse of one tick, from clock 0 on, is too short
-too_short : (m : ℕ → Mark) → (m 0).from ≡ true → (m 1).to ≡ true → counted m 0 2 ≡ 1 → Holds Ticks 2 (Some 9) m 2 → ⊥
-too_short m from to count holds =
-    omega (arith, count, (holds 0 (omega arith) from).least 1 (record { after = omega arith; first = λ c after before. absurd (omega (arith, after, before)); edge = to }) (omega arith) tt)
+too_short : (m : ℕ → Mark) → (m 0).from ≡ true → (m 1).to ≡ true → counted m 0 2 ≡ 1 → (m 1).excused ≡ false → Holds Ticks 2 (Some 9) m 2 → ⊥
+too_short m from to count free holds =
+    omega (
+      arith,
+      count,
+      (holds 0 (omega arith) from).least 1 (record { after = omega arith; first = λ c after before. absurd (omega (arith, after, before)); edge = to }) (omega arith)
+          (record { free = λ c after before. subst (λ k. (m k).excused ≡ false) (let e : 1 ≡ c = omega (arith, after, before) in e) free; unbroken = tt }),
+    )
 
 -- in one block, beside a line that restarts its divider meanwhile
 short_beside_a_line : HoldsUpTo at_least_two short (record { clock = 1; act = Restart 0 } ∷ []) 2 → ⊥
 unfolding short at_least_two mark_of counted hosted_at hosted_next next stepped acted settled_slot is_tick settled merged reading_of act_of push_or_pull_at delay_of side_of set_at mov_at effect_of jmp_effect out_effect pull_effect set_effect mov_effect settled_ports tick_of tick_delay tick_word tick_by after_effect due_in transfers_after requests_of
-short_beside_a_line = too_short (marks_in at_least_two short (record { clock = 1; act = Restart 0 } ∷ [])) refl refl refl
+short_beside_a_line = too_short (marks_in at_least_two short (record { clock = 1; act = Restart 0 } ∷ [])) refl refl refl refl
 
 -- in the first of two blocks, and in the second
 short_in_the_first : HoldsInFirst at_least_two 1 short long [] [] 2 → ⊥
 unfolding short long at_least_two mark_of counted hosted_at hosted_next next stepped acted settled_slot is_tick settled merged reading_of act_of push_or_pull_at delay_of side_of set_at mov_at effect_of jmp_effect out_effect pull_effect set_effect mov_effect settled_ports tick_of tick_delay tick_word tick_by after_effect due_in transfers_after requests_of hosted_twin_at hosted_twin_next twin_from
-short_in_the_first = too_short (marks_over at_least_two short.memory (pair_sees short.bypass 1 short long [] []) (first_does 1 short long [] []) (λ c. (hosted_twin_at (first_twin 1 short long) [] [] c).first.run.state)) refl refl refl
+short_in_the_first = too_short (marks_over at_least_two short.memory (pair_sees short.bypass 1 short long [] []) (first_does 1 short long [] []) (λ c. (hosted_twin_at (first_twin 1 short long) [] [] c).first.run.state)) refl refl refl refl
 
 short_in_the_second : HoldsInSecond at_least_two 1 long short [] [] 2 → ⊥
 unfolding short long at_least_two mark_of counted hosted_at hosted_next next stepped acted settled_slot is_tick settled merged reading_of act_of push_or_pull_at delay_of side_of set_at mov_at effect_of jmp_effect out_effect pull_effect set_effect mov_effect settled_ports tick_of tick_delay tick_word tick_by after_effect due_in transfers_after requests_of hosted_twin_at hosted_twin_next twin_from
-short_in_the_second = too_short (marks_over at_least_two short.memory (pair_sees short.bypass 1 long short [] []) (second_does 1 long short [] []) (λ c. (hosted_twin_at (first_twin 1 long short) [] [] c).second.run.state)) refl refl refl
+short_in_the_second = too_short (marks_over at_least_two short.memory (pair_sees short.bypass 1 long short [] []) (second_does 1 long short [] []) (λ c. (hosted_twin_at (first_twin 1 long short) [] [] c).second.run.state)) refl refl refl refl

@@ -6,6 +6,7 @@ use Rattle.clock_divider.specs.Ticks.{IsTickClock, is_tick}
 use Rattle.pin_matrix.specs.Pins.{last_of}
 use Rattle.pin_matrix.specs.declared.machine.MachineSetup.{MachineSetup}
 use Rattle.pin_matrix.specs.declared.setup.Setup.{Setup}
+use Rattle.pin_matrix.specs.declared.span.PinSignal.TheVariants.{Level, Direction}
 use Rattle.pin_matrix.specs.declared.span.Span.{Span}
 use Rattle.sm_registers.specs.declared.registers.Registers.{Registers}
 use Rattle.sm_registers.specs.View.{View}
@@ -29,20 +30,20 @@ use Rattle.span_bounds.specs.declared.row.Row.{Row}
 use Rattle.span_bounds.specs.Numbers.{number_of}
 use Rattle.span_bounds.specs.Tables.{entry_at, IsTable}
 use Rattle.span_ticks.specs.Rows.{IsInRow, IsSoundTable}
-use Rattle.span_ticks.specs.UnderWay.{Watch, IsContextOf, IsUnderWay, flow_of}
+use Rattle.span_ticks.specs.UnderWay.{Watch, IsContextOf, IsUnderWay, flow_of, is_excused_in}
 use Rattle.span_ticks.specs.Following.{InAges, level_after, IsFollowed}
 
 pub record Laws : Type 0 where
   -- of span_ticks: a tick follows the table, open ages have room, a start is under way, and levels are last writes
   pub ticks : (u : Setup) (sp : Span) (rows : Context → Option Ages) (s : MachineSetup) (v : View) (q : Queues) (r : Registers) (w : Watch)
       → slice_index_or u.machines sp.machine None ≡ Some s → IsSoundTable u sp rows → v.memory ≡ u.memory
-      → IsUnderWay u sp rows s (flow_of r) w → IsFollowed u sp rows s r.pc w (tick_of s v q r)
+      → IsUnderWay u sp rows s (flow_of r) w → IsFollowed u sp rows s r.pc (is_excused_in sp (flow_of r)) w (tick_of s v q r)
   pub room : (u : Setup) (sp : Span) (rows : Context → Option Ages) (s : MachineSetup) (r : Registers) (w : Watch)
       → slice_index_or u.machines sp.machine None ≡ Some s → IsSoundTable u sp rows → is_bounded sp ≡ true → ((address : ℕ) → is_named sp address ≡ false)
-      → IsUnderWay u sp rows s (flow_of r) w → (n : ℕ) → InAges (is_bounded sp) n w.ages → n + 1 ≤ (bounds_of sp s).1
+      → is_excused_in sp (flow_of r) ≡ false → IsUnderWay u sp rows s (flow_of r) w → (n : ℕ) → InAges (is_bounded sp) n w.ages → n + 1 ≤ (bounds_of sp s).1
   pub begins : (u : Setup) (sp : Span) (rows : Context → Option Ages) (s : MachineSetup) (k : Context)
       → slice_index_or u.machines sp.machine None ≡ Some s → IsSoundTable u sp rows → IsContextOf k (flow_of (first_registers s))
-      → IsInRow Empty (rows k) → IsUnderWay u sp rows s (flow_of (first_registers s)) (start k Empty)
+      → IsInRow Empty (rows k) → IsUnderWay u sp rows s (flow_of (first_registers s)) (start false k Empty)
   pub levels : (p : ℕ) (writes : List (ℕ × ℕ)) (old : ℕ) → level_after p writes (old == 1) ≡ (last_of p old writes == 1)
   -- of span_bounds: each entry is that of a row
   pub entries : (rows : List Row) (k : Context) (a : Ages) → IsTable rows → is_placed k.address k.x k.y ≡ true
@@ -51,10 +52,14 @@ pub record Laws : Type 0 where
   pub places_start : (s : Setup) (id : ℕ) → id < 4 → place_at (first_state s) id ≡ first_place s id
   pub places_go_on : (memory : List ℕ) (seen : ℕ → ℕ) (host : ℕ → Due) (states : ℕ → BlockState) → Follows memory seen host states
       → (clock id : ℕ) → place_at (states (suc clock)) id ≡ place_after (view_of memory (seen clock) (states clock)) (host clock) (place_at (states clock) id)
-  pub own_pins : (s : Setup) (memory : List ℕ) (seen : ℕ → ℕ) (host : ℕ → Due) (states : ℕ → BlockState) → states 0 ≡ first_state s
-      → Follows memory seen host states → (id p : ℕ) → p < 32 → OthersLeave id p s.machines → (clock : ℕ)
+  pub own_levels : (s : Setup) (memory : List ℕ) (seen : ℕ → ℕ) (host : ℕ → Due) (states : ℕ → BlockState) → states 0 ≡ first_state s
+      → Follows memory seen host states → (id p : ℕ) → p < 32 → OthersLeave Level id p s.machines → (clock : ℕ)
       → bit_at (states (suc clock)).levels p
       ≡ last_of p (bit_at (states clock).levels p) (two_writes (intent_in memory (seen clock) (host clock) (states clock) id).level)
+  pub own_directions : (s : Setup) (memory : List ℕ) (seen : ℕ → ℕ) (host : ℕ → Due) (states : ℕ → BlockState) → states 0 ≡ first_state s
+      → Follows memory seen host states → (id p : ℕ) → p < 32 → OthersLeave Direction id p s.machines → (clock : ℕ)
+      → bit_at (states (suc clock)).directions p
+      ≡ last_of p (bit_at (states clock).directions p) (two_writes (intent_in memory (seen clock) (host clock) (states clock) id).direction)
   -- and its run beside a stimulus
   pub stimulus : (start : Run) (lines : List Line) (clock : ℕ) → (hosted_at start lines clock).run ≡ run_from start (host_of start lines) clock
   pub memory : (start : Run) (host : ℕ → Due) (clock : ℕ) → (run_from start host clock).memory ≡ start.memory

@@ -4,6 +4,8 @@ use Rattle.std.specs.Int.{bit_at}
 use Rattle.pin_matrix.specs.Pins.{last_of}
 use Rattle.pin_matrix.specs.declared.machine.MachineSetup.{MachineSetup}
 use Rattle.pin_matrix.specs.declared.setup.Setup.{Setup}
+use Rattle.pin_matrix.specs.declared.span.PinSignal.{PinSignal}
+use Rattle.pin_matrix.specs.declared.span.PinSignal.TheVariants.{Level}
 use Rattle.pin_matrix.specs.declared.span.Span.{Span}
 use Rattle.sm_registers.specs.declared.intent.Intent.{Intent}
 use Rattle.sm_registers.specs.declared.intent.Kind.{Kind}
@@ -19,13 +21,13 @@ use Rattle.block_core.specs.Slots.{Slot, lined, has_tick, acted, settled_slot, s
 use Rattle.block_core.specs.Block.{BlockState, view_of}
 use Rattle.block_core.specs.Following.{place_at, intent_in}
 use Rattle.span_step.specs.declared.ages.Ages.{Ages}
-use Rattle.span_step.specs.Contexts.{Context}
+use Rattle.span_step.specs.Contexts.{Context, signal_bits}
 use Rattle.span_step.specs.Steps.{bounds_of, is_bounded}
 use Rattle.span_ticks.specs.Rows.{IsSoundTable}
-use Rattle.span_ticks.specs.UnderWay.{Watch, IsUnderWay, flow_of}
-use Rattle.span_ticks.specs.Following.{InAges, level_after, is_late, opens, closes, IsFollowed}
+use Rattle.span_ticks.specs.UnderWay.{Watch, IsUnderWay, flow_of, is_excused_in}
+use Rattle.span_ticks.specs.Following.{InAges, writes_to, level_after, is_late, opens, closes, IsFollowed}
 use Rattle.pin_matrix.specs.Pins.{is_high}
-use Rattle.span_check.specs.Marks.{Mark, mark_of, counts, strays, names, pc_at}
+use Rattle.span_check.specs.Marks.{Mark, mark_of, counts, strays, names, pc_at, excused_at}
 use Rattle.span_check.proofs.Counting.{one_if}
 use Rattle.span_check.proofs.Premises.{Laws}
 use Rattle.span_check.proofs.Levels.{level-none, changes-is_edge, no-edge, of-tick}
@@ -34,27 +36,28 @@ use Rattle.span_check.proofs.Levels.{level-none, changes-is_edge, no-edge, of-ti
 abbrev pub Fits : (bounded : Bool) → (max n : ℕ) → Ages → Type 0
 Fits bounded max n ages = InAges bounded n ages × (bounded ≡ true → n ≤ max)
 
--- what a clock with such a mark makes of open from-edges, whose ages are these before it and those after it
-pub record Goes (bounded : Bool) (min max : ℕ) (from to counting stray : Bool) (before after : Ages) : Type 0 where
-  pub most : (n : ℕ) → Fits bounded max n before → bounded ≡ true → n + one_if counting ≤ max
-  pub least : (n : ℕ) → Fits bounded max n before → to ≡ true → min ≤ n + one_if counting
-  pub stays : (n : ℕ) → Fits bounded max n before → to ≡ false → Fits bounded max (n + one_if counting) after
-  pub strays : (n : ℕ) → Fits bounded max n before → bounded ≡ true → stray ≡ false
+-- what a clock with such a mark makes of open from-edges, whose ages are these before it and those after it, unless they are
+-- excused
+pub record Goes (bounded : Bool) (min max : ℕ) (from to counting stray excused : Bool) (before after : Ages) : Type 0 where
+  pub most : excused ≡ false → (n : ℕ) → Fits bounded max n before → bounded ≡ true → n + one_if counting ≤ max
+  pub least : excused ≡ false → (n : ℕ) → Fits bounded max n before → to ≡ true → min ≤ n + one_if counting
+  pub stays : excused ≡ false → (n : ℕ) → Fits bounded max n before → to ≡ false → Fits bounded max (n + one_if counting) after
+  pub strays : excused ≡ false → (n : ℕ) → Fits bounded max n before → bounded ≡ true → stray ≡ false
   pub fresh : from ≡ true → Fits bounded max 0 after
 
 -- what a machine does in a clock, with a tick or without, by the watch before it
-record IsStep (u : Setup) (sp : Span) (rows : Context → Option Ages) (s : MachineSetup) (address : ℕ) (w : Watch) (act : Registers × Intent) : Type 0 where
+record IsStep (u : Setup) (sp : Span) (rows : Context → Option Ages) (s : MachineSetup) (address : ℕ) (excused : Bool) (w : Watch) (act : Registers × Intent) : Type 0 where
   after : Watch
   under_way : IsUnderWay u sp rows s (flow_of act.0) after
-  from : after.from ≡ level_after sp.from_pin (two_writes act.1.level) w.from
-  to : after.to ≡ level_after sp.to_pin (two_writes act.1.level) w.to
-  goes : Goes (is_bounded sp) (bounds_of sp s).0 (bounds_of sp s).1 (opens sp w after) (closes sp w after) (counts act.1.kind (names sp address)) (strays act.1.kind (names sp address)) w.ages after.ages
+  from : after.from ≡ level_after sp.from_pin (two_writes (writes_to sp.from_signal act.1)) w.from
+  to : after.to ≡ level_after sp.to_pin (two_writes (writes_to sp.to_signal act.1)) w.to
+  goes : Goes (is_bounded sp) (bounds_of sp s).0 (bounds_of sp s).1 (opens sp w after) (closes sp w after) (counts act.1.kind (names sp address)) (strays act.1.kind (names sp address)) excused w.ages after.ages
 
 -- how a tick counts, by its kind
-record CountsAs (kind : Kind) (named : Bool) (level : List (ℕ × ℕ)) : Type 0 where
+record CountsAs (kind : Kind) (named : Bool) (writes : List (ℕ × ℕ)) : Type 0 where
   older : one_if (counts kind named) ≡ cond (is_late kind && named) 0 1
   stray : (is_late kind ≡ true → named ≡ true) → strays kind named ≡ false
-  two : two_writes level ≡ level
+  two : two_writes writes ≡ writes
 
 counts_first : (named : Bool) (w x : ℕ × ℕ) → CountsAs First named (w ∷ x ∷ [])
 counts_first named w x = record { older = refl; stray = λ h. refl; two = refl }
@@ -73,56 +76,59 @@ pub record IsGoing (u : Setup) (sp : Span) (rows : Context → Option Ages) (s :
   pub slot : place_at b sp.machine ≡ Some m
   pub setup : m.machine.setup ≡ s
   pub under_way : IsUnderWay u sp rows s (flow_of m.machine.registers) w
-  pub from : w.from ≡ is_high b.levels sp.from_pin
-  pub to : w.to ≡ is_high b.levels sp.to_pin
+  pub from : w.from ≡ is_high (signal_bits sp.from_signal b.levels b.directions) sp.from_pin
+  pub to : w.to ≡ is_high (signal_bits sp.to_signal b.levels b.directions) sp.to_pin
 
 -- what the block's laws say of the two pins and of the place, as premises: the state after a clock
 pub record IsAfter (sp : Span) (memory : List ℕ) (seen : ℕ) (d : Due) (before after : BlockState) : Type 0 where
   pub place : place_at after sp.machine ≡ place_after (view_of memory seen before) d (place_at before sp.machine)
-  pub from : bit_at after.levels sp.from_pin ≡ last_of sp.from_pin (bit_at before.levels sp.from_pin) (two_writes (intent_in memory seen d before sp.machine).level)
-  pub to : bit_at after.levels sp.to_pin ≡ last_of sp.to_pin (bit_at before.levels sp.to_pin) (two_writes (intent_in memory seen d before sp.machine).level)
+  pub from : bit_at (signal_bits sp.from_signal after.levels after.directions) sp.from_pin
+      ≡ last_of sp.from_pin (bit_at (signal_bits sp.from_signal before.levels before.directions) sp.from_pin) (two_writes (writes_to sp.from_signal (intent_in memory seen d before sp.machine)))
+  pub to : bit_at (signal_bits sp.to_signal after.levels after.directions) sp.to_pin
+      ≡ last_of sp.to_pin (bit_at (signal_bits sp.to_signal before.levels before.directions) sp.to_pin) (two_writes (writes_to sp.to_signal (intent_in memory seen d before sp.machine)))
 
 -- the machine goes on, and the mark is as the table says
 pub record GoesOn (u : Setup) (sp : Span) (rows : Context → Option Ages) (s : MachineSetup) (after : BlockState) (k : Mark) (ages : Ages) : Type 0 where
   pub m : Slot
   pub w : Watch
   pub going : IsGoing u sp rows s after m w
-  pub goes : Goes (is_bounded sp) (bounds_of sp s).0 (bounds_of sp s).1 k.from k.to k.counts k.strays ages w.ages
+  pub goes : Goes (is_bounded sp) (bounds_of sp s).0 (bounds_of sp s).1 k.from k.to k.counts k.strays k.excused ages w.ages
 
 -- beside a sound table
 module _ (laws : Laws) (u : Setup) (sp : Span) (rows : Context → Option Ages) (s : MachineSetup) (configured : slice_index_or u.machines sp.machine None ≡ Some s) (sound : IsSoundTable u sp rows) where
   -- a tick
-  ticked : (v : View) (q : Queues) (r : Registers) (w : Watch) → IsFollowed u sp rows s r.pc w (tick_of s v q r) → IsStep u sp rows s r.pc w (tick_of s v q r)
+  ticked : (v : View) (q : Queues) (r : Registers) (w : Watch) → IsFollowed u sp rows s r.pc (is_excused_in sp (flow_of r)) w (tick_of s v q r) → IsStep u sp rows s r.pc (is_excused_in sp (flow_of r)) w (tick_of s v q r)
   ticked v q r w f =
       let named = names sp r.pc in
-      let kinds : CountsAs (tick_of s v q r).1.kind named (tick_of s v q r).1.level =
-      of-tick (λ kind level. CountsAs kind named level) (counts_delay named) (counts_first named) (counts_late named) s v q r in
+      let as_signal : (signal : PinSignal) → CountsAs (tick_of s v q r).1.kind named (writes_to signal (tick_of s v q r).1) =
+      λ signal. of-tick signal (λ kind writes. CountsAs kind named writes) (counts_delay named) (counts_first named) (counts_late named) s v q r in
+      let kinds : CountsAs (tick_of s v q r).1.kind named (writes_to Level (tick_of s v q r).1) = as_signal Level in
       record {
         after = f.after;
         under_way = f.under_way;
-        from = f.from ∙ ap (λ writes. level_after sp.from_pin writes w.from) (sym kinds.two);
-        to = f.to ∙ ap (λ writes. level_after sp.to_pin writes w.to) (sym kinds.two);
+        from = f.from ∙ ap (λ writes. level_after sp.from_pin writes w.from) (sym (as_signal sp.from_signal).two);
+        to = f.to ∙ ap (λ writes. level_after sp.to_pin writes w.to) (sym (as_signal sp.to_signal).two);
         goes = record {
-          most = λ n h b. rw kinds.older ((f.ages n h.0).most b);
-          least = λ n h e. rw kinds.older ((f.ages n h.0).least e);
-          stays = λ n h e. rw kinds.older ((f.ages n h.0).stays e, (f.ages n h.0).most);
-          strays = λ n h b. kinds.stray ((f.ages n h.0).named b);
+          most = λ free n h b. rw kinds.older ((f.ages free n h.0).most b);
+          least = λ free n h e. rw kinds.older ((f.ages free n h.0).least e);
+          stays = λ free n h e. rw kinds.older ((f.ages free n h.0).stays e, (f.ages free n h.0).most);
+          strays = λ free n h b. kinds.stray ((f.ages free n h.0).named b);
           fresh = λ e. (f.fresh e, λ b. omega arith);
         };
       }
 
   -- a clock without a tick
-  idle : (r : Registers) (w : Watch) → IsUnderWay u sp rows s (flow_of r) w → IsStep u sp rows s r.pc w (r, no_intent)
+  idle : (r : Registers) (w : Watch) → IsUnderWay u sp rows s (flow_of r) w → IsStep u sp rows s r.pc (is_excused_in sp (flow_of r)) w (r, no_intent)
   idle r w way = record {
     after = w;
     under_way = way;
-    from = sym (level-none sp.from_pin w.from);
-    to = sym (level-none sp.to_pin w.to);
+    from = sym (level-none sp.from_signal sp.from_pin w.from);
+    to = sym (level-none sp.to_signal sp.to_pin w.to);
     goes = record {
-      most = λ n h b. omega (arith, h.1 b);
-      least = λ n h e. absurd (never (sym (no-edge sp.to_rise w.to) ∙ e));
-      stays = λ n h e. subst (λ k. Fits (is_bounded sp) (bounds_of sp s).1 k w.ages) (still n) h;
-      strays = λ n h b. refl;
+      most = λ free n h b. omega (arith, h.1 b);
+      least = λ free n h e. absurd (never (sym (no-edge sp.to_rise w.to) ∙ e));
+      stays = λ free n h e. subst (λ k. Fits (is_bounded sp) (bounds_of sp s).1 k w.ages) (still n) h;
+      strays = λ free n h b. refl;
       fresh = λ e. absurd (never (sym (no-edge sp.from_rise w.from) ∙ e));
     };
   } where
@@ -133,33 +139,39 @@ module _ (laws : Laws) (u : Setup) (sp : Span) (rows : Context → Option Ages) 
     still n = omega arith
 
   -- a machine in a clock
-  stepped : (v : View) (m : Slot) (w : Watch) → v.memory ≡ u.memory → m.machine.setup ≡ s → IsUnderWay u sp rows s (flow_of m.machine.registers) w → (d : Due) → IsStep u sp rows s m.machine.registers.pc w (acted v (lined d m))
+  stepped : (v : View) (m : Slot) (w : Watch) → v.memory ≡ u.memory → m.machine.setup ≡ s → IsUnderWay u sp rows s (flow_of m.machine.registers) w → (d : Due) → IsStep u sp rows s m.machine.registers.pc (is_excused_in sp (flow_of m.machine.registers)) w (acted v (lined d m))
   unfolding acted
   stepped v m w memory setup way d =
       let q = queues_of m.machine.ports.fifos in
       let r = m.machine.registers in
-      let tick : IsStep u sp rows s r.pc w (tick_of m.machine.setup v q r) =
+      let excused : Bool = is_excused_in sp (flow_of r) in
+      let tick : IsStep u sp rows s r.pc excused w (tick_of m.machine.setup v q r) =
       rw setup (ticked v q r w (laws.ticks u sp rows s v q r w configured sound memory way)) in
-      elim (has_tick (lined d m)) as (λ b. IsStep u sp rows s r.pc w (cond b (tick_of m.machine.setup v q r) (r, no_intent))) [
+      elim (has_tick (lined d m)) as (λ b. IsStep u sp rows s r.pc excused w (cond b (tick_of m.machine.setup v q r) (r, no_intent))) [
         | true ↦ tick
         | false ↦ idle r w way
       ]
 
-  -- the level of a pin
+  -- the level of a pin, or its direction
   pin_level : (p old new : ℕ) (writes : List (ℕ × ℕ)) (before after : Bool) → new ≡ last_of p old writes → before ≡ (old == 1) → after ≡ level_after p writes before → after ≡ (new == 1)
   pin_level p old new writes before after e f g = g ∙ ap (level_after p writes) f ∙ laws.levels p writes old ∙ sym (ap (λ n. n == 1) e)
 
-  pub one_clock : (seen : ℕ) (d : Due) (before after : BlockState) (m : Slot) (w : Watch) → IsAfter sp u.memory seen d before after → IsGoing u sp rows s before m w → GoesOn u sp rows s after (mark_of sp u.memory seen d before after) w.ages
+  goes_on : (seen : ℕ) (d : Due) (before after : BlockState) (m : Slot) (w : Watch) → IsAfter sp u.memory seen d before after → IsGoing u sp rows s before m w
+      → IsStep u sp rows s m.machine.registers.pc (is_excused_in sp (flow_of m.machine.registers)) w (acted (view_of u.memory seen before) (lined d m)) → GoesOn u sp rows s after (mark_of sp u.memory seen d before after) w.ages
   unfolding mark_of settled_slot
-  one_clock seen d before after m w h g =
+  goes_on seen d before after m w h g step =
       let v = view_of u.memory seen before in
-      let step : IsStep u sp rows s m.machine.registers.pc w (acted v (lined d m)) = stepped v m w refl g.setup g.under_way d in
+      let from_before = signal_bits sp.from_signal before.levels before.directions in
+      let from_after = signal_bits sp.from_signal after.levels after.directions in
+      let to_before = signal_bits sp.to_signal before.levels before.directions in
+      let to_after = signal_bits sp.to_signal after.levels after.directions in
       let intent : intent_in u.memory seen d before sp.machine ≡ (acted v (lined d m)).1 = ap (place_intent v d) g.slot in
       let pc : pc_at (place_at before sp.machine) ≡ m.machine.registers.pc = ap pc_at g.slot in
-      let from : step.after.from ≡ is_high after.levels sp.from_pin =
-      pin_level sp.from_pin _ _ _ w.from step.after.from (h.from ∙ ap (λ (i : Intent). last_of sp.from_pin (bit_at before.levels sp.from_pin) (two_writes i.level)) intent) g.from step.from in
-      let to : step.after.to ≡ is_high after.levels sp.to_pin =
-      pin_level sp.to_pin _ _ _ w.to step.after.to (h.to ∙ ap (λ (i : Intent). last_of sp.to_pin (bit_at before.levels sp.to_pin) (two_writes i.level)) intent) g.to step.to in
+      let stands : excused_at sp (place_at before sp.machine) ≡ is_excused_in sp (flow_of m.machine.registers) = ap (excused_at sp) g.slot in
+      let from : step.after.from ≡ is_high from_after sp.from_pin =
+      pin_level sp.from_pin _ _ _ w.from step.after.from (h.from ∙ ap (λ (i : Intent). last_of sp.from_pin (bit_at from_before sp.from_pin) (two_writes (writes_to sp.from_signal i))) intent) g.from step.from in
+      let to : step.after.to ≡ is_high to_after sp.to_pin =
+      pin_level sp.to_pin _ _ _ w.to step.after.to (h.to ∙ ap (λ (i : Intent). last_of sp.to_pin (bit_at to_before sp.to_pin) (two_writes (writes_to sp.to_signal i))) intent) g.to step.to in
       record {
         m = slot_after v d m;
         w = step.after;
@@ -170,5 +182,9 @@ module _ (laws : Laws) (u : Setup) (sp : Span) (rows : Context → Option Ages) 
           from = from;
           to = to;
         };
-        goes = rw (intent, pc, changes-is_edge sp.from_rise (is_high before.levels sp.from_pin) (is_high after.levels sp.from_pin), changes-is_edge sp.to_rise (is_high before.levels sp.to_pin) (is_high after.levels sp.to_pin), ← g.from, ← g.to, ← from, ← to) step.goes;
+        goes = rw (intent, pc, stands, changes-is_edge sp.from_rise (is_high from_before sp.from_pin) (is_high from_after sp.from_pin), changes-is_edge sp.to_rise (is_high to_before sp.to_pin) (is_high to_after sp.to_pin), ← g.from, ← g.to, ← from, ← to) step.goes;
       }
+
+  pub one_clock : (seen : ℕ) (d : Due) (before after : BlockState) (m : Slot) (w : Watch) → IsAfter sp u.memory seen d before after → IsGoing u sp rows s before m w → GoesOn u sp rows s after (mark_of sp u.memory seen d before after) w.ages
+  one_clock seen d before after m w h g =
+      goes_on seen d before after m w h g (stepped (view_of u.memory seen before) m w refl g.setup g.under_way d)

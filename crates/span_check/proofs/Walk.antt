@@ -1,5 +1,5 @@
 -- A run beside the checker's table, clock by clock.
-use Rattle.std.proofs.Common.{◌≡◌, ℕ, zero, suc, ◌+◌, ◌≤◌, Bool, true, false, Option, Some, None, slice_index_or, sym, subst, arith}
+use Rattle.std.proofs.Common.{◌≡◌, ℕ, zero, suc, ◌+◌, ◌<◌, ◌≤◌, Bool, true, false, Option, Some, None, slice_index_or, sym, subst, arith}
 use Rattle.pin_matrix.specs.declared.machine.MachineSetup.{MachineSetup}
 use Rattle.pin_matrix.specs.declared.setup.Setup.{Setup}
 use Rattle.pin_matrix.specs.declared.span.Span.{Span}
@@ -12,9 +12,9 @@ use Rattle.span_step.specs.Steps.{bounds_of, is_bounded}
 use Rattle.span_ticks.specs.Rows.{IsSoundTable}
 use Rattle.span_ticks.specs.UnderWay.{Watch}
 use Rattle.span_check.specs.Marks.{Mark}
-use Rattle.span_check.specs.Holding.{counted}
+use Rattle.span_check.specs.Holding.{counted, IsQuiet, IsUnexcused}
 use Rattle.span_check.specs.Runs.{marks_over}
-use Rattle.span_check.proofs.Counting.{one_if, counted-suc, counted-none, AreOpen, open-after}
+use Rattle.span_check.proofs.Counting.{one_if, counted-suc, counted-none, free-before, AreOpen, open-after}
 use Rattle.span_check.proofs.Premises.{Laws}
 use Rattle.span_check.proofs.Steps.{Fits, IsGoing, IsAfter, GoesOn, one_clock}
 
@@ -56,7 +56,7 @@ module _ (laws : Laws) (u : Setup) (sp : Span) (rows : Context → Option Ages) 
         w = next.w;
         going = next.going;
         ages = open-after marks (λ from. Fits bounded max (counted marks from c) there.w.ages) (λ from. Fits bounded max (counted marks from (suc c)) next.w.ages) c
-            (λ from earlier quiet h. subst (λ k. Fits bounded max k next.w.ages) (sym (counted-suc marks from c earlier)) (next.goes.stays (counted marks from c) h quiet))
+            (λ from earlier quiet free h. subst (λ k. Fits bounded max k next.w.ages) (sym (counted-suc marks from c earlier)) (next.goes.stays free (counted marks from c) h quiet))
             (λ edge. subst (λ k. Fits bounded max k next.w.ages) (sym (counted-none marks c (suc c) (omega arith))) (next.goes.fresh edge))
             there.ages;
       }
@@ -65,10 +65,12 @@ module _ (laws : Laws) (u : Setup) (sp : Span) (rows : Context → Option Ages) 
   there zero = record { m = b.m; w = b.w; going = b.start; ages = λ from below. absurd (omega (arith, below)) }
   there (suc c) = there_after c (there c)
 
-  -- each clock is fine for each from-edge that is open
-  pub fine : (c : ℕ) → let marks = marks_over sp u.memory seen host states in AreOpen marks (λ from. IsFine (is_bounded sp) (bounds_of sp s).0 (bounds_of sp s).1 (marks c) (counted marks from c)) c
-  fine c from below edge quiet =
+  -- each clock is fine for each from-edge that is open and not excused
+  pub fine : (c : ℕ) → let marks = marks_over sp u.memory seen host states in (from : ℕ) → from < c → (marks from).from ≡ true → IsQuiet marks from c → IsUnexcused marks from (suc c)
+      → IsFine (is_bounded sp) (bounds_of sp s).0 (bounds_of sp s).1 (marks c) (counted marks from c)
+  fine c from below edge quiet free =
       let at = there c in
-      let fits = at.ages from below edge quiet in
+      let fits = at.ages from below edge quiet (free-before (marks_over sp u.memory seen host states) from c free) in
       let next = next_clock c at in
-      record { most = next.goes.most _ fits; least = next.goes.least _ fits; strays = next.goes.strays _ fits }
+      let now = free c below (omega arith) in
+      record { most = next.goes.most now _ fits; least = next.goes.least now _ fits; strays = next.goes.strays now _ fits }

@@ -2,6 +2,7 @@
 use Rattle.std.proofs.Common.{◌≡◌, ℕ, zero, suc, ◌<◌, ◌≤◌, Bool, true, false, Some, None, IsSome, [], ◌∷◌, refl, subst, inl, inr, arith}
 use Rattle.std.proofs.lemmas.Bool.{cases_lt}
 use Rattle.pin_matrix.specs.declared.setup.Setup.{Setup}
+use Rattle.pin_matrix.specs.declared.span.Span.{Span}
 use Rattle.pin_matrix.specs.declared.span.SpanUnit.TheVariants.{Ticks, Clocks}
 use Rattle.dreq_pacing.specs.declared.line.LineAct.TheVariants.{Tx, Restart, Disable, Enable}
 use Rattle.clock_divider.specs.Ticks.{is_tick}
@@ -19,7 +20,9 @@ use Rattle.block_core.specs.Slots.{acted, settled_slot}
 use Rattle.span_check.specs.Marks.{Mark, mark_of}
 use Rattle.span_check.specs.Holding.{counted, measured, IsQuiet, IsFirstToEdge, IsSpokenOf, HoldsFrom}
 use Rattle.span_check.specs.Runs.{marks_in}
-use Rattle.span_check.proofs.WorkedSetups.{plain_machine, pulling, side_one, side_one_opt, pin_0, block_of, span_of, span_from}
+use Rattle.span_check.specs.Asked.{IsPlain}
+use Rattle.span_check.proofs.Plain.{plain_spoken}
+use Rattle.span_check.proofs.WorkedSetups.{plain_machine, pulling, side_one, side_one_opt, pin_0, block_of, span_of, span_from, turn_of, prompt_of, without_of}
 
 -- a UART transmitter: `pull side 1 [7]`, `set x, 7 side 0 [7]`, `out pins, 1`, `jmp x-- 2 [6]`
 uart : Setup
@@ -90,6 +93,10 @@ first_at_7 e ends inside = elim (cases_lt e 7) [
   | inr late ↦ omega (arith, late, inside)
 ]
 
+-- such a span excuses nothing
+plain : {sp : Span} → sp.prompt ≡ false → sp.without ≡ [] → IsPlain sp
+plain h k = record { waits = h; leaves = k }
+
 no_bound : IsSome {T = ℕ} None → ⊥
 no_bound e = cc
 
@@ -103,7 +110,8 @@ freely-holds = record {
 }
 
 freely-early : HoldsFrom Ticks 8 None freely 8 0 → ⊥
-freely-early h = omega (arith, freely-row.3, h.least 7 (record { after = omega arith; first = high_before_7; edge = freely-row.2 }) (omega arith) tt)
+unfolding freely
+freely-early h = omega (arith, freely-row.3, h.least 7 (record { after = omega arith; first = high_before_7; edge = freely-row.2 }) (omega arith) ((plain_spoken _ _ _ _ _ Ticks 0 8 (plain refl refl)).1 tt))
 
 -- `set pins, 1`, `set pins, 0`, with a divider of 2.5
 square : Setup
@@ -145,11 +153,12 @@ unfolding fast disabled mark_of counted hosted_at hosted_next next stepped acted
 high_until_5 = (record { after = omega arith; first = two_clocks disabled refl refl; edge = refl }, refl)
 
 disabled-in-ticks : HoldsFrom Ticks 2 (Some 2) disabled 6 2 → ⊥
-disabled-in-ticks h = omega (arith, h.least 5 high_until_5.0 (omega arith) tt, high_until_5.1)
+unfolding disabled
+disabled-in-ticks h = omega (arith, h.least 5 high_until_5.0 (omega arith) ((plain_spoken _ _ _ _ _ Ticks 2 6 (plain refl refl)).1 tt), high_until_5.1)
 
 -- of a span in clocks nothing is said
 disabled-in-clocks : IsSpokenOf Clocks disabled 2 6 → ⊥
-disabled-in-clocks h = never disabled-row.2 (h 3 (omega arith) (omega arith))
+disabled-in-clocks h = never disabled-row.2 (h.unbroken 3 (omega arith) (omega arith))
 
 -- `set pins, 1 [2]`, `set pins, 0`; the machine is restarted in clock 0, enabled in clock 1, as it was before, and disabled in clock
 -- 4, and another one in clock 2
@@ -180,7 +189,8 @@ high_until_3 = record { after = omega arith; first = high_before_3; edge = undis
 
 -- so a span in clocks is spoken of
 undisturbed-spoken : IsSpokenOf Clocks undisturbed 0 4
-undisturbed-spoken = three_clocks (λ c. (undisturbed c).breaks ≡ false) undisturbed-row.4 undisturbed-row.5 undisturbed-row.6
+unfolding undisturbed
+undisturbed-spoken = (plain_spoken _ _ _ _ _ Clocks 0 4 (plain refl refl)).1 (three_clocks (λ c. (undisturbed c).breaks ≡ false) undisturbed-row.4 undisturbed-row.5 undisturbed-row.6)
 
 -- with at least 4, or at most 2, it doesn't hold
 undisturbed-early : HoldsFrom Clocks 4 (Some 4) undisturbed 4 0 → ⊥
@@ -191,7 +201,13 @@ undisturbed-late h = omega (arith, h.most 3 high_until_3 (omega arith) undisturb
 
 -- nor up to clock 3, where no to-edge came, with at most 1
 undisturbed-unclosed : HoldsFrom Clocks 0 (Some 1) undisturbed 3 0 → ⊥
-undisturbed-unclosed h = omega (arith, h.unclosed high_before_3 (λ c after before. undisturbed-spoken c after (omega (arith, before))))
+undisturbed-unclosed h = omega (
+  arith,
+  h.unclosed high_before_3 (record {
+    free = λ c after before. undisturbed-spoken.free c after (omega (arith, before));
+    unbroken = λ c after before. undisturbed-spoken.unbroken c after (omega (arith, before));
+  }),
+)
 
 -- `set pins, 1`, `out pins, 1` with autopull, which waits for one tick: its late tick, in clock 2, is that of the to-edge
 late_fall : ℕ → Mark
@@ -208,7 +224,8 @@ one_clock (suc (suc c)) after before = absurd (omega (arith, before))
 
 -- a late tick in the clock of the to-edge is one too many
 late_fall-breaks : HoldsFrom Ticks 0 (Some 9) late_fall 3 0 → ⊥
-late_fall-breaks h = never late_fall-row.4 (h.strays refl 2 (omega arith) (omega arith) one_clock tt)
+unfolding late_fall
+late_fall-breaks h = never late_fall-row.4 (h.strays refl 2 (omega arith) (omega arith) one_clock ((plain_spoken _ _ _ _ _ Ticks 0 3 (plain refl refl)).1 tt))
 
 -- `out pins, 1` with autopull, which waits for two ticks, and `set pins, 0`: its last late tick, in clock 2, is that of the from-edge
 late_rise : ℕ → Mark
@@ -245,3 +262,74 @@ endless = marks_in (span_of true false 0 100 (omega arith) (omega arith) []) (bl
 endless-row : ((endless 0).from ≡ true) × ((endless 9).to ≡ false) × (counted endless 0 10 ≡ 9)
 unfolding endless mark_of counted hosted_at hosted_next next stepped acted settled_slot is_tick settled merged reading_of act_of push_or_pull_at delay_of side_of set_at mov_at effect_of jmp_effect out_effect pull_effect set_effect mov_effect settled_ports tick_of tick_delay tick_word tick_by after_effect due_in transfers_after requests_of
 endless-row = (refl, refl, refl)
+
+-- the PULL that waits, of a span that speaks of no from-edge after which its machine waits, with a divider of 2: ticks come in the
+-- even clocks
+slow : Setup
+slow = block_of (record plain_machine { side_rule = side_one; side = pin_0; int = 2; wrap_top = 1; wrap_top_in_memory = omega arith; divides = refl }) refl (37024 ∷ 41026 ∷ []) 0
+
+prompted : ℕ → Mark
+prompted = marks_in (prompt_of []) slow (record { clock = 3; act = Tx 0 7 } ∷ [])
+
+-- it begins in clock 0, and waits from clock 1 on, in which it has no tick; its late ticks come in the clocks 2 and 4
+prompted-row : ((prompted 0).from ≡ true) × ((prompted 0).excused ≡ false) × ((prompted 1).excused ≡ true) × ((prompted 1).counts ≡ false) × ((prompted 4).excused ≡ true) × ((prompted 5).excused ≡ false) × ((prompted 6).to ≡ true) × ((prompted 6).excused ≡ false)
+unfolding slow prompted mark_of counted hosted_at hosted_next next stepped acted settled_slot is_tick settled merged reading_of act_of push_or_pull_at delay_of side_of set_at mov_at effect_of jmp_effect out_effect pull_effect set_effect mov_effect settled_ports tick_of tick_delay tick_word tick_by after_effect due_in transfers_after requests_of
+prompted-row = (refl, refl, refl, refl, refl, refl, refl, refl)
+
+-- so in both units nothing is said of its high time
+prompted-unspoken : IsSpokenOf Clocks prompted 0 7 → ⊥
+prompted-unspoken h = never prompted-row.2 (h.free 1 (omega arith) (omega arith))
+
+-- where the address is named it isn't excused
+prompted_named : ℕ → Mark
+prompted_named = marks_in (prompt_of (0 ∷ [])) waiting []
+
+prompted_named-row : ((prompted_named 0).excused ≡ false) × ((prompted_named 1).excused ≡ false)
+unfolding waiting prompted_named mark_of counted hosted_at hosted_next next stepped acted settled_slot is_tick settled merged reading_of act_of push_or_pull_at delay_of side_of set_at mov_at effect_of jmp_effect out_effect pull_effect set_effect mov_effect settled_ports tick_of tick_delay tick_word tick_by after_effect due_in transfers_after requests_of
+prompted_named-row = (refl, refl)
+
+-- ways through the PULL are left out: it comes to it in clock 0, and then waits at it
+left_out_while_it_waits : ℕ → Mark
+left_out_while_it_waits = marks_in (without_of (0 ∷ [])) waiting []
+
+left_out_while_it_waits-row : ((left_out_while_it_waits 0).excused ≡ true) × ((left_out_while_it_waits 1).excused ≡ false)
+unfolding waiting left_out_while_it_waits mark_of counted hosted_at hosted_next next stepped acted settled_slot is_tick settled merged reading_of act_of push_or_pull_at delay_of side_of set_at mov_at effect_of jmp_effect out_effect pull_effect set_effect mov_effect settled_ports tick_of tick_delay tick_word tick_by after_effect due_in transfers_after requests_of
+left_out_while_it_waits-row = (refl, refl)
+
+-- `set pins, 1 [2]`, `set pins, 0`, of which the second is left out: it comes to it in clock 3, after the delay
+left_out : ℕ → Mark
+left_out = marks_in (without_of (1 ∷ [])) (block_of (record plain_machine { wrap_top = 1; wrap_top_in_memory = omega arith }) refl (57857 ∷ 57344 ∷ []) 0) []
+
+left_out-row : ((left_out 0).excused ≡ false) × ((left_out 1).excused ≡ false) × ((left_out 2).excused ≡ false) × ((left_out 3).excused ≡ true) × ((left_out 3).to ≡ true) × ((left_out 4).excused ≡ false)
+unfolding left_out mark_of counted hosted_at hosted_next next stepped acted settled_slot is_tick settled merged reading_of act_of push_or_pull_at delay_of side_of set_at mov_at effect_of jmp_effect out_effect pull_effect set_effect mov_effect settled_ports tick_of tick_delay tick_word tick_by after_effect due_in transfers_after requests_of
+left_out-row = (refl, refl, refl, refl, refl, refl)
+
+-- the same of one that is disabled in clock 3, and so never has this tick
+left_out_disabled : ℕ → Mark
+left_out_disabled = marks_in (without_of (1 ∷ [])) (block_of (record plain_machine { wrap_top = 1; wrap_top_in_memory = omega arith }) refl (57857 ∷ 57344 ∷ []) 0) (record { clock = 3; act = Disable 0 } ∷ [])
+
+left_out_disabled-row : ((left_out_disabled 3).excused ≡ true) × ((left_out_disabled 3).counts ≡ false) × ((left_out_disabled 5).excused ≡ true)
+unfolding left_out_disabled mark_of counted hosted_at hosted_next next stepped acted settled_slot is_tick settled merged reading_of act_of push_or_pull_at delay_of side_of set_at mov_at effect_of jmp_effect out_effect pull_effect set_effect mov_effect settled_ports tick_of tick_delay tick_word tick_by after_effect due_in transfers_after requests_of
+left_out_disabled-row = (refl, refl, refl)
+
+-- `set pindirs, 0`, `set pindirs, 1` with pin 0 out and high: it becomes in in clock 0, and out in clock 1, and its level stays
+turning : Setup
+turning = block_of (record plain_machine { wrap_top = 1; wrap_top_in_memory = omega arith }) refl (57472 ∷ 57473 ∷ []) 1
+
+turns : ℕ → Mark
+turns = marks_in (turn_of false true) turning []
+
+level_of_turns : ℕ → Mark
+level_of_turns = marks_in (span_of false true 0 9 (omega arith) (omega arith) []) turning []
+
+turns-row : ((turns 0).from ≡ true) × ((turns 0).to ≡ false) × ((turns 1).from ≡ false) × ((turns 1).to ≡ true) × ((level_of_turns 0).from ≡ false) × ((level_of_turns 1).to ≡ false)
+unfolding turning turns level_of_turns mark_of counted hosted_at hosted_next next stepped acted settled_slot is_tick settled merged reading_of act_of push_or_pull_at delay_of side_of set_at mov_at effect_of jmp_effect out_effect pull_effect set_effect mov_effect settled_ports tick_of tick_delay tick_word tick_by after_effect due_in transfers_after requests_of
+turns-row = (refl, refl, refl, refl, refl, refl)
+
+-- of `set pins, 1`, `set pins, 0` the direction stays
+turns_of_levels : ℕ → Mark
+turns_of_levels = marks_in (turn_of true false) fast []
+
+turns_of_levels-row : ((turns_of_levels 0).from ≡ false) × ((turns_of_levels 1).to ≡ false)
+unfolding fast turns_of_levels mark_of counted hosted_at hosted_next next stepped acted settled_slot is_tick settled merged reading_of act_of push_or_pull_at delay_of side_of set_at mov_at effect_of jmp_effect out_effect pull_effect set_effect mov_effect settled_ports tick_of tick_delay tick_word tick_by after_effect due_in transfers_after requests_of
+turns_of_levels-row = (refl, refl)

@@ -5,6 +5,7 @@ use Rattle.pin_matrix.specs.declared.mapping.Mapping.{Mapping}
 use Rattle.pin_matrix.specs.declared.machine.MachineSetup.{MachineSetup}
 use Rattle.pin_matrix.specs.declared.setup.Setup.{Setup}
 use Rattle.pin_matrix.specs.Setups.{ids_are_places}
+use Rattle.pin_matrix.specs.declared.span.PinSignal.TheVariants.{Level, Direction}
 use Rattle.pin_matrix.specs.declared.span.Span.{Span}
 use Rattle.pin_matrix.specs.declared.span.SpanUnit.TheVariants.{Ticks}
 use Rattle.pin_matrix.proofs.Greatest.{of_some, of_none}
@@ -100,13 +101,17 @@ span_of from_rise to_rise min max ordered bounded stalls = record {
   name = 97 ∷ [];
   machine = 0;
   from_pin = 0;
+  from_signal = Level;
   from_rise = from_rise;
   to_pin = 0;
+  to_signal = Level;
   to_rise = to_rise;
   unit = Ticks;
   min = min;
   max = Some max;
   stalls = stalls;
+  prompt = false;
+  without = [];
   named = refl;
   machine_in_block = omega arith;
   from_pin_is_a_pin = omega arith;
@@ -123,13 +128,17 @@ span_from from_rise to_rise min fits stalls = record {
   name = 97 ∷ [];
   machine = 0;
   from_pin = 0;
+  from_signal = Level;
   from_rise = from_rise;
   to_pin = 0;
+  to_signal = Level;
   to_rise = to_rise;
   unit = Ticks;
   min = min;
   max = None;
   stalls = stalls;
+  prompt = false;
+  without = [];
   named = refl;
   machine_in_block = omega arith;
   from_pin_is_a_pin = omega arith;
@@ -139,3 +148,15 @@ span_from from_rise to_rise min fits stalls = record {
   bounded = of_none (λ m. m < 2 ^ 24);
   stalls_in_ticks = refl;
 }
+
+-- one between edges of the pin's direction
+abbrev pub turn_of : (from_out to_out : Bool) → Span
+turn_of from_out to_out = record (span_of from_out to_out 0 9 (omega arith) (omega arith) []) { from_signal = Direction; to_signal = Direction }
+
+-- one that speaks of nothing after which its machine waits, but at these addresses
+abbrev pub prompt_of : (stalls : List ℕ) → Span
+prompt_of stalls = record (span_of true false 1 1 (omega arith) (omega arith) stalls) { prompt = true }
+
+-- one that leaves out ways through these addresses
+abbrev pub without_of : (without : List ℕ) → Span
+without_of without = record (span_of true false 0 9 (omega arith) (omega arith) []) { without = without }

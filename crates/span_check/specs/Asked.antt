@@ -1,7 +1,9 @@
 -- What a span asks, with a greatest bound and without one.
 --   HoldsBetween     with both bounds, each part is asked
 --   IsNeverEarly     with a least bound alone, no to-edge comes too early
-use Rattle.std.specs.Prelude.{◌≡◌, ℕ, suc, ◌<◌, ◌≤◌, true, false}
+--   IsPlain          a span that excuses no from-edge
+use Rattle.std.specs.Prelude.{◌≡◌, ℕ, suc, ◌<◌, ◌≤◌, true, false, []}
+use Rattle.pin_matrix.specs.declared.span.Span.{Span}
 use Rattle.pin_matrix.specs.declared.span.SpanUnit.{SpanUnit}
 use Rattle.span_check.specs.Marks.{Mark}
 use Rattle.span_check.specs.Holding.{measured, IsQuiet, IsFirstToEdge, IsSpokenOf}
@@ -24,3 +26,8 @@ abbrev pub IsNeverEarly : SpanUnit → (min : ℕ) → (ℕ → Mark) → (n : �
 IsNeverEarly unit min m n =
     (s : ℕ) → s < n → (m s).from ≡ true
     → (e : ℕ) → IsFirstToEdge m s e → e < n → IsSpokenOf unit m s (suc e) → min ≤ measured unit m s (suc e)
+
+-- a span that speaks of from-edges after which its machine waits, and leaves out no way
+pub record IsPlain (sp : Span) : Type 0 where
+  pub waits : sp.prompt ≡ false
+  pub leaves : sp.without ≡ []

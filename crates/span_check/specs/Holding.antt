@@ -3,7 +3,7 @@
 --   measured         what a span counts
 --   IsQuiet          no to-edge comes between two clocks
 --   IsFirstToEdge    the first to-edge comes
---   IsSpokenOf       what a span in clocks says nothing of
+--   IsSpokenOf       what a span speaks of
 --   IsUpTo           a number is no more than a greatest bound
 --   HoldsFrom        what is asked from one from-edge on
 --   Holds            from each
@@ -36,10 +36,19 @@ pub record IsFirstToEdge (m : ℕ → Mark) (s e : ℕ) : Type 0 where
 abbrev pub IsUnbroken : (ℕ → Mark) → (s end : ℕ) → Type 0
 IsUnbroken m s end = (c : ℕ) → s < c → c < end → (m c).breaks ≡ false
 
--- A span in clocks says nothing of a from-edge after which such a line comes; a span in ticks speaks of each.
-abbrev pub IsSpokenOf : SpanUnit → (ℕ → Mark) → (s end : ℕ) → Type 0
-IsSpokenOf Ticks m s end = Unit {0}
-IsSpokenOf Clocks m s end = IsUnbroken m s end
+-- A span in clocks says nothing of a from-edge after which such a line comes; a span in ticks does.
+abbrev pub IsUnbrokenIn : SpanUnit → (ℕ → Mark) → (s end : ℕ) → Type 0
+IsUnbrokenIn Ticks m s end = Unit {0}
+IsUnbrokenIn Clocks m s end = IsUnbroken m s end
+
+-- at the start of no clock after clock s and before clock `end` the machine stands so that earlier from-edges are excused
+abbrev pub IsUnexcused : (ℕ → Mark) → (s end : ℕ) → Type 0
+IsUnexcused m s end = (c : ℕ) → s < c → c < end → (m c).excused ≡ false
+
+-- What a span speaks of: a from-edge which the machine doesn't excuse; in clocks one of those after which no such line comes.
+pub record IsSpokenOf (unit : SpanUnit) (m : ℕ → Mark) (s end : ℕ) : Type 0 where
+  pub free : IsUnexcused m s end
+  pub unbroken : IsUnbrokenIn unit m s end
 
 -- a number is no more than the greatest bound, if there is one
 abbrev pub IsUpTo : Option ℕ → ℕ → Type 0

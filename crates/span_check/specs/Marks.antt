@@ -1,10 +1,12 @@
--- What a span looks at in one clock of a run: edges, as a logic analyser at the block's outputs would see them, and the ticks of its
--- machine.
+-- What a span looks at in one clock of a run: edges, as a logic analyser at the block's outputs would see them, the ticks of its
+-- machine, and how it stands.
 --   Mark             what it looks at
 --   counts, strays   which ticks count, and which must not come while the span is open
+--   excused_at       a machine stands so that the span doesn't speak of the from-edges before
 --   mark_of          the mark of a clock
 use Rattle.std.specs.Prelude.{ℕ, ◌==◌, Bool, true, false, not, ◌||◌, Option, Some, None, List, slice_index_or}
 use Rattle.std.specs.List.{list_any}
+use Rattle.pin_matrix.specs.declared.span.PinSignal.{PinSignal}
 use Rattle.pin_matrix.specs.declared.span.Span.{Span}
 use Rattle.sm_registers.specs.declared.intent.Kind.{Kind}
 use Rattle.sm_registers.specs.declared.intent.Kind.TheVariants.{Off, First, Late, Delay}
@@ -13,15 +15,19 @@ use Rattle.block_core.specs.Slots.{Slot}
 use Rattle.block_core.specs.Block.{BlockState}
 use Rattle.block_core.specs.Edges.{has_edge}
 use Rattle.block_core.specs.Following.{place_at, intent_in}
+use Rattle.span_step.specs.Contexts.{signal_bits}
+use Rattle.span_ticks.specs.UnderWay.{flow_of, is_excused_in}
 
 -- What a span looks at in a clock: whether its from-edge and its to-edge come, whether the machine has a tick that counts,
--- whether it has a late tick at an address that the span doesn't name, and whether a line disables or restarts it.
+-- whether it has a late tick at an address that the span doesn't name, whether a line disables or restarts it, and whether it
+-- stands so at the clock's start that the from-edges before are excused.
 pub record Mark : Type 0 where
   pub from : Bool
   pub to : Bool
   pub counts : Bool
   pub strays : Bool
   pub breaks : Bool
+  pub excused : Bool
 
 -- a tick that counts is any but a late one at an address that the span names
 abbrev pub counts : Kind → (named : Bool) → Bool
@@ -46,6 +52,17 @@ abbrev pub pc_at : Option Slot → ℕ
 pc_at None = 0
 pc_at (Some m) = m.machine.registers.pc
 
+-- The machine at a place waits at the start of a clock, or comes to an instruction next, so that the span doesn't speak of the
+-- from-edges before. Its state there says so and not its tick, of which a clock may have none.
+abbrev pub excused_at : Span → Option Slot → Bool
+excused_at sp None = false
+excused_at sp (Some m) = is_excused_in sp (flow_of m.machine.registers)
+
+-- an edge of a pin between two states: of its level, or of its direction
+abbrev pub has_signal_edge : PinSignal → (pin : ℕ) → (rise : Bool) → (before after : BlockState) → Bool
+has_signal_edge signal pin rise before after =
+    has_edge pin rise (signal_bits signal before.levels before.directions) (signal_bits signal after.levels after.directions)
+
 -- a line of the clock disables the machine with this number, or restarts its divider
 abbrev pub is_broken : Due → ℕ → Bool
 is_broken d id = slice_index_or d.disable id false || slice_index_or d.restart id false
@@ -56,9 +73,10 @@ mark_of sp memory seen d before after =
     let tick = (intent_in memory seen d before sp.machine).kind in
     let named = names sp (pc_at (place_at before sp.machine)) in
     record {
-      from = has_edge sp.from_pin sp.from_rise before.levels after.levels;
-      to = has_edge sp.to_pin sp.to_rise before.levels after.levels;
+      from = has_signal_edge sp.from_signal sp.from_pin sp.from_rise before after;
+      to = has_signal_edge sp.to_signal sp.to_pin sp.to_rise before after;
       counts = counts tick named;
       strays = strays tick named;
       breaks = is_broken d sp.machine;
+      excused = excused_at sp (place_at before sp.machine);
     }

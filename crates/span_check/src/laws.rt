@@ -1,16 +1,18 @@
 //! Laws of the timing checker, each on a function that does nothing.
-ghost use Rattle.std.specs.Prelude.{◌≡◌, ◌↔◌, ℕ, IsSome, List, None, Some, slice_index_or};
+ghost use Rattle.std.specs.Prelude.{◌≡◌, ◌↔◌, ℕ, IsSome, List, None, Some, false, slice_index_or};
 ghost use Rattle.pin_matrix.specs.declared.setup.Setup.{Setup};
 ghost use Rattle.pin_matrix.specs.declared.span.Span.{Span};
 ghost use Rattle.pin_matrix.specs.declared.span.SpanUnit.{SpanUnit};
+ghost use Rattle.dreq_pacing.specs.declared.due.Due.{Due};
 ghost use Rattle.dreq_pacing.specs.declared.line.Line.{Line};
+ghost use Rattle.block_core.specs.Block.{BlockState};
 ghost use Rattle.span_bounds.specs.Tables.{IsProvable};
 ghost use Rattle.span_verdict.specs.Sharing.{IsUnshared};
-ghost use Rattle.span_check.specs.Asked.{HoldsBetween, IsNeverEarly};
-ghost use Rattle.span_check.specs.Holding.{Holds};
+ghost use Rattle.span_check.specs.Asked.{HoldsBetween, IsNeverEarly, IsPlain};
+ghost use Rattle.span_check.specs.Holding.{Holds, IsSpokenOf, IsUnbrokenIn};
 ghost use Rattle.span_check.specs.Marks.{Mark};
 ghost use Rattle.span_check.specs.Proved.{HoldsInEveryRun};
-ghost use Rattle.span_check.specs.Runs.{has_breaking, marks_in};
+ghost use Rattle.span_check.specs.Runs.{has_breaking, marks_in, marks_over};
 
 use block_core::{
     a_pin_of_one_machine, a_stimulus_is_a_system, clocks_are_counted, each_place_goes_its_own_way,
@@ -51,7 +53,7 @@ pub fn only_a_disable_or_a_restart_breaks_a_span()
 
 /// What a span asks. With a greatest bound it asks all that both bounds ask (`bounded`); without one it asks of a first to-edge alone
 /// that it doesn't come too early (`unbounded`), however long it takes and wherever the machine waits. So with a greatest bound it
-/// asks more (`more`).
+/// asks more (`more`). All is asked of the from-edges of which it speaks.
 pub fn what_a_span_asks()
     ensures bounded { (unit : SpanUnit) (min max : ℕ) (m : ℕ → Mark) (n : ℕ)
         → Holds unit min (Some max) m n ↔ HoldsBetween unit min max m n }
@@ -59,4 +61,15 @@ pub fn what_a_span_asks()
         → Holds unit min None m n ↔ IsNeverEarly unit min m n }
     ensures more { (unit : SpanUnit) (min max : ℕ) (m : ℕ → Mark) (n : ℕ)
         → Holds unit min (Some max) m n → Holds unit min None m n }
+{}
+
+/// A span with neither `prompt` nor `without` excuses nothing (`excused`). So in ticks it speaks of each from-edge, and in clocks of
+/// each after which no line disables or restarts its machine (`spoken`).
+pub fn a_plain_span_excuses_nothing()
+    ensures excused { (sp : Span) (memory : List ℕ) (seen : ℕ → ℕ) (host : ℕ → Due) (states : ℕ → BlockState)
+        (clock : ℕ) → IsPlain sp → (marks_over sp memory seen host states clock).excused ≡ false }
+    ensures spoken { (sp : Span) (memory : List ℕ) (seen : ℕ → ℕ) (host : ℕ → Due) (states : ℕ → BlockState)
+        (unit : SpanUnit) (s end : ℕ) → IsPlain sp
+        → IsSpokenOf unit (marks_over sp memory seen host states) s end
+        ↔ IsUnbrokenIn unit (marks_over sp memory seen host states) s end }
 {}

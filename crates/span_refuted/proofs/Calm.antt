@@ -24,7 +24,7 @@ pub record IsCalm (c : Causes) : Type 0 where
 
 calm_tick : (r : Rules) (t : Tick) (w : Watch) → t.late ≡ false → IsCalm w.causes → IsCalm (watched r w t).causes
 unfolding watched
-calm_tick r t w l h = record { u3 = rw l (or_from _ _ h.u3 refl); u4 = or_from _ _ h.u4 refl }
+calm_tick r t w l h = record { u3 = rw l (or_from _ _ h.u3 refl); u4 = rw l (or_from _ _ h.u4 refl) }
 
 calm_delay : (r : Rules) (n : ℕ) (w : Watch) → IsCalm w.causes → IsCalm (followed r (delay_ticks n) w).causes
 calm_delay r zero w h = h
@@ -32,7 +32,7 @@ calm_delay r (suc n) w h = calm_delay r n _ (calm_tick r _ w refl h)
 
 calm_end : (s : MachineSetup) (sp : Span) (op : Op) (o : ContextOutcome) (k : Context) (a : Ages) → IsCalm (end s sp op o k a).causes
 unfolding prompt
-calm_end s sp op o k a = calm_delay (rules_of s sp k.address) op.delay _ (calm_tick (rules_of s sp k.address) _ (start k a) refl (record { u3 = refl; u4 = refl }))
+calm_end s sp op o k a = calm_delay (rules_of s sp k.address) op.delay _ (calm_tick (rules_of s sp k.address) _ (start false k a) refl (record { u3 = refl; u4 = refl }))
 
 some_of : (a b c d : Bool) (x : Cause) → c ≡ false → d ≡ false → first_cause (record { u1 = a; u2 = b; u3 = c; u4 = d }) ≡ Some x
     → (first_cause (record { u1 = a; u2 = b; u3 = c; u4 = d }) ≡ Some U1) ⊎ (first_cause (record { u1 = a; u2 = b; u3 = c; u4 = d }) ≡ Some U2)

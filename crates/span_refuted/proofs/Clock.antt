@@ -6,6 +6,8 @@ use Rattle.clock_divider.specs.Timing as timing
 use Rattle.clock_divider.specs.Ticks.{is_tick}
 use Rattle.pin_matrix.specs.Pins.{last_of}
 use Rattle.pin_matrix.specs.declared.machine.MachineSetup.{MachineSetup}
+use Rattle.pin_matrix.specs.declared.span.PinSignal.{PinSignal}
+use Rattle.pin_matrix.specs.declared.span.PinSignal.TheVariants.{Level}
 use Rattle.pin_matrix.specs.declared.span.Span.{Span}
 use Rattle.sm_registers.specs.declared.intent.Intent.{Intent}
 use Rattle.sm_registers.specs.Intents.{no_intent, two_writes}
@@ -21,13 +23,14 @@ use Rattle.span_step.specs.Courses.{Rules, is_edge, watched}
 use Rattle.span_ticks.specs.Following.{level_after}
 use Rattle.pin_matrix.specs.Pins.{is_high}
 use Rattle.block_core.specs.Edges.{changes}
-use Rattle.span_check.specs.Marks.{Mark, mark_of, counts, names, pc_at}
+use Rattle.span_check.specs.Marks.{Mark, mark_of, counts, names, pc_at, has_signal_edge}
 use Rattle.span_check.specs.Runs.{marks_over}
+use Rattle.span_refuted.specs.OneWay.{IsSimple}
 use Rattle.span_refuted.proofs.Single.{Watch, Tick}
 use Rattle.span_refuted.proofs.Joining.{IsClean, clean_joined}
 use Rattle.span_refuted.proofs.Registers.{IsRest, IsTick, no_levels}
 use Rattle.span_step.specs.Steps.{is_bounded}
-use Rattle.span_refuted.proofs.Exact.{AreExact, IsBrokenBy, IsRuled, exact_tick, exact_idle}
+use Rattle.span_refuted.proofs.Exact.{AreExact, IsFree, IsBrokenBy, IsRuled, exact_tick, exact_idle}
 
 -- what a law of span_ticks says
 abbrev pub AreLevels : Type 0
@@ -123,6 +126,10 @@ level_of : AreLevels → (p old new : ℕ) (before after : Bool) (wanted : Inten
 level_of levels p old new before after wanted i same e f g =
     sym g ∙ pin_level levels p old new (two_writes i.level) before (e ∙ ap (λ (x : Intent). last_of p old (two_writes x.level)) same) f
 
+-- an edge of a span of levels
+level_edge : (signal : PinSignal) (p : ℕ) (rise : Bool) (b a : BlockState) → signal ≡ Level → has_signal_edge signal p rise b a ≡ changes rise (is_high b.levels p) (is_high a.levels p)
+level_edge signal p rise b a e = ap (λ z. has_signal_edge z p rise b a) e
+
 edge_of : (rise before after old new : Bool) → before ≡ old → after ≡ new → changes rise old new ≡ is_edge rise before after
 edge_of rise before after old new e f = changes_edge rise old new ∙ rw (e, f) refl
 
@@ -139,10 +146,10 @@ own_id s m id e f = ap (λ (x : MachineSetup). x.id) e ∙ f
 
 -- a clock without a tick
 pub idle_clock : AreLevels → (sp : Span) (s : MachineSetup) (most : ℕ) (memory : List ℕ) (seen : ℕ → ℕ) (host : ℕ → Due) (states : ℕ → BlockState) (c : ℕ) (w : Watch) (address ticks : ℕ)
-    → IsAfter sp memory (seen c) (host c) (states c) (states (suc c)) → s.id ≡ sp.machine → is_tick 0 (timing.period_of s.int s.frac) c ≡ false
+    → IsSimple sp → IsAfter sp memory (seen c) (host c) (states c) (states (suc c)) → s.id ≡ sp.machine → is_tick 0 (timing.period_of s.int s.frac) c ≡ false
     → IsAt sp s most (marks_over sp memory seen host states) (states c) c w address ticks → IsAt sp s most (marks_over sp memory seen host states) (states (suc c)) (suc c) w address ticks
 unfolding mark_of
-idle_clock levels sp s most memory seen host states c w address ticks h id none g = record {
+idle_clock levels sp s most memory seen host states c w address ticks simple h id none g = record {
   m = k.after;
   slot = k.slot;
   setup = k.setup;
@@ -153,7 +160,7 @@ idle_clock levels sp s most memory seen host states c w address ticks h id none 
   to = to;
   exact = exact_idle (is_bounded sp) (marks_over sp memory seen host states) most c w.ages
       (ap (λ (i : Intent). counts i.kind (names sp (pc_at (place_at (states c) sp.machine)))) k.intent)
-      (edge_of sp.to_rise w.to w.to _ _ g.to to ∙ no_edge sp.to_rise w.to) g.exact;
+      (level_edge sp.to_signal sp.to_pin sp.to_rise (states c) (states (suc c)) simple.to ∙ edge_of sp.to_rise w.to w.to _ _ g.to to ∙ no_edge sp.to_rise w.to) g.exact;
 } where
   k : IsClock sp s memory (seen c) (host c) (states c) (states (suc c)) g.m (g.m.machine.registers, no_intent) c
   k = clocked sp s memory (seen c) (host c) (states c) (states (suc c)) g.m _ c h g.slot g.setup id g.enabled g.running
@@ -172,17 +179,17 @@ pub record IsTicked (sp : Span) (s : MachineSetup) (r : Rules) (marks : ℕ → 
 
 -- a clock with a tick
 pub tick_clock : AreLevels → (sp : Span) (s : MachineSetup) (r : Rules) (memory : List ℕ) (seen : ℕ → ℕ) (host : ℕ → Due) (states : ℕ → BlockState) (c : ℕ) (w : Watch) (t : Tick) (address ticks next left : ℕ)
-    → IsAfter sp memory (seen c) (host c) (states c) (states (suc c)) → s.id ≡ sp.machine → is_tick 0 (timing.period_of s.int s.frac) c ≡ true
+    → IsSimple sp → IsFree (marks_over sp memory seen host states) → IsAfter sp memory (seen c) (host c) (states c) (states (suc c)) → s.id ≡ sp.machine → is_tick 0 (timing.period_of s.int s.frac) c ≡ true
     → r.from_rise ≡ sp.from_rise → r.to_rise ≡ sp.to_rise → IsRuled (is_bounded sp) r → t.late ≡ false
     → ((v : View) (q : _) (x : Registers) → v.memory ≡ memory → IsRest x address ticks → IsTick sp t.from t.to next left (tick_of s v q x))
     → IsAt sp s r.max (marks_over sp memory seen host states) (states c) c w address ticks
     → IsBrokenBy (is_bounded sp) r.min r.max (marks_over sp memory seen host states) ⊎ IsTicked sp s r (marks_over sp memory seen host states) (states (suc c)) (suc c) w t next left
 unfolding mark_of watched
-tick_clock levels sp s r memory seen host states c w t address ticks next left h id some from_rise to_rise ruled prompt acts g =
-    elim (exact_tick (is_bounded sp) r (marks_over sp memory seen host states) c w.ages (is_edge r.to_rise w.to (unwrap_or t.to w.to)) (is_edge r.from_rise w.from (unwrap_or t.from w.from)) ruled
+tick_clock levels sp s r memory seen host states c w t address ticks next left simple free h id some from_rise to_rise ruled prompt acts g =
+    elim (exact_tick (is_bounded sp) r (marks_over sp memory seen host states) c w.ages (is_edge r.to_rise w.to (unwrap_or t.to w.to)) (is_edge r.from_rise w.from (unwrap_or t.from w.from)) ruled free
     (ap (λ (i : Intent). counts i.kind (names sp (pc_at (place_at (states c) sp.machine)))) k.intent ∙ tick.counting _)
-    (edge_of sp.to_rise w.to _ _ _ g.to to ∙ ap (λ z. is_edge z w.to (unwrap_or t.to w.to)) (sym to_rise))
-    (edge_of sp.from_rise w.from _ _ _ g.from from ∙ ap (λ z. is_edge z w.from (unwrap_or t.from w.from)) (sym from_rise))
+    (level_edge sp.to_signal sp.to_pin sp.to_rise (states c) (states (suc c)) simple.to ∙ edge_of sp.to_rise w.to _ _ _ g.to to ∙ ap (λ z. is_edge z w.to (unwrap_or t.to w.to)) (sym to_rise))
+    (level_edge sp.from_signal sp.from_pin sp.from_rise (states c) (states (suc c)) simple.from ∙ edge_of sp.from_rise w.from _ _ _ g.from from ∙ ap (λ z. is_edge z w.from (unwrap_or t.from w.from)) (sym from_rise))
     g.exact) [
       | inl broken ↦ inl broken
       | inr well ↦ inr (record {

@@ -7,7 +7,7 @@ use Rattle.span_step.specs.declared.ages.Ages.{Ages}
 use Rattle.span_step.specs.declared.ages.Ages.TheVariants.{Empty, Between}
 use Rattle.span_step.specs.Courses.{Rules, older, after_edges, is_above, is_below, tick_causes}
 use Rattle.span_check.specs.Marks.{Mark}
-use Rattle.span_check.specs.Holding.{counted, IsQuiet, Holds}
+use Rattle.span_check.specs.Holding.{counted, IsQuiet, IsSpokenOf, Holds}
 use Rattle.span_refuted.proofs.Joining.{IsClean}
 
 -- a from-edge is open since which so many ticks counted
@@ -24,6 +24,13 @@ abbrev pub AreExact : (bounded : Bool) → (ℕ → Mark) → (most c : ℕ) →
 AreExact bounded m most c Empty = Unit {0}
 AreExact true m most c (Between lo hi) = (lo ≤ hi) × ((hi ≤ most) × (IsSince m c lo × IsSince m c hi))
 AreExact false m most c (Between lo hi) = lo ≤ most → IsSince m c lo
+
+-- no clock excuses a from-edge, so that a span in ticks speaks of each
+abbrev pub IsFree : (ℕ → Mark) → Type 0
+IsFree m = (c : ℕ) → (m c).excused ≡ false
+
+spoken : (m : ℕ → Mark) (s end : ℕ) → IsFree m → IsSpokenOf Ticks m s end
+spoken m s end free = record { free = λ c after before. free c; unbroken = tt }
 
 -- the span doesn't hold up to some clock
 abbrev pub IsBrokenBy : (bounded : Bool) (min max : ℕ) → (ℕ → Mark) → Type 0
@@ -90,8 +97,8 @@ since_fresh m c e = record { start = c; before = omega arith; edge = e; quiet = 
   none d h k = omega arith
 
 -- a from-edge with more ticks than the most
-above_breaks : (min max : ℕ) (m : ℕ → Mark) (c n : ℕ) → (m c).counts ≡ true → IsSince m c n → max < n + 1 → IsBrokenBy true min max m
-above_breaks min max m c n e h more = (suc c, λ holds. on (m c).to refl holds) where
+above_breaks : (min max : ℕ) (m : ℕ → Mark) (c n : ℕ) → IsFree m → (m c).counts ≡ true → IsSince m c n → max < n + 1 → IsBrokenBy true min max m
+above_breaks min max m c n free e h more = (suc c, λ holds. on (m c).to refl holds) where
   most : counted m h.start (suc c) ≡ n + 1
   most = counted_more m h.start c h.before e ∙ ap (λ k. k + 1) h.count
 
@@ -99,16 +106,16 @@ above_breaks min max m c n e h more = (suc c, λ holds. on (m c).to refl holds) 
   starts = let b = h.before in omega arith
 
   on : (t : Bool) → (m c).to ≡ t → Holds Ticks min (Some max) m (suc c) → ⊥
-  on true f holds = over _ most ((holds h.start starts h.edge).most c (record { after = h.before; first = h.quiet; edge = f }) (omega arith) tt) where
+  on true f holds = over _ most ((holds h.start starts h.edge).most c (record { after = h.before; first = h.quiet; edge = f }) (omega arith) (spoken m h.start (suc c) free)) where
     over : (k : ℕ) → k ≡ n + 1 → k ≤ max → ⊥
     over k q l = omega arith
-  on false f holds = over _ most ((holds h.start starts h.edge).unclosed (quiet_on m h.start c h.quiet f) tt) where
+  on false f holds = over _ most ((holds h.start starts h.edge).unclosed (quiet_on m h.start c h.quiet f) (spoken m h.start (suc c) free)) where
     over : (k : ℕ) → k ≡ n + 1 → k ≤ max → ⊥
     over k q l = omega arith
 
 -- a to-edge after fewer than the least
-below_breaks : (bounded : Bool) (min max : ℕ) (m : ℕ → Mark) (c n : ℕ) → (m c).counts ≡ true → (m c).to ≡ true → IsSince m c n → n + 1 < min → IsBrokenBy bounded min max m
-below_breaks bounded min max m c n e f h less = (suc c, λ holds. under _ most ((holds h.start starts h.edge).least c (record { after = h.before; first = h.quiet; edge = f }) (omega arith) tt)) where
+below_breaks : (bounded : Bool) (min max : ℕ) (m : ℕ → Mark) (c n : ℕ) → IsFree m → (m c).counts ≡ true → (m c).to ≡ true → IsSince m c n → n + 1 < min → IsBrokenBy bounded min max m
+below_breaks bounded min max m c n free e f h less = (suc c, λ holds. under _ most ((holds h.start starts h.edge).least c (record { after = h.before; first = h.quiet; edge = f }) (omega arith) (spoken m h.start (suc c) free))) where
   most : counted m h.start (suc c) ≡ n + 1
   most = counted_more m h.start c h.before e ∙ ap (λ k. k + 1) h.count
 
@@ -137,10 +144,10 @@ pub record IsRuled (bounded : Bool) (r : Rules) : Type 0 where
   pub stops : bounded ≡ false → r.min ≤ r.max + 1
 
 -- a tick of a span with a greatest bound
-exact_between : (r : Rules) (m : ℕ → Mark) (c lo hi : ℕ) (closes opens : Bool) → (m c).counts ≡ true → (m c).to ≡ closes → (m c).from ≡ opens → AreExact true m r.max c (Between lo hi)
+exact_between : (r : Rules) (m : ℕ → Mark) (c lo hi : ℕ) (closes opens : Bool) → IsFree m → (m c).counts ≡ true → (m c).to ≡ closes → (m c).from ≡ opens → AreExact true m r.max c (Between lo hi)
     → IsBrokenBy true r.min r.max m ⊎ GoesWell true r m c (Between lo hi) closes opens
-exact_between r m c lo hi closes opens e f g h = elim (cases_lt r.max (hi + 1)) [
-  | inl above ↦ inl (above_breaks r.min r.max m c hi e h.1.1.1 above)
+exact_between r m c lo hi closes opens free e f g h = elim (cases_lt r.max (hi + 1)) [
+  | inl above ↦ inl (above_breaks r.min r.max m c hi free e h.1.1.1 above)
   | inr fine ↦ elim (too_early closes f) [
     | inl broken ↦ inl broken
     | inr early ↦ inr (record {
@@ -162,7 +169,7 @@ exact_between r m c lo hi closes opens e f g h = elim (cases_lt r.max (hi + 1)) 
 
   too_early : (z : Bool) → (m c).to ≡ z → IsBrokenBy true r.min r.max m ⊎ ((z && is_below r.min (older r.max (Between lo hi))) ≡ false)
   too_early true q = elim (cases_lt (lo + 1) r.min) [
-    | inl less ↦ inl (below_breaks true r.min r.max m c lo e q h.1.1.0 less)
+    | inl less ↦ inl (below_breaks true r.min r.max m c lo free e q h.1.1.0 less)
     | inr enough ↦ inr (lt_no _ r.min (uncapped r.max lo r.min (let a = h.0 in let b = h.1.0 in omega arith) enough))
   ]
   too_early false q = inr refl
@@ -174,9 +181,9 @@ exact_between r m c lo hi closes opens e f g h = elim (cases_lt r.max (hi + 1)) 
   left false false p q l = (let a = h.0 in omega arith, (l, (since_tick m c lo e p h.1.1.0, since_tick m c hi e p h.1.1.1)))
 
 -- a tick of a span without one
-exact_from : (r : Rules) (m : ℕ → Mark) (c lo hi : ℕ) (closes opens : Bool) → IsRuled false r → (m c).counts ≡ true → (m c).to ≡ closes → (m c).from ≡ opens → AreExact false m r.max c (Between lo hi)
+exact_from : (r : Rules) (m : ℕ → Mark) (c lo hi : ℕ) (closes opens : Bool) → IsRuled false r → IsFree m → (m c).counts ≡ true → (m c).to ≡ closes → (m c).from ≡ opens → AreExact false m r.max c (Between lo hi)
     → IsBrokenBy false r.min r.max m ⊎ GoesWell false r m c (Between lo hi) closes opens
-exact_from r m c lo hi closes opens ruled e f g h = elim (too_early closes f) [
+exact_from r m c lo hi closes opens ruled free e f g h = elim (too_early closes f) [
   | inl broken ↦ inl broken
   | inr early ↦ inr (record {
     exact = left closes opens f g;
@@ -197,7 +204,7 @@ exact_from r m c lo hi closes opens ruled e f g h = elim (too_early closes f) [
 
   too_early : (z : Bool) → (m c).to ≡ z → IsBrokenBy false r.min r.max m ⊎ ((z && is_below r.min (older r.max (Between lo hi))) ≡ false)
   too_early true q = elim (cases_lt (min lo r.max + 1) r.min) [
-    | inl less ↦ inl (below_breaks false r.min r.max m c lo e q (h (early_low r.max lo r.min (ruled.stops refl) less)) (early_count r.max lo r.min (ruled.stops refl) less))
+    | inl less ↦ inl (below_breaks false r.min r.max m c lo free e q (h (early_low r.max lo r.min (ruled.stops refl) less)) (early_count r.max lo r.min (ruled.stops refl) less))
     | inr enough ↦ inr (lt_no _ r.min enough)
   ]
   too_early false q = inr refl
@@ -208,9 +215,9 @@ exact_from r m c lo hi closes opens ruled e f g h = elim (too_early closes f) [
   left false true p q = λ l. since_fresh m c q
   left false false p q = λ l. subst (IsSince m (suc c)) (grown r.max lo l) (since_tick m c lo e p (h (below r.max lo l)))
 
-pub exact_tick : (bounded : Bool) (r : Rules) (m : ℕ → Mark) (c : ℕ) (a : Ages) (closes opens : Bool) → IsRuled bounded r → (m c).counts ≡ true → (m c).to ≡ closes → (m c).from ≡ opens
+pub exact_tick : (bounded : Bool) (r : Rules) (m : ℕ → Mark) (c : ℕ) (a : Ages) (closes opens : Bool) → IsRuled bounded r → IsFree m → (m c).counts ≡ true → (m c).to ≡ closes → (m c).from ≡ opens
     → AreExact bounded m r.max c a → IsBrokenBy bounded r.min r.max m ⊎ GoesWell bounded r m c a closes opens
-exact_tick bounded r m c Empty closes opens ruled e f g h = inr (record {
+exact_tick bounded r m c Empty closes opens ruled free e f g h = inr (record {
   exact = left closes opens g;
   clean = record { u1 = and_none r.bounded false refl; u2 = and_none closes false refl; u3 = refl; u4 = refl };
 }) where
@@ -219,5 +226,5 @@ exact_tick bounded r m c Empty closes opens ruled e f g h = inr (record {
   left true false q = tt
   left false true q = exact_fresh bounded m r.max c q
   left false false q = tt
-exact_tick true r m c (Between lo hi) closes opens ruled e f g h = exact_between r m c lo hi closes opens e f g h
-exact_tick false r m c (Between lo hi) closes opens ruled e f g h = exact_from r m c lo hi closes opens ruled e f g h
+exact_tick true r m c (Between lo hi) closes opens ruled free e f g h = exact_between r m c lo hi closes opens free e f g h
+exact_tick false r m c (Between lo hi) closes opens ruled free e f g h = exact_from r m c lo hi closes opens ruled free e f g h

@@ -53,6 +53,19 @@ clean_left a b h = record { u1 = or_left _ _ h.u1; u2 = or_left _ _ h.u2; u3 = o
 pub clean_right : (a b : Causes) → IsClean (joined a b) → IsClean b
 clean_right a b h = record { u1 = or_right _ _ h.u1; u2 = or_right _ _ h.u2; u3 = or_right _ _ h.u3; u4 = or_right _ _ h.u4 }
 
+-- the causes of a tick, which are none of its own where it is excused
+clean_kept : (excused : Bool) (a b : Causes) → IsClean (if excused then a else joined a b) → IsClean a
+clean_kept true a b h = h
+clean_kept false a b h = clean_left a b h
+
+clean_told : (excused : Bool) (a b : Causes) → excused ≡ false → IsClean (if excused then a else joined a b) → IsClean b
+clean_told true a b e h = cc
+clean_told false a b e h = clean_right a b h
+
+clean_more : (excused : Bool) (a b : Causes) → IsClean a → (excused ≡ false → IsClean b) → IsClean (if excused then a else joined a b)
+clean_more true a b h k = h
+clean_more false a b h k = clean_joined a b h (k refl)
+
 pair : (a b c d : ℕ) → a ≡ b → c ≡ d → Between a c ≡ Between b d
 pair a b c d e f = rw (e, f) refl
 
@@ -127,9 +140,12 @@ watched_joins r t a b c h = record {
   from_joined = rw h.from_joined refl;
   to_joined = rw h.to_joined refl;
   ages = rw (h.from_joined, h.to_joined, h.from, h.to, h.ages, aged_join r.max t.late a.ages b.ages)
-      (edges_join (is_edge r.to_rise a.to (unwrap_or t.to a.to)) (is_edge r.from_rise a.from (unwrap_or t.from a.from)) (aged r.max t.late a.ages) (aged r.max t.late b.ages));
-  clean = λ p q. clean_joined _ _ (h.clean (clean_left _ _ p) (clean_left _ _ q)) (told (clean_right _ _ p) (clean_right _ _ q));
+      (edges_join ((t.late && r.excuses) || is_edge r.to_rise a.to (unwrap_or t.to a.to)) (is_edge r.from_rise a.from (unwrap_or t.from a.from)) (aged r.max t.late a.ages) (aged r.max t.late b.ages));
+  clean = λ p q. clean_more excused _ _ (h.clean (clean_kept excused _ _ p) (clean_kept excused _ _ q)) (λ e. told (clean_told excused _ _ e p) (clean_told excused _ _ e q));
 } where
+  excused : Bool
+  excused = t.late && r.excuses
+
   closing : Watch → Bool
   closing w = is_edge r.to_rise w.to (unwrap_or t.to w.to)
 
@@ -142,7 +158,7 @@ pub followed_joins : (r : Rules) (ts : List Tick) (a b c : Watch) → Joins a b 
 followed_joins r [] a b c h = h
 followed_joins r (t ∷ ts) a b c h = followed_joins r ts _ _ _ (watched_joins r t a b c h)
 
-pub start_joins : (k : Context) (a b : Ages) → Joins (start k a) (start k b) (start k (join a b))
+pub start_joins : (k : Context) (a b : Ages) → Joins (start false k a) (start false k b) (start false k (join a b))
 start_joins k a b = record { from = refl; to = refl; from_joined = refl; to_joined = refl; ages = refl; clean = λ p q. p }
 
 -- no age is above this

@@ -19,7 +19,7 @@ use Rattle.span_step.specs.Courses.{over}
 use Rattle.span_step.specs.Steps.{address_after, next_address, side_of}
 use Rattle.span_ticks.specs.Following.{level_after}
 use Rattle.span_check.specs.Marks.{counts}
-use Rattle.span_refuted.specs.OneWay.{is_settled, instruction_at}
+use Rattle.span_refuted.specs.OneWay.{is_settled, instruction_at, IsSimple}
 use Rattle.span_refuted.proofs.Finished.{Explains, explained, level_none}
 
 -- at an instruction, or in the delay before it, with nothing pending
@@ -53,21 +53,21 @@ both_writes a (Some l) old = refl
 pub no_levels : (p : ℕ) (old : Bool) → level_after p ((0, 0) ∷ (0, 0) ∷ []) old ≡ old
 no_levels p old = rw (level_none p) refl
 
-side_from : (s : MachineSetup) (sp : Span) (side : Option ℕ) → level_at sp.from_pin (cond s.side_rule.pindirs (0, 0) (side_writes side false s)) ≡ (side_of s sp side).from
-side_from s sp side = on s.side_rule.pindirs refl side where
+side_from : (s : MachineSetup) (sp : Span) (side : Option ℕ) → IsSimple sp → level_at sp.from_pin (cond s.side_rule.pindirs (0, 0) (side_writes side false s)) ≡ (side_of s sp side).from
+side_from s sp side simple = on s.side_rule.pindirs refl side where
   on : (b : Bool) → s.side_rule.pindirs ≡ b → (side : Option ℕ) → level_at sp.from_pin (cond s.side_rule.pindirs (0, 0) (side_writes side false s)) ≡ (side_of s sp side).from
   on true e None = rw e (level_none sp.from_pin)
   on false e None = rw e (level_none sp.from_pin)
-  on true e (Some value) = rw e (level_none sp.from_pin)
-  on false e (Some value) = rw e refl
+  on true e (Some value) = rw (e, simple.from) (level_none sp.from_pin)
+  on false e (Some value) = rw (e, simple.from) refl
 
-side_to : (s : MachineSetup) (sp : Span) (side : Option ℕ) → level_at sp.to_pin (cond s.side_rule.pindirs (0, 0) (side_writes side false s)) ≡ (side_of s sp side).to
-side_to s sp side = on s.side_rule.pindirs refl side where
+side_to : (s : MachineSetup) (sp : Span) (side : Option ℕ) → IsSimple sp → level_at sp.to_pin (cond s.side_rule.pindirs (0, 0) (side_writes side false s)) ≡ (side_of s sp side).to
+side_to s sp side simple = on s.side_rule.pindirs refl side where
   on : (b : Bool) → s.side_rule.pindirs ≡ b → (side : Option ℕ) → level_at sp.to_pin (cond s.side_rule.pindirs (0, 0) (side_writes side false s)) ≡ (side_of s sp side).to
   on true e None = rw e (level_none sp.to_pin)
   on false e None = rw e (level_none sp.to_pin)
-  on true e (Some value) = rw e (level_none sp.to_pin)
-  on false e (Some value) = rw e refl
+  on true e (Some value) = rw (e, simple.to) (level_none sp.to_pin)
+  on false e (Some value) = rw (e, simple.to) refl
 
 -- the registers after an instruction that finished
 rest_after : (op : Op) (s : MachineSetup) (sp : Span) (r : Registers) (o : ContextOutcome) (e : Effect) → r.pending ≡ None → Explains sp o e
@@ -84,23 +84,23 @@ rest_after op s sp r o e none x = rw x.stalled (record {
   goes (Some address) = refl
 
 -- a tick of an instruction with one way
-tick_finished : (op : Op) (s : MachineSetup) (sp : Span) (q : Queues) (r : Registers) (o : ContextOutcome) (e : Effect) → r.pending ≡ None → r.begun ≡ false → Explains sp o e
+tick_finished : (op : Op) (s : MachineSetup) (sp : Span) (q : Queues) (r : Registers) (o : ContextOutcome) (e : Effect) → IsSimple sp → r.pending ≡ None → r.begun ≡ false → Explains sp o e
     → IsTick sp (over (side_of s sp op.side).from o.from) (over (side_of s sp op.side).to o.to) (address_after o.jump (next_address s r.pc)) op.delay (tick_by op s q r e)
 unfolding tick_by
-tick_finished op s sp q r o e none begun x = record {
+tick_finished op s sp q r o e simple none begun x = record {
   rest = rest_refilled s q _ _ _ (rest_after op s sp r o e none x);
   counting = λ named. rw begun refl;
-  from = λ old. rw begun (both_writes (level_at sp.from_pin e.level) (level_at sp.from_pin (cond s.side_rule.pindirs (0, 0) (side_writes op.side false s))) old ∙ same_over _ _ _ _ old (side_from s sp op.side) x.from);
-  to = λ old. rw begun (both_writes (level_at sp.to_pin e.level) (level_at sp.to_pin (cond s.side_rule.pindirs (0, 0) (side_writes op.side false s))) old ∙ same_over _ _ _ _ old (side_to s sp op.side) x.to);
+  from = λ old. rw begun (both_writes (level_at sp.from_pin e.level) (level_at sp.from_pin (cond s.side_rule.pindirs (0, 0) (side_writes op.side false s))) old ∙ same_over _ _ _ _ old (side_from s sp op.side simple) x.from);
+  to = λ old. rw begun (both_writes (level_at sp.to_pin e.level) (level_at sp.to_pin (cond s.side_rule.pindirs (0, 0) (side_writes op.side false s))) old ∙ same_over _ _ _ _ old (side_to s sp op.side simple) x.to);
 } where
   same_over : (a b c d : Option Bool) (old : Bool) → a ≡ b → c ≡ d → unwrap_or (over a c) old ≡ unwrap_or (over b d) old
   same_over a b c d old e f = rw (e, f) refl
 
-pub first_tick : (u : Setup) (s : MachineSetup) (sp : Span) (k : Context) (v : View) (q : Queues) (r : Registers) (pc : ℕ) (o : ContextOutcome) → v.memory ≡ u.memory → IsRest r pc 0
+pub first_tick : (u : Setup) (s : MachineSetup) (sp : Span) (k : Context) (v : View) (q : Queues) (r : Registers) (pc : ℕ) (o : ContextOutcome) → IsSimple sp → v.memory ≡ u.memory → IsRest r pc 0
     → is_settled (instruction_at u s pc).act ≡ true → may_stall (instruction_at u s pc).act s ≡ false → outcomes (instruction_at u s pc).act s sp k ≡ o ∷ []
     → IsTick sp (over (side_of s sp (instruction_at u s pc).side).from o.from) (over (side_of s sp (instruction_at u s pc).side).to o.to) (address_after o.jump (next_address s pc)) (instruction_at u s pc).delay (tick_of s v q r)
 unfolding tick_of tick_word
-first_tick u s sp k v q r pc o memory h settled quick only =
+first_tick u s sp k v q r pc o simple memory h settled quick only =
     subst (λ b. Ticks (cond b (tick_delay s q r) (tick_word (reading_of (current_word v r) s.side_rule) s v q r))) (sym test)
     (subst (λ op. Ticks (tick_word op s v q r)) (sym same) tick) where
       Ticks : Registers × Intent → Type 0
@@ -114,7 +114,7 @@ first_tick u s sp k v q r pc o memory h settled quick only =
 
       tick : Ticks (tick_word (instruction_at u s pc) s v q r)
       tick = subst (λ a. IsTick sp (over (side_of s sp (instruction_at u s pc).side).from o.from) (over (side_of s sp (instruction_at u s pc).side).to o.to) (address_after o.jump (next_address s a)) (instruction_at u s pc).delay (tick_word (instruction_at u s pc) s v q r)) h.pc
-          (tick_finished (instruction_at u s pc) s sp q r o (effect_of (instruction_at u s pc).act s v q r) h.pending h.begun (explained (instruction_at u s pc).act s sp k v q r o settled quick only))
+          (tick_finished (instruction_at u s pc) s sp q r o (effect_of (instruction_at u s pc).act s v q r) simple h.pending h.begun (explained (instruction_at u s pc).act s sp k v q r o simple settled quick only))
 
 less_one : (d : ℕ) → suc d - 1 ≡ d
 less_one d = omega arith

@@ -1,6 +1,7 @@
 -- The step of an instruction with one way has one next, at the end of its prompt course.
-use Rattle.std.proofs.Common.{◌≡◌, ℕ, Bool, true, false, not, ◌&&◌, ◌||◌, Some, None, List, [], ◌∷◌, is_some, slice_index_or, refl, ap}
+use Rattle.std.proofs.Common.{◌≡◌, ◌==◌, ℕ, Bool, true, false, not, ◌&&◌, ◌||◌, Some, None, List, [], ◌∷◌, is_some, slice_index_or, refl, ap}
 use Rattle.std.proofs.lemmas.Bool.{or_from}
+use Rattle.std.specs.List.{list_any}
 use Rattle.pio_encode.specs.declared.op.Op.{Op}
 use Rattle.pin_matrix.specs.declared.machine.MachineSetup.{MachineSetup}
 use Rattle.pin_matrix.specs.declared.setup.Setup.{Setup}
@@ -11,8 +12,8 @@ use Rattle.span_step.specs.declared.stepped.Stepped.{Stepped}
 use Rattle.span_step.specs.Contexts.{Context}
 use Rattle.span_step.specs.Outcomes.{ContextOutcome, outcomes, may_stall}
 use Rattle.span_step.specs.Courses.{prompt, courses, delay_tick, no_causes, joined, start, followed}
-use Rattle.span_step.specs.Steps.{address_after, next_address, side_of, rules_of, visit_of, with_end, with_outcome, is_lost, step_by, context_steps}
-use Rattle.span_refuted.specs.OneWay.{is_settled, has_one_way, instruction_at, goes_to}
+use Rattle.span_step.specs.Steps.{address_after, next_address, side_of, rules_of, is_left_out, visit_of, with_end, with_outcome, is_lost, step_by, context_steps}
+use Rattle.span_refuted.specs.OneWay.{is_settled, has_one_way, instruction_at, goes_to, IsSimple}
 use Rattle.span_refuted.proofs.Sole.{HasOutcome, settled_outcome, settled_tame}
 
 -- the types of a watch and of a tick, which their crate gives no name to others
@@ -23,7 +24,7 @@ abbrev pub TypeOf : {A : Type 0} → A → Type 0
 TypeOf {A} a = A
 
 abbrev pub Watch : Type 0
-Watch = ValueOf (λ (k : Context). start k Empty)
+Watch = ValueOf (λ (k : Context). start false k Empty)
 
 abbrev pub Tick : Type 0
 Tick = TypeOf delay_tick
@@ -47,12 +48,12 @@ course s sp op o = prompt (side_of s sp op.side) o op.delay
 
 -- what is known at its end
 abbrev pub end : MachineSetup → Span → Op → ContextOutcome → Context → Ages → Watch
-end s sp op o k a = followed (rules_of s sp k.address) (course s sp op o) (start k a)
+end s sp op o k a = followed (rules_of s sp k.address) (course s sp op o) (start false k a)
 
-step_ended : (s : MachineSetup) (sp : Span) (op : Op) (k : Context) (a : Ages) → s.pending ≡ None → is_settled op.act ≡ true → may_stall op.act s ≡ false
+step_ended : (s : MachineSetup) (sp : Span) (op : Op) (k : Context) (a : Ages) → is_left_out sp k.address ≡ false → s.pending ≡ None → is_settled op.act ≡ true → may_stall op.act s ≡ false
     → (h : HasOutcome op.act s sp k) → step_by s sp op k a ≡ ended (next_address s k.address) h.outcome (end s sp op h.outcome k a)
 unfolding step_by visit_of with_outcome with_end courses
-step_ended s sp op k a begins settled quick h = rw (goes_on, h.only, quick) refl where
+step_ended s sp op k a kept begins settled quick h = rw (goes_on, h.only, quick, kept) refl where
   goes_on : is_lost s op ≡ false
   goes_on = or_from _ _ (settled_tame op.act settled) (ap is_some begins)
 
@@ -74,17 +75,17 @@ pub record IsSingle (u : Setup) (sp : Span) (s : MachineSetup) (k : Context) : T
   pub goes : address_after outcome.jump (next_address s k.address) ≡ goes_to (instruction_at u s k.address).act (next_address s k.address)
   pub step : (a : Ages) → context_steps u sp k a ≡ ended (next_address s k.address) outcome (end s sp (instruction_at u s k.address) outcome k a)
 
-pub single : (u : Setup) (sp : Span) (s : MachineSetup) (k : Context) → slice_index_or u.machines sp.machine None ≡ Some s → s.pending ≡ None
+pub single : (u : Setup) (sp : Span) (s : MachineSetup) (k : Context) → IsSimple sp → slice_index_or u.machines sp.machine None ≡ Some s → s.pending ≡ None
     → has_one_way (instruction_at u s k.address).act s ≡ true → IsSingle u sp s k
 unfolding context_steps
-single u sp s k e begins h =
+single u sp s k simple e begins h =
     let t = two _ (may_stall (instruction_at u s k.address).act s) h in
-    let o = settled_outcome (instruction_at u s k.address).act s sp k t.0 in
+    let o = settled_outcome (instruction_at u s k.address).act s sp k simple t.0 in
     record {
       outcome = o.outcome;
       settled = t.0;
       quick = t.1;
       only = o.only;
       goes = o.goes (next_address s k.address);
-      step = λ a. rw e (step_ended s sp (instruction_at u s k.address) k a begins t.0 t.1 o);
+      step = λ a. rw e (step_ended s sp (instruction_at u s k.address) k a (ap (list_any (λ a. a == k.address)) simple.plain.leaves) begins t.0 t.1 o);
     }

@@ -67,7 +67,7 @@ one_way_at u s a b e h = rw e h
 
 small_end : (u : Setup) (sp : Span) (s : MachineSetup) (k : Context) (o : ContextOutcome) (a : Ages) → AreSmall ((bounds_of sp s).1 + 1) a → AreSmall ((bounds_of sp s).1 + 1) (landed u sp s k o a).ages
 unfolding rules_of
-small_end u sp s k o a h = followed_small (rules_of s sp k.address) (course s sp (instruction_at u s k.address) o) (start k a) h
+small_end u sp s k o a h = followed_small (rules_of s sp k.address) (course s sp (instruction_at u s k.address) o) (start false k a) h
 
 visit_after : (u : Setup) (sp : Span) (c : LeavesNoChoice u sp) (i : ℕ) → StaysPlaced → IsVisit u sp c.machine i → IsVisit u sp c.machine (suc i)
 unfolding reached
@@ -75,7 +75,7 @@ visit_after u sp c i stays h = record {
   placed = rw next placed;
   address = address;
   small = rw next (small_end u sp c.machine (visit u sp i).0 h.single.outcome (visit u sp i).1 h.small);
-  single = single u sp c.machine _ c.configured c.begins (one_way_at u c.machine _ _ address (c.one_way (suc i)));
+  single = single u sp c.machine _ c.simple c.configured c.begins (one_way_at u c.machine _ _ address (c.one_way (suc i)));
 } where
   next : visit u sp (suc i) ≡ ((landed u sp c.machine (visit u sp i).0 h.single.outcome (visit u sp i).1).context, (landed u sp c.machine (visit u sp i).0 h.single.outcome (visit u sp i).1).ages)
   next = next_visit u sp c.machine i h.single
@@ -92,7 +92,7 @@ first_visit u sp c = record {
   placed = rw c.configured (started_placed c.machine u sp);
   address = address;
   small = tt;
-  single = single u sp c.machine _ c.configured c.begins (one_way_at u c.machine _ _ address (c.one_way 0));
+  single = single u sp c.machine _ c.simple c.configured c.begins (one_way_at u c.machine _ _ address (c.one_way 0));
 } where
   address : (visit u sp 0).0.address ≡ reached u c.machine 0
   address = rw c.configured refl

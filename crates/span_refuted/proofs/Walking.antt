@@ -22,13 +22,13 @@ use Rattle.span_step.specs.Courses.{Rules, delay_tick, delay_ticks, prompt, over
 use Rattle.span_step.specs.Steps.{bounds_in, bounds_of, is_bounded, least_ticks, most_or, most_ticks, period_of, rules_of, next_address, side_of, address_after}
 use Rattle.span_check.specs.Marks.{Mark}
 use Rattle.span_check.specs.Runs.{marks_over}
-use Rattle.span_refuted.specs.OneWay.{instruction_at}
+use Rattle.span_refuted.specs.OneWay.{instruction_at, IsSimple}
 use Rattle.span_refuted.specs.Visits.{visit, cause_at, HasBadVisit}
 use Rattle.span_refuted.proofs.Single.{Watch, Tick, IsSingle, end, course}
 use Rattle.span_refuted.proofs.Joining.{IsClean, clean_joined, clean_none}
 use Rattle.span_refuted.proofs.Visiting.{next_visit}
 use Rattle.span_refuted.proofs.Registers.{IsRest, IsTick, first_tick, delay_tick as delay_acts}
-use Rattle.span_refuted.proofs.Exact.{IsBrokenBy, IsRuled}
+use Rattle.span_refuted.proofs.Exact.{IsFree, IsBrokenBy, IsRuled}
 use Rattle.span_refuted.proofs.Clocks.{IsTested, tick_comes}
 use Rattle.span_refuted.proofs.Clock.{AreLevels, IsAfter, IsAt, idle_clock, tick_clock}
 
@@ -59,7 +59,7 @@ long_period s = on (s.int == 0) refl where
   on true e = omega arith
   on false e = let some : 1 ≤ s.int = grind (arith, nat_tests) in omega arith
 
-module _ (levels : AreLevels) (tested : IsTested) (sp : Span) (s : MachineSetup) (memory : List ℕ) (seen : ℕ → ℕ) (host : ℕ → Due) (states : ℕ → BlockState) (run : IsRun sp s memory seen host states) where
+module _ (levels : AreLevels) (tested : IsTested) (sp : Span) (s : MachineSetup) (memory : List ℕ) (seen : ℕ → ℕ) (host : ℕ → Due) (states : ℕ → BlockState) (simple : IsSimple sp) (free : IsFree (marks_over sp memory seen host states)) (run : IsRun sp s memory seen host states) where
   wait : (most d c : ℕ) (w : Watch) (address ticks : ℕ) → is_tick 0 (timing.period_of s.int s.frac) (c + d) ≡ true → IsAt sp s most (marks_over sp memory seen host states) (states c) c w address ticks
       → IsDue sp s most (marks_over sp memory seen host states) states w address ticks
   wait most zero c w address ticks e g = record { clock = c; tick = subst (λ n. is_tick 0 (timing.period_of s.int s.frac) n ≡ true) (still c) e; at = g } where
@@ -67,7 +67,7 @@ module _ (levels : AreLevels) (tested : IsTested) (sp : Span) (s : MachineSetup)
     still n = omega arith
   wait most (suc d) c w address ticks e g =
       waited (is_tick 0 (timing.period_of s.int s.frac) c) refl (λ none. wait most d (suc c) w address ticks (subst (λ n. is_tick 0 (timing.period_of s.int s.frac) n ≡ true) (next c d) e)
-      (idle_clock levels sp s most memory seen host states c w address ticks (run.after c) run.id none g)) where
+      (idle_clock levels sp s most memory seen host states c w address ticks simple (run.after c) run.id none g)) where
         next : (n d : ℕ) → n + suc d ≡ suc n + d
         next n d = omega arith
 
@@ -84,7 +84,7 @@ module _ (levels : AreLevels) (tested : IsTested) (sp : Span) (s : MachineSetup)
   one_tick r w t address ticks next left from_rise to_rise ruled prompt acts p =
       let comes = tick_comes tested (timing.period_of s.int s.frac) p.there.clock (long_period s) in
       let due = wait r.max comes.0 p.there.clock w address ticks comes.1 p.there.at in
-      elim (tick_clock levels sp s r memory seen host states due.clock w t address ticks next left (run.after due.clock) run.id due.tick from_rise to_rise ruled prompt acts due.at) [
+      elim (tick_clock levels sp s r memory seen host states due.clock w t address ticks next left simple free (run.after due.clock) run.id due.tick from_rise to_rise ruled prompt acts due.at) [
         | inl broken ↦ inl broken
         | inr ticked ↦ inr (record { there = record { clock = suc due.clock; at = ticked.at }; clean = ticked.clean p.clean })
       ]
@@ -131,7 +131,7 @@ rewatched sp s most marks states w x address ticks e f g h = record {
 
 -- the machine comes to a visit
 abbrev pub IsAtVisit : Setup → Span → MachineSetup → (ℕ → Mark) → (ℕ → BlockState) → ℕ → Type 0
-IsAtVisit u sp s marks states i = IsReached sp s (bounds_of sp s).1 marks states (start (visit u sp i).0 (visit u sp i).1) (visit u sp i).0.address 0
+IsAtVisit u sp s marks states i = IsReached sp s (bounds_of sp s).1 marks states (start false (visit u sp i).0 (visit u sp i).1) (visit u sp i).0.address 0
 
 clean_start : IsClean no_causes
 clean_start = record { u1 = refl; u2 = refl; u3 = refl; u4 = refl }
@@ -155,31 +155,31 @@ unfolding rules_of bounds_of
 ruled_by sp s address = record { same = refl; stops = λ e. stops_in sp.unit sp (period_of s) e }
 
 -- a visit, in a run of its setup
-pub visit_passes : AreLevels → IsTested → (u : Setup) (sp : Span) (s : MachineSetup) (seen : ℕ → ℕ) (host : ℕ → Due) (states : ℕ → BlockState) (i : ℕ) → IsRun sp s u.memory seen host states → IsSingle u sp s (visit u sp i).0
+pub visit_passes : AreLevels → IsTested → (u : Setup) (sp : Span) (s : MachineSetup) (seen : ℕ → ℕ) (host : ℕ → Due) (states : ℕ → BlockState) (i : ℕ) → IsSimple sp → IsFree (marks_over sp u.memory seen host states) → IsRun sp s u.memory seen host states → IsSingle u sp s (visit u sp i).0
     → IsAtVisit u sp s (marks_over sp u.memory seen host states) states i
     → IsBrokenBy (is_bounded sp) (bounds_of sp s).0 (bounds_of sp s).1 (marks_over sp u.memory seen host states) ⊎ (IsAtVisit u sp s (marks_over sp u.memory seen host states) states (suc i) × (cause_at u sp i ≡ None))
 unfolding rules_of
-visit_passes levels tested u sp s seen host states i run h there =
-    elim (passes levels tested sp s u.memory seen host states run (rules_of s sp (visit u sp i).0.address) (instruction_at u s (visit u sp i).0.address) (start (visit u sp i).0 (visit u sp i).1) h.outcome
+visit_passes levels tested u sp s seen host states i simple free run h there =
+    elim (passes levels tested sp s u.memory seen host states simple free run (rules_of s sp (visit u sp i).0.address) (instruction_at u s (visit u sp i).0.address) (start false (visit u sp i).0 (visit u sp i).1) h.outcome
     (visit u sp i).0.address (address_after h.outcome.jump (next_address s (visit u sp i).0.address)) refl refl (ruled_by sp s (visit u sp i).0.address)
-    (λ v q x memory r. first_tick u s sp (visit u sp i).0 v q x (visit u sp i).0.address h.outcome memory r h.settled h.quick h.only)
+    (λ v q x memory r. first_tick u s sp (visit u sp i).0 v q x (visit u sp i).0.address h.outcome simple memory r h.settled h.quick h.only)
     (record { there = there; clean = clean_start })) [
       | inl broken ↦ inl broken
       | inr passed ↦ inr (
-        subst (λ v. IsReached sp s (bounds_of sp s).1 (marks_over sp u.memory seen host states) states (start v.0 v.1) v.0.address 0) (sym (next_visit u sp s i h))
+        subst (λ v. IsReached sp s (bounds_of sp s).1 (marks_over sp u.memory seen host states) states (start false v.0 v.1) v.0.address 0) (sym (next_visit u sp s i h))
             (rewatched sp s (bounds_of sp s).1 (marks_over sp u.memory seen host states) states _ _ _ 0 refl refl refl passed.there),
         clean_ended u sp s i h passed.clean,
       )
     ]
 
 -- so each visit is come to, or the span is broken
-walk : AreLevels → IsTested → (u : Setup) (sp : Span) (s : MachineSetup) (seen : ℕ → ℕ) (host : ℕ → Due) (states : ℕ → BlockState) → IsRun sp s u.memory seen host states → ((i : ℕ) → IsSingle u sp s (visit u sp i).0)
+walk : AreLevels → IsTested → (u : Setup) (sp : Span) (s : MachineSetup) (seen : ℕ → ℕ) (host : ℕ → Due) (states : ℕ → BlockState) → IsSimple sp → IsFree (marks_over sp u.memory seen host states) → IsRun sp s u.memory seen host states → ((i : ℕ) → IsSingle u sp s (visit u sp i).0)
     → IsAtVisit u sp s (marks_over sp u.memory seen host states) states 0 → (i : ℕ)
     → IsBrokenBy (is_bounded sp) (bounds_of sp s).0 (bounds_of sp s).1 (marks_over sp u.memory seen host states) ⊎ IsAtVisit u sp s (marks_over sp u.memory seen host states) states i
-walk levels tested u sp s seen host states run single begins zero = inr begins
-walk levels tested u sp s seen host states run single begins (suc i) = elim (walk levels tested u sp s seen host states run single begins i) [
+walk levels tested u sp s seen host states simple free run single begins zero = inr begins
+walk levels tested u sp s seen host states simple free run single begins (suc i) = elim (walk levels tested u sp s seen host states simple free run single begins i) [
   | inl broken ↦ inl broken
-  | inr there ↦ elim (visit_passes levels tested u sp s seen host states i run (single i) there) [ inl broken ↦ inl broken | inr passed ↦ inr passed.0 ]
+  | inr there ↦ elim (visit_passes levels tested u sp s seen host states i simple free run (single i) there) [ inl broken ↦ inl broken | inr passed ↦ inr passed.0 ]
 ]
 
 never_both : {P : Type 0} (c : Option Cause) (a b : Cause) → (c ≡ Some a) ⊎ (c ≡ Some b) → c ≡ None → P
@@ -187,12 +187,12 @@ never_both {P = P} c a b h e = elim h [ inl p ↦ none a (sym p ∙ e) | inr q �
   none : (x : Cause) → Some x ≡ None → P
   none x f = cc
 
-pub bad_visit_breaks : AreLevels → IsTested → (u : Setup) (sp : Span) (s : MachineSetup) (seen : ℕ → ℕ) (host : ℕ → Due) (states : ℕ → BlockState) → IsRun sp s u.memory seen host states → ((i : ℕ) → IsSingle u sp s (visit u sp i).0)
+pub bad_visit_breaks : AreLevels → IsTested → (u : Setup) (sp : Span) (s : MachineSetup) (seen : ℕ → ℕ) (host : ℕ → Due) (states : ℕ → BlockState) → IsSimple sp → IsFree (marks_over sp u.memory seen host states) → IsRun sp s u.memory seen host states → ((i : ℕ) → IsSingle u sp s (visit u sp i).0)
     → IsAtVisit u sp s (marks_over sp u.memory seen host states) states 0 → HasBadVisit u sp
     → IsBrokenBy (is_bounded sp) (bounds_of sp s).0 (bounds_of sp s).1 (marks_over sp u.memory seen host states)
-bad_visit_breaks levels tested u sp s seen host states run single begins b = elim (walk levels tested u sp s seen host states run single begins b.number) [
+bad_visit_breaks levels tested u sp s seen host states simple free run single begins b = elim (walk levels tested u sp s seen host states simple free run single begins b.number) [
   | inl broken ↦ broken
-  | inr there ↦ elim (visit_passes levels tested u sp s seen host states b.number run (single b.number) there) [
+  | inr there ↦ elim (visit_passes levels tested u sp s seen host states b.number simple free run (single b.number) there) [
     | inl broken ↦ broken
     | inr passed ↦ never_both (cause_at u sp b.number) U1 U2 b.first.cause passed.1
   ]

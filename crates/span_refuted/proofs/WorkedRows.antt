@@ -10,6 +10,7 @@ use Rattle.pin_matrix.specs.declared.mapping.Mapping.{Mapping}
 use Rattle.pin_matrix.specs.declared.machine.MachineSetup.{MachineSetup}
 use Rattle.pin_matrix.specs.declared.setup.Setup.{Setup}
 use Rattle.pin_matrix.proofs.Greatest.{of_some, of_none}
+use Rattle.pin_matrix.specs.declared.span.PinSignal.TheVariants.{Level}
 use Rattle.pin_matrix.specs.declared.span.Span.{Span}
 use Rattle.pin_matrix.specs.declared.span.SpanUnit.TheVariants.{Ticks}
 use Rattle.span_step.specs.declared.cause.Cause.TheVariants.{U1, U2}
@@ -93,13 +94,17 @@ high_time min max ordered bounded = record {
   name = 97 ∷ [];
   machine = 0;
   from_pin = 0;
+  from_signal = Level;
   from_rise = true;
   to_pin = 0;
+  to_signal = Level;
   to_rise = false;
   unit = Ticks;
   min = min;
   max = Some max;
   stalls = [];
+  prompt = false;
+  without = [];
   named = refl;
   machine_in_block = omega arith;
   from_pin_is_a_pin = omega arith;
@@ -116,13 +121,17 @@ high_time_from min fits = record {
   name = 97 ∷ [];
   machine = 0;
   from_pin = 0;
+  from_signal = Level;
   from_rise = true;
   to_pin = 0;
+  to_signal = Level;
   to_rise = false;
   unit = Ticks;
   min = min;
   max = None;
   stalls = [];
+  prompt = false;
+  without = [];
   named = refl;
   machine_in_block = omega arith;
   from_pin_is_a_pin = omega arith;
@@ -191,6 +200,7 @@ ways = (refl, refl)
 blink-choice-row : LeavesNoChoice blink (high_time 2 2 (omega arith) (omega arith))
 unfolding blink
 blink-choice-row = record {
+  simple = record { from = refl; to = refl; plain = record { waits = refl; leaves = refl } };
   machine = machine;
   configured = refl;
   begins = refl;

@@ -3,6 +3,7 @@
 --   has_one_way      that, and it never waits
 --   goes_to          the address after such an instruction
 --   reached          the addresses that a machine comes to
+--   IsSimple         a span of levels that excuses no from-edge
 --   LeavesNoChoice   each instruction that a span's machine comes to has one way
 use Rattle.std.specs.Prelude.{◌≡◌, ℕ, zero, suc, Bool, true, false, not, ◌&&◌, Some, None, slice_index, slice_index_or}
 use Rattle.pio_encode.specs.declared.act.Act.{Act}
@@ -17,9 +18,11 @@ use Rattle.pio_encode.specs.declared.op.Op.{Op}
 use Rattle.pio_encode.specs.Word.{reading_of}
 use Rattle.pin_matrix.specs.declared.machine.MachineSetup.{MachineSetup}
 use Rattle.pin_matrix.specs.declared.setup.Setup.{Setup}
+use Rattle.pin_matrix.specs.declared.span.PinSignal.TheVariants.{Level}
 use Rattle.pin_matrix.specs.declared.span.Span.{Span}
 use Rattle.span_step.specs.Outcomes.{may_stall}
 use Rattle.span_step.specs.Steps.{next_address}
+use Rattle.span_check.specs.Asked.{IsPlain}
 
 -- a JMP that is always taken
 abbrev pub is_always : Condition → Bool
@@ -81,9 +84,16 @@ reached u s zero = s.start
 reached u s (suc i) =
     goes_to (instruction_at u s (reached u s i)).act (next_address s (reached u s i))
 
--- The span's machine is configured and begins with no pending word, and each instruction that it comes to has one way: no JMP with a
--- condition, nothing that may stall, nothing that writes levels of pins from data, and no PC or EXEC from data.
+-- both edges of the span are of levels, and it has neither `prompt` nor `without`
+pub record IsSimple (sp : Span) : Type 0 where
+  pub from : sp.from_signal ≡ Level
+  pub to : sp.to_signal ≡ Level
+  pub plain : IsPlain sp
+
+-- The span is simple, its machine is configured and begins with no pending word, and each instruction that it comes to has one way:
+-- no JMP with a condition, nothing that may stall, nothing that writes levels of pins from data, and no PC or EXEC from data.
 pub record LeavesNoChoice (u : Setup) (sp : Span) : Type 0 where
+  pub simple : IsSimple sp
   pub machine : MachineSetup
   pub configured : slice_index_or u.machines sp.machine None ≡ Some machine
   pub begins : machine.pending ≡ None

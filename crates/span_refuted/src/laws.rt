@@ -19,7 +19,7 @@ use block_core::{
 };
 use clock_divider::tick_test;
 use span_bounds::{each_context_has_its_number, each_entry_is_that_of_a_row};
-use span_check::a_provable_span_holds_in_every_run;
+use span_check::{a_plain_span_excuses_nothing, a_provable_span_holds_in_every_run};
 use span_step::{a_step_is_monotone, next_contexts_are_in_range};
 use span_ticks::levels_are_last_writes;
 
@@ -42,7 +42,7 @@ pub fn an_unprovable_span_has_a_bad_visit()
     each_context_has_its_number();
 }
 
-/// Of a span in ticks of a machine without choice, whose pins no other machine may write, the checker is exact. Where it is
+/// Of a simple span in ticks of a machine without choice, whose pins no other machine may write, the checker is exact. Where it is
 /// unprovable there is a clock of the run without stimulus up to which it doesn't hold; so it is provable exactly where it holds
 /// up to each clock of this run; and the verdict that it is unproved says that it is broken.
 pub fn a_refused_span_is_broken()
@@ -54,6 +54,7 @@ pub fn a_refused_span_is_broken()
         → LeavesNoChoice u sp → IsVerdict u sp (Unproved k cause) → IsBroken u sp }
 {
     an_unprovable_span_has_a_bad_visit();
+    a_plain_span_excuses_nothing();
     a_provable_span_holds_in_every_run();
     next_contexts_are_in_range();
     levels_are_last_writes();
