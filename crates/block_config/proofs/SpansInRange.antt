@@ -1,5 +1,5 @@
 -- The spans of a configuration are in the ranges that their type keeps.
-use Rattle.std.proofs.Common.{◌≡◌, ℕ, ◌<◌, ◌≤◌, ◌^◌, ◌==◌, ◌||◌, cond, nat_le, nat_lt, Bool, true, false, Option, Some, None, is_some, Result, Ok, Err, List, [], length, slice_index, slice_index_or, refl, ap, ◌∙◌, subst, codes, arith}
+use Rattle.std.proofs.Common.{◌≡◌, ℕ, ◌<◌, ◌≤◌, ◌^◌, ◌==◌, ◌||◌, cond, nat_le, Bool, true, false, Option, Some, None, is_some, Result, Ok, Err, List, [], length, slice_index, slice_index_or, refl, ap, ◌∙◌, subst, codes, arith}
 use Rattle.std.specs.List.{AllByRecursion}
 use Rattle.std.specs.Option.{ForSome}
 use Rattle.pin_matrix.proofs.Greatest.{of_some, of_none}

@@ -1,6 +1,5 @@
 -- Worked rows: what spans measure, worked out by hand.
 use Rattle.std.proofs.Common.{◌≡◌, ℕ, true, false, List, [], ◌∷◌, map, refl}
-use Rattle.pin_matrix.specs.declared.span.PinSignal.{PinSignal}
 use Rattle.pin_matrix.specs.declared.span.PinSignal.TheVariants.{Level, Direction}
 use Rattle.block_core.specs.declared.sample.Sample.{Sample}
 use Rattle.span_meter.specs.declared.pins.ShownPins.{ShownPins}
