@@ -145,7 +145,7 @@ fn first_bad<L: Ledger>(
     None
 }
 
-/// The first cause for which a number's row is bad. A row that was never taken is bad by any ages.
+/// The first cause for which a number's row is bad. A row that was never taken has the cause of any ages above the bound.
 fn judged<L: Ledger>(
     setup: &Setup,
     span: &Span,

@@ -1,5 +1,5 @@
 -- Worked rows: what the definitions give for runs that were worked out by hand.
-use Rattle.std.proofs.Common.{◌≡◌, ℕ, zero, suc, ◌<◌, ◌≤◌, Bool, true, false, Some, None, IsSome, [], ◌∷◌, refl, subst, inl, inr, arith}
+use Rattle.std.proofs.Common.{◌≡◌, ℕ, zero, suc, ◌<◌, ◌≤◌, Bool, true, false, Option, Some, None, IsSome, [], ◌∷◌, refl, subst, inl, inr, arith}
 use Rattle.std.proofs.lemmas.Bool.{cases_lt}
 use Rattle.pin_matrix.specs.declared.setup.Setup.{Setup}
 use Rattle.pin_matrix.specs.declared.span.Span.{Span}
@@ -20,6 +20,7 @@ use Rattle.block_core.specs.Slots.{acted, settled_slot}
 use Rattle.span_check.specs.Marks.{Mark, mark_of}
 use Rattle.span_check.specs.Holding.{counted, measured, IsQuiet, IsFirstToEdge, IsSpokenOf, HoldsFrom}
 use Rattle.span_check.specs.Runs.{marks_in}
+use Rattle.span_ticks.specs.UnderWay.{Flow, is_excused_in}
 use Rattle.span_check.specs.Asked.{IsPlain}
 use Rattle.span_check.proofs.Plain.{plain_spoken}
 use Rattle.span_check.proofs.WorkedSetups.{plain_machine, pulling, side_one, side_one_opt, pin_0, block_of, span_of, span_from, turn_of, prompt_of, without_of}
@@ -333,3 +334,18 @@ turns_of_levels = marks_in (turn_of true false) fast []
 turns_of_levels-row : ((turns_of_levels 0).from ≡ false) × ((turns_of_levels 1).to ≡ false)
 unfolding fast turns_of_levels mark_of counted hosted_at hosted_next next stepped acted settled_slot is_tick settled merged reading_of act_of push_or_pull_at delay_of side_of set_at mov_at effect_of jmp_effect out_effect pull_effect set_effect mov_effect settled_ports tick_of tick_delay tick_word tick_by after_effect due_in transfers_after requests_of
 turns_of_levels-row = (refl, refl)
+
+-- a machine that stands somewhere, of which a span with `without` or `prompt` asks no more than this
+stands : (pc delay : ℕ) → Option ℕ → Bool → Flow
+stands pc delay pending begun = record { pc = pc; x = 0; y = 0; delay = delay; pending = pending; begun = begun }
+
+-- it comes to 3 next, where ways are left out; and not where a delay is left, a word is pending, it waits there already, or it comes
+-- to 4
+comes-row : (is_excused_in (without_of (5 ∷ 3 ∷ [])) (stands 3 0 None false) ≡ true) × (is_excused_in (without_of (3 ∷ [])) (stands 3 1 None false) ≡ false) × (is_excused_in (without_of (3 ∷ [])) (stands 3 0 (Some 7) false) ≡ false) × (is_excused_in (without_of (3 ∷ [])) (stands 3 0 None true) ≡ false) × (is_excused_in (without_of (3 ∷ [])) (stands 4 0 None false) ≡ false)
+unfolding stands
+comes-row = (refl, refl, refl, refl, refl)
+
+-- it waits at 3; and not where it comes to it, where 3 is named, or of a span without `prompt`
+waits-row : (is_excused_in (prompt_of (4 ∷ [])) (stands 3 0 None true) ≡ true) × (is_excused_in (prompt_of []) (stands 3 0 None false) ≡ false) × (is_excused_in (prompt_of (4 ∷ 3 ∷ [])) (stands 3 0 None true) ≡ false) × (is_excused_in (span_of true false 1 1 (omega arith) (omega arith) []) (stands 3 0 None true) ≡ false)
+unfolding stands
+waits-row = (refl, refl, refl, refl)

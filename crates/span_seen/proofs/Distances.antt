@@ -4,21 +4,25 @@ use Rattle.std.proofs.lemmas.Bool.{cases_eq}
 use Rattle.std.specs.Option.{option_map}
 use Rattle.std.specs.List.{AllByRecursion}
 use Rattle.pin_matrix.specs.declared.setup.Setup.{Setup}
+use Rattle.pin_matrix.specs.declared.span.PinSignal.{PinSignal}
+use Rattle.pin_matrix.specs.declared.span.PinSignal.TheVariants.{Level, Direction}
 use Rattle.pin_matrix.specs.declared.span.Span.{Span}
 use Rattle.pin_matrix.specs.declared.span.SpanUnit.{SpanUnit}
 use Rattle.pin_matrix.specs.declared.span.SpanUnit.TheVariants.{Ticks, Clocks}
 use Rattle.dreq_pacing.specs.declared.line.Line.{Line}
 use Rattle.block_core.specs.declared.sample.Sample.{Sample}
-use Rattle.block_core.specs.Block.{Run, first_run}
+use Rattle.block_core.specs.Block.{BlockState, Run, first_run}
+use Rattle.block_core.specs.Edges.{has_edge}
 use Rattle.block_core.specs.Hosted.{host_of, hosted_at, sample_at, samples}
 use Rattle.block_core.specs.Shown.{sample_of}
 use Rattle.span_check.specs.Marks as marks
 use Rattle.span_check.specs.Marks.{Mark, mark_of}
-use Rattle.span_check.specs.Holding.{IsFirstToEdge, Holds, HoldsFrom, IsQuiet, IsUnbroken, IsUpTo}
+use Rattle.span_check.specs.Holding.{IsFirstToEdge, Holds, HoldsFrom, IsQuiet, IsSpokenOf, IsUpTo}
 use Rattle.span_check.specs.Runs.{marks_in, state_beside}
 use Rattle.span_check.specs.Proved.{HoldsInEveryRun}
+use Rattle.span_meter.specs.declared.pins.ShownPins.{ShownPins}
 use Rattle.span_meter.specs.Measured as meter
-use Rattle.span_meter.specs.Measured.{clocks_to, ends_in, greatest_of, least_of, least_with, measured, seen_of, with_distance}
+use Rattle.span_meter.specs.Measured.{clocks_to, pins_of, pins_in, signal_of, ends_in, greatest_of, least_of, least_with, measured, seen_of, with_distance}
 use Rattle.span_seen.specs.Within.{IsUndisturbed, IsWithin, measured_in}
 
 -- the samples from a clock on
@@ -45,12 +49,12 @@ abbrev FirstTo : (to : ℕ → Bool) → (k count : ℕ) → Option ℕ → Type
 FirstTo to k count None = Unit {0}
 FirstTo to k count (Some j) = (j < count) × (to (k + j) ≡ true) × ((c : ℕ) → k ≤ c → c < k + j → to c ≡ false)
 
--- one edge of a run with these levels before each clock
-abbrev to_at : meter.SpanEdges → (levels : ℕ → ℕ) → ℕ → Bool
-to_at e levels c = meter.is_to e (levels c) (levels (suc c))
+-- one edge of a run with these pins before each clock
+abbrev to_at : meter.SpanEdges → (pins : ℕ → ShownPins) → ℕ → Bool
+to_at e pins c = meter.is_to e (pins c) (pins (suc c))
 
-abbrev from_at : meter.SpanEdges → (levels : ℕ → ℕ) → ℕ → Bool
-from_at e levels c = meter.is_from e (levels c) (levels (suc c))
+abbrev from_at : meter.SpanEdges → (pins : ℕ → ShownPins) → ℕ → Bool
+from_at e pins c = meter.is_from e (pins c) (pins (suc c))
 
 or_first : (to : ℕ → Bool) (k c : ℕ) → to k ≡ false → (suc k ≤ c → to c ≡ false) → k ≤ c → to c ≡ false
 or_first to k c first rest low = on (cases_eq c k) where
@@ -65,14 +69,14 @@ next_first to k count false (Some j) h f =
     let a = f.0 in
     (omega arith, ap to (let e : k + suc j ≡ suc k + j = omega arith in e) ∙ f.1, λ c low high. or_first to k c h (λ after. f.2 c after (omega arith)) low)
 
-first_to : (e : meter.SpanEdges) (levels : ℕ → ℕ) (shown : ℕ → Sample) → ((c : ℕ) → (shown c).level ≡ levels (suc c)) → (k count : ℕ)
-    → FirstTo (to_at e levels) k count (clocks_to e (levels k) (samples_from shown k count))
+first_to : (e : meter.SpanEdges) (pins : ℕ → ShownPins) (shown : ℕ → Sample) → ((c : ℕ) → pins_of (shown c) ≡ pins (suc c)) → (k count : ℕ)
+    → FirstTo (to_at e pins) k count (clocks_to e (pins k) (samples_from shown k count))
 unfolding clocks_to samples_from
-first_to e levels shown same k zero = tt
-first_to e levels shown same k (suc count) =
-    let to = to_at e levels in
-    let P : ℕ → Type 0 = λ v. FirstTo to k (suc count) (cond (meter.is_to e (levels k) v) (Some 0) (option_map suc (clocks_to e v (samples_from shown (suc k) count)))) in
-    subst P (sym (same k)) (next_first to k count (to k) (clocks_to e (levels (suc k)) (samples_from shown (suc k) count)) refl (first_to e levels shown same (suc k) count))
+first_to e pins shown same k zero = tt
+first_to e pins shown same k (suc count) =
+    let to = to_at e pins in
+    let P : ShownPins → Type 0 = λ v. FirstTo to k (suc count) (cond (meter.is_to e (pins k) v) (Some 0) (option_map suc (clocks_to e v (samples_from shown (suc k) count)))) in
+    subst P (sym (same k)) (next_first to k count (to k) (clocks_to e (pins (suc k)) (samples_from shown (suc k) count)) refl (first_to e pins shown same (suc k) count))
 
 -- what is asked of each distance: from a from-edge to the first to-edge after it, before clock n
 abbrev Asked : (from to : ℕ → Bool) → (n : ℕ) → (ℕ → Type 0) → Type 0
@@ -91,15 +95,15 @@ where_from from to n Good asked k count within true start o f ds all = one_good 
 where_from from to n Good asked k count within false start o f ds all = all
 
 -- so each measured distance is
-all_good : (e : meter.SpanEdges) (levels : ℕ → ℕ) (shown : ℕ → Sample) → ((c : ℕ) → (shown c).level ≡ levels (suc c)) → (n : ℕ) (Good : ℕ → Type 0) → Asked (from_at e levels) (to_at e levels) n Good
-    → (k count : ℕ) → k + count ≤ n → AllByRecursion Good (measured e (levels k) (samples_from shown k count))
+all_good : (e : meter.SpanEdges) (pins : ℕ → ShownPins) (shown : ℕ → Sample) → ((c : ℕ) → pins_of (shown c) ≡ pins (suc c)) → (n : ℕ) (Good : ℕ → Type 0) → Asked (from_at e pins) (to_at e pins) n Good
+    → (k count : ℕ) → k + count ≤ n → AllByRecursion Good (measured e (pins k) (samples_from shown k count))
 unfolding measured samples_from
-all_good e levels shown same n Good asked k zero within = tt
-all_good e levels shown same n Good asked k (suc count) within =
+all_good e pins shown same n Good asked k zero within = tt
+all_good e pins shown same n Good asked k (suc count) within =
     let rest : List Sample = samples_from shown (suc k) count in
-    let P : ℕ → Type 0 = λ v. AllByRecursion Good (cond (meter.is_from e (levels k) v) (with_distance (clocks_to e v rest) (measured e v rest)) (measured e v rest)) in
-    subst P (sym (same k)) (where_from (from_at e levels) (to_at e levels) n Good asked k count within (from_at e levels k) refl (clocks_to e (levels (suc k)) rest) (first_to e levels shown same (suc k) count)
-    (measured e (levels (suc k)) rest) (all_good e levels shown same n Good asked (suc k) count (omega arith)))
+    let P : ShownPins → Type 0 = λ v. AllByRecursion Good (cond (meter.is_from e (pins k) v) (with_distance (clocks_to e v rest) (measured e v rest)) (measured e v rest)) in
+    subst P (sym (same k)) (where_from (from_at e pins) (to_at e pins) n Good asked k count within (from_at e pins k) refl (clocks_to e (pins (suc k)) rest) (first_to e pins shown same (suc k) count)
+    (measured e (pins (suc k)) rest) (all_good e pins shown same n Good asked (suc k) count (omega arith)))
 
 -- within some bounds
 abbrev IsBetween : (min : ℕ) (max : Option ℕ) (d : ℕ) → Type 0
@@ -120,46 +124,51 @@ seen_between : (lo : ℕ) (hi : Option ℕ) (ds : List ℕ) → AllByRecursion (
 seen_between lo hi [] all = record { least = λ some. absurd (omega arith); most = λ some. absurd (omega arith) }
 seen_between lo hi (x ∷ xs) all = record { least = λ some. least_between lo hi x xs all.0 all.1; most = λ some. most_between lo hi (x ∷ xs) all }
 
-from_mark : (sp : Span) (u : Setup) (lines : List Line) (c : ℕ) → (marks_in sp u lines c).from ≡ from_at (ends_in sp) (λ k. (state_beside u lines k).levels) c
-unfolding mark_of
-from_mark sp u lines c = refl
+-- an edge is the same by what a state has and by what is shown of its pins
+same_edge : (signal : PinSignal) (pin : ℕ) (rise : Bool) (before after : BlockState) → marks.has_signal_edge signal pin rise before after ≡ has_edge pin rise (signal_of signal (pins_in before)) (signal_of signal (pins_in after))
+same_edge Level pin rise before after = refl
+same_edge Direction pin rise before after = refl
 
-to_mark : (sp : Span) (u : Setup) (lines : List Line) (c : ℕ) → (marks_in sp u lines c).to ≡ to_at (ends_in sp) (λ k. (state_beside u lines k).levels) c
+from_mark : (sp : Span) (u : Setup) (lines : List Line) (c : ℕ) → (marks_in sp u lines c).from ≡ from_at (ends_in sp) (λ k. pins_in (state_beside u lines k)) c
 unfolding mark_of
-to_mark sp u lines c = refl
+from_mark sp u lines c = same_edge sp.from_signal sp.from_pin sp.from_rise (state_beside u lines c) (state_beside u lines (suc c))
+
+to_mark : (sp : Span) (u : Setup) (lines : List Line) (c : ℕ) → (marks_in sp u lines c).to ≡ to_at (ends_in sp) (λ k. pins_in (state_beside u lines k)) c
+unfolding mark_of
+to_mark sp u lines c = same_edge sp.to_signal sp.to_pin sp.to_rise (state_beside u lines c) (state_beside u lines (suc c))
 
 breaks_mark : (sp : Span) (u : Setup) (lines : List Line) (c : ℕ) → (marks_in sp u lines c).breaks ≡ marks.is_broken (host_of (first_run u) lines c) sp.machine
 unfolding mark_of
 breaks_mark sp u lines c = refl
 
-shown_levels : (u : Setup) (lines : List Line) (c : ℕ) → (sample_at (first_run u) lines c).level ≡ (state_beside u lines (suc c)).levels
+shown_pins : (u : Setup) (lines : List Line) (c : ℕ) → pins_of (sample_at (first_run u) lines c) ≡ pins_in (state_beside u lines (suc c))
 unfolding sample_of
-shown_levels u lines c = refl
+shown_pins u lines c = refl
 
-first_levels : (u : Setup) (lines : List Line) → (state_beside u lines 0).levels ≡ (first_run u).state.levels
+first_pins : (u : Setup) (lines : List Line) → pins_in (state_beside u lines 0) ≡ pins_in (first_run u).state
 unfolding hosted_at
-first_levels u lines = refl
+first_pins u lines = refl
 
-in_clocks : (unit : SpanUnit) (lo : ℕ) (hi : Option ℕ) (n : ℕ) (m : ℕ → Mark) → unit ≡ Clocks → Holds unit lo hi m n → ((c : ℕ) → c < n → (m c).breaks ≡ false)
+in_clocks : (unit : SpanUnit) (lo : ℕ) (hi : Option ℕ) (n : ℕ) (m : ℕ → Mark) → unit ≡ Clocks → Holds unit lo hi m n → ((c : ℕ) → (m c).excused ≡ false) → ((c : ℕ) → c < n → (m c).breaks ≡ false)
     → (s d : ℕ) → (m s).from ≡ true → 0 < d → s + d < n → (m (s + d)).to ≡ true → ((c : ℕ) → s < c → c < s + d → (m c).to ≡ false) → IsBetween lo hi d
-in_clocks Ticks lo hi n m clocks holds calm s d start some within to first = cc
-in_clocks Clocks lo hi n m clocks holds calm s d start some within to first =
+in_clocks Ticks lo hi n m clocks holds free calm s d start some within to first = cc
+in_clocks Clocks lo hi n m clocks holds free calm s d start some within to first =
     let h = holds s (omega arith) start in
     let ends : IsFirstToEdge m s (s + d) = record { after = omega arith; first = first; edge = to } in
-    let spoken : IsUnbroken m s (suc (s + d)) = λ c low high. calm c (omega arith) in
+    let spoken : IsSpokenOf Clocks m s (suc (s + d)) = record { free = λ c low high. free c; unbroken = λ c low high. calm c (omega arith) } in
     let least = h.least (s + d) ends within spoken in
     let most = h.most (s + d) ends within spoken in
     (omega arith, subst (IsUpTo hi) (let e : suc (s + d) - 1 - s ≡ d = omega arith in e) most)
 
-pub seen_within : (u : Setup) (sp : Span) → sp.unit ≡ Clocks → HoldsInEveryRun u sp → (lines : List Line) (n : ℕ) → IsUndisturbed u sp lines n → IsWithin sp.min sp.max (measured_in u sp lines n)
-seen_within u sp clocks holds lines n calm =
-    let levels : ℕ → ℕ = λ k. (state_beside u lines k).levels in
+pub seen_within : (u : Setup) (sp : Span) → sp.unit ≡ Clocks → HoldsInEveryRun u sp → (lines : List Line) (n : ℕ) → ((c : ℕ) → (marks_in sp u lines c).excused ≡ false) → IsUndisturbed u sp lines n → IsWithin sp.min sp.max (measured_in u sp lines n)
+seen_within u sp clocks holds lines n free calm =
+    let pins : ℕ → ShownPins = λ k. pins_in (state_beside u lines k) in
     let e = ends_in sp in
-    let asked : Asked (from_at e levels) (to_at e levels) n (IsBetween sp.min sp.max) = λ s d start some within to first.
-    in_clocks sp.unit sp.min sp.max n (marks_in sp u lines) clocks (holds.beside lines n) (λ c low. breaks_mark sp u lines c ∙ calm c low)
+    let asked : Asked (from_at e pins) (to_at e pins) n (IsBetween sp.min sp.max) = λ s d start some within to first.
+    in_clocks sp.unit sp.min sp.max n (marks_in sp u lines) clocks (holds.beside lines n) free (λ c low. breaks_mark sp u lines c ∙ calm c low)
     s d (from_mark sp u lines s ∙ start) some within (to_mark sp u lines (s + d) ∙ to) (λ c low high. to_mark sp u lines c ∙ first c low high) in
-    let all = all_good e levels (sample_at (first_run u) lines) (shown_levels u lines) n (IsBetween sp.min sp.max) asked 0 n (omega arith) in
-    let good = seen_between sp.min sp.max (measured e (levels 0) (samples_from (sample_at (first_run u) lines) 0 n)) all in
-    let P : List Sample → Type 0 = λ xs. IsWithin sp.min sp.max (seen_of (measured e (levels 0) xs)) in
-    let Q : ℕ → Type 0 = λ v. IsWithin sp.min sp.max (seen_of (measured e v (samples (first_run u) lines n))) in
-    subst Q (first_levels u lines) (subst P (sym (samples-from (first_run u) lines n)) good)
+    let all = all_good e pins (sample_at (first_run u) lines) (shown_pins u lines) n (IsBetween sp.min sp.max) asked 0 n (omega arith) in
+    let good = seen_between sp.min sp.max (measured e (pins 0) (samples_from (sample_at (first_run u) lines) 0 n)) all in
+    let P : List Sample → Type 0 = λ xs. IsWithin sp.min sp.max (seen_of (measured e (pins 0) xs)) in
+    let Q : ShownPins → Type 0 = λ v. IsWithin sp.min sp.max (seen_of (measured e v (samples (first_run u) lines n))) in
+    subst Q (first_pins u lines) (subst P (sym (samples-from (first_run u) lines n)) good)

@@ -11,7 +11,7 @@ use Rattle.block_core.specs.Hosted.{host_of, samples}
 use Rattle.span_check.specs.Holding.{IsUpTo}
 use Rattle.span_check.specs.Marks.{is_broken}
 use Rattle.span_meter.specs.declared.seen.SeenDistances.{SeenDistances}
-use Rattle.span_meter.specs.Measured.{ends_in, measured, seen_of}
+use Rattle.span_meter.specs.Measured.{ends_in, measured, pins_in, seen_of}
 
 -- no line of the first n clocks disables the span's machine, or restarts its divider
 abbrev pub IsUndisturbed : Setup → Span → List Line → (n : ℕ) → Type 0
@@ -19,7 +19,7 @@ IsUndisturbed u sp lines n = (c : ℕ) → c < n → is_broken (host_of (first_r
 
 -- what the span measures in the first n clocks of the setup's run beside a stimulus
 abbrev pub measured_in : Setup → Span → List Line → (n : ℕ) → SeenDistances
-measured_in u sp lines n = seen_of (measured (ends_in sp) (first_run u).state.levels (samples (first_run u) lines n))
+measured_in u sp lines n = seen_of (measured (ends_in sp) (pins_in (first_run u).state) (samples (first_run u) lines n))
 
 -- Where there are distances, the least and the greatest are within the bounds, of which there may be no greatest.
 pub record IsWithin (min : ℕ) (max : Option ℕ) (s : SeenDistances) : Type 0 where
