@@ -2,4 +2,4 @@ use Rattle.commands.proofs.Working.{most_asked}
 use Rattle.commands.proofs.laws.no_more_clocks_are_worked_out_than_asked.Goals as goal
 
 pub returns : goal.returns
-returns g c = most_asked c.few_clocks_are_worked_out.ensures.clocks c.few_clocks_are_worked_out.ensures.twin_clocks
+returns c = most_asked c.few_clocks_are_worked_out.ensures.clocks c.few_clocks_are_worked_out.ensures.twin_clocks

@@ -1,4 +1,4 @@
-use Rattle.std.proofs.Common.{arith, ◌+◌, ◌≤◌, List, ap, subst}
+use Rattle.std.proofs.Common.{◌+◌, ◌≤◌, List, ap, subst}
 use Rattle.dreq_pacing.specs.declared.line.Line.{Line}
 use Rattle.dreq_pacing.specs.Ports.{Ports}
 use Rattle.idle_engine.specs.Worked.{worked_in}
