@@ -8,8 +8,8 @@ ghost use Rattle.commands.specs.Written.{SinkWrites};
 ghost use Rattle.drawn_load.specs.Summaries.{summary_text};
 
 use crate::handing::hand_on;
-use fault_lines::Fault;
 use drawn_load::{Summary, put_summary, summarise};
+use fault_lines::Fault;
 use pio_edge::{Shelf, Sink};
 use std::alloc::Global;
 use std::sync::ledger::Ledger;

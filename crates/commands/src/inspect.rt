@@ -15,7 +15,9 @@ use command_line::RunFiles;
 use dreq_pacing::Schedule;
 use fault_lines::Fault;
 use fifo_pair::RingFifo;
-use idle_engine::{a_stopped_inspection_leaves_a_first_part, few_clocks_are_worked_out, simulate_inside};
+use idle_engine::{
+    a_stopped_inspection_leaves_a_first_part, few_clocks_are_worked_out, simulate_inside,
+};
 use pin_matrix::Setup;
 use pio_edge::{Shelf, Sink};
 use stages::prepare;
