@@ -8,7 +8,7 @@ from piotool.calls import Fault
 from piotool.captures import Capture
 from piotool.edges_seen import edges_of, pairs_of
 from piotool.real_time import shown
-from piotool.setups import Span, Tables, clocks_allowed, period_of
+from piotool.setups import LONG, Span, Tables, clocks_allowed, period_of
 from piotool.span_model import EDGES
 
 COLUMNS = ("span", "declared", "seen", "least", "mean", "most", "clocks allowed", "outside", "least at", "most at")
@@ -30,6 +30,7 @@ class Measured:
     def cells(self, clock: Fraction) -> list[str]:
         """The cells of its row."""
         allowed = f"{self.least}.. and waits" if self.most is None else f"{self.least}..{self.most}"
+        allowed = f"{self.least}.." if self.most == LONG else allowed
         allowed = allowed if self.span.speaks_of_all else "of some pairs"
         if not self.measures:
             return [self.span.name, self.span.bounds(), "0", "-", "-", "-", allowed, "0", "-", "-"]
