@@ -6,9 +6,10 @@ use Rattle.std.specs.List.{AllByRecursion}
 use Rattle.pin_matrix.specs.Pins.{is_high}
 use Rattle.pin_matrix.specs.declared.machine.MachineSetup.{MachineSetup}
 use Rattle.pin_matrix.specs.declared.setup.Setup.{Setup}
+use Rattle.pin_matrix.specs.declared.span.PinSignal.TheVariants.{Level}
 use Rattle.dreq_pacing.specs.declared.line.Line.{Line}
 use Rattle.block_core.specs.Block.{first_run}
-use Rattle.block_core.specs.Following.{OthersLeave, leaves_level}
+use Rattle.block_core.specs.Following.{OthersLeave, leaves}
 use Rattle.block_core.specs.Hosted.{samples}
 use Rattle.serial_receiver.specs.declared.frame.Frame.{Frame}
 use Rattle.serial_receiver.specs.Frames.{frames_from, levels_of}
@@ -59,7 +60,7 @@ nothing_times : (int : ℕ) → int * 0 ≡ 0
 nothing_times int = omega arith
 
 -- no other machine is there
-others_leave : (s : MachineSetup) (other : ℕ) → (other ≡ 0 → ⊥) → IfSome (slice_index_or (Some s ∷ None ∷ None ∷ None ∷ []) other None) (λ m. leaves_level 0 m ≡ true)
+others_leave : (s : MachineSetup) (other : ℕ) → (other ≡ 0 → ⊥) → IfSome (slice_index_or (Some s ∷ None ∷ None ∷ None ∷ []) other None) (λ m. leaves 0 Level m ≡ true)
 others_leave s zero apart = absurd (apart refl)
 others_leave s (suc zero) apart = tt
 others_leave s (suc (suc zero)) apart = tt
@@ -73,7 +74,7 @@ own int u t = record {
   configured = ap (λ ms. slice_index_or ms 0 None) t.machines;
   number = t.is_set_up.id;
   is_pin = omega arith;
-  alone = subst (OthersLeave 0 0) (sym t.machines) (others_leave t.machine);
+  alone = subst (OthersLeave Level 0 0) (sym t.machines) (others_leave t.machine);
 }
 
 -- what samples tell of a pin

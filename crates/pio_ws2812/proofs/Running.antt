@@ -6,9 +6,10 @@ use Rattle.std.specs.List.{AllByRecursion}
 use Rattle.pin_matrix.specs.Pins.{is_high}
 use Rattle.pin_matrix.specs.declared.machine.MachineSetup.{MachineSetup}
 use Rattle.pin_matrix.specs.declared.setup.Setup.{Setup}
+use Rattle.pin_matrix.specs.declared.span.PinSignal.TheVariants.{Level}
 use Rattle.dreq_pacing.specs.declared.line.Line.{Line}
 use Rattle.block_core.specs.Block.{first_run}
-use Rattle.block_core.specs.Following.{OthersLeave, leaves_level}
+use Rattle.block_core.specs.Following.{OthersLeave, leaves}
 use Rattle.program_runs.specs.Accepted.{accepted}
 use Rattle.program_runs.specs.Clocks.{IsOwn, regs_in, tx_in, level_in, taken_in}
 use Rattle.program_runs.specs.Levels.{row, up_in, levels_in}
@@ -23,7 +24,7 @@ use Rattle.pio_ws2812.proofs.Transmitting.{IsReady}
 use Rattle.pio_ws2812.proofs.Sent.{all_sent}
 
 -- no other machine is there
-others_leave : (s : MachineSetup) (pin other : ℕ) → (other ≡ 0 → ⊥) → IfSome (slice_index_or (Some s ∷ None ∷ None ∷ None ∷ []) other None) (λ m. leaves_level pin m ≡ true)
+others_leave : (s : MachineSetup) (pin other : ℕ) → (other ≡ 0 → ⊥) → IfSome (slice_index_or (Some s ∷ None ∷ None ∷ None ∷ []) other None) (λ m. leaves pin Level m ≡ true)
 others_leave s pin zero apart = absurd (apart refl)
 others_leave s pin (suc zero) apart = tt
 others_leave s pin (suc (suc zero)) apart = tt
@@ -37,7 +38,7 @@ own int pin u t = record {
   configured = ap (λ ms. slice_index_or ms 0 None) t.machines;
   number = t.is_set_up.id;
   is_pin = t.is_pin;
-  alone = subst (OthersLeave 0 pin) (sym t.machines) (others_leave t.machine pin);
+  alone = subst (OthersLeave Level 0 pin) (sym t.machines) (others_leave t.machine pin);
 }
 
 -- what samples tell of a pin

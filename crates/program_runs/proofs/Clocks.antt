@@ -12,6 +12,7 @@ use Rattle.pin_matrix.specs.Pads.{seen_of}
 use Rattle.pin_matrix.specs.Pins.{last_of}
 use Rattle.pin_matrix.specs.declared.machine.MachineSetup.{MachineSetup}
 use Rattle.pin_matrix.specs.declared.setup.Setup.{Setup}
+use Rattle.pin_matrix.specs.declared.span.PinSignal.TheVariants.{Level}
 use Rattle.sm_registers.specs.declared.intent.Intent.{Intent}
 use Rattle.sm_registers.specs.Intents.{no_intent, two_writes}
 use Rattle.sm_registers.specs.declared.registers.Registers.{Registers}
@@ -43,7 +44,7 @@ pub record Laws : Type 0 where
       → (clock id : ℕ) → place_at (states (suc clock)) id ≡ place_after (view_of memory (seen clock) (states clock)) (host clock) (place_at (states clock) id)
   -- a pin of one machine has what it writes
   pub own_pins : (u : Setup) (memory : List ℕ) (seen : ℕ → ℕ) (host : ℕ → Due) (states : ℕ → BlockState) → states 0 ≡ first_state u
-      → Follows memory seen host states → (id pin : ℕ) → pin < 32 → OthersLeave id pin u.machines → (clock : ℕ)
+      → Follows memory seen host states → (id pin : ℕ) → pin < 32 → OthersLeave Level id pin u.machines → (clock : ℕ)
       → bit_at (states (suc clock)).levels pin
       ≡ last_of pin (bit_at (states clock).levels pin) (two_writes (intent_in memory (seen clock) (host clock) (states clock) id).level)
   -- what the test for a tick means

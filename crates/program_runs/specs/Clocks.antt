@@ -10,6 +10,7 @@ use Rattle.std.specs.Int.{bit_at}
 use Rattle.pin_matrix.specs.Pads.{seen_of}
 use Rattle.pin_matrix.specs.declared.machine.MachineSetup.{MachineSetup}
 use Rattle.pin_matrix.specs.declared.setup.Setup.{Setup}
+use Rattle.pin_matrix.specs.declared.span.PinSignal.TheVariants.{Level}
 use Rattle.sm_registers.specs.declared.intent.Intent.{Intent}
 use Rattle.sm_registers.specs.declared.registers.Registers.{Registers}
 use Rattle.sm_registers.specs.View.{View}
@@ -27,7 +28,7 @@ pub record IsOwn (u : Setup) (id : ℕ) (s : MachineSetup) (pin : ℕ) : Type 0 
   pub configured : slice_index_or u.machines id None ≡ Some s
   pub number : s.id ≡ id
   pub is_pin : pin < 32
-  pub alone : OthersLeave id pin u.machines
+  pub alone : OthersLeave Level id pin u.machines
 
 -- what the system does in a clock of the setup's run beside a stimulus
 abbrev pub host_in : Setup → List Line → ℕ → Due
