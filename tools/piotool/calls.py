@@ -4,7 +4,7 @@ import argparse
 import subprocess
 import sys
 from pathlib import Path
-from typing import Any, Callable, NoReturn
+from typing import Any, Callable, NoReturn, Optional
 
 
 class Fault(Exception):
@@ -29,10 +29,15 @@ def write_text(path: str | Path, text: str) -> None:
         raise Fault(f"{path}: {fault.strerror}") from None
 
 
-def piotool(*words: Any, name: str = "piotool") -> tuple[int, str, str]:
-    """A call of the piotool on the path, or of a script beside it: its status, its output, and its line on standard error."""
+def piotool(*words: Any, name: str = "piotool", within: Optional[float] = None) -> tuple[int, str, str]:
+    """A call of the piotool on the path, or of a script beside it: its status, its output, and its line on standard error.
+
+    A call that takes longer than so many seconds is ended, and has the status -1.
+    """
     try:
-        ended = subprocess.run([name, *map(str, words)], stdin=subprocess.DEVNULL, capture_output=True)
+        ended = subprocess.run([name, *map(str, words)], stdin=subprocess.DEVNULL, capture_output=True, timeout=within)
+    except subprocess.TimeoutExpired:
+        return -1, "", ""
     except OSError as fault:
         raise Fault(f"{name}: {fault.strerror}; it has to be on the path") from None
     told = ended.stderr.decode("utf-8", "replace").partition("\n")[0]
