@@ -21,7 +21,7 @@ type_of {W} w = W
 
 -- what is known in the middle of a course, and a tick of it
 abbrev Watch : Type 0
-Watch = type_of (start (record { address = 0; x = None; y = None; from = false; to = false }) Empty)
+Watch = type_of (start false (record { address = 0; x = None; y = None; from = false; to = false }) Empty)
 
 abbrev Tick : Type 0
 Tick = type_of delay_tick
@@ -76,7 +76,7 @@ outcome_right : (v : Visit) (found : Stepped) (o : ContextOutcome) → IsRight v
 unfolding with_outcome
 outcome_right v found o k h =
     fold_keeps (λ (s : Stepped). AllRight s.nexts) (λ (s : Stepped) (ticks : List Tick). with_end v o s (end_of v ticks))
-    (λ s ticks p. end_right v o s (end_of v ticks) p (course_right v.rules ticks _ k)) (courses v.stalls v.side o v.delay) found h
+    (λ s ticks p. end_right v o s (end_of v ticks) p (course_right v.rules ticks _ (cond_right v.left_out Empty v.ages tt k))) (courses v.stalls v.side o v.delay) found h
 
 outcomes_right : (v : Visit) (os : List ContextOutcome) → IsRight v.ages → AllRight (fold (with_outcome v) nothing_found os).nexts
 outcomes_right v os k = fold_keeps (λ (s : Stepped). AllRight s.nexts) (with_outcome v) (λ s o p. outcome_right v s o k p) os nothing_found tt
