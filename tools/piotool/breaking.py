@@ -21,9 +21,9 @@ from piotool.trace_text import without
 MOST_STEPS = 150_000  # clocks that a run of the model works out singly
 MOST_LOOPED = 20_000  # stretches of a loop that are gone round
 SMALLER_STEPS = 400_000  # of all runs that are tried to make one small
-MORE_SECONDS = 3.0  # what the last run that was found may take beyond the time
+# What the last run that was found may take beyond the time, and piotool for it, which leaps over no turn of a loop that counts.
+MORE_SECONDS = 3.0
 LAST_CLOCK = 10**12
-CONFIRMED_SECONDS = 10.0  # of a run: piotool leaps over no turn of a loop that counts down a word
 LONG = 200_000  # clocks of a run in which machines that don't matter may write too much
 HELD = 16  # clocks until machines are enabled that begin late
 
@@ -106,7 +106,7 @@ class Runs:
             config.write_text(self.bare if shown.clocks <= LONG else self.few)
             stimulus.write_text(text_of(shown.lines))
             words = ["--source", self.source, "--config", config, "--stimulus", stimulus, "--clocks", shown.clocks]
-            status, text, _ = piotool("run", *words, within=CONFIRMED_SECONDS)
+            status, text, _ = piotool("run", *words, within=MORE_SECONDS)
         wanted = run.trace()
         return status == 0 and (text == wanted or without(text, self.of_others) == without(wanted, self.of_others))
 
