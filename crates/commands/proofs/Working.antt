@@ -1,5 +1,6 @@
 -- A command works out no more clocks than those of its files' run that are worked out, nor than it is asked for.
-use Rattle.std.proofs.Common.{◌≡◌, ◌+◌, ◌≤◌, ℕ, Option, Some, None, List, IfSome, sym, subst, arith, option_map_or}
+use Rattle.std.proofs.Common.{◌≡◌, ◌+◌, ◌≤◌, ℕ, Option, Some, None, List, IfSome, sym, subst, arith}
+use Rattle.std.specs.Option.{option_map_or}
 use Rattle.pio_edge.specs.Edge.{Files}
 use Rattle.pin_matrix.specs.declared.setup.Setup.{Setup}
 use Rattle.dreq_pacing.specs.declared.line.Line.{Line}

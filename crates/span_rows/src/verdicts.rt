@@ -2,11 +2,11 @@
 use crate::programs::{keys_of, setup_of, told_of};
 use crate::setups::{is_configured, span_of};
 use pin_matrix::{Setup, Span};
-use span_bounds::{Cause, Context};
+use span_bounds::{Cause, Context, Table};
 use span_check::{check, recheck};
 use span_verdict::Verdict;
 use std::alloc::{AllocError, Global};
-use verdict_lines::{Finding, Refusal, found_by};
+use verdict_lines::{Finding, found_by};
 
 /// Adds what a row says of its verdict, and the verdict.
 pub fn tell_verdict(
@@ -26,21 +26,29 @@ fn tell_checked(alloc: Global, setup: &Setup, span: &Span, text: &mut String) ->
     if !is_configured(setup, span) {
         return None;
     }
-    let verdict = check(alloc, setup, span).ok()?;
-    let passes = is_rechecked(&verdict, setup, span);
-    match found_by(verdict, span) {
-        Ok(finding) => tell_proved(finding, passes, text).ok(),
-        Err(Refusal::Unproved(context, cause)) => tell_unproved(&context, cause, text).ok(),
-        Err(Refusal::Shared(machine)) => write!(text, "shared by machine {machine}").ok(),
+    match check(alloc, setup, span).ok()? {
+        Verdict::Proved {
+            table,
+            opens,
+            closes,
+        } => {
+            let passes = recheck(&table, setup, span);
+            let finding = finding_of(table, opens, closes, span)?;
+            tell_proved(finding, passes, text).ok()
+        }
+        Verdict::Unproved(context, cause) => tell_unproved(&context, cause, text).ok(),
+        Verdict::Shared(machine) => write!(text, "shared by machine {machine}").ok(),
     }
 }
 
-/// Whether the table of a proved span passes when it is looked through anew.
-fn is_rechecked(verdict: &Verdict, setup: &Setup, span: &Span) -> bool {
-    match verdict {
-        Verdict::Proved { table, .. } => recheck(table, setup, span),
-        _ => true,
-    }
+/// What the line of a proved span says.
+fn finding_of(table: Table, opens: bool, closes: bool, span: &Span) -> Option<Finding> {
+    let proved = Verdict::Proved {
+        table,
+        opens,
+        closes,
+    };
+    found_by(proved, span).ok()
 }
 
 /// Adds whether the span opens, where that is told whether it closes and under which premise, and whether its table passes.

@@ -9,6 +9,6 @@ pub returns-clause-seen : goal.returns-clause-seen
 unfolding sample_of
 returns-clause-seen g c =
     let start = first_run c.args.setup.now in
-    seen_in_run start c.in_ok-block.block.run (pins_of c.view.result.now) c.args.setup.now.spans c.as_slice.result.now c.args.schedule.now c.args.clocks _
-    (ap (λ b. b.run) c.in_ok-block.ensures) (ap pins_of c.view.ensures) c.as_slice.ensures.list
+    seen_in_run start c.in_ok-block.block.run (pins_of c.view-shown.result.now) c.args.setup.now.spans c.as_slice.result.now c.args.schedule.now c.args.clocks _
+    (ap (λ b. b.run) c.in_ok-block.ensures) (ap pins_of c.view-shown.ensures) c.as_slice.ensures.list
     (c.meter_run.ensures.measured _ _ c.in_ok-meter.ensures)
