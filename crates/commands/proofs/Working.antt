@@ -99,11 +99,9 @@ most_asked few both files (uart send divider clocks) = of_file few files send di
 most_asked few both files (pair source config second stimulus clocks) = of_pair both files source config second stimulus clocks
 most_asked few both files (inspect source config stimulus clocks) = of_files few files source config stimulus clocks
 
-none_or_some : ((a : Asked) → ℕ) → ((a : Asked) → ℕ) → Option Asked → Type 0
-none_or_some worked asked a = option_map_or worked a 0 ≤ option_map_or asked a 0
-
-of_asked : (files : Option Files) → ((a : Asked) → most_worked files a ≤ clocks_asked a) → (a : Option Asked) → none_or_some (most_worked files) clocks_asked a
-of_asked files most None = omega arith
+of_asked : (files : Option Files) → ((a : Asked) → most_worked files a ≤ clocks_asked a) → (a : Option Asked)
+    → option_map_or (most_worked files) a 0 ≤ option_map_or clocks_asked a 0
+of_asked files most None = let none : 0 ≤ 0 = omega arith in none
 of_asked files most (Some a) = most a
 
 -- nor does the call
