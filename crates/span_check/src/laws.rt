@@ -51,9 +51,9 @@ pub fn only_a_disable_or_a_restart_breaks_a_span()
     clocks_are_counted();
 }
 
-/// What a span asks. With a greatest bound it asks all that both bounds ask (`bounded`); without one it asks of a first to-edge alone
+/// What a span asks. With a greatest bound it asks all that both bounds ask (`bounded`); without one it asks of a first to-event alone
 /// that it doesn't come too early (`unbounded`), however long it takes and wherever the machine waits. So with a greatest bound it
-/// asks more (`more`). All is asked of the from-edges of which it speaks.
+/// asks more (`more`). All is asked of the from-events of which it speaks.
 pub fn what_a_span_asks()
     ensures bounded { (unit : SpanUnit) (min max : ℕ) (m : ℕ → Mark) (n : ℕ)
         → Holds unit min (Some max) m n ↔ HoldsBetween unit min max m n }
@@ -63,7 +63,7 @@ pub fn what_a_span_asks()
         → Holds unit min (Some max) m n → Holds unit min None m n }
 {}
 
-/// A span with neither `prompt` nor `without` excuses nothing (`excused`). So in ticks it speaks of each from-edge, and in clocks of
+/// A span with neither `prompt` nor `without` excuses nothing (`excused`). So in ticks it speaks of each from-event, and in clocks of
 /// each after which no line disables or restarts its machine (`spoken`).
 pub fn a_plain_span_excuses_nothing()
     ensures excused { (sp : Span) (memory : List ℕ) (seen : ℕ → ℕ) (host : ℕ → Due) (states : ℕ → BlockState)
