@@ -157,6 +157,14 @@ span_from from_rise to_rise min fits stalls = record {
 abbrev pub turn_of : (from_out to_out : Bool) → Span
 turn_of from_out to_out = record (span_of from_out to_out 0 9 (omega arith) (omega arith) []) { from_signal = Some Direction; to_signal = Some Direction }
 
+-- one between ends of instructions
+abbrev pub ends_of : (from_at to_at : List ℕ) → Span
+ends_of from_at to_at = record (span_of true false 1 1 (omega arith) (omega arith) []) { from_signal = None; to_signal = None; from_at = from_at; to_at = to_at }
+
+-- one between edges that the instructions at these addresses make
+abbrev pub made_at : (from_at to_at : List ℕ) → Span
+made_at from_at to_at = record (span_of true false 1 1 (omega arith) (omega arith) []) { from_at = from_at; to_at = to_at }
+
 -- one that speaks of nothing after which its machine waits, but at these addresses
 abbrev pub prompt_of : (stalls : List ℕ) → Span
 prompt_of stalls = record (span_of true false 1 1 (omega arith) (omega arith) stalls) { prompt = true }

@@ -2,7 +2,8 @@
 --   HoldsBetween     with both bounds, each part is asked
 --   IsNeverEarly     with a least bound alone, no to-event comes too early
 --   IsPlain          a span that excuses no from-event
-use Rattle.std.specs.Prelude.{◌≡◌, ℕ, suc, ◌<◌, ◌≤◌, true, false, []}
+--   IsOfEdges        a span between edges that any instruction may make
+use Rattle.std.specs.Prelude.{◌≡◌, ℕ, suc, ◌<◌, ◌≤◌, true, false, [], IsSome}
 use Rattle.pin_matrix.specs.declared.span.Span.{Span}
 use Rattle.pin_matrix.specs.declared.span.SpanUnit.{SpanUnit}
 use Rattle.span_check.specs.Marks.{Mark}
@@ -26,6 +27,13 @@ abbrev pub IsNeverEarly : SpanUnit → (min : ℕ) → (ℕ → Mark) → (n : �
 IsNeverEarly unit min m n =
     (s : ℕ) → s < n → (m s).from ≡ true
     → (e : ℕ) → IsFirstToEdge m s e → e < n → IsSpokenOf unit m s (suc e) → min ≤ measured unit m s (suc e)
+
+-- a span between edges of pins, which names no instruction that makes them
+pub record IsOfEdges (sp : Span) : Type 0 where
+  pub from : IsSome sp.from_signal
+  pub to : IsSome sp.to_signal
+  pub from_any : sp.from_at ≡ []
+  pub to_any : sp.to_at ≡ []
 
 -- a span that speaks of from-events after which its machine waits, and leaves out no way
 pub record IsPlain (sp : Span) : Type 0 where

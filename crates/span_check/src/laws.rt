@@ -1,5 +1,5 @@
 //! Laws of the timing checker, each on a function that does nothing.
-ghost use Rattle.std.specs.Prelude.{◌≡◌, ◌↔◌, ℕ, IsSome, List, None, Some, false, slice_index_or};
+ghost use Rattle.std.specs.Prelude.{◌≡◌, ◌↔◌, ℕ, suc, IsSome, List, None, Some, false, slice_index_or};
 ghost use Rattle.pin_matrix.specs.declared.setup.Setup.{Setup};
 ghost use Rattle.pin_matrix.specs.declared.span.Span.{Span};
 ghost use Rattle.pin_matrix.specs.declared.span.SpanUnit.{SpanUnit};
@@ -8,9 +8,9 @@ ghost use Rattle.dreq_pacing.specs.declared.line.Line.{Line};
 ghost use Rattle.block_core.specs.Block.{BlockState};
 ghost use Rattle.span_bounds.specs.Tables.{IsProvable};
 ghost use Rattle.span_verdict.specs.Sharing.{IsUnshared};
-ghost use Rattle.span_check.specs.Asked.{HoldsBetween, IsNeverEarly, IsPlain};
+ghost use Rattle.span_check.specs.Asked.{HoldsBetween, IsNeverEarly, IsOfEdges, IsPlain};
 ghost use Rattle.span_check.specs.Holding.{Holds, IsSpokenOf, IsUnbrokenIn};
-ghost use Rattle.span_check.specs.Marks.{Mark};
+ghost use Rattle.span_check.specs.Marks.{Mark, has_signal_edge};
 ghost use Rattle.span_check.specs.Proved.{HoldsInEveryRun};
 ghost use Rattle.span_check.specs.Runs.{has_breaking, marks_in, marks_over};
 
@@ -72,4 +72,17 @@ pub fn a_plain_span_excuses_nothing()
         (unit : SpanUnit) (s end : ℕ) → IsPlain sp
         → IsSpokenOf unit (marks_over sp memory seen host states) s end
         ↔ IsUnbrokenIn unit (marks_over sp memory seen host states) s end }
+{}
+
+/// Of a span between edges that any instruction may make, the events are the edges: what comes of the two pins says whether one
+/// comes, whatever instruction makes it.
+pub fn any_edge_is_an_event()
+    ensures from { (sp : Span) (memory : List ℕ) (seen : ℕ → ℕ) (host : ℕ → Due) (states : ℕ → BlockState)
+        (clock : ℕ) → IsOfEdges sp
+        → (marks_over sp memory seen host states clock).from
+        ≡ has_signal_edge sp.from_signal sp.from_pin sp.from_rise (states clock) (states (suc clock)) }
+    ensures to { (sp : Span) (memory : List ℕ) (seen : ℕ → ℕ) (host : ℕ → Due) (states : ℕ → BlockState)
+        (clock : ℕ) → IsOfEdges sp
+        → (marks_over sp memory seen host states clock).to
+        ≡ has_signal_edge sp.to_signal sp.to_pin sp.to_rise (states clock) (states (suc clock)) }
 {}
