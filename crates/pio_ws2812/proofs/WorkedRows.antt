@@ -1,5 +1,5 @@
 -- Worked rows: what the definitions give for runs that were worked out by hand.
-use Rattle.std.proofs.Common.{◌≡◌, ℕ, ◌*◌, ◌⊎◌, inl, inr, true, false, Some, None, List, [], ◌∷◌, ◌++◌, take, replicate, refl, subst, arith}
+use Rattle.std.proofs.Common.{◌≡◌, ℕ, ◌*◌, ◌⊎◌, inl, inr, true, false, Some, None, List, [], ◌∷◌, ◌++◌, take, replicate, refl, sym, ◌∙◌, ap, subst, arith}
 use Rattle.clock_divider.specs.Ticks.{is_tick}
 use Rattle.fifo_pair.specs.Fifos.{settled}
 use Rattle.pin_matrix.specs.Pins.{merged}
@@ -18,7 +18,7 @@ use Rattle.program_runs.specs.Accepted.{accepted}
 use Rattle.program_runs.specs.Feeding.{fed}
 use Rattle.pio_ws2812.specs.Pulses.{Pulse, pulses_from, bits_read}
 use Rattle.pio_ws2812.specs.Sending.{word_bits, bits_down, bits_of, pulses_in, IsSent, SendsWhatItIsFed}
-use Rattle.pio_ws2812.specs.Feeding.{pulses_fed}
+use Rattle.pio_ws2812.specs.Feeding.{pulses_fed, SendsInTime}
 use Rattle.pio_ws2812.specs.Transmitter.{ws2812_words}
 
 -- the transmitter's machine, with a tick in each clock and pin 0
@@ -144,6 +144,17 @@ short_one_fails h = by ((subst (IsSent 1 0 _) six_ticks (h (fed (0xa0000000 ∷ 
   by : (6 ≡ 2 * 1) ⊎ (6 ≡ 7 * 1) → ⊥
   by (inl e) = omega (arith, e)
   by (inr e) = omega (arith, e)
+
+-- nor what one feed gives it, in time
+short_one_is_out_of_time : SendsInTime 1 0 short_one → ⊥
+unfolding word_bits bits_down
+short_one_is_out_of_time h = let e : pulse 5 6 3 ∷ pulse 14 1 0 ∷ [] ≡ pulse 5 7 3 ∷ [] = sym six_ticks ∙ h (0xa0000000 ∷ []) (omega arith, tt) 15 in by (ap first_high e) where
+  first_high : List Pulse → ℕ
+  first_high [] = 0
+  first_high (p ∷ ps) = p.high
+
+  by : ◌≡◌ {A = ℕ} 6 7 → ⊥
+  by k = omega (arith, k)
 
 -- without the `nop`, the word after the program is `jmp 0 side 0`, and the pin is low for four ticks after the pulse of a 0
 no_nop : Setup

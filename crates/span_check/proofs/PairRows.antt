@@ -1,6 +1,6 @@
 -- Rows of spans that don't hold in a run, worked by hand: of one block beside a stimulus that disturbs it, and of two blocks, of which
 -- the second owns pin 0.
-use Rattle.std.proofs.Common.{◌≡◌, ℕ, true, false, Some, [], ◌∷◌, refl, subst, arith}
+use Rattle.std.proofs.Common.{◌≡◌, ℕ, true, false, Some, List, [], ◌∷◌, refl, subst, arith}
 use Rattle.clock_divider.specs.Ticks.{is_tick}
 use Rattle.fifo_pair.specs.Fifos.{settled}
 use Rattle.pio_encode.specs.Word.{reading_of, act_of, push_or_pull_at, delay_of, side_of, mov_at, set_at}
@@ -11,6 +11,7 @@ use Rattle.pin_matrix.specs.declared.span.SpanUnit.TheVariants.{Ticks}
 use Rattle.sm_registers.specs.Effects.{effect_of, jmp_effect, out_effect, pull_effect, set_effect, mov_effect}
 use Rattle.sm_registers.specs.State.{settled_ports}
 use Rattle.sm_registers.specs.Tick.{tick_of, tick_delay, tick_word, tick_by, after_effect}
+use Rattle.dreq_pacing.specs.declared.line.Line.{Line}
 use Rattle.dreq_pacing.specs.declared.line.LineAct.TheVariants.{Restart}
 use Rattle.dreq_pacing.specs.Ports.{due_in, transfers_after}
 use Rattle.block_core.specs.Shown.{requests_of}
@@ -21,7 +22,7 @@ use Rattle.block_core.specs.Twin.{first_twin, twin_from}
 use Rattle.block_core.specs.Slots.{acted, settled_slot}
 use Rattle.span_check.specs.Marks.{Mark, mark_of}
 use Rattle.span_check.specs.Holding.{counted, Holds}
-use Rattle.span_check.specs.Runs.{marks_over, marks_in, HoldsUpTo}
+use Rattle.span_check.specs.Runs.{marks_over, marks_in, HoldsOver, HoldsUpTo}
 use Rattle.span_check.specs.Pairs.{first_does, second_does, pair_sees, HoldsInFirst, HoldsInSecond}
 use Rattle.span_check.proofs.WorkedSetups.{plain_machine, block_of, span_of}
 
@@ -60,3 +61,18 @@ short_in_the_first = too_short (marks_over at_least_two short.memory (pair_sees 
 short_in_the_second : HoldsInSecond at_least_two 1 long short [] [] 2 → ⊥
 unfolding short long at_least_two mark_of counted hosted_at hosted_next next stepped acted settled_slot is_tick settled merged reading_of act_of push_or_pull_at delay_of side_of set_at mov_at effect_of jmp_effect out_effect pull_effect set_effect mov_effect settled_ports tick_of tick_delay tick_word tick_by after_effect due_in transfers_after requests_of hosted_twin_at hosted_twin_next twin_from
 short_in_the_second = too_short (marks_over at_least_two short.memory (pair_sees short.bypass 1 long short [] []) (second_does 1 long short [] []) (λ c. (hosted_twin_at (first_twin 1 long short) [] [] c).second.run.state)) refl refl refl refl
+
+-- The rows above stand at own = 1, so they refuse a definition that speaks of own = 0 alone. These two refuse one that leaves out any
+-- other own: each side is the other by its definition.
+
+-- whichever pins the second owns, what is said of the first is said of what its machines see and do
+in_the_first : (sp : Span) (own : ℕ) (s t : Setup) (first second : List Line) (n : ℕ) → HoldsInFirst sp own s t first second n
+    → HoldsOver sp s.memory (pair_sees s.bypass own s t first second) (first_does own s t first second)
+    (λ c. (hosted_twin_at (first_twin own s t) first second c).first.run.state) n
+in_the_first sp own s t first second n holds = holds
+
+-- and of the second
+in_the_second : (sp : Span) (own : ℕ) (s t : Setup) (first second : List Line) (n : ℕ) → HoldsInSecond sp own s t first second n
+    → HoldsOver sp t.memory (pair_sees t.bypass own s t first second) (second_does own s t first second)
+    (λ c. (hosted_twin_at (first_twin own s t) first second c).second.run.state) n
+in_the_second sp own s t first second n holds = holds
