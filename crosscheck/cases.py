@@ -448,8 +448,10 @@ def config(random):
             say("at", "7" if name == "fx" else str(at if random.random() < 0.9 else random.randrange(34)))
         at += len(CONFIG_PROGRAMS[name].words)
         spoil()
+    machines = {}
     for number in random.sample(range(4), random.randrange(5)) if names else []:
         name = random.choice(names)
+        machines[number] = sorted(CONFIG_PROGRAMS[name].labels)
         text.append("[[machine]]")
         say("id", str(number if random.random() > 0.03 else random.randrange(4)))
         say("program", f'"{name}"' if random.random() > 0.03 else '"ah"')
@@ -492,18 +494,28 @@ def config(random):
                 ),
             )
         spoil()
-    for _ in range(random.choice([0, 0, 1, 2, 3, 65 if random.random() < 0.05 else 1])):
+    for _ in range(random.choice([0, 0, 1, 2, 3, 65 if random.random() < 0.05 else 1]) if machines or random.random() < 0.2 else 0):
         text.append("[[span]]")
-        keys = span(random, noise)
+        keys = span(random, noise, machines)
         for key in random.sample(list(keys), len(keys)):
             say(key, keys[key])
     return "\n".join(text) + "\n"
 
 
-def span(random, noise):
+def labels(random, known, count, rarely):
+    """So many labels, mostly of the machine's program where it has some."""
+    known = known if known and random.random() < 0.9 else ["ag", "first", "mid"]
+    return rarely(random.choice(["true", '"ag"', "[1]"]), str([random.choice(known) for _ in range(count)]))
+
+
+def span(random, noise, machines):
+    """The keys of a span, mostly of a machine that is configured: each of these has the labels of its program."""
+
     def rarely(odd, usual):
         return odd if random.random() < noise else usual
 
+    machine = random.choice(list(machines)) if machines and random.random() < 0.9 else random.randrange(4)
+    known = machines.get(machine, [])
     keys = {
         "name": random.choice(
             [
@@ -514,7 +526,7 @@ def span(random, noise):
                 rarely(f'"{"z" * 33}"', f'"{"z" * 32}"'),
             ]
         ),
-        "machine": str(random.randrange(4)),
+        "machine": str(machine),
         "from_pin": str(random.randrange(32)),
         "to_pin": str(random.randrange(32)),
         "from_edge": rarely(random.choice(['"low"', "1"]), random.choice(['"rise"', '"fall"', '"out"', '"in"'])),
@@ -526,8 +538,17 @@ def span(random, noise):
         keys["unit"] = random.choice(['"ticks"', '"clocks"'])
     for key in ("stalls", "without"):
         if random.random() < 0.4:
-            labels = [random.choice(["ag", "first", "mid"]) for _ in range(random.choice([0, 1, 2, rarely(17, 1)]))]
-            keys[key] = rarely(random.choice(["true", '"ag"', "[1]"]), str(labels))
+            keys[key] = labels(random, known, random.choice([0, 1, 2, rarely(17, 1)]), rarely)
+    for end in ("from", "to"):
+        chance = random.random()
+        if chance < 0.3:
+            keys[f"{end}_at"] = labels(random, known, random.choice([rarely(0, 1), 1, 2, 16, rarely(17, 1)]), rarely)
+        elif chance < 0.6:
+            keys[f"{end}_done"] = labels(random, known, random.choice([rarely(0, 1), 1, 2, rarely(17, 1)]), rarely)
+            if random.random() < noise:
+                keys[f"{end}_at"] = labels(random, known, 1, rarely)
+            for key in ("pin", "edge"):
+                keys.pop(f"{end}_{key}") if random.random() < 0.95 else None
     if random.random() < 0.3:
         keys["prompt"] = rarely(random.choice(["1", '"true"', "[]"]), random.choice(["true", "false"]))
     return keys

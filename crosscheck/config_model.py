@@ -37,7 +37,9 @@ MACHINE_KEYS = {
 SPAN_NUMBERS = {"machine": 3, "from_pin": 31, "to_pin": 31, "min": 16777215, "max": 16777215}
 EDGES = ("rise", "fall", "out", "in")
 SPAN_WORDS = {"from_edge": EDGES, "to_edge": EDGES, "unit": ("ticks", "clocks")}
-SPAN_KEYS = ["name", "machine", "from_pin", "to_pin", "from_edge", "to_edge", "unit", "min", "max", "stalls", "prompt", "without"]
+EVENTS = ["from_at", "to_at", "from_done", "to_done"]
+SPAN_LABELS = ["stalls", "without", *EVENTS]
+SPAN_KEYS = ["name", "machine", "from_pin", "to_pin", "from_edge", "to_edge", "unit", "min", "max", "stalls", "prompt", "without", *EVENTS]
 PIN_KEYS = ["high", "level", "out", "bypass"]
 
 
@@ -143,10 +145,13 @@ class Reader:
         need(set(table) <= set(SPAN_KEYS), at, "C2")
         for key in SPAN_KEYS:
             where = f"{at}.{key}"
+            end, _, what = key.partition("_")
             if key not in table:
-                need(key in ("unit", "stalls", "prompt", "without"), where, "C13")
-            elif key in ("stalls", "without"):
+                is_in_its_place = what in ("pin", "edge") and f"{end}_done" in table
+                need(key in ("unit", "prompt", *SPAN_LABELS) or is_in_its_place, where, "C13")
+            elif key in SPAN_LABELS:
                 self.labels(where, table, key)
+                need(what != "done" or not {f"{end}_{it}" for it in ("pin", "edge", "at")} & set(table), where, "C14")
             elif key == "prompt":
                 need(isinstance(table[key], bool), where, "C3")
             elif key == "max" and table[key] == inf:
@@ -167,6 +172,7 @@ class Reader:
         need(are(str, labels), where, "C3")
         need(len(labels) <= 16, where, "C12")
         need(key != "stalls" or table.get("unit") != "clocks" or not labels, where, "C4")
+        need(key not in EVENTS or labels, where, "C4")
         need(all(label in self.machines[table["machine"]] for label in labels), where, "C6")
 
 

@@ -101,7 +101,7 @@ def stepped(program, files, asked):
     program.take(files)
     if ran.status != 0:
         return False
-    stepped = run_of(block, lines, clocks)
+    stepped = run_of(block, lines, clocks, spans=block.spans)
     wanted = stepped.trace().encode()
     same(ran, ran._replace(out=wanted), "the trace isn't the model's")
     told = program.call("check", *block_words(files))

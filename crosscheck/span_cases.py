@@ -3,6 +3,7 @@
 from math import inf
 
 from piotool import span_model
+from piotool.set_up import LABELS
 from cases import Run, as_tables, lines_of
 from config_model import MACHINE_KEYS
 
@@ -27,10 +28,10 @@ class Timed(Run):
         self.written = random.choice(["levels", "levels", "directions"])  # what the pulses of its programs are of
         super().__init__(random)
         self.spans = [self.span(number) for number in range(random.randrange(1, 5))]
-        self.config += as_tables(span | {key: self.labels(span, key) for key in ("stalls", "without")} for span in self.spans)
+        self.config += as_tables(span | {key: self.labels(span, key) for key in LABELS if key in span} for span in self.spans)
 
     def labels(self, span, key):
-        """The labels of a span's stalls, or of the instructions that it leaves out."""
+        """The labels of the instructions that a key of a span names."""
         return [f"l{address - self.setups[span['machine']]['at']}" for address in span[key]]
 
     def host(self):
@@ -120,15 +121,16 @@ class Timed(Run):
 
     def span(self, number):
         """A span, mostly of edges that the machine may make, with bounds that just hold, or just don't; or with any."""
-        for _ in range(1 if self.random.random() < 0.1 else 12):
-            span = self.any_span(number)
+        kinds = [self.random.choice(["edge", "edge", "at", "done"]) for _ in range(2)] if self.random.random() < 0.6 else ["edge", "edge"]
+        for _ in range(1 if self.random.random() < 0.1 else 20):
+            span = self.any_span(number, kinds)
             graph = span_model.graph_of(self.memory, self.setups, self.pins, span | {"min": 0, "max": MOST})
             if graph.tight_ages():
                 break
         return span | dict(zip(("min", "max"), self.bounds(span, graph.tight_ages() or (0, 5))))
 
-    def any_span(self, number):
-        """A span of some edges, without bounds."""
+    def any_span(self, number, kinds):
+        """A span of some events of these kinds, without bounds."""
         random = self.random
         machine = next(iter(self.setups)) if random.random() < 0.8 else random.choice(list(self.setups))
         setup = self.setups[machine]
@@ -141,15 +143,25 @@ class Timed(Run):
         return {
             "name": f"s{number}",
             "machine": machine,
-            "from_pin": from_pin,
-            "from_edge": self.edge(),
-            "to_pin": random.choice([from_pin, from_pin, random.choice(pins)]),
-            "to_edge": self.edge(),
+            **self.end("from", kinds[0], from_pin, addresses),
+            **self.end("to", kinds[1], random.choice([from_pin, from_pin, random.choice(pins)]), addresses),
             "unit": unit,
             "stalls": random.sample(addresses, min(stalls, len(addresses))),
             "prompt": random.random() < 0.3,
             "without": random.sample(addresses, min(without, len(addresses))),
         }
+
+    def end(self, end, kind, pin, addresses):
+        """The keys of an end: an edge of a pin, of all instructions or of some; or the ends of some instructions."""
+        random, count = self.random, len(addresses)
+        some = random.sample(addresses, min(count, random.choice([1, 1, 2, count])))
+        if kind == "done":
+            return {f"{end}_done": some}
+        keys = {f"{end}_pin": pin, f"{end}_edge": self.edge()}
+        if kind == "at":
+            writing = [at for at in addresses if self.memory[at] >> 13 in (3, 5, 7) and self.memory[at] >> 5 & 3 == 0]
+            keys[f"{end}_at"] = random.sample(writing, random.randrange(1, len(writing) + 1)) if writing and random.random() < 0.7 else some
+        return keys
 
     def edge(self):
         """An edge, mostly of what the pulses are of."""

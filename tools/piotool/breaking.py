@@ -61,9 +61,13 @@ class Runs:
         self.of_others = asked.of_others()
         self.steps = 0  # the clocks that were worked out singly
 
+    def run_of(self, lines: list[Line], clocks: int, most_steps: int) -> Run:
+        """A run by the model beside these lines."""
+        return run_of(self.block, lines, clocks, most_steps, self.until, spans=[self.span])
+
     def broken(self, lines: list[Line], clocks: int) -> Optional[Shown]:
         """Whether the span is broken beside these lines, in as few clocks as show it."""
-        run = run_of(self.block, lines, clocks, MOST_STEPS, self.until)
+        run = self.run_of(lines, clocks, MOST_STEPS)
         self.steps += len(run.samples)
         if not run.is_whole or (broken := broken_at(self.block, self.span, run, lines)) is None:
             return None
@@ -87,7 +91,7 @@ class Runs:
         addresses = addresses_round(self.block, lines, self.span["machine"], first, second, MOST_STEPS, self.until)
         if addresses is None:
             return None
-        run = run_of(self.block, lines, second, MOST_STEPS, self.until)
+        run = self.run_of(lines, second, MOST_STEPS)
         one, other = (open_at(self.block, self.span, cut(run, clocks)) for clocks in (first, second))
         if one is None or other is None or one.begin != other.begin or one.count >= other.count:
             return None
@@ -98,7 +102,7 @@ class Runs:
 
         What is written by machines that don't matter isn't compared, and in long runs these are left out.
         """
-        run = run_of(self.block, shown.lines, shown.clocks, 2 * MOST_STEPS, self.until)
+        run = self.run_of(shown.lines, shown.clocks, 2 * MOST_STEPS)
         if not run.is_whole or not shown.loop and broken_at(self.block, self.span, run, shown.lines) is None:
             return False
         with tempfile.TemporaryDirectory() as folder:
@@ -113,7 +117,7 @@ class Runs:
 
 def cut(run: Run, clocks: int) -> Run:
     """The first clocks of a run."""
-    return Run(clocks, [it for it in run.samples if it[0] < clocks], run.ticks, run.stands)
+    return Run(clocks, [it for it in run.samples if it[0] < clocks], run.ticks, run.stands, acts=run.acts, watched=run.watched)
 
 
 def answer_of(source: str | Path, block: SetUp, span: dict[str, Any], seconds: float, is_guided: bool = True) -> Answer:

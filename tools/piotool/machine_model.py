@@ -71,6 +71,7 @@ class Machine:
         self.pending: Optional[int] = setup["pending"]
         self.delay = self.sticky = self.got = self.restarted = 0
         self.begun, self.enabled = False, True
+        self.watched: frozenset[int] = frozenset()  # addresses of instructions of which each end is looked at: none is leapt over
         self.has_turned = False  # whether the last instruction was a turn of a counted loop of one instruction
         self.tx: list[int] = []
         self.rx: list[int] = []

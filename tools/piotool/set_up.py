@@ -18,6 +18,7 @@ MACHINE = {
     "osr_count": 32, "pending": None,
 }  # fmt: skip
 PINS = ("high", "level", "out", "bypass")
+LABELS = ("stalls", "without", "from_at", "to_at", "from_done", "to_done")  # the keys of a span that are labels
 
 
 @dataclass
@@ -36,7 +37,7 @@ class Program:
 class SetUp:
     """A block as it is set up: memory, the machines' setups by number, pins as words; labels, lines and spans for who reads them.
 
-    A span has the keys of its table, and the addresses of its stalls and of the labels in `without`.
+    A span has the keys of its table, with addresses in the place of labels.
     """
 
     def __init__(self, programs: dict[str, Program], tables: Tables) -> None:
@@ -87,7 +88,7 @@ class SetUp:
     def span(self, table: Tables) -> Tables:
         """A span as the models take it, of its table."""
         addresses = self.addresses(table["machine"])
-        named = {key: [addresses[name] for name in table.get(key, [])] for key in ("stalls", "without")}
+        named = {key: [addresses[name] for name in table.get(key, [])] for key in LABELS}
         return {"unit": "ticks", "prompt": False} | table | named
 
     @property

@@ -7,7 +7,7 @@ greatest is that of a longest one: without bound at and after a loop on which a 
 a tick, and else found in the order of the nodes. It proves nothing.
 
 A setup has the keys of a configuration and the places of its program: start, wrap_bottom, wrap_top, side_bits, side_opt,
-side_pindirs. A span has the keys of a configuration; stalls and without are addresses. The pins of a block are words: level and out.
+side_pindirs. A span has the keys of a configuration; its labels are addresses. The pins of a block are words: level and out.
 
 A pin has two *wires*, as a trace names them: `p5` is the level that pin 5 is driven to, and `d5` its direction.
 """
@@ -29,6 +29,7 @@ OUT_EXEC, MOV_EXEC = 7, 4
 # Each edge with the letter of its wire and the bit after it.
 EDGES = {"rise": ("p", 1), "fall": ("p", 0), "out": ("d", 1), "in": ("d", 0)}
 Wires = dict[str, int]  # a bit by wire
+EVENTS = ("from_at", "to_at", "from_done", "to_done")  # the keys of a span that name instructions of its events
 
 
 @dataclass(frozen=True)
@@ -157,14 +158,44 @@ def wires(letter: str, pins: list[int]) -> list[str]:
     return [f"{letter}{pin}" for pin in pins]
 
 
-def wire_of(span: Span, end: str) -> str:
-    """The wire of a span's from-edge, or of its to-edge."""
-    return EDGES[span[f"{end}_edge"]][0] + str(span[f"{end}_pin"])
+@dataclass(frozen=True)
+class End:
+    """The event at an end of a span: an edge of a wire, the bit after which it has; or, without a wire, the end of an instruction.
+
+    Where addresses are given, only the instructions there make it.
+    """
+
+    wire: Optional[str]
+    bit: int = 0
+    addresses: Optional[frozenset[int]] = None
+
+    def is_made_at(self, address: Optional[int]) -> bool:
+        """Whether the instruction at an address may make it."""
+        return self.addresses is None or address in self.addresses
 
 
-def bit_of(pins: Pins, wire: str) -> int:
-    """The bit of a wire at the start."""
-    return pins["level" if wire[0] == "p" else "out"] >> int(wire[1:]) & 1
+def end_of(span: Span, end: str) -> End:
+    """The from-event of a span, or its to-event."""
+    if done := span.get(f"{end}_done"):
+        return End(None, addresses=frozenset(done))
+    letter, bit = EDGES[span[f"{end}_edge"]]
+    at = span.get(f"{end}_at")
+    return End(f"{letter}{span[f'{end}_pin']}", bit, frozenset(at) if at else None)
+
+
+def wire_of(span: Span, end: str) -> Optional[str]:
+    """The wire of a span's from-edge, or of its to-edge; none where the event is the end of an instruction."""
+    return end_of(span, end).wire
+
+
+def wires_of(span: Span) -> list[str]:
+    """The wires of a span's edges, each once."""
+    return [wire for wire in dict.fromkeys((wire_of(span, "from"), wire_of(span, "to"))) if wire]
+
+
+def bit_of(pins: Pins, wire: Optional[str]) -> int:
+    """The bit of a wire at the start; 0 where there is no wire."""
+    return pins["level" if wire[0] == "p" else "out"] >> int(wire[1:]) & 1 if wire else 0
 
 
 class Machine:
@@ -172,10 +203,11 @@ class Machine:
 
     def __init__(self, memory: list[int], setup: Setup, span: Span) -> None:
         self.memory, self.setup = memory, setup
-        self.wires = wire_of(span, "from"), wire_of(span, "to")
-        self.wanted = tuple(EDGES[span[edge]][1] for edge in ("from_edge", "to_edge"))
+        self.ends = end_of(span, "from"), end_of(span, "to")
+        self.wires = tuple(it.wire for it in self.ends)
         self.stalls, self.without = set(span["stalls"]), set(span.get("without", []))
         self.is_prompt = span.get("prompt", False)
+        self.paths: dict[int, tuple[list[list[Wires]], int]] = {}
 
     def start(self, pins: Pins) -> Context:
         """The first context, from the pins at the start."""
@@ -190,27 +222,40 @@ class Machine:
     def courses(self, context: Context) -> list[Course]:
         """The courses of the instruction at a context."""
         word = self.memory[context.address]
-        side, delay = self.side_and_delay(word)
-        courses = []
-        for write in self.writes(word):
-            for x, y, address in self.after(word, context):
-                paths = [[({**write, **side}, False)]]
-                if self.may_wait(word):
-                    paths.append([(side, False), (write, True)])
-                courses += [self.course(context, path + [({}, False)] * delay, x, y, address) for path in paths]
+        paths, delay = self.paths_of(word)
+        ways_on = self.after(word, context)
+        courses = [self.course(context, path, delay, *way_on) for path in paths for way_on in ways_on]
         return list(dict.fromkeys(courses))
 
+    def paths_of(self, word: int) -> tuple[list[list[Wires]], int]:
+        """What a word may write in its first tick and, where it may wait, in a late one; and the ticks of its delay."""
+        if word not in self.paths:
+            side, delay = self.side_and_delay(word)
+            paths = [path for write in self.writes(word) for path in ([{**write, **side}], [side, write])[: 1 + self.may_wait(word)]]
+            self.paths[word] = paths, delay
+        return self.paths[word]
+
     def course(
-        self, context: Context, writes: list[tuple[Wires, bool]], x: Optional[int], y: Optional[int], address: Optional[int]
+        self, context: Context, writes: list[Wires], delay: int, x: Optional[int], y: Optional[int], address: Optional[int]
     ) -> Course:
-        """The course of these writes, tick by tick."""
-        levels, ticks = (context.from_level, context.to_level), []
-        for place, (write, is_late) in enumerate(writes):
-            after = tuple(write.get(wire, level) for wire, level in zip(self.wires, levels))
-            edges = (old != new == wanted for old, new, wanted in zip(levels, after, self.wanted))
-            ticks.append(Tick(after, *edges, is_late, self.excuses(context.address, place, is_late)))
+        """The course of these writes, tick by tick, of which all but the first are late; the ticks of a delay write nothing.
+
+        The instruction finishes in the last tick that isn't one of the delay.
+        """
+        at, levels, ticks = context.address, (context.from_level, context.to_level), []
+        for place, write in enumerate(writes):
+            after = tuple(level if wire is None else write.get(wire, level) for wire, level in zip(self.wires, levels))
+            is_last, is_late = place == len(writes) - 1, place > 0
+            begins, ends = (self.has(end, at, is_last, *bits) for end, bits in zip(self.ends, zip(levels, after)))
+            ticks.append(Tick(after, begins, ends, is_late, self.excuses(at, place, is_late)))
             levels = after
+        ticks += [Tick(levels, False, False)] * delay
         return Course(context, tuple(ticks), None if address is None else Context(address, x, y, *levels))
+
+    def has(self, end: End, address: int, finishes: bool, old: int, new: int) -> bool:
+        """Whether a tick of the instruction at an address, which may finish it, has an event: its wire has these bits around it."""
+        happens = finishes if end.wire is None else old != new == end.bit
+        return happens and end.is_made_at(address)
 
     def side_and_delay(self, word: int) -> tuple[Wires, int]:
         """What side-set writes, by wire, and the ticks of the delay."""
@@ -231,7 +276,7 @@ class Machine:
             return [{wire: word >> place & 1 for place, wire in enumerate(wires(letter, pins))}]
         if not letter or not (kind == OUT or kind == MOV and high == TO_PINS and is_move(word)):
             return [{}]
-        free = sorted(set(self.wires) & set(wires(letter, mapping(self.setup["out_base"], self.setup["out_count"]))))
+        free = sorted({wire for wire in self.wires if wire} & set(wires(letter, mapping(self.setup["out_base"], self.setup["out_count"]))))
         return [{wire: number >> place & 1 for place, wire in enumerate(free)} for number in range(1 << len(free))]
 
     def may_wait(self, word: int) -> bool:
@@ -426,7 +471,7 @@ class Graph:
 
 def all_sharing(setups: dict[int, Setup], span: Span) -> list[int]:
     """The other machines whose mappings hold a wire of the span, in order."""
-    own = {wire_of(span, "from"), wire_of(span, "to")}
+    own = set(wires_of(span))
     return [number for number in sorted(setups) if number != span["machine"] and held(setups[number]) & own]
 
 
@@ -443,8 +488,9 @@ def graph_of(memory: list[int], setups: dict[int, Setup], pins: Pins, span: Span
 
 def says_closes(span: Span) -> bool:
     """Whether the line of a proved span says whether it closes, by what the span's keys say."""
-    has_direction = "d" in (EDGES[span["from_edge"]][0], EDGES[span["to_edge"]][0])
-    return bool(span["max"] == inf or has_direction or span.get("prompt") or span.get("without"))
+    has_direction = any(wire[0] == "d" for wire in wires_of(span))
+    says_labels = any(span.get(key) for key in ("without", *EVENTS))
+    return bool(span["max"] == inf or has_direction or span.get("prompt") or says_labels)
 
 
 def verdict(memory: list[int], setups: dict[int, Setup], pins: Pins, span: Span) -> str:

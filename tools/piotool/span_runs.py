@@ -8,13 +8,13 @@ from bisect import bisect_right
 from dataclasses import dataclass, field
 from math import inf
 from time import process_time
-from typing import Any, Iterator, Optional
+from typing import Any, Iterator, Optional, Sequence
 
 from piotool import trace_text
 from piotool.block_model import Block, Line, System, TickLog
 from piotool.machine_model import Machine, period_of
 from piotool.set_up import SetUp
-from piotool.span_model import EDGES, bit_of, wire_of
+from piotool.span_model import bit_of, end_of
 from piotool.turns import Turns
 
 
@@ -32,6 +32,14 @@ class Stand:
         if self.has_begun:
             return bool(span.get("prompt")) and self.address not in span["stalls"]
         return self.address in span.get("without", [])
+
+
+@dataclass(frozen=True)
+class Act:
+    """A tick of an instruction in memory, its first one or a late one: its address, and whether it finishes."""
+
+    address: int
+    finishes: bool
 
 
 @dataclass(frozen=True)
@@ -53,15 +61,29 @@ class Run:
     is_whole: bool = True
     marks: list["Mark"] = field(default_factory=list)
     places: list[tuple[int, dict[int, int]]] = field(default_factory=list)  # the address of each machine, where marks are asked
+    acts: dict[int, dict[int, "Act"]] = field(default_factory=dict)  # what each machine did, by clock
+    watched: dict[int, set[int]] = field(default_factory=dict)  # the addresses of each machine whose ends no leap went over
 
     def trace(self) -> str:
         """The value-change text."""
         return trace_text.sparse_trace(self.samples, self.clocks)
 
-    def edges(self, pins: dict[str, int], span: dict[str, Any], end: str) -> list[int]:
-        """The clocks of a span's from-edges, or of its to-edges; what is before clock 0 is that of the setup."""
-        wire, wanted = wire_of(span, end), EDGES[span[f"{end}_edge"]][1]
-        found, before, place = [], bit_of(pins, wire), int(wire[1:]) + 32 * (wire[0] == "d")
+    def events(self, pins: dict[str, int], span: dict[str, Any], end: str) -> list[int]:
+        """The clocks of a span's from-events, or of its to-events."""
+        event, acts = end_of(span, end), self.acts.get(span["machine"], {})
+        if event.wire is None:
+            named = event.addresses or frozenset()
+            if not named <= self.watched.get(span["machine"], set()):
+                raise ValueError("a run that wasn't asked for this span")
+            return [clock for clock, act in acts.items() if act.finishes and act.address in named and clock < self.clocks]
+        found = self.edges(event.wire, bit_of(pins, event.wire), event.bit)
+        if event.addresses is None:
+            return found
+        return [clock for clock in found if clock in acts and acts[clock].address in event.addresses]
+
+    def edges(self, wire: str, before: int, wanted: int) -> list[int]:
+        """The clocks in which a wire comes to have a bit; before clock 0 it has the one of the setup."""
+        found, place = [], int(wire[1:]) + 32 * (wire[0] == "d")
         for clock, values in self.samples:
             if values[place] != before:
                 before = values[place]
@@ -88,7 +110,7 @@ class Excused:
 
 @dataclass(frozen=True)
 class Broken:
-    """How a run breaks a span: the from-edge, the to-edge or none, the last clock that counts, the count, and the bad wait."""
+    """How a run breaks a span: the clocks of the from-event and of the to-event or none, the last clock that counts, the count, and the bad wait."""
 
     begin: int
     end: Optional[int]
@@ -102,9 +124,15 @@ class Broken:
 
 
 def run_of(
-    block: SetUp, lines: list[Line], clocks: int, most_steps: float = inf, until: float = inf, marks: tuple[int, ...] = ()
+    block: SetUp,
+    lines: list[Line],
+    clocks: int,
+    most_steps: float = inf,
+    until: float = inf,
+    marks: tuple[int, ...] = (),
+    spans: Sequence[dict[str, Any]] = (),
 ) -> Run:
-    """A run, with the states at the start of the clocks that are marked.
+    """A run in which the events of these spans can be looked for, with the states at the start of the clocks that are marked.
 
     Where more clocks than the most have to be worked out singly, or a time is over, it isn't whole.
     """
@@ -112,6 +140,9 @@ def run_of(
     own = sorted({line[0] for line in lines} | set(marks))
     samples: list[tuple[int, list[int]]] = []
     found = Run(clocks, samples, stepped.ticks, {number: [] for number in stepped.machines})
+    for number, machine in stepped.machines.items():
+        found.acts[number], found.watched[number] = {}, ended_in(spans, number)
+        machine.watched = frozenset(found.watched[number])
     before = last = pads_of(stepped)  # the pads of two clocks ago, and of the one before
     turns = Turns(stepped, own)
     clock = steps = 0
@@ -129,7 +160,11 @@ def run_of(
             note_stand(found.stands[number], machine, stepped.ticks[number], clock, clock)
         stepped.begin(clock)
         now = pads_of(stepped)
+        stood = [(number, it.pc) for number, it in stepped.machines.items() if it.pending is None and not it.delay]
         samples.append((clock, stepped.step(clock, before, now)))
+        for number, address in stood:
+            if (log := stepped.ticks[number]).lasts and log.lasts[-1] == clock:
+                found.acts[number][clock] = Act(address, not stepped.machines[number].begun)
         after = int(min(clocks, next_clock(stepped, own, clock)))
         for number, machine in stepped.machines.items() if after > clock + 1 else ():
             note_stand(found.stands[number], machine, stepped.ticks[number], clock + 1, after - 1)
@@ -139,6 +174,11 @@ def run_of(
         last = now if after == clock + 1 else settled
         clock = after if marks else turns.leap(after, (before, last), samples[-1][1], clocks)
     return found
+
+
+def ended_in(spans: Sequence[dict[str, Any]], number: int) -> set[int]:
+    """The addresses of a machine whose instructions' ends are events of spans."""
+    return {at for it in spans if it["machine"] == number for key in ("from_done", "to_done") for at in it.get(key, [])}
 
 
 def note_stand(stands: list[Stand], machine: Machine, log: TickLog, first: int, last: int) -> None:
@@ -207,7 +247,7 @@ def next_move(block: Block, machine: Machine, log: TickLog, clock: int) -> float
 
 def turns_of(block: Block, machine: Machine) -> tuple[int, int]:
     """How many turns of a counted loop of one instruction a machine has before it, where it is in one, and the ticks of each."""
-    if not machine.has_turned or machine.begun:
+    if not machine.has_turned or machine.begun or machine.pc in machine.watched:
         return 0, 1
     word = block.memory[machine.pc]
     if word >> 13 or word >> 5 & 7 not in (2, 4) or word & 31 != machine.pc:
@@ -237,7 +277,7 @@ def broken_at(block: SetUp, span: dict[str, Any], run: Run, lines: list[Line]) -
 
     Of a from-edge after which the span is excused, nothing is said (`prompt`, `without`).
     """
-    begins, ends = (run.edges(block.pins, span, it) for it in ("from", "to"))
+    begins, ends = (run.events(block.pins, span, it) for it in ("from", "to"))
     excused = run.excused(span)
     disturbed = [clock for clock, word, numbers in lines if word in ("disable", "restart") and numbers[0] == span["machine"]]
     for begin in begins:
@@ -255,7 +295,7 @@ def broken_at(block: SetUp, span: dict[str, Any], run: Run, lines: list[Line]) -
 
 def open_at(block: SetUp, span: dict[str, Any], run: Run) -> Optional[Broken]:
     """The oldest from-edge that no to-edge has ended at the end of a run, and of which something is said; with its count, or none."""
-    begins, ends = (run.edges(block.pins, span, it) for it in ("from", "to"))
+    begins, ends = (run.events(block.pins, span, it) for it in ("from", "to"))
     open_ones, excused = (it for it in begins if not ends or it >= ends[-1]), run.excused(span)
     begin = next((it for it in open_ones if not excused.within(it, run.clocks - 1)), None)
     if begin is None:

@@ -45,7 +45,8 @@ class Turns:
         for number, it in self.block.machines.items():
             self.before[number] = it.pc, it.x, it.y
             if not it.delay:
-                self.words[number].append(self.block.memory[it.pc] if it.pending is None else -1)
+                is_plain = it.pending is None and it.pc not in it.watched
+                self.words[number].append(self.block.memory[it.pc] if is_plain else -1)
 
     def leap(self, clock: int, pads: tuple[int, int], values: list[int], clocks: int) -> int:
         """The clock after the turns that go on from the start of this one as the last one did; before it the values were these."""
@@ -115,7 +116,7 @@ class Turns:
 
 
 def leaves(word: int, is_x: bool) -> bool:
-    """Whether a word looks at X by `jmp x--` alone and doesn't write it else (or Y, by `jmp y--`). A word of data is -1."""
+    """Whether a word looks at X by `jmp x--` alone and doesn't write it else (or Y, by `jmp y--`). A word of data is -1, as is one that is watched."""
     kind, high, low, counter = word >> 13, word >> 5 & 7, word & 31, X if is_x else Y
     if kind == JMP:
         return high not in ((1, 5) if is_x else (3, 5))
