@@ -1,4 +1,4 @@
-//! A span between two edges of pins, with its bounds.
+//! A span between two events, edges of pins or ends of instructions, with its bounds.
 ghost use Rattle.std.specs.Prelude.{◌≡◌, ◌<◌, ◌≤◌, ◌||◌, ◌==◌, ◌^◌, length, IsTrue};
 ghost use Rattle.std.specs.Option.{ForSome};
 ghost use Rattle.pin_matrix.specs.Spans as spec;
@@ -102,22 +102,24 @@ fn are_addresses(bytes: &[u8]) -> bool
     bytes.iter().all(|byte| *byte < 32)
 }
 
-/// From each from-edge to the first to-edge after it, so much time is asked.
+/// From each from-event to the first to-event after it, so much time is asked.
 #[derive(Drop)]
 pub struct Span {
     /// 1 to 32 letters, digits, `_` or `-`.
     pub name: Name,
     /// The machine whose ticks count: 0 to 3.
     pub machine: u8,
-    /// 0 to 31.
+    /// 0 to 31; 0 where no signal is watched.
     pub from_pin: u8,
-    pub from_signal: PinSignal,
+    /// What of the pin changes. `None`: the from-event is no edge but the end of an instruction at one of `from_at`.
+    pub from_signal: Option<PinSignal>,
     /// A rise of the level, or the direction becomes out; else a fall, or it becomes in.
     pub from_rise: bool,
-    /// 0 to 31.
+    /// As of the from-event.
     pub to_pin: u8,
-    pub to_signal: PinSignal,
-    /// As of the from-edge.
+    /// As of the from-event, with `to_at`.
+    pub to_signal: Option<PinSignal>,
+    /// As of the from-event.
     pub to_rise: bool,
     pub unit: SpanUnit,
     /// The least that is right: up to 16,777,215, and at most `max` where there is one.
@@ -130,6 +132,10 @@ pub struct Span {
     pub prompt: bool,
     /// Nothing is said of a from-edge after which the machine comes to one of these.
     pub without: Addresses,
+    /// Of an edge, the instructions that may make it, any where none is named. Else the instructions whose end it is.
+    pub from_at: Addresses,
+    /// As of the from-event.
+    pub to_at: Addresses,
     pub ghost named: { IsTrue (is_span_name name) },
     pub ghost machine_in_block: { machine < 4 },
     pub ghost from_pin_is_a_pin: { from_pin < 32 },
