@@ -38,6 +38,7 @@ AT = {
     "C11": ("toml", 7, 12),  # 1
     "C12": ("toml", 65, 1),  # the 65th [[span]]
     "C13": ("toml", 1, 1),  # [[machine]]
+    "C14": ("toml", 10, 13),  # ["go"]
     "T1": ("stimulus", 1, 3),  # disable
     "T2": ("stimulus", 1, 7),  # 32
     "T3": ("stimulus", 2, 1),  # the clock

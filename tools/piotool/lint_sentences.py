@@ -42,6 +42,7 @@ SENTENCES = {
     "C11": "a divider of 0 means 65536, and has no fraction",
     "C12": "{limit}",
     "C13": "the key {key} is missing",
+    "C14": "{key} has neither a pin nor an edge nor instructions that make one beside it",
     # The stimulus.
     "T1": "no line of this form, {value}",
     "T2": "{value} is out of its range; {limit}",

@@ -1,9 +1,9 @@
 -- What holds of each element that is read holds of all of them.
-use Rattle.std.proofs.Common.{◌≡◌, ℕ, ◌+◌, ◌++◌, cond, Bool, true, false, Option, Some, None, Result, Ok, Err, List, [], ◌∷◌, subst}
+use Rattle.std.proofs.Common.{◌≡◌, ℕ, ◌+◌, ◌++◌, length, length-append, cond, Bool, true, false, Option, Some, None, Result, Ok, Err, List, [], ◌∷◌, subst, arith}
 use Rattle.std.specs.List.{find, AllByRecursion}
 use Rattle.toml.specs.Data.{Data, Items, no_items, item, Members}
 use Rattle.block_config.specs.Answer.{ConfigRefusal}
-use Rattle.block_config.specs.Arrays.{gather}
+use Rattle.block_config.specs.Arrays.{count_items, gather}
 use Rattle.block_config.specs.Tables.{in_section, section_at, element_of, are_known}
 use Rattle.block_config.specs.declared.fault.ConfigKind.TheVariants.{UnknownKey}
 use Rattle.block_config.specs.declared.path.Section.{Section}
@@ -20,6 +20,16 @@ gather_keeps P read reads no_items place front all h e = let same : front ≡ al
 gather_keeps P read reads (item d rest) place front all h e =
     let next = goes_on (read place front d) (λ x. gather read (place + 1) (front ++ x ∷ []) rest) all e in
     gather_keeps P read reads rest (place + 1) (front ++ next.value ∷ []) all (all_more P front next.value h (reads place front d next.value h next.found)) next.rest
+
+-- one thing is gathered of each element
+pub gathered_count : {X E : Type 0} (read : ℕ → List X → Data → Result X E) (items : Items) (place : ℕ) (front all : List X) → gather read place front items ≡ Ok all → length all ≡ length front + count_items items
+unfolding gather
+gathered_count read no_items place front all e = let same : front ≡ all = cc in subst (λ (xs : List X). length xs ≡ length front + 0) same (omega arith)
+gathered_count read (item d rest) place front all e =
+    let next = goes_on (read place front d) (λ x. gather read (place + 1) (front ++ x ∷ []) rest) all e in
+    let later = gathered_count read rest (place + 1) (front ++ next.value ∷ []) all next.rest in
+    let one = length-append front (next.value ∷ []) in
+    omega (arith, later, one)
 
 found_first : {X : Type 0} (P : X → Type 0) (b : Bool) (x y : X) (rest : Option X) → P y → (rest ≡ Some x → P x) → cond b (Some y) rest ≡ Some x → P x
 found_first P true x y rest here later e = let same : y ≡ x = cc in subst P same here

@@ -1,26 +1,27 @@
 -- The spans of a configuration are in the ranges that their type keeps.
-use Rattle.std.proofs.Common.{◌≡◌, ℕ, ◌<◌, ◌≤◌, ◌^◌, ◌==◌, ◌||◌, cond, nat_le, Bool, true, false, Option, Some, None, is_some, Result, Ok, Err, List, [], length, slice_index, slice_index_or, refl, ap, ◌∙◌, subst, codes, arith}
+use Rattle.std.proofs.Common.{◌≡◌, ℕ, zero, suc, ◌<◌, ◌≤◌, ◌^◌, ◌==◌, ◌||◌, ◌&&◌, cond, nat_le, Bool, true, false, Option, Some, None, is_some, Result, Ok, Err, List, [], length, slice_index_or, refl, ap, ◌∙◌, subst, codes, arith}
 use Rattle.std.specs.List.{AllByRecursion}
 use Rattle.std.specs.Option.{ForSome}
 use Rattle.pin_matrix.proofs.Greatest.{of_some, of_none}
-use Rattle.std.proofs.lemmas.Bool.{ltb-false, eqb-true}
-use Rattle.toml.specs.Data.{Data, Items, no_items, item, Members, as_array, as_float, as_integer, as_str, as_table, get_member}
+use Rattle.std.proofs.lemmas.Bool.{ltb-false, leb-true}
+use Rattle.toml.specs.Data.{Data, Items, Members, as_array, as_float, as_integer, as_str, as_table, get_member}
 use Rattle.pin_matrix.specs.declared.span.SpanUnit.{SpanUnit}
+use Rattle.pin_matrix.specs.declared.span.SpanUnit.TheVariants.{Ticks, Clocks}
 use Rattle.pin_matrix.specs.Spans.{is_in_ticks, is_span_name}
 use Rattle.block_config.specs.Answer.{ConfigRefusal}
-use Rattle.block_config.specs.Arrays.{count_items, all_items, gather}
+use Rattle.block_config.specs.Arrays.{count_items, all_items}
 use Rattle.setup_keys.specs.Block.{MachineKeys, SpanKeys}
 use Rattle.block_config.specs.declared.edges.Edge.{Edge}
 use Rattle.block_config.specs.declared.fault.ConfigKind.{ConfigKind}
 use Rattle.block_config.specs.declared.fault.ConfigKind.TheVariants.{Many, WrongType, Range}
 use Rattle.block_config.specs.declared.path.Section.TheVariants.{Span}
 use Rattle.block_config.specs.Programs.{Loaded}
-use Rattle.block_config.specs.Spans.{span_names, required, name_of, name_at, configured, machine_at, span_pins, edge_at, SpanEnds, ends_at, unit_at, least_at, is_endless, most_of, most_at, Bounds, is_under, ordered, bounds_at, load_of_machine, label_addresses, labels_in, labels_of, stalls_at, prompt_key, without_at, Exempt, exempt_at, SpanValues, values_at, span_keys_of, span_of_table, span_in, all_spans}
-use Rattle.block_config.specs.Tables.{and_then, number_at, flag_at, each_at}
+use Rattle.block_config.specs.Spans.{span_names, required, name_of, name_at, configured, machine_at, EventNames, from_names, to_names, pin_of, pin_at, edge_at, SpanEnds, ends_at, unit_at, least_at, is_endless, most_of, most_at, Bounds, is_under, ordered, bounds_at, load_of_span, label_of_element, label_addresses, labels_in, labels_of, most_stalls, stalls_at, prompt_key, without_at, Exempt, exempt_at, Events, events_at, SpanValues, values_at, span_keys_of, span_of_table, span_in, all_spans}
+use Rattle.block_config.specs.Tables.{and_then, has_key, number_at, flag_at}
 use Rattle.block_config.specs.Values.{map_ok, number_in, text_of}
 use Rattle.setup_keys.specs.InRange.{IsSpan}
-use Rattle.block_config.proofs.Gathered.{gather_keeps, read_table}
-use Rattle.block_config.proofs.Ranges.{goes_on, in_read, off_key, ok_same, number_within, all_within, all_defaulted}
+use Rattle.block_config.proofs.Gathered.{gather_keeps, gathered_count, read_table}
+use Rattle.block_config.proofs.Ranges.{goes_on, in_read, off_key, ok_same, number_within}
 
 record AreEnds (e : SpanEnds) : Type 0 where
   machine : e.machine < 4
@@ -57,22 +58,30 @@ machine_within machines t id e =
     let high : read.value ≤ 3 = within.1 in
     omega arith
 
-ends_read : (machines : List (Option MachineKeys)) (t : Members) (ends : SpanEnds) (machine : Result ℕ ConfigRefusal) (pins : Result (List ℕ) ConfigRefusal) (from to : Result Edge ConfigRefusal)
-    → machine_at machines t ≡ machine → each_at (number_at t) span_pins ≡ pins
-    → and_then machine (λ machine. and_then pins (λ pins. and_then from (λ from_edge. and_then to (λ to_edge.
-    Ok (record { machine = machine; from_pin = slice_index pins 0; to_pin = slice_index pins 1; from_edge = from_edge; to_edge = to_edge }))))) ≡ Ok ends
+pin_read : (done : Bool) (o : Option Data) (pin : ℕ) → pin_of done o ≡ Ok pin → pin < 32
+pin_read true None pin e = let same : 0 ≡ pin = ok_same 0 pin e in omega arith
+pin_read false None pin e = cc
+pin_read done (Some d) pin e = let high = (in_read 0 31 (as_integer d) pin e).1 in omega (arith, high)
+
+pin_within : (n : EventNames) (t : Members) (pin : ℕ) → pin_at n t ≡ Ok pin → pin < 32
+pin_within n t pin e = pin_read (has_key n.done t) (get_member n.pin t) pin (off_key n.pin _ pin e)
+
+ends_read : (machines : List (Option MachineKeys)) (t : Members) (ends : SpanEnds) (machine from_pin to_pin : Result ℕ ConfigRefusal) (from to : Result Edge ConfigRefusal)
+    → machine_at machines t ≡ machine → pin_at from_names t ≡ from_pin → pin_at to_names t ≡ to_pin
+    → and_then machine (λ machine. and_then from_pin (λ from_pin. and_then to_pin (λ to_pin. and_then from (λ from_edge. and_then to (λ to_edge.
+    Ok (record { machine = machine; from_pin = from_pin; to_pin = to_pin; from_edge = from_edge; to_edge = to_edge })))))) ≡ Ok ends
     → AreEnds ends
-ends_read machines t ends (Ok machine) (Ok pins) (Ok from) (Ok to) m p e =
-    let w = all_within t span_pins pins [] 0 (all_defaulted span_pins refl) refl p in
-    subst AreEnds (ok_same (record { machine = machine; from_pin = slice_index pins 0; to_pin = slice_index pins 1; from_edge = from; to_edge = to }) ends e)
-    (record { machine = machine_within machines t machine m; from_pin = omega (arith, w.1); to_pin = omega (arith, w.2.1) })
-ends_read machines t ends (Err r) pins from to m p e = cc
-ends_read machines t ends (Ok machine) (Err r) from to m p e = cc
-ends_read machines t ends (Ok machine) (Ok pins) (Err r) to m p e = cc
-ends_read machines t ends (Ok machine) (Ok pins) (Ok from) (Err r) m p e = cc
+ends_read machines t ends (Ok machine) (Ok a) (Ok b) (Ok from) (Ok to) m p q e =
+    subst AreEnds (ok_same (record { machine = machine; from_pin = a; to_pin = b; from_edge = from; to_edge = to }) ends e)
+    (record { machine = machine_within machines t machine m; from_pin = pin_within from_names t a p; to_pin = pin_within to_names t b q })
+ends_read machines t ends (Err r) a b from to m p q e = cc
+ends_read machines t ends (Ok machine) (Err r) b from to m p q e = cc
+ends_read machines t ends (Ok machine) (Ok a) (Err r) from to m p q e = cc
+ends_read machines t ends (Ok machine) (Ok a) (Ok b) (Err r) to m p q e = cc
+ends_read machines t ends (Ok machine) (Ok a) (Ok b) (Ok from) (Err r) m p q e = cc
 
 are_ends : (machines : List (Option MachineKeys)) (t : Members) (ends : SpanEnds) → ends_at machines t ≡ Ok ends → AreEnds ends
-are_ends machines t ends e = ends_read machines t ends (machine_at machines t) (each_at (number_at t) span_pins) (edge_at t (codes "from_edge")) (edge_at t (codes "to_edge")) refl refl e
+are_ends machines t ends e = ends_read machines t ends (machine_at machines t) (pin_at from_names t) (pin_at to_names t) (edge_at from_names t) (edge_at to_names t) refl refl refl e
 
 -- a greatest bound that was read is in range
 number_most : (r : Result ℕ ConfigKind) (most : ℕ) → map_ok (λ (n : ℕ). let o : Option ℕ = Some n in o) r ≡ Ok (Some most) → r ≡ Ok most
@@ -110,48 +119,46 @@ are_ordered t bounds e =
     ordered_tested (record { unit = unit.value; least = least.value; most = most.value }) bounds _ _ refl most.rest low.1 high
 
 -- stalls are in a span in ticks alone
-abbrev AreInTicks : SpanUnit → List ℕ → Type 0
-AreInTicks unit stalls = (is_in_ticks unit || length stalls == 0) ≡ true
+abbrev AreInTicks : SpanUnit → ℕ → Type 0
+AreInTicks unit stalls = (is_in_ticks unit || stalls == 0) ≡ true
 
-none_in_ticks : (ticks : Bool) → (ticks || true) ≡ true
-none_in_ticks true = refl
-none_in_ticks false = refl
+pub few_in_ticks : (unit : SpanUnit) (stalls : ℕ) → stalls ≤ most_stalls unit → AreInTicks unit stalls
+few_in_ticks Ticks stalls few = refl
+few_in_ticks Clocks zero few = refl
+few_in_ticks Clocks (suc stalls) few = absurd (omega (arith, few))
 
-no_addresses : (load : Option Loaded) (ds : Items) (stalls : List ℕ) → count_items ds ≡ 0 → label_addresses load ds ≡ Ok stalls → [] ≡ stalls
-unfolding gather
-no_addresses load no_items stalls none e = ok_same [] stalls e
-no_addresses load (item d ds) stalls none e = absurd (omega arith)
+-- there are no more labels than there may be
+counted_few : (most : ℕ) (load : Option Loaded) (ds : Items) (labels : List ℕ) (a b : Bool) → nat_le (count_items ds) most ≡ b → cond (a && b) (label_addresses load ds) (Err Range) ≡ Ok labels → length labels ≤ most
+counted_few most load ds labels true true is e =
+    let same = gathered_count (λ place front d. label_of_element load (as_str d)) ds 0 [] labels e in
+    let within = leb-true (count_items ds) most is in
+    omega (arith, same, within)
+counted_few most load ds labels true false is e = cc
+counted_few most load ds labels false b is e = cc
 
-addresses_in_ticks : (ticks : Bool) (load : Option Loaded) (ds : Items) (stalls : List ℕ) (b : Bool) → (ticks || count_items ds == 0) ≡ b → cond b (label_addresses load ds) (Err Range) ≡ Ok stalls → (ticks || length stalls == 0) ≡ true
-addresses_in_ticks true load ds stalls b is e = refl
-addresses_in_ticks false load ds stalls true is e =
-    let none : count_items ds ≡ 0 = eqb-true (count_items ds) 0 is in
-    subst (λ (s : List ℕ). (length s == 0) ≡ true) (no_addresses load ds stalls none e) refl
-addresses_in_ticks false load ds stalls false is e = cc
+array_few : (least most : ℕ) (load : Option Loaded) (ds : Items) (labels : List ℕ) (texts few : Bool)
+    → cond texts (cond few (cond (nat_le least (count_items ds) && nat_le (count_items ds) most) (label_addresses load ds) (Err Range)) (Err Many)) (Err WrongType) ≡ Ok labels → length labels ≤ most
+array_few least most load ds labels true true e = counted_few most load ds labels (nat_le least (count_items ds)) (nat_le (count_items ds) most) refl e
+array_few least most load ds labels true false e = cc
+array_few least most load ds labels false few e = cc
 
-array_in_ticks : (ticks : Bool) (load : Option Loaded) (ds : Items) (stalls : List ℕ) (texts few : Bool)
-    → cond texts (cond few (cond (ticks || count_items ds == 0) (label_addresses load ds) (Err Range)) (Err Many)) (Err WrongType) ≡ Ok stalls → (ticks || length stalls == 0) ≡ true
-array_in_ticks ticks load ds stalls true true e = addresses_in_ticks ticks load ds stalls _ refl e
-array_in_ticks ticks load ds stalls true false e = cc
-array_in_ticks ticks load ds stalls false few e = cc
+items_few : (least most : ℕ) (load : Option Loaded) (o : Option Items) (labels : List ℕ) → labels_in least most load o ≡ Ok labels → length labels ≤ most
+items_few least most load None labels e = cc
+items_few least most load (Some ds) labels e = array_few least most load ds labels (all_items (λ d. is_some (as_str d)) ds) (nat_le (count_items ds) 16) e
 
-in_ticks : (ticks : Bool) (load : Option Loaded) (o : Option Items) (stalls : List ℕ) → labels_in ticks load o ≡ Ok stalls → (ticks || length stalls == 0) ≡ true
-in_ticks ticks load None stalls e = cc
-in_ticks ticks load (Some ds) stalls e = array_in_ticks ticks load ds stalls (all_items (λ d. is_some (as_str d)) ds) (nat_le (count_items ds) 16) e
+value_few : (least most : ℕ) (load : Option Loaded) (o : Option Data) (labels : List ℕ) → labels_of least most load o ≡ Ok labels → length labels ≤ most
+value_few least most load None labels e = subst (λ (s : List ℕ). length s ≤ most) (ok_same [] labels e) (omega arith)
+value_few least most load (Some d) labels e = items_few least most load (as_array d) labels e
 
-value_in_ticks : (ticks : Bool) (load : Option Loaded) (o : Option Data) (stalls : List ℕ) → labels_of ticks load o ≡ Ok stalls → (ticks || length stalls == 0) ≡ true
-value_in_ticks ticks load None stalls e = subst (λ (s : List ℕ). (ticks || length s == 0) ≡ true) (ok_same [] stalls e) (none_in_ticks ticks)
-value_in_ticks ticks load (Some d) stalls e = in_ticks ticks load (as_array d) stalls e
-
-exempt_in_ticks : (unit : SpanUnit) (load : Option Loaded) (t : Members) (x : Exempt) → exempt_at unit load t ≡ Ok x → AreInTicks unit x.stalls
+exempt_in_ticks : (unit : SpanUnit) (load : Option Loaded) (t : Members) (x : Exempt) → exempt_at unit load t ≡ Ok x → AreInTicks unit (length x.stalls)
 exempt_in_ticks unit load t x e =
     let stalls = goes_on (stalls_at unit load t) (λ stalls. and_then (flag_at t prompt_key) (λ prompt. and_then (without_at load t) (λ without. Ok (record { stalls = stalls; prompt = prompt; without = without })))) x e in
     let prompt = goes_on (flag_at t prompt_key) (λ prompt. and_then (without_at load t) (λ without. Ok (record { stalls = stalls.value; prompt = prompt; without = without }))) x stalls.rest in
     let without = goes_on (without_at load t) (λ without. Ok (record { stalls = stalls.value; prompt = prompt.value; without = without })) x prompt.rest in
-    subst (λ (y : Exempt). AreInTicks unit y.stalls) (ok_same (record { stalls = stalls.value; prompt = prompt.value; without = without.value }) x without.rest)
-    (value_in_ticks (is_in_ticks unit) load (get_member (codes "stalls") t) stalls.value (off_key (codes "stalls") _ stalls.value stalls.found))
+    subst (λ (y : Exempt). AreInTicks unit (length y.stalls)) (ok_same (record { stalls = stalls.value; prompt = prompt.value; without = without.value }) x without.rest)
+    (few_in_ticks unit (length stalls.value) (value_few 0 (most_stalls unit) load (get_member (codes "stalls") t) stalls.value (off_key (codes "stalls") _ stalls.value stalls.found)))
 
-parts_in_range : (name : List ℕ) (v : SpanValues) → is_span_name name ≡ true → AreEnds v.ends → AreOrdered v.bounds → AreInTicks v.bounds.unit v.exempt.stalls → IsSpan (span_keys_of name v)
+parts_in_range : (name : List ℕ) (v : SpanValues) → is_span_name name ≡ true → AreEnds v.ends → AreOrdered v.bounds → AreInTicks v.bounds.unit (length v.exempt.stalls) → IsSpan (span_keys_of name v)
 parts_in_range name v n e b s = record {
   named = n;
   machine_in_block = e.machine;
@@ -167,22 +174,23 @@ parts_in_range name v n e b s = record {
 record AreValues (v : SpanValues) : Type 0 where
   ends : AreEnds v.ends
   bounds : AreOrdered v.bounds
-  stalls : AreInTicks v.bounds.unit v.exempt.stalls
+  stalls : AreInTicks v.bounds.unit (length v.exempt.stalls)
 
-values_read : (t : Members) (v : SpanValues) (load : Option Loaded) (ends : SpanEnds) (bounds : Bounds) (exempt : Result Exempt ConfigRefusal) → AreEnds ends → AreOrdered bounds
-    → exempt_at bounds.unit load t ≡ exempt → and_then exempt (λ exempt. Ok (record { ends = ends; bounds = bounds; exempt = exempt })) ≡ Ok v → AreValues v
-values_read t v load ends bounds (Ok exempt) a o is e =
-    subst AreValues (ok_same (record { ends = ends; bounds = bounds; exempt = exempt }) v e) (record { ends = a; bounds = o; stalls = exempt_in_ticks bounds.unit load t exempt is })
-values_read t v load ends bounds (Err r) a o is e = cc
+values_read : (t : Members) (v : SpanValues) (load : Option Loaded) (ends : SpanEnds) (bounds : Bounds) (exempt : Result Exempt ConfigRefusal) (events : Result Events ConfigRefusal) → AreEnds ends → AreOrdered bounds
+    → exempt_at bounds.unit load t ≡ exempt → and_then exempt (λ exempt. and_then events (λ events. Ok (record { ends = ends; bounds = bounds; exempt = exempt; events = events }))) ≡ Ok v → AreValues v
+values_read t v load ends bounds (Ok exempt) (Ok events) a o is e =
+    subst AreValues (ok_same (record { ends = ends; bounds = bounds; exempt = exempt; events = events }) v e) (record { ends = a; bounds = o; stalls = exempt_in_ticks bounds.unit load t exempt is })
+values_read t v load ends bounds (Err r) events a o is e = cc
+values_read t v load ends bounds (Ok exempt) (Err r) a o is e = cc
 
 values_bounded : (machines : List (Option MachineKeys)) (loads : List Loaded) (t : Members) (v : SpanValues) (ends : Result SpanEnds ConfigRefusal) (bounds : Result Bounds ConfigRefusal)
     → ends_at machines t ≡ ends → bounds_at t ≡ bounds
-    → and_then ends (λ ends. and_then bounds (λ bounds. and_then (exempt_at bounds.unit (load_of_machine loads (slice_index_or machines ends.machine None)) t) (λ exempt.
-    Ok (record { ends = ends; bounds = bounds; exempt = exempt })))) ≡ Ok v
+    → and_then ends (λ ends. and_then bounds (λ bounds. and_then (exempt_at bounds.unit (load_of_span machines loads ends.machine) t) (λ exempt. and_then (events_at (load_of_span machines loads ends.machine) t) (λ events.
+    Ok (record { ends = ends; bounds = bounds; exempt = exempt; events = events }))))) ≡ Ok v
     → AreValues v
 values_bounded machines loads t v (Ok ends) (Ok bounds) a o e =
-    let load = load_of_machine loads (slice_index_or machines ends.machine None) in
-    values_read t v load ends bounds (exempt_at bounds.unit load t) (are_ends machines t ends a) (are_ordered t bounds o) refl e
+    let load = load_of_span machines loads ends.machine in
+    values_read t v load ends bounds (exempt_at bounds.unit load t) (events_at load t) (are_ends machines t ends a) (are_ordered t bounds o) refl e
 values_bounded machines loads t v (Err r) bounds a o e = cc
 values_bounded machines loads t v (Ok ends) (Err r) a o e = cc
 

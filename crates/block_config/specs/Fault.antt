@@ -5,7 +5,7 @@
 --   key_path     the path of a key of a table
 use Rattle.std.specs.Prelude.{ℕ, ◌++◌, List, codes, decimal}
 use Rattle.block_config.specs.declared.fault.ConfigKind.{ConfigKind}
-use Rattle.block_config.specs.declared.fault.ConfigKind.TheVariants.{NotToml, UnknownKey, WrongType, Range, NoProgram, NoLabel, Overlap, DoesNotFit, MachineTwice, BothJoins, Divider, Many, Missing}
+use Rattle.block_config.specs.declared.fault.ConfigKind.TheVariants.{NotToml, UnknownKey, WrongType, Range, NoProgram, NoLabel, Overlap, DoesNotFit, MachineTwice, BothJoins, Divider, Many, Missing, Excluded}
 use Rattle.block_config.specs.declared.path.Section.{Section}
 use Rattle.block_config.specs.declared.path.Section.TheVariants.{Load, Machine, Pins, Span}
 
@@ -24,6 +24,7 @@ code_of BothJoins = codes "C10"
 code_of Divider = codes "C11"
 code_of Many = codes "C12"
 code_of Missing = codes "C13"
+code_of Excluded = codes "C14"
 
 -- the code, and after an overlap its address
 abbrev pub kind_text : ConfigKind → List ℕ

@@ -1,13 +1,14 @@
 -- Reading a table of a configuration by the list of its keys, in order (choice of this profile).
 --   and_then     what follows on a value, unless there is a fault
 --   on_key       what is wrong with a value is told of its key
+--   has_key      a table has a key
 --   number_at, flag_at   the value of a table's key
 --   each_at      the values of keys in order, or the first fault
 --   AreWithin    values are in the ranges of keys
 --   are_known    a table has no key but these
 --   section_at   what a table gives: an unknown key comes first, and other faults are told of the table's keys
 --   element_of   an element of an array of tables
-use Rattle.std.specs.Prelude.{ℕ, ◌+◌, ◌≤◌, slice_index, Bool, true, ◌&&◌, if◌then◌else◌, Option, Some, None, List, [], ◌∷◌, Result, Ok, Err}
+use Rattle.std.specs.Prelude.{ℕ, ◌+◌, ◌≤◌, slice_index, is_some, Bool, true, ◌&&◌, if◌then◌else◌, Option, Some, None, List, [], ◌∷◌, Result, Ok, Err}
 use Rattle.std.specs.List.{list_any}
 use Rattle.std.specs.Str.{bytes_eq}
 use Rattle.toml.specs.Data.{Members, no_members, member, get_member}
@@ -38,6 +39,10 @@ refusal_of l = record { key = l.key.now; kind = l.kind }
 abbrev pub seen : {X Y : Type 0} → (X → Y) → Result X Lack → Result Y ConfigRefusal
 seen f (Ok x) = Ok (f x)
 seen f (Err l) = Err (refusal_of l)
+
+-- a table has a key
+abbrev pub has_key : List ℕ → Members → Bool
+has_key key t = is_some (get_member key t)
 
 -- the number of a key
 abbrev pub number_at : Members → Numbered → Result ℕ ConfigRefusal

@@ -16,8 +16,8 @@ pub enum ConfigKind {
     UnknownKey,
     /// `C3`: a value of another type, or an array with an element of another type.
     WrongType,
-    /// `C4`: a value outside its range, an unknown word, a name of another form, bounds that cross, or a program that
-    /// is loaded already.
+    /// `C4`: a value outside its range, an unknown word, a name of another form, bounds that cross, labels of which there
+    /// are too few or may be none, or a program that is loaded already.
     Range,
     /// `C5`: no such program, or none that is loaded; a machine that isn't configured.
     NoProgram,
@@ -33,10 +33,12 @@ pub enum ConfigKind {
     BothJoins,
     /// `C11`: a fraction beside a divider of 0, which means 65,536.
     Divider,
-    /// `C12`: more than 64 spans, or more than 16 stalls of one.
+    /// `C12`: more than 64 spans, or more than 16 labels of a key.
     Many,
     /// `C13`: the key is required.
     Missing,
+    /// `C14`: the table has another key that this one excludes.
+    Excluded,
 }
 
 impl ConfigKind {
@@ -58,6 +60,7 @@ impl ConfigKind {
             ConfigKind::Divider => "C11",
             ConfigKind::Many => "C12",
             ConfigKind::Missing => "C13",
+            ConfigKind::Excluded => "C14",
         }
     }
 }

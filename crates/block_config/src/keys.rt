@@ -339,10 +339,46 @@ pub const PROMPT: &str = "prompt";
 
 pub const WITHOUT: &str = "without";
 
+pub const FROM_AT: &str = "from_at";
+
+pub const TO_AT: &str = "to_at";
+
+pub const FROM_DONE: &str = "from_done";
+
+pub const TO_DONE: &str = "to_done";
+
 /// All keys of a span.
-pub const SPAN_KEYS: [&str; 12] = [
+pub const SPAN_KEYS: [&str; 16] = [
     NAME, MACHINE, FROM_PIN, TO_PIN, FROM_EDGE, TO_EDGE, UNIT, MIN, MAX, STALLS, PROMPT, WITHOUT,
+    FROM_AT, TO_AT, FROM_DONE, TO_DONE,
 ];
+
+/// The keys of an event of a span.
+#[derive(Clone, Copy)]
+pub struct EventKeys {
+    pub pin: &'static str,
+    pub edge: &'static str,
+    /// The instructions that alone make the edge.
+    pub at: &'static str,
+    /// In place of all these, the instructions whose end is the event.
+    pub done: &'static str,
+}
+
+/// The keys of a span's from-event.
+pub const FROM_EVENT: EventKeys = EventKeys {
+    pin: FROM_PIN,
+    edge: FROM_EDGE,
+    at: FROM_AT,
+    done: FROM_DONE,
+};
+
+/// The keys of a span's to-event.
+pub const TO_EVENT: EventKeys = EventKeys {
+    pin: TO_PIN,
+    edge: TO_EDGE,
+    at: TO_AT,
+    done: TO_DONE,
+};
 
 /// A span's machine.
 pub const SPAN_MACHINE: NumberKey = NumberKey {
@@ -351,22 +387,6 @@ pub const SPAN_MACHINE: NumberKey = NumberKey {
     high: 3,
     default: None,
 };
-
-/// A span's two pins.
-pub const SPAN_PINS: [NumberKey; 2] = [
-    NumberKey {
-        name: FROM_PIN,
-        low: 0,
-        high: 31,
-        default: None,
-    },
-    NumberKey {
-        name: TO_PIN,
-        low: 0,
-        high: 31,
-        default: None,
-    },
-];
 
 /// A span's least bound.
 pub const SPAN_MIN: NumberKey = NumberKey {

@@ -1,5 +1,5 @@
 //! A list of labels of a machine's program, as addresses.
-ghost use Rattle.std.specs.Prelude.{◌≡◌, ◌≤◌, ◌<◌, ◌==◌, ◌||◌, Some, length, option_map, IfOk, IsTrue};
+ghost use Rattle.std.specs.Prelude.{◌≡◌, ◌≤◌, ◌<◌, Some, length, option_map, IfOk, IsTrue};
 ghost use Rattle.pin_matrix.specs.Spans.{are_addresses};
 ghost use Rattle.toml.specs.Data.{as_str};
 ghost use Rattle.toml.specs.View.{items_view, table_view, view};
@@ -16,19 +16,20 @@ use crate::table::{Lack, value_at};
 use arrayvec::ArrayVec;
 use toml::{Table, Value};
 
-/// The addresses of a key's labels, of the program that is loaded so. Only a key that may have some has some.
+/// The addresses of a key's labels, of the program that is loaded so: at least and at most so many where the table has the key.
 pub fn labels_at(
     table: &Table,
     key: &'static str,
-    may: bool,
+    least: usize,
+    most: usize,
     load: Option<LoadedProgram>,
 ) -> Result<ArrayVec<u8, 16>, Lack>
     ensures value { seen (λ v. v.items) result
-        ≡ spec.labels_at key.now may (option_map loaded_of load.entry) (table_view table.now) }
+        ≡ spec.labels_at key.now least most (option_map loaded_of load.entry) (table_view table.now) }
     ensures in_memory { IfOk result (λ v. IsTrue (are_addresses v.items)) }
-    ensures only { IfOk result (λ v. IsTrue (may || length v.items == 0)) }
+    ensures few { IfOk result (λ v. length v.items ≤ most) }
 {
-    match labels_of(value_at(table, key), may, load) {
+    match labels_of(value_at(table, key), least, most, load) {
         Ok(addresses) => Ok(addresses),
         Err(kind) => Err(Lack { key, kind }),
     }
@@ -37,18 +38,19 @@ pub fn labels_at(
 /// The addresses of a value, none where it is absent.
 fn labels_of(
     value: Option<&Value>,
-    may: bool,
+    least: usize,
+    most: usize,
     load: Option<LoadedProgram>,
 ) -> Result<ArrayVec<u8, 16>, ConfigKind>
     ensures value { map_ok (λ v. v.items) result
-        ≡ spec.labels_of may (option_map loaded_of load.entry)
+        ≡ spec.labels_of least most (option_map loaded_of load.entry)
         (option_map (λ v. view v.now) value.entry) }
     ensures in_memory { IfOk result (λ v. IsTrue (are_addresses v.items)) }
-    ensures only { IfOk result (λ v. IsTrue (may || length v.items == 0)) }
+    ensures few { IfOk result (λ v. length v.items ≤ most) }
 {
     match value {
         Some(value) => match value.as_array() {
-            Some(values) => labels_in(values, may, load),
+            Some(values) => labels_in(values, least, most, load),
             None => Err(ConfigKind::WrongType),
         },
         None => Ok(ArrayVec::new()),
@@ -58,13 +60,14 @@ fn labels_of(
 /// The addresses of an array.
 fn labels_in(
     values: &[Value],
-    may: bool,
+    least: usize,
+    most: usize,
     load: Option<LoadedProgram>,
 ) -> Result<ArrayVec<u8, 16>, ConfigKind>
     ensures value { map_ok (λ v. v.items) result
-        ≡ spec.labels_in may (option_map loaded_of load.entry) (Some (items_view values.now)) }
+        ≡ spec.labels_in least most (option_map loaded_of load.entry) (Some (items_view values.now)) }
     ensures in_memory { IfOk result (λ v. IsTrue (are_addresses v.items)) }
-    ensures only { IfOk result (λ v. IsTrue (may || length v.items == 0)) }
+    ensures few { IfOk result (λ v. length v.items ≤ most) }
 {
     if !are_all(values, Element::Text) {
         return Err(ConfigKind::WrongType);
@@ -73,7 +76,7 @@ fn labels_in(
     if count > 16 {
         return Err(ConfigKind::Many);
     }
-    if may || count == 0 {
+    if least <= count && count <= most {
         label_addresses(values, load)
     } else {
         Err(ConfigKind::Range)

@@ -1,7 +1,7 @@
 //! All tables of spans: the keys of one in order, and the span that they name.
-ghost use Rattle.std.specs.Prelude.{◌≡◌, ◌≤◌, ◌<◌, ◌^◌, ◌==◌, ◌||◌, Ok, Some, [], length, map, option_map, IfOk, IfSome, IsTrue};
+ghost use Rattle.std.specs.Prelude.{◌≡◌, ◌≤◌, ◌<◌, ◌^◌, Ok, Some, [], length, map, option_map, IfOk, IfSome, IsTrue};
 ghost use Rattle.std.specs.Option.{ForSome};
-ghost use Rattle.pin_matrix.specs.Spans.{are_addresses, is_in_ticks, is_span_name};
+ghost use Rattle.pin_matrix.specs.Spans.{are_addresses, is_span_name};
 ghost use Rattle.toml.specs.View.{items_view, table_view, view};
 ghost use Rattle.answers.specs.Answers.{Gives};
 ghost use Rattle.setup_keys.specs.Block.{keys_of_machine, keys_of_span};
@@ -11,13 +11,13 @@ ghost use Rattle.block_config.specs.Spans as spec;
 ghost use Rattle.block_config.specs.Tables.{and_then, section_at, seen};
 ghost use Rattle.block_config.specs.Values.{map_ok, text_of};
 
-use crate::edges::{Edge, edge_at};
+use crate::edges::{Edge, edge_at, enders_at, makers_at, pin_at};
 use crate::fault::{ConfigFault, ConfigKind};
 use crate::keys;
 use crate::labels::labels_at;
 use crate::path::{Section, fault_at, fault_of_key, fault_of_section};
 use crate::programs::LoadedProgram;
-use crate::table::{Lack, are_known, flag_at, number_at, numbers_at, value_at};
+use crate::table::{Lack, are_known, flag_at, number_at, value_at};
 use crate::value::{number_in, text_of};
 use arrayvec::ArrayVec;
 use pin_matrix::{Addresses, MachineSetup, Span, SpanUnit, Spans, is_span_name};
@@ -130,7 +130,8 @@ pub struct SpanValues {
     pub ends: EndValues,
     pub bounds: BoundValues,
     pub exempt: ExemptValues,
-    pub ghost in_ticks: { IsTrue (is_in_ticks bounds.unit || length exempt.stalls.items == 0) },
+    pub events: EventValues,
+    pub ghost few_stalls: { length exempt.stalls.items ≤ spec.most_stalls bounds.unit },
 }
 
 impl SpanValues {
@@ -165,10 +166,12 @@ impl SpanValues {
         let bounds = BoundValues::read(table)?;
         let load = Self::load_of(loads, &machines[usize::from(ends.machine)]);
         let exempt = ExemptValues::read(table, bounds.unit, load)?;
+        let events = EventValues::read(table, load)?;
         Ok(SpanValues {
             ends,
             bounds,
             exempt,
+            events,
         })
     }
 
@@ -180,6 +183,8 @@ impl SpanValues {
         let text = name.to_string(alloc)?;
         let stalls = addresses_of(alloc, &self.exempt.stalls)?;
         let without = addresses_of(alloc, &self.exempt.without)?;
+        let from_at = addresses_of(alloc, &self.events.from_at)?;
+        let to_at = addresses_of(alloc, &self.events.to_at)?;
         Ok(Span {
             name: Name::new(text),
             machine: self.ends.machine,
@@ -195,6 +200,8 @@ impl SpanValues {
             stalls,
             prompt: self.exempt.prompt,
             without,
+            from_at,
+            to_at,
         })
     }
 }
@@ -245,20 +252,20 @@ impl EndValues {
         }
     }
 
-    /// The machine, the pins and the edges of a table.
-    #[tactic(auto, unfolding(crate::specs::Tables::each_at))]
+    /// The machine, the pins and the edges of a table, or no pin and no edge of an event that needs none.
     fn read(table: &Table, machines: &[Option<MachineSetup>; 4]) -> Result<Self, Lack>
         ensures { seen ends_view result
             ≡ spec.ends_at (map (option_map keys_of_machine) machines.now) (table_view table.now) }
     {
         let machine = Self::machine(table, machines)?;
-        let pins = numbers_at(table, &keys::SPAN_PINS)?;
-        let from_edge = edge_at(table, keys::FROM_EDGE)?;
-        let to_edge = edge_at(table, keys::TO_EDGE)?;
+        let from_pin = pin_at(table, &keys::FROM_EVENT)?;
+        let to_pin = pin_at(table, &keys::TO_EVENT)?;
+        let from_edge = edge_at(table, &keys::FROM_EVENT)?;
+        let to_edge = edge_at(table, &keys::TO_EVENT)?;
         Ok(EndValues {
             machine,
-            from_pin: pins[0] as u8,
-            to_pin: pins[1] as u8,
+            from_pin,
+            to_pin,
             from_edge,
             to_edge,
         })
@@ -388,11 +395,11 @@ impl ExemptValues {
     fn read(table: &Table, unit: SpanUnit, load: Option<LoadedProgram>) -> Result<Self, Lack>
         ensures value { seen exempt_view result
             ≡ spec.exempt_at unit (option_map loaded_of load.entry) (table_view table.now) }
-        ensures in_ticks { IfOk result (λ e. IsTrue (is_in_ticks unit || length e.stalls.items == 0)) }
+        ensures few_stalls { IfOk result (λ e. length e.stalls.items ≤ spec.most_stalls unit) }
     {
-        let stalls = labels_at(table, keys::STALLS, in_ticks(unit), load)?;
+        let stalls = labels_at(table, keys::STALLS, 0, most_stalls(unit), load)?;
         let prompt = flag_at(table, &keys::SPAN_PROMPT)?;
-        let without = labels_at(table, keys::WITHOUT, true, load)?;
+        let without = labels_at(table, keys::WITHOUT, 0, 16, load)?;
         Ok(ExemptValues {
             stalls,
             prompt,
@@ -401,13 +408,52 @@ impl ExemptValues {
     }
 }
 
-fn in_ticks(unit: SpanUnit) -> bool
-    ensures { result ≡ is_in_ticks unit }
+/// How many stalls a span may name.
+fn most_stalls(unit: SpanUnit) -> usize
+    ensures { result ≡ spec.most_stalls unit }
 {
     match unit {
-        SpanUnit::Ticks => true,
-        SpanUnit::Clocks => false,
+        SpanUnit::Ticks => 16,
+        SpanUnit::Clocks => 0,
     }
+}
+
+/// The instructions that the two events name.
+#[derive(Drop)]
+pub struct EventValues {
+    pub from_at: ArrayVec<u8, 16>,
+    pub to_at: ArrayVec<u8, 16>,
+    pub ghost from_in_memory: { IsTrue (are_addresses from_at.items) },
+    pub ghost to_in_memory: { IsTrue (are_addresses to_at.items) },
+}
+
+impl EventValues {
+    ghost use Rattle.block_config.specs.SpanView.{events_view};
+
+    /// The instructions of a table's events, at labels of the program that is loaded so.
+    fn read(table: &Table, load: Option<LoadedProgram>) -> Result<Self, Lack>
+        ensures { seen events_view result
+            ≡ spec.events_at (option_map loaded_of load.entry) (table_view table.now) }
+    {
+        let from_makers = makers_at(table, &keys::FROM_EVENT, load)?;
+        let to_makers = makers_at(table, &keys::TO_EVENT, load)?;
+        let from_enders = enders_at(table, &keys::FROM_EVENT, load)?;
+        let to_enders = enders_at(table, &keys::TO_EVENT, load)?;
+        Ok(EventValues {
+            from_at: named_by(from_makers, from_enders),
+            to_at: named_by(to_makers, to_enders),
+        })
+    }
+}
+
+/// The instructions of an event, of which one list is empty.
+fn named_by(makers: ArrayVec<u8, 16>, enders: ArrayVec<u8, 16>) -> ArrayVec<u8, 16>
+    requires makers { IsTrue (are_addresses makers.items) }
+    requires enders { IsTrue (are_addresses enders.items) }
+    ensures value { result.items ≡ spec.named_by makers.items enders.items }
+    ensures in_memory { IsTrue (are_addresses result.items) }
+{
+    if enders.is_empty() { makers } else { enders }
 }
 
 /// Whether a float is TOML's `inf`.

@@ -30,6 +30,13 @@ pub fn value_at<'a>(table: &'a Table, key: &str) -> Option<&'a Value>
     table.get(key)
 }
 
+/// Whether a table has a key.
+pub fn has_key(table: &Table, key: &str) -> bool
+    ensures { result ≡ spec.has_key key.now (table_view table.now) }
+{
+    value_at(table, key).is_some()
+}
+
 /// The number of a key.
 pub fn number_at(table: &Table, key: &NumberKey) -> Result<u32, Lack>
     ensures value { seen (λ n. n) result

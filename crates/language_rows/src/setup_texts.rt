@@ -96,7 +96,9 @@ fn tell_span(span: &Span, text: &mut String) -> Result<(), AllocError> {
     }
     tell_addresses(span.stalls.as_slice(), text)?;
     text.push_str("]")?;
-    tell_unsaid(span, text)
+    tell_unsaid(span, text)?;
+    tell_named(" from [", span.from_at.as_slice(), text)?;
+    tell_named(" to [", span.to_at.as_slice(), text)
 }
 
 /// Adds of which from-edges a span says nothing, where there are such.
@@ -104,13 +106,17 @@ fn tell_unsaid(span: &Span, text: &mut String) -> Result<(), AllocError> {
     if span.prompt {
         text.push_str(" prompt")?;
     }
-    let without = span.without.as_slice();
-    if !without.is_empty() {
-        text.push_str(" without [")?;
-        tell_addresses(without, text)?;
-        text.push_str("]")?;
+    tell_named(" without [", span.without.as_slice(), text)
+}
+
+/// Adds the addresses that a key names, where it names some.
+fn tell_named(front: &str, addresses: &[u8], text: &mut String) -> Result<(), AllocError> {
+    if addresses.is_empty() {
+        return Ok(());
     }
-    Ok(())
+    text.push_str(front)?;
+    tell_addresses(addresses, text)?;
+    text.push_str("]")
 }
 
 fn tell_addresses(addresses: &[u8], text: &mut String) -> Result<(), AllocError> {
@@ -121,12 +127,14 @@ fn tell_addresses(addresses: &[u8], text: &mut String) -> Result<(), AllocError>
     Ok(())
 }
 
-/// An edge: of a level whether it rises, of a direction what it becomes.
-fn edge_text(signal: PinSignal, rise: bool) -> &'static str {
+/// An edge: of a level whether it rises, of a direction what it becomes; or the end of an instruction, which doesn't rise.
+fn edge_text(signal: Option<PinSignal>, rise: bool) -> &'static str {
     match signal {
-        PinSignal::Level if rise => "true",
-        PinSignal::Level => "false",
-        PinSignal::Direction if rise => "out",
-        PinSignal::Direction => "in",
+        Some(PinSignal::Level) if rise => "true",
+        Some(PinSignal::Level) => "false",
+        Some(PinSignal::Direction) if rise => "out",
+        Some(PinSignal::Direction) => "in",
+        None if rise => "done and true",
+        None => "done",
     }
 }

@@ -75,10 +75,10 @@ fn in_clocks(alloc: Global, name: Name) -> Span
         name,
         machine: 0,
         from_pin: 0,
-        from_signal: PinSignal::Level,
+        from_signal: Some(PinSignal::Level),
         from_rise: true,
         to_pin: 0,
-        to_signal: PinSignal::Level,
+        to_signal: Some(PinSignal::Level),
         to_rise: false,
         unit: SpanUnit::Clocks,
         min: 0,
@@ -86,6 +86,8 @@ fn in_clocks(alloc: Global, name: Name) -> Span
         stalls: Addresses::empty(alloc),
         prompt: false,
         without: Addresses::empty(alloc),
+        from_at: Addresses::empty(alloc),
+        to_at: Addresses::empty(alloc),
     }
 }
 
@@ -128,10 +130,10 @@ fn in_ticks(alloc: Global, name: Name, stalls: Addresses) -> Span
         name,
         machine: 3,
         from_pin: 31,
-        from_signal: PinSignal::Level,
+        from_signal: Some(PinSignal::Level),
         from_rise: true,
         to_pin: 0,
-        to_signal: PinSignal::Level,
+        to_signal: Some(PinSignal::Level),
         to_rise: false,
         unit: SpanUnit::Ticks,
         min: 2,
@@ -139,6 +141,8 @@ fn in_ticks(alloc: Global, name: Name, stalls: Addresses) -> Span
         stalls,
         prompt: false,
         without: Addresses::empty(alloc),
+        from_at: Addresses::empty(alloc),
+        to_at: Addresses::empty(alloc),
     }
 }
 

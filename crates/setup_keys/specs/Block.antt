@@ -44,15 +44,15 @@ pub record MachineKeys : Type 0 where
   pub status_rx : Bool
   pub status_n : ℕ
 
--- what a span says; `most` is none where it has no greatest bound
+-- what a span says; `most` is none where it has no greatest bound, and a signal where the event is the end of an instruction
 pub record SpanKeys : Type 0 where
   pub name : List ℕ
   pub machine : ℕ
   pub from_pin : ℕ
-  pub from_signal : PinSignal
+  pub from_signal : Option PinSignal
   pub from_rise : Bool
   pub to_pin : ℕ
-  pub to_signal : PinSignal
+  pub to_signal : Option PinSignal
   pub to_rise : Bool
   pub unit : SpanUnit
   pub least : ℕ
@@ -60,6 +60,8 @@ pub record SpanKeys : Type 0 where
   pub stalls : List ℕ
   pub prompt : Bool
   pub without : List ℕ
+  pub from_at : List ℕ
+  pub to_at : List ℕ
 
 -- what a block's setup says: its machines at their places
 pub record BlockKeys : Type 0 where
@@ -125,6 +127,8 @@ keys_of_span s = record {
   stalls = s.stalls;
   prompt = s.prompt;
   without = s.without;
+  from_at = s.from_at;
+  to_at = s.to_at;
 }
 
 -- what a block's setup says

@@ -3,6 +3,41 @@ use pin_matrix::{PinSignal, SpanUnit};
 use pio_encode::SideRule;
 use row_tables::side_rule_of;
 
+/// An event of a span: an edge of a pin, or the end of an instruction where there is no signal.
+#[derive(Clone, Copy)]
+pub struct Event<'a> {
+    pub signal: Option<PinSignal>,
+    pub rise: bool,
+    /// The addresses of `from_at` or `to_at`, or those of `from_done` or `to_done`.
+    pub at: &'a str,
+}
+
+impl<'a> Event<'a> {
+    /// An edge of a level that any instruction makes.
+    fn of_level(rise: bool) -> Event<'a> {
+        Event {
+            signal: Some(PinSignal::Level),
+            rise,
+            at: "",
+        }
+    }
+
+    /// Takes an edge.
+    fn take_edge(&mut self, value: &str) -> Option<()> {
+        let (signal, rise) = edge_of(value)?;
+        self.signal = Some(signal);
+        self.rise = rise;
+        Some(())
+    }
+
+    /// Takes the instructions whose end it is.
+    fn take_done(&mut self, value: &'a str) {
+        self.signal = None;
+        self.rise = false;
+        self.at = value;
+    }
+}
+
 /// The keys of a row's machine and span. Those that it doesn't name are as they are here.
 #[derive(Clone, Copy)]
 pub struct Keys<'a> {
@@ -22,9 +57,9 @@ pub struct Keys<'a> {
     pub set_count: u8,
     pub side_base: u8,
     pub side_count: u8,
-    pub from_edge: (PinSignal, bool),
+    pub from: Event<'a>,
     pub to_pin: u8,
-    pub to_edge: (PinSignal, bool),
+    pub to: Event<'a>,
     pub unit: SpanUnit,
     pub min: u32,
     pub max: Option<u32>,
@@ -60,9 +95,9 @@ impl<'a> Keys<'a> {
             set_count: 5,
             side_base: 0,
             side_count: 0,
-            from_edge: (PinSignal::Level, true),
+            from: Event::of_level(true),
             to_pin: 0,
-            to_edge: (PinSignal::Level, false),
+            to: Event::of_level(false),
             unit: SpanUnit::Ticks,
             min: 0,
             max: Some(0),
@@ -124,12 +159,24 @@ impl<'a> Keys<'a> {
     /// Takes a key of the span: whether it is one.
     fn take_of_span(&mut self, key: &str, value: &'a str) -> Option<bool> {
         match key {
-            "from_edge" => self.from_edge = edge_of(value)?,
             "to_pin" => self.to_pin = value.parse().ok()?,
-            "to_edge" => self.to_edge = edge_of(value)?,
             "unit" => self.unit = unit_of(value)?,
             "min" => self.min = value.parse().ok()?,
             "max" => self.max = most_of(value)?,
+            _ => return self.take_of_events(key, value),
+        }
+        Some(true)
+    }
+
+    /// Takes a key of an event: whether it is one.
+    fn take_of_events(&mut self, key: &str, value: &'a str) -> Option<bool> {
+        match key {
+            "from_edge" => self.from.take_edge(value)?,
+            "from_at" => self.from.at = value,
+            "from_done" => self.from.take_done(value),
+            "to_edge" => self.to.take_edge(value)?,
+            "to_at" => self.to.at = value,
+            "to_done" => self.to.take_done(value),
             _ => return self.take_of_waits(key, value),
         }
         Some(true)

@@ -48,7 +48,7 @@ fn set_mapping(base: u8, count: u8) -> Option<Mapping>
     Some(Mapping { base, count })
 }
 
-/// The span of this name on machine 0, from an edge of pin 0, where its keys are in their ranges and there is memory.
+/// The span of this name on machine 0, from an edge of pin 0 or the end of an instruction, where its keys are in their ranges and there is memory.
 pub fn span_of(alloc: Global, keys: &Keys, name: &str) -> Option<Span> {
     let stalls = addresses_of(alloc, keys.stalls)?;
     if keys.to_pin > 31 || keys.unit == SpanUnit::Clocks && !stalls.is_empty() {
@@ -59,17 +59,19 @@ pub fn span_of(alloc: Global, keys: &Keys, name: &str) -> Option<Span> {
         name: name_of(alloc, name)?,
         machine: 0,
         from_pin: 0,
-        from_signal: keys.from_edge.0,
-        from_rise: keys.from_edge.1,
+        from_signal: keys.from.signal,
+        from_rise: keys.from.rise,
         to_pin: keys.to_pin,
-        to_signal: keys.to_edge.0,
-        to_rise: keys.to_edge.1,
+        to_signal: keys.to.signal,
+        to_rise: keys.to.rise,
         unit: keys.unit,
         min: keys.min,
         max,
         stalls: Addresses::new(stalls)?,
         prompt: keys.prompt,
         without: Addresses::new(addresses_of(alloc, keys.without)?)?,
+        from_at: Addresses::new(addresses_of(alloc, keys.from.at)?)?,
+        to_at: Addresses::new(addresses_of(alloc, keys.to.at)?)?,
     })
 }
 

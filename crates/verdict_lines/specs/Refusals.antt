@@ -1,8 +1,8 @@
 -- What a verdict comes to without its table.
---   says_more        a span says what is asked more than two levels and two bounds
+--   says_more        a span says more than two edges of levels and two bounds
 --   finding_of       what is told of a span that is proved
 --   found_by         that, or why it isn't proved
-use Rattle.std.specs.Prelude.{Bool, true, false, ◌||◌, ◌==◌, not, length, if◌then◌else◌, Some, None, Result, Ok, Err}
+use Rattle.std.specs.Prelude.{ℕ, Bool, true, false, ◌||◌, ◌==◌, not, List, length, if◌then◌else◌, Option, Some, None, Result, Ok, Err}
 use Rattle.pin_matrix.specs.declared.span.PinSignal.{PinSignal}
 use Rattle.pin_matrix.specs.declared.span.PinSignal.TheVariants.{Level, Direction}
 use Rattle.pin_matrix.specs.declared.span.Span.{Span}
@@ -13,16 +13,19 @@ use Rattle.verdict_lines.specs.declared.refusal.Finding.{Finding}
 use Rattle.verdict_lines.specs.declared.refusal.Refusal.{Refusal}
 use Rattle.verdict_lines.specs.declared.refusal.Refusal.TheVariants as refusal
 
--- an edge is of a direction
-abbrev pub is_of_direction : PinSignal → Bool
-is_of_direction Level = false
-is_of_direction Direction = true
+-- An event is an edge of a level that any instruction may make. Else it is one of a direction, or instructions are named that
+-- alone may make it, or whose end it is.
+abbrev pub is_any_edge : Option PinSignal → (named : List ℕ) → Bool
+is_any_edge (Some Level) named = length named == 0
+is_any_edge (Some Direction) named = false
+is_any_edge None named = false
 
--- A span has no greatest bound, or has an edge of a direction, or says nothing of some from-edges: of such a one it is told
--- whether it closes, since it may be proved where nothing ends it.
+-- A span has no greatest bound, or an event that isn't any edge of a level, or says nothing of some from-events: of such a one it
+-- is told whether it closes, since it may be proved where nothing ends it.
 abbrev pub says_more : Span → Bool
 says_more sp =
-    (((not (is_bounded sp) || is_of_direction sp.from_signal) || is_of_direction sp.to_signal) || sp.prompt) || not (length sp.without == 0)
+    (((not (is_bounded sp) || not (is_any_edge sp.from_signal sp.from_at)) || not (is_any_edge sp.to_signal sp.to_at)) || sp.prompt)
+    || not (length sp.without == 0)
 
 -- whether the span opens, where it says more whether it closes, and whether it is prompt
 abbrev pub finding_of : Span → (opens closes : Bool) → Finding

@@ -2,7 +2,7 @@
 ghost use Rattle.std.specs.Prelude.{◌≡◌};
 ghost use Rattle.verdict_lines.specs.Refusals as spec;
 
-use pin_matrix::{PinSignal, Span};
+use pin_matrix::{Addresses, PinSignal, Span};
 use span_bounds::{Cause, Context};
 use span_verdict::Verdict;
 
@@ -11,8 +11,8 @@ use span_verdict::Verdict;
 pub struct Finding {
     /// Whether it opens.
     pub opens: bool,
-    /// Whether it closes. It is told exactly where the span has no greatest bound, an edge of a direction, or from-edges of
-    /// which it says nothing.
+    /// Whether it closes. It is told exactly where the span has no greatest bound, an event that isn't any edge of a level,
+    /// or from-events of which it says nothing.
     pub closes: Option<bool>,
     /// Whether nothing is said of a from-edge after which the machine waits.
     pub prompt: bool,
@@ -49,22 +49,23 @@ pub fn found_by(verdict: Verdict, span: &Span) -> Result<Finding, Refusal>
     }
 }
 
-/// Whether a span has no greatest bound, an edge of a direction, or from-edges of which it says nothing.
+/// Whether a span has no greatest bound, an event that isn't any edge of a level, or from-events of which it says nothing.
 fn says_more(span: &Span) -> bool
     ensures { result ≡ spec.says_more span.now }
 {
     span.max.is_none()
-        || is_of_direction(span.from_signal)
-        || is_of_direction(span.to_signal)
+        || !is_any_edge(span.from_signal, &span.from_at)
+        || !is_any_edge(span.to_signal, &span.to_at)
         || span.prompt
         || !span.without.as_slice().is_empty()
 }
 
-fn is_of_direction(signal: PinSignal) -> bool
-    ensures { result ≡ spec.is_of_direction signal }
+/// Whether an event is an edge of a level that any instruction may make.
+fn is_any_edge(signal: Option<PinSignal>, named: &Addresses) -> bool
+    ensures { result ≡ spec.is_any_edge signal named.now }
 {
     match signal {
-        PinSignal::Level => false,
-        PinSignal::Direction => true,
+        Some(PinSignal::Level) => named.as_slice().is_empty(),
+        Some(PinSignal::Direction) | None => false,
     }
 }
