@@ -53,19 +53,8 @@ short_beside_a_line : HoldsUpTo at_least_two short (record { clock = 1; act = Re
 unfolding short at_least_two mark_of counted hosted_at hosted_next next stepped acted settled_slot is_tick settled merged reading_of act_of push_or_pull_at delay_of side_of set_at mov_at effect_of jmp_effect out_effect pull_effect set_effect mov_effect settled_ports tick_of tick_delay tick_word tick_by after_effect due_in transfers_after requests_of
 short_beside_a_line = too_short (marks_in at_least_two short (record { clock = 1; act = Restart 0 } ∷ [])) refl refl refl refl
 
--- in the first of two blocks, and in the second
-short_in_the_first : HoldsInFirst at_least_two 1 short long [] [] 2 → ⊥
-unfolding short long at_least_two mark_of counted hosted_at hosted_next next stepped acted settled_slot is_tick settled merged reading_of act_of push_or_pull_at delay_of side_of set_at mov_at effect_of jmp_effect out_effect pull_effect set_effect mov_effect settled_ports tick_of tick_delay tick_word tick_by after_effect due_in transfers_after requests_of hosted_twin_at hosted_twin_next twin_from
-short_in_the_first = too_short (marks_over at_least_two short.memory (pair_sees short.bypass 1 short long [] []) (first_does 1 short long [] []) (λ c. (hosted_twin_at (first_twin 1 short long) [] [] c).first.run.state)) refl refl refl refl
-
-short_in_the_second : HoldsInSecond at_least_two 1 long short [] [] 2 → ⊥
-unfolding short long at_least_two mark_of counted hosted_at hosted_next next stepped acted settled_slot is_tick settled merged reading_of act_of push_or_pull_at delay_of side_of set_at mov_at effect_of jmp_effect out_effect pull_effect set_effect mov_effect settled_ports tick_of tick_delay tick_word tick_by after_effect due_in transfers_after requests_of hosted_twin_at hosted_twin_next twin_from
-short_in_the_second = too_short (marks_over at_least_two short.memory (pair_sees short.bypass 1 long short [] []) (second_does 1 long short [] []) (λ c. (hosted_twin_at (first_twin 1 long short) [] [] c).second.run.state)) refl refl refl refl
-
--- The rows above stand at own = 1, so they refuse a definition that speaks of own = 0 alone. These two refuse one that leaves out any
--- other own: each side is the other by its definition.
-
--- whichever pins the second owns, what is said of the first is said of what its machines see and do
+-- Whichever pins the second owns, what is said of the first is said of what its machines see and do, by its definition. So one that
+-- leaves out some pins is refused, though the rows after these two stand at own = 1 alone.
 in_the_first : (sp : Span) (own : ℕ) (s t : Setup) (first second : List Line) (n : ℕ) → HoldsInFirst sp own s t first second n
     → HoldsOver sp s.memory (pair_sees s.bypass own s t first second) (first_does own s t first second)
     (λ c. (hosted_twin_at (first_twin own s t) first second c).first.run.state) n
@@ -76,3 +65,16 @@ in_the_second : (sp : Span) (own : ℕ) (s t : Setup) (first second : List Line)
     → HoldsOver sp t.memory (pair_sees t.bypass own s t first second) (second_does own s t first second)
     (λ c. (hosted_twin_at (first_twin own s t) first second c).second.run.state) n
 in_the_second sp own s t first second n holds = holds
+
+-- in the first of two blocks, and in the second
+short_in_the_first : HoldsInFirst at_least_two 1 short long [] [] 2 → ⊥
+unfolding short long at_least_two mark_of counted hosted_at hosted_next next stepped acted settled_slot is_tick settled merged reading_of act_of push_or_pull_at delay_of side_of set_at mov_at effect_of jmp_effect out_effect pull_effect set_effect mov_effect settled_ports tick_of tick_delay tick_word tick_by after_effect due_in transfers_after requests_of hosted_twin_at hosted_twin_next twin_from
+short_in_the_first holds =
+    too_short (marks_over at_least_two short.memory (pair_sees short.bypass 1 short long [] []) (first_does 1 short long [] []) (λ c. (hosted_twin_at (first_twin 1 short long) [] [] c).first.run.state)) refl refl refl refl
+    (in_the_first at_least_two 1 short long [] [] 2 holds)
+
+short_in_the_second : HoldsInSecond at_least_two 1 long short [] [] 2 → ⊥
+unfolding short long at_least_two mark_of counted hosted_at hosted_next next stepped acted settled_slot is_tick settled merged reading_of act_of push_or_pull_at delay_of side_of set_at mov_at effect_of jmp_effect out_effect pull_effect set_effect mov_effect settled_ports tick_of tick_delay tick_word tick_by after_effect due_in transfers_after requests_of hosted_twin_at hosted_twin_next twin_from
+short_in_the_second holds =
+    too_short (marks_over at_least_two short.memory (pair_sees short.bypass 1 long short [] []) (second_does 1 long short [] []) (λ c. (hosted_twin_at (first_twin 1 long short) [] [] c).second.run.state)) refl refl refl refl
+    (in_the_second at_least_two 1 long short [] [] 2 holds)
