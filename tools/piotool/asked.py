@@ -185,7 +185,7 @@ class Asked:
             return f"no instruction that a run comes to writes p{end[1]}"
         own = self.machines[self.own]
         if event.addresses is not None and not own.runs_data and not own.jumps_by_data and not event.addresses & set(own.reached):
-            return "a run comes to none of the instructions of its from-event"
+            return "no run comes to an instruction that its from-edge names"
         return None
 
     def alone(self) -> SetUp:

@@ -17,7 +17,7 @@ from piotool.telling import broken_text, event_of
 from piotool.ways import Way, way_to
 
 MOST_LINES = 3  # of a stimulus that is shown
-NO_EDGE = "nothing that the program does after its from-event is its to-event"
+NO_EDGE = "nothing that the program does after its from-edge is its to-edge"
 RATE = re.compile(r"(?<![\w.])(?<!at )(\d+(?:[.,]\d+)?) ?([kM]?)Hz\b")
 UNITS = {"": 1, "k": 10**3, "M": 10**6}
 AWAY = 0.02  # how far a rate is from the one of a comment that is surely another
@@ -98,7 +98,7 @@ class SpanLint:
         """Spans that no to-edge ends, so that their least is never asked."""
         for place, (table, verdict) in enumerate(zip(self.tables, self.verdicts)):
             if " proved opens yes" in verdict and " closes no" in verdict:
-                what = "no to-event comes on the ways that it speaks of" if table.get("prompt") or table.get("without") else NO_EDGE
+                what = "no to-edge comes on the ways that it speaks of" if table.get("prompt") or table.get("without") else NO_EDGE
                 text = f"span {table['name']}: {what}, so min is never asked"
                 key = "to_edge" if "to_edge" in table else "to_done"
                 yield Said(self.files.config_place(f"span[{place}].{key}"), "warning", text, "never-closes")

@@ -33,7 +33,7 @@ def why_unopened(block: SetUp, span: dict[str, Any], graph: Graph) -> list[str]:
     number, wire = span["machine"], wire_of(span, "from")
     if wire is None:
         named = labels_of(block, span, span["from_done"])
-        return [f"  the span never opens: machine {number} comes to no instruction that is its from-event, {named}"]
+        return [f"  the span never opens: machine {number} never comes to {named}, whose end is its from-edge"]
     edge = f"p{span['from_pin']} {EDGES[span['from_edge']][0]}"
     at = span.get("from_at")
     if at and has_edge_elsewhere(block, span, graph):
