@@ -164,6 +164,7 @@ def observed_spans(random, setups):
             "unit": random.choice(["ticks", "clocks"]),
             "prompt": random.random() < 0.2,
             "without": random.choice([[], [], [], ["go"]]),
+            **{key: ["go"] for key in ("from_at", "to_at") if random.random() < 0.15},
             "min": 1,
             "max": random.randrange(1, 20),
         }

@@ -1,12 +1,12 @@
 """The files that the fuzzer calls the program with: those of the repository, those that cases.py draws, and both spoiled."""
 
-import json
 import re
 import tomllib
 from pathlib import Path
 
 import cases
 import span_cases
+from piotool.setups import assignments
 
 TOP = Path(__file__).resolve().parent.parent
 SOURCE, CONFIG, SECOND, STIMULUS, TABLE, WORDS, SENT = (
@@ -199,10 +199,6 @@ def tables_as_toml(tables):
         for table in tables.get(key, []):
             lines += [f"[[{key}]]", *assignments(table)]
     return "\n".join(lines) + "\n"
-
-
-def assignments(table):
-    return [f"{key} = {json.dumps(value)}" for key, value in table.items()]
 
 
 # What is spoiled.

@@ -8,6 +8,7 @@ import observers_model
 from fuzz_calls import Violation
 from fuzz_checks import block_words, changes, check, need, pair_words, run_words, same, without_spans
 from fuzz_files import CONFIG, SECOND, SENT, SOURCE, STIMULUS
+from piotool.span_model import EVENTS
 from piotool.span_runs import broken_at, run_of
 
 
@@ -62,7 +63,7 @@ def observed(program, files, asked):
     program.take(files)
     if ran.status != 0:
         return False
-    pins = {pin} | {span[key] for span in block.spans for key in ("from_pin", "to_pin")}
+    pins = {pin} | {span[key] for span in block.spans for key in ("from_pin", "to_pin") if key in span}
     places = sorted(pins | {32 + it for it in pins})  # of levels and of directions
     found, shown, now, place = changes(ran.out), [], {}, 0
     for clock in range(clocks):
@@ -81,7 +82,8 @@ def observed(program, files, asked):
     lines = models.lines_of(files.get(STIMULUS, b""))
     disturbed = {numbers[0] for _, word, numbers in lines if word in ("disable", "restart")}
     for span, verdict, seen in zip(block.spans, told.out.splitlines(), measured.out.split(b"\n")):
-        is_asked = span["unit"] == "clocks" and not span["prompt"] and not span["without"] and span["machine"] not in disturbed
+        leaves_out = span["prompt"] or any(span[key] for key in ("without", *EVENTS))
+        is_asked = span["unit"] == "clocks" and not leaves_out and span["machine"] not in disturbed
         if b" proved " in verdict and is_asked and b" least " in seen:
             least, most = int(seen.split()[-3]), int(seen.split()[-1])
             need(span["min"] <= least and most <= span["max"], f"{verdict!r}, but {seen!r}", told, measured)

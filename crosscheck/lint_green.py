@@ -110,6 +110,22 @@ FLAGS = {
     + '\n[[machine]]\nid = 1\nprogram = "bell"\nset_count = 0\n',
 }
 
+EVENTS = {
+    "blink.pio": RIGHT["blink.pio"].replace("    set pins, 1", "on:\n    set pins, 1").replace("    set pins, 0", "off:\n    set pins, 0")
+    + ".wrap\nspare:\n    set pins, 1\n",
+    "blink.toml": RIGHT["blink.toml"].replace("min = 4", 'from_at = ["on"]\nmin = 4')
+    + """
+[[span]]
+name = "made"
+machine = 0
+from_done = ["on"]
+to_done = ["off"]
+min = 4
+max = 4
+""",
+    "blink.stim": RIGHT["blink.stim"],
+}
+
 # What is changed (a file, a text, what stands in its place), and the names of the warnings that have to come, and no others may.
 # A second file may change too.
 CASES = [
@@ -129,5 +145,7 @@ CASES = [
     ("EVERY forgotten", RIGHT, [("blink.stim", "1 1 2 3", "0x1 0x2 0x3")], {"every-word"}),
     ("a wait on the pin beside", RIGHT, [("blink.pio", "    pull", "    wait 1 gpio 9\n    pull")], {"pin-not-driven", "span-not-seen", "stands-still"}),
     ("a bound too wide", RIGHT, [("blink.toml", "max = 4", "max = 40")], {"bound-not-tight"}),
+    ("the label of the other edge", EVENTS, [("blink.toml", 'from_at = ["on"]', 'from_at = ["off"]')], {"event-never"}),
+    ("the label of an end that never comes", EVENTS, [("blink.toml", 'to_done = ["off"]', 'to_done = ["off", "spare"]')], {"event-never"}),
     ("a push forgotten", RIGHT, [("blink.pio", "    pull", "    in pins, 8\n    pull")], {"in-not-emptied"}),
 ]

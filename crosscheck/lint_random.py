@@ -14,6 +14,7 @@ from piotool.block_model import Block, System, together
 from piotool.calls import piotool
 from piotool.lint_all import findings
 from piotool.lint_files import Files
+from piotool.telling import EDGES
 
 MORE = 200  # clocks after those of the linter's run
 NUMBER = re.compile(r"\d+")
@@ -24,11 +25,18 @@ class Run:
     """A run of a case: its samples, and of each machine and clock PC, whether its instruction has begun, and OSR."""
 
     def __init__(self, case, clocks):
-        self.case, self.samples, self.states = case, [], []
+        self.case, self.samples, self.states, self.rests = case, [], [], []
         self.block = Block(case.memory, case.setups, case.pins, System(case.lines))
         for shown in together([self.block], 0, clocks):
             self.samples.append(shown[0])
             self.states.append({number: (it.pc, it.begun, it.osr) for number, it in self.block.machines.items()})
+            self.rests.append({number: it.delay > 0 or it.pending is not None for number, it in self.block.machines.items()})
+
+    def acted_alone(self, clock, number, address):
+        """Whether in a clock the one machine that had a tick was this one, in the instruction at an address."""
+        if clock == 0 or self.rests[clock - 1][number] or self.states[clock - 1][number][0] != address:
+            return False
+        return all((clock in log.lasts) == (it == number) for it, log in self.block.ticks.items())
 
     def was(self, place, levels):
         """Whether a value is one of these in any clock."""
@@ -80,11 +88,25 @@ def is_contested(said, run, spans, clocks):
     if name == "prompt-never":
         number, span = numbers[-1], next(it for it in spans if text.startswith(f"span {it['name']}:"))
         return any(state[number][1] for state in run.states) and not span.get("stalls")
-    if name == "without-never":
+    if name == "without-never" or name == "event-never" and " never comes to " in text:
         return any(state[numbers[-1]][0] == case.setups[numbers[-1]]["start"] for state in run.states)
+    if name == "event-never":
+        return is_made_at_start(text, run, spans)
     if name == "no-machine":
         return numbers[0] in case.setups
     return name == "every-word"  # all of a case's are decimal
+
+
+def is_made_at_start(text, run, spans):
+    """Whether the instruction at the start, which is the one that events name here, makes an edge that it is said never to make."""
+    span = next(it for it in spans if text.startswith(f"span {it['name']}:"))
+    start = run.case.setups[span["machine"]]["start"]
+    for end in ("from", "to"):
+        pin, edge = span[f"{end}_pin"], span[f"{end}_edge"]
+        if span.get(f"{end}_at") and text.endswith(f" never makes p{pin} {EDGES[edge][2]}"):
+            clocks = observers_model.ends_of(run.samples, pin, edge, run.case.pins)
+            return any(run.acted_alone(it, span["machine"], start) for it in clocks)
+    return False
 
 
 def is_seen_outside(text, run, spans):

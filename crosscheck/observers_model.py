@@ -16,6 +16,11 @@ def ends_of(shown, pin, edge, pins):
     return edges(levels_of(shown, pin, pins["out"], 32), edge == "out")
 
 
+def events(span, end, shown, pins):
+    """The clocks of a span's from-edges, or of its to-edges; samples don't show the ends of instructions, nor which one makes an edge."""
+    return [] if span.get(f"{end}_done") else ends_of(shown, span[f"{end}_pin"], span[f"{end}_edge"], pins)
+
+
 def edges(levels, after):
     """The clocks in which the level becomes high, or low."""
     return [clock for clock in range(len(levels) - 1) if levels[clock] == after != levels[clock - 1]]
@@ -25,7 +30,7 @@ def seen(spans, shown, pins):
     """The line of each span. A span has its name, its pins and its edges, as a configuration says them. `pins` is before clock 0."""
     text = ""
     for span in spans:
-        starts, ends = (ends_of(shown, span[f"{it}_pin"], span[f"{it}_edge"], pins) for it in ("from", "to"))
+        starts, ends = (events(span, it, shown, pins) for it in ("from", "to"))
         times = [min(end for end in ends if end > start) - start for start in starts if ends and ends[-1] > start]
         text += f"span {span['name']} seen {len(times)}"
         text += f" least {min(times)} most {max(times)}\n" if times else "\n"

@@ -351,7 +351,72 @@ aside:
     return source, SETUP + "[pins]\nout = [0]\n" + pulse(3, 3, unit=random.choice(["ticks", "clocks"]), more='without = ["aside"]\n')
 
 
+def events(least, most, ends, unit="ticks"):
+    """The table of a span between two events in the program, whose keys these are."""
+    return f'[[span]]\nname = "high"\nmachine = 0\n{ends}unit = "{unit}"\nmin = {least}\nmax = {most}\n'
+
+
+def late_sample(random):
+    """A receiver, which writes no pin, reads one later where the word is one of some: a run with that word."""
+    key, wide = random.randrange(32), random.randrange(8)
+    source = f"""
+.program q
+    set x, {key}
+.wrap_target
+begin:
+    pull
+    out y, {random.randrange(5, 9)}
+    jmp x!=y read
+    nop [{wide}]
+read:
+    in pins, 1
+    push noblock
+.wrap
+"""
+    ends = 'from_done = ["begin"]\nto_done = ["read"]\n'
+    return source, SETUP + "set_count = 0\n" + events(3, 3, ends, random.choice(["ticks", "clocks"]))
+
+
+def second_pulse(random):
+    """Of two pulses the span is of the second, which is longer where the word is one of some: a run with that word."""
+    key, wide = random.randrange(32), random.randrange(1, 9)
+    source = f"""
+.program q
+    set x, {key}
+.wrap_target
+    pull
+    out y, {random.randrange(5, 9)}
+    set pins, 1 [{random.randrange(32)}]
+    set pins, 0
+second:
+    set pins, 1 [{wide}]
+    jmp x!=y right
+    nop
+right:
+    set pins, 0
+.wrap
+"""
+    both = 'from_pin = 0\nfrom_edge = "rise"\nfrom_at = ["second"]\nto_pin = 0\nto_edge = "fall"\n'
+    return source, SETUP + "[pins]\nout = [0]\n" + events(wide + 2, wide + 2, both + random.choice(["", 'to_at = ["right"]\n']))
+
+
+def ends_in_a_loop(random):
+    """Each turn of a loop that data counts ends an instruction from which the span goes: a run with a word of more turns."""
+    turns = random.randrange(4, 30)
+    source = """
+.program q
+    pull
+    out x, 6
+count:
+    jmp x-- count
+over:
+    nop
+"""
+    return source, SETUP + "set_count = 0\n" + events(1, turns, 'from_done = ["count"]\nto_done = ["over"]\n')
+
+
 KINDS = (
+    late_sample, second_pulse, ends_in_a_loop,
     line_let_go_late, either_direction, slow_though_prompt, another_way,
     secret_word, late_frame, pattern_of_pin, deep_fifo, full_fifo, counted_by_data, nested_loops,
     flag_of_another, jump_by_data, run_by_data, slow_wait, written_by_another, millions_of_ticks,

@@ -8,7 +8,7 @@ from typing import Any, Optional
 from piotool.machine_model import Setup, period_of, rooms_of
 from piotool.set_up import SetUp
 from piotool.shares_model import Touched
-from piotool.span_model import EDGES
+from piotool.span_model import end_of
 
 JMP, WAIT, IN, OUT, PUSH_PULL, MOV, IRQ, SET = range(8)
 PINS, X, Y, NULL, PINDIRS, PC, ISR, OSR_OR_EXEC = range(8)
@@ -136,10 +136,11 @@ class Asked:
         self.block, self.span, self.held = block, span, held
         self.pins = block.pins
         machines = {number: AskedMachine(number, setup, block.memory) for number, setup in sorted(block.setups.items())}
-        self.ends = span["from_pin"], span["to_pin"]
-        # Of each end the signal, 0 a level and 1 a direction, as `written` and a state have them, and the bit after its edge.
-        edges = [EDGES[span[edge]] for edge in ("from_edge", "to_edge")]
-        self.signals, self.wanted = tuple("pd".index(letter) for letter, _ in edges), tuple(bit for _, bit in edges)
+        self.events = end_of(span, "from"), end_of(span, "to")
+        # Of each end that is an edge the pin, and the signal, 0 a level and 1 a direction, as `written` and a state have them; else none.
+        self.ends = tuple(("pd".index(it.wire[0]), int(it.wire[1:])) if it.wire else None for it in self.events)
+        self.edges = [it for it in self.ends if it]
+        self.watched = frozenset(at for it in self.events if it.wire is None for at in it.addresses or ())
         self.machines = [machines[number] for number in sorted(self.chosen(machines))]
         self.others = [it for it in machines.values() if it not in self.machines]
         self.numbers = [it.number for it in self.machines]
@@ -147,7 +148,7 @@ class Asked:
         reads: set[int] = set().union(*(it.touched.reads for it in self.machines))
         levels: set[int] = set().union(*(it.written()[0] for it in self.machines))
         self.directed: set[int] = set().union(*(it.written()[1] for it in self.machines))
-        self.kept = sorted(set(self.ends) | (levels | self.directed) & reads)
+        self.kept = sorted({pin for _, pin in self.edges} | (levels | self.directed) & reads)
         self.place = {pin: place for place, pin in enumerate(self.kept)}
         self.looks_back = bool((levels | self.directed) & reads)
         self.is_alone = len(self.machines) == 1
@@ -158,7 +159,7 @@ class Asked:
     def writes_ends(self, machine: AskedMachine) -> bool:
         """Whether an instruction in reach of a machine may write what the span's edges are of."""
         written = machine.written()
-        return any(pin in written[signal] for pin, signal in zip(self.ends, self.signals))
+        return any(pin in written[signal] for signal, pin in self.edges)
 
     def chosen(self, machines: dict[int, AskedMachine]) -> set[int]:
         """The span's machine, and each that a chosen one feels by flags or pins, or that writes a pin of the span."""
@@ -177,9 +178,15 @@ class Asked:
                 return found
             found |= more
 
-    def unmoved_from(self) -> bool:
-        """Whether no instruction in reach writes what the from-edge is of, so that none can come."""
-        return all(self.ends[0] not in it.written()[self.signals[0]] for it in self.machines)
+    def unmoved_from(self) -> Optional[str]:
+        """Why no from-event can come: no instruction in reach writes what it is of, or none that is named is in reach. Else none."""
+        event, end = self.events[0], self.ends[0]
+        if end and all(end[1] not in it.written()[end[0]] for it in self.machines):
+            return f"no instruction that a run comes to writes p{end[1]}"
+        own = self.machines[self.own]
+        if event.addresses is not None and not own.runs_data and not own.jumps_by_data and not event.addresses & set(own.reached):
+            return "no run comes to an instruction that its from-edge names"
+        return None
 
     def alone(self) -> SetUp:
         """The set-up without the machines that don't matter."""

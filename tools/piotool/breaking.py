@@ -47,7 +47,7 @@ class Answer:
     states: int
     last: int
     is_done: bool
-    unmoved: Optional[int]
+    unmoved: Optional[str]  # why no from-event comes in any run
 
 
 class Runs:
@@ -126,8 +126,8 @@ def answer_of(source: str | Path, block: SetUp, span: dict[str, Any], seconds: f
     Where every state was visited, runs are searched in which the machines are enabled late.
     """
     asked, end = Asked(block, span), time.process_time() + seconds
-    if asked.unmoved_from():
-        return Answer(None, 0, 0, True, span["from_pin"])
+    if unmoved := asked.unmoved_from():
+        return Answer(None, 0, 0, True, unmoved)
     answer = searched(source, asked, end, is_guided)
     if answer.is_done and time.process_time() < end:
         late = searched(source, Asked(block, span, HELD), end, is_guided)

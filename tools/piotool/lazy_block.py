@@ -128,6 +128,7 @@ class Stretch(Choices):
         if self.is_excused(state.machines[asked.own]):
             state.newest = state.oldest = None
         ticks: list[Optional[Tick]] = []
+        has_word = state.machines[asked.own].pending is not None
         for it, machine in zip(asked.machines, state.machines):
             has_tick = machine.tick * it.period >> 8 == state.clock
             machine.tick += has_tick
@@ -142,11 +143,11 @@ class Stretch(Choices):
         old = state.now
         state.earlier, state.before, state.now = state.before, state.now, levels
         own = ticks[asked.own]
-        self.age(old, levels, own)
+        self.age(old, levels, own, has_word)
         if self.found is not None:
             return
         if own is not None and own.finishes:
-            ends = (levels[signal][asked.place[pin]] for pin, signal in zip(asked.ends, asked.signals))
+            ends = (levels[it[0]][asked.place[it[1]]] if it else 0 for it in asked.ends)
             state.context = self.guide.after(state.context, own.address, state.machines[asked.own], *ends)
         state.clock += 1
         if asked.is_alone:
@@ -164,7 +165,7 @@ class Stretch(Choices):
             for pin, reference in tick.directions:
                 if pin in place:
                     directions[place[pin]] = self.bit(reference)
-        for pin, signal in zip(self.asked.ends, self.asked.signals):
+        for signal, pin in self.asked.edges:
             if signal == 0:
                 levels[place[pin]] = self.bit(levels[place[pin]])
         return tuple(map(self.now, levels)), tuple(directions)
@@ -186,14 +187,23 @@ class Stretch(Choices):
             return min(last + 1, clock)
         return clock
 
-    def has_edge(self, end: int, old: tuple[Bits, Bits], new: tuple[Bits, Bits]) -> bool:
-        """Whether the span's from-edge (0) or its to-edge (1) is between these levels and directions."""
-        signal, place = self.asked.signals[end], self.asked.place[self.asked.ends[end]]
-        return old[signal][place] != new[signal][place] == self.asked.wanted[end]
+    def has_event(self, number: int, old: tuple[Bits, Bits], new: tuple[Bits, Bits], act: Optional[Tick]) -> bool:
+        """Whether the span's from-event (0) or its to-event (1) comes between these levels and directions.
 
-    def age(self, old: tuple[Bits, Bits], new: tuple[Bits, Bits], own: Optional[Tick]) -> None:
-        """Counts the clock's tick, and looks at its edges."""
+        The tick is that of an instruction in memory, its first one or a late one.
+        """
+        event, end = self.asked.events[number], self.asked.ends[number]
+        if event.addresses is not None and (act is None or act.address not in event.addresses):
+            return False
+        if end is None:
+            return act is not None and act.finishes
+        signal, place = end[0], self.asked.place[end[1]]
+        return old[signal][place] != new[signal][place] == event.bit
+
+    def age(self, old: tuple[Bits, Bits], new: tuple[Bits, Bits], own: Optional[Tick], has_word: bool) -> None:
+        """Counts the clock's tick, and looks at its events; those of a word that was pending count for no address."""
         state, asked = self.state, self.asked
+        act = own if own is not None and own.word is not None and not has_word else None
         if own is not None:
             is_named = self.is_named(own)
             if own.is_late and not is_named and state.newest is not None and asked.span["max"] != inf:
@@ -204,13 +214,13 @@ class Stretch(Choices):
             self.look_for_excess(0, state.clock)
             if self.found is not None:
                 return
-            if self.has_edge(1, old, new):
+            if self.has_event(1, old, new, act):
                 clock, counted = state.newest
                 count = state.clock - clock if asked.in_clocks else state.counted - counted
                 if count < asked.span["min"]:
                     self.found = state.clock + 1
                 state.newest = state.oldest = None
-        if self.has_edge(0, old, new):
+        if self.has_event(0, old, new, act):
             state.newest = state.clock, state.counted
             state.oldest = state.oldest or state.newest
 
@@ -261,7 +271,7 @@ class Stretch(Choices):
         if own is None or own.word is None:
             return
         is_plain = own.word.kind == JMP and own.word.high != 6 or own.word.kind == SET or own.word.word & 0xE0FF == 0xA042
-        if not is_plain or not is_quiet or self.used or own.takes:
+        if not is_plain or not is_quiet or self.used or own.takes or own.address in self.asked.watched:
             self.turns.clear()
             return
         if own.word.kind != JMP or machine.pc > own.address:

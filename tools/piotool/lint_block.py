@@ -12,7 +12,8 @@ from piotool.lint_said import Place, Said
 from piotool.machine_model import Setup
 from piotool.set_up import SetUp
 from piotool.shares_model import Touched, pins_from
-from piotool.span_model import Machine, is_move
+from piotool.span_model import EVENTS, Machine, is_move
+from piotool.telling import EDGES
 
 JMP, WAIT, IN, OUT, PUSH_PULL, MOV, IRQ, SET = range(8)
 PINS, PINDIRS, ISR, OSR = 0, 4, 6, 7
@@ -151,6 +152,7 @@ class BlockLint:
             yield from self.of_waits(it, stimulus)
         yield from self.of_stalls()
         yield from self.of_excuses()
+        yield from self.of_events()
         yield from self.of_counts()
 
     # Places.
@@ -185,10 +187,9 @@ class BlockLint:
         """Spans of pins that are never out, and of one name."""
         names: dict[str, int] = {}
         for place, table in enumerate(self.block.tables["span"]):
-            pins = dict.fromkeys((table["from_pin"], table["to_pin"]))
-            for pin in pins:
+            pins = {table[key]: key for key in ("to_pin", "from_pin") if key in table}
+            for pin, key in reversed(pins.items()):
                 if pin not in self.out:
-                    key = "from_pin" if pin == table["from_pin"] else "to_pin"
                     text = f'span {table["name"]}: p{pin} is never out: neither [pins] out nor an instruction makes it an output'
                     yield self.warn(self.files.config_place(f"span[{place}].{key}"), "pin-not-out", text)
             if table["name"] in names:
@@ -278,6 +279,24 @@ class BlockLint:
                 if addresses[label] not in machine.touched.reach:
                     text = f'span {table["name"]}: machine {machine.number} never comes to "{label}"'
                     yield self.warn(self.files.config_place(f"span[{place}].without[{number_}]"), "without-never", text)
+
+    def of_events(self) -> Iterator[Said]:
+        """Labels of events that the machine never comes to, or whose instructions never make the edge."""
+        for place, table in enumerate(self.block.tables["span"]):
+            number, addresses = table["machine"], self.block.addresses(table["machine"])
+            model = Machine(self.block.memory, self.block.setups[number], self.block.span(table))
+            for key in EVENTS:
+                event = model.ends[key.startswith("to")]
+                for number_, label in enumerate(table.get(key, [])):
+                    if addresses[label] not in self.machines[number].touched.reach:
+                        text = f'span {table["name"]}: machine {number} never comes to "{label}"'
+                    elif event.wire and event.bit not in model.bits_of(self.block.memory[addresses[label]], event.wire):
+                        end = key.partition("_")[0]
+                        edge = f"p{table[f'{end}_pin']} {EDGES[table[f'{end}_edge']][2]}"
+                        text = f'span {table["name"]}: the instruction at "{label}" never makes {edge}'
+                    else:
+                        continue
+                    yield self.warn(self.files.config_place(f"span[{place}].{key}[{number_}]"), "event-never", text)
 
     def of_counts(self) -> Iterator[Said]:
         """Two machines whose default set_count meets."""

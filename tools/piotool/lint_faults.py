@@ -16,10 +16,11 @@ from piotool.lint_statements import Statement
 from piotool.lint_stimulus import LINE, of_stimulus
 from piotool.lint_toml import fault_of
 from piotool.lint_tokens import Token, number_of
+from piotool.set_up import LABELS
 
 SOURCE = re.compile(r"piotool: source line (\d+): (\w+)(?: (\S+))?(?: (-?\d+))?")
 CONFIG = re.compile(r"piotool: config (\S+): (\w+)(?: (\d+))?")
-LABELS = {"stalls": "stall", "without": "label of without"}  # what an element is called
+ELEMENTS = {"stalls": "stall"} | {key: f"label of {key}" for key in LABELS[1:]}  # what an element is called
 PATH = re.compile(r"(\w+)\[(\d+)\](?:\.(\w+))?")
 ABOVE = {  # the greatest value of each number, and what has it
     "jmp": (0, 31, "the last address"),
@@ -162,7 +163,7 @@ def of_config(files: Files, path: str, code: str, value: str) -> Said:
     if code == "C12":
         is_span = path == "span"
         place = files.config_place("span[64]" if is_span else f"{path}[16]")
-        limit = "this is the 65th span, and the most is 64" if is_span else f"this is the 17th {LABELS.get(key, key)}, and the most is 16"
+        limit = "this is the 65th span, and the most is 64" if is_span else f"this is the 17th {ELEMENTS.get(key, key)}, and the most is 16"
     elif code in ("C3", "C4", "C6") and (number := bad_element(files, path, code, kind)) is not None:
         place = files.config_place(f"{path}[{number}]")
     elif code == "C13":
@@ -213,7 +214,7 @@ def bad_element(files: Files, path: str, code: str, kind: str) -> Optional[int]:
     values = value_at(files, path)
     if not isinstance(values, list):
         return None
-    wanted = int if kind == "pins" else str if path.endswith((".stalls", ".without")) else dict
+    wanted = int if kind == "pins" else str if path.rpartition(".")[2] in LABELS else dict
     if code == "C3":
         return next((place for place, it in enumerate(values) if type(it) is not wanted), None)
     if code == "C4" and wanted is int:

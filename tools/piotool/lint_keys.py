@@ -9,7 +9,10 @@ KEYS = {
         "pull_threshold", "status_n", "x", "y", "isr", "osr", "isr_count", "osr_count", "pending",
     ),
     "pins": ("high", "level", "out", "bypass"),
-    "span": ("name", "machine", "from_pin", "to_pin", "from_edge", "to_edge", "unit", "min", "max", "stalls", "prompt", "without"),
+    "span": (
+        "name", "machine", "from_pin", "to_pin", "from_edge", "to_edge", "unit", "min", "max", "stalls", "prompt", "without",
+        "from_at", "to_at", "from_done", "to_done",
+    ),
 }  # fmt: skip
 PIN = "a number from 0 to 31"
 TRUTH = "true or false"
@@ -53,6 +56,7 @@ LIMITS = {
     ("span", "span"): "tables, each below [[span]]",
     ("pins", "pins"): "a table, below [pins]",
 }
+LIMITS |= {("span", key): "an array of labels, at least one" for key in ("from_at", "to_at", "from_done", "to_done")}
 LIMITS |= {("machine", key): PIN for key in ("in_base", "out_base", "set_base", "side_base", "jmp_pin")}
 LIMITS |= {("machine", key): TRUTH for key in ("in_right", "out_right", "autopush", "autopull", "join_tx", "join_rx", "status_rx")}
 LIMITS |= {("pins", key): "an array of numbers from 0 to 31" for key in KEYS["pins"]}

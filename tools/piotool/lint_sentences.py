@@ -61,8 +61,8 @@ SENTENCES = {
     "open": "the table of span {name} doesn't go on from this row; make it anew",
     "bad": "the table of span {name} has the cause {value} in this row; make it anew, or look at the bounds",
     # Spans that are refused.
-    "U1": "span {name}: p{key} may {value} too late, or never: {limit}",
-    "U2": "span {name}: p{key} may {value} too early: {limit}",
+    "U1": "span {name}: {key} may {value} too late, or never: {limit}",
+    "U2": "span {name}: {key} may {value} too early: {limit}",
     "U3": "span {name}: this may wait while the span is open, and stalls doesn't name {value}",
     "U4": "span {name}: data says which instruction comes after this one",
     "U5": "span {name}: machine {value} may write a pin of the span too: its {limit}",
@@ -81,6 +81,7 @@ WARNINGS = {
     "same-name": "two spans have one name",
     "without-never": "a label of without that the machine never comes to",
     "prompt-never": "prompt, and no wait that it speaks of",
+    "event-never": "a label of an event that never is one",
     "never-closes": "no to-edge can end a span",
     "span-not-seen": "the run never sees a span",
     "bounds-not-seen": "the run never sees a span at its bounds",

@@ -13,7 +13,7 @@ from piotool.machine_model import period_of
 from piotool.setups import MOST
 from piotool.span_model import Graph, graph_of, mapping, sharing
 from piotool.stimulus_lines import text_of
-from piotool.telling import EDGES, broken_text
+from piotool.telling import broken_text, event_of
 from piotool.ways import Way, way_to
 
 MOST_LINES = 3  # of a stimulus that is shown
@@ -46,13 +46,14 @@ class SpanLint:
         code, name = verdict.rpartition(": ")[2], span["name"]
         if code == "U5":
             other = sharing(self.block.setups, span)
-            at = self.files.config_place(f"span[{place}].from_pin")
+            end = "from" if "from_pin" in span else "to"
+            at = self.files.config_place(f"span[{place}].{end}_pin")
             return Said(at, "error", sentence(code, name=name, value=other, limit=self.held_by(other or 0, span)), code)
         address = int(verdict.partition(" unproved at ")[2].split()[0])
-        at, parts = self.lint.place_of(span["machine"], address), {"name": name, "key": span["to_pin"]}
+        at, (subject, (*_, may)) = self.lint.place_of(span["machine"], address), event_of(self.block, span, "to")
+        parts = {"name": name, "key": subject, "value": may}
         graph = graph_of(self.block.memory, self.block.setups, self.block.pins, span)
         bad = graph.first_bad()
-        parts["value"] = EDGES[span["to_edge"]][2]
         if code == "U3":
             label = self.block.label_at(span["machine"], address)
             parts["value"] = f'"{label}"' if label else "it, since it has no label"
@@ -62,7 +63,7 @@ class SpanLint:
 
     def held_by(self, number: int, span: dict) -> str:
         """The mapping of another machine that holds a pin of a span."""
-        setup, pins = self.block.setups[number], {span["from_pin"], span["to_pin"]}
+        setup, pins = self.block.setups[number], {span.get("from_pin"), span.get("to_pin")}
         for key in ("set", "out"):
             if pins & set(mapping(setup[f"{key}_base"], setup[f"{key}_count"])):
                 return f"{key}_base is {setup[f'{key}_base']} and its {key}_count {setup[f'{key}_count']}"
@@ -99,7 +100,8 @@ class SpanLint:
             if " proved opens yes" in verdict and " closes no" in verdict:
                 what = "no to-edge comes on the ways that it speaks of" if table.get("prompt") or table.get("without") else NO_EDGE
                 text = f"span {table['name']}: {what}, so min is never asked"
-                yield Said(self.files.config_place(f"span[{place}].to_edge"), "warning", text, "never-closes")
+                key = "to_edge" if "to_edge" in table else "to_done"
+                yield Said(self.files.config_place(f"span[{place}].{key}"), "warning", text, "never-closes")
 
     def of_bounds(self, tight: list[Optional[tuple[int, int]]]) -> Iterator[Said]:
         """Bounds that are off by more than half of the tight ones. A least alone is what a device asks for, and isn't compared."""
@@ -121,7 +123,7 @@ class SpanLint:
     def of_rates(self, mhz: float) -> Iterator[Said]:
         """Periods of another frequency than the one that the comments of their tables say."""
         for place, table in enumerate(self.tables):
-            is_period = table["from_pin"] == table["to_pin"] and table["from_edge"] == table["to_edge"]
+            is_period = all(table.get(f"from_{it}") == table.get(f"to_{it}") for it in ("pin", "edge", "done"))
             said = {text: rate for text, rate in self.rates(place).items() if rate <= mhz * 5e5}
             if not is_period or table.get("stalls") or table["max"] == inf or len(said) != 1:
                 continue

@@ -18,7 +18,8 @@ COLUMNS = ("span", "declared", "seen", "least", "mean", "most", "clocks allowed"
 class Measured:
     """A span's measures, in clocks: each with the clock of its from-edge; the clocks that are allowed, and how many are outside.
 
-    Of a span that speaks of some pairs alone (`prompt`, `without`) all are measured, and none is outside: a capture doesn't say of which.
+    Of a span that speaks of some pairs alone (`prompt`, `without`, `from_at`, `to_at`) all are measured, and none is outside: a capture
+    doesn't say of which.
     """
 
     span: Span
@@ -45,6 +46,8 @@ def measured(path: str, tables: Tables, span: Span, capture: Capture, pins: dict
     """What a capture has of a span: each from-edge with the first to-edge after it."""
     factor = capture.clocks_a_unit(mhz)
     ends = []
+    if not span.is_of_pins:
+        raise Fault(f"{path}: span {span.name} is of ends of instructions, which no capture has")
     for pin, edge in ((span.from_pin, span.from_edge), (span.to_pin, span.to_edge)):
         letter, key = EDGES[edge][0], {"p": "level", "d": "out"}[EDGES[edge][0]]
         if letter == "d" and capture.unit is not None:

@@ -5,35 +5,40 @@ import tomllib
 from dataclasses import dataclass
 from math import inf
 from pathlib import Path
-from typing import Any, Optional
+from typing import Any, Iterable, Optional
 
 from piotool.calls import Fault, read_text
-from piotool.set_up import Tables
+from piotool.set_up import LABELS, Tables
 
 MOST = 2**24 - 1  # the greatest bound
 LONG = 10**18  # more clocks than any trace has
 NUMBERS = {"machine": 3, "from_pin": 31, "to_pin": 31, "min": MOST, "max": MOST}
 EDGES = ("rise", "fall", "out", "in")
 WORDS = {"from_edge": EDGES, "to_edge": EDGES, "unit": ("ticks", "clocks")}
-LABELS = ("stalls", "without")
+# What the key of an end in the program stands in the place of.
+IN_PLACE = {f"{end}_{key}": f"{end}_done" for end in ("from", "to") for key in ("pin", "edge")}
 
 
 @dataclass(frozen=True)
 class Span:
-    """A span as a configuration declares it."""
+    """A span as a configuration declares it. An end that is an event in the program has no pin and no edge."""
 
     name: str
     machine: int
-    from_pin: int
-    from_edge: str
-    to_pin: int
-    to_edge: str
+    from_pin: Optional[int]
+    from_edge: Optional[str]
+    to_pin: Optional[int]
+    to_edge: Optional[str]
     unit: str
     min: int
     max: float  # a number, or inf
     stalls: tuple[str, ...]
     prompt: bool = False
     without: tuple[str, ...] = ()
+    from_at: tuple[str, ...] = ()
+    to_at: tuple[str, ...] = ()
+    from_done: tuple[str, ...] = ()
+    to_done: tuple[str, ...] = ()
 
     def bounds(self) -> str:
         """The declared bounds as a text, as `2..7 ticks`."""
@@ -41,15 +46,33 @@ class Span:
             return f"at least {self.min} {self.unit}"
         return f"{self.min} {self.unit}" if self.min == self.max else f"{self.min}..{self.max} {self.unit}"
 
+    def event(self, end: str) -> str:
+        """The event at an end as a text: `p0 rise`, `p0 rise at "a", "b"`, or `"a" done`."""
+        table = self.table
+        if done := table[f"{end}_done"]:
+            return f"{quoted(done)} done"
+        at = table[f"{end}_at"]
+        return f"p{table[f'{end}_pin']} {table[f'{end}_edge']}" + (f" at {quoted(at)}" if at else "")
+
+    @property
+    def is_of_pins(self) -> bool:
+        """Whether its ends are edges of pins, which a trace and a capture show."""
+        return not self.from_done and not self.to_done
+
     @property
     def speaks_of_all(self) -> bool:
         """Whether it speaks of each pair of its edges."""
-        return not self.prompt and not self.without
+        return not self.prompt and not self.without and not self.from_at and not self.to_at
 
     @property
     def table(self) -> Tables:
         """Its table in a configuration."""
         return vars(self)
+
+
+def quoted(labels: Iterable[str]) -> str:
+    """Labels as a text."""
+    return ", ".join(f'"{it}"' for it in labels)
 
 
 def tables_of(path: str | Path, text: str) -> Tables:
@@ -80,12 +103,15 @@ def spans_of(path: str | Path, tables: Tables) -> list[Span]:
 
 def span_of(path: str | Path, at: str, table: Tables) -> Span:
     """The span that a table declares."""
-    table = {"unit": "ticks", "stalls": [], "prompt": False, "without": []} | table
+    table = {"unit": "ticks", "prompt": False} | dict.fromkeys(LABELS, []) | table
+    missing = [key for key, done in IN_PLACE.items() if key not in table and table[done]]
     for key, most in NUMBERS.items():
+        if key in missing:
+            continue
         if type(table.get(key)) is not int and not (key == "max" and table.get(key) == inf) or not 0 <= table[key] <= most and table[key] != inf:
             raise Fault(f"{path}: {at}.{key} is no number from 0 to {most}{', nor inf' if key == 'max' else ''}")
     for key, words in WORDS.items():
-        if not isinstance(table.get(key), str) or table[key] not in words:
+        if key not in missing and not isinstance(table.get(key), str) or table.get(key, words[0]) not in words:
             raise Fault(f"{path}: {at}.{key} is none of {', '.join(words)}")
     for key in LABELS:
         if not isinstance(table[key], list) or not all(isinstance(it, str) for it in table[key]):
@@ -93,7 +119,7 @@ def span_of(path: str | Path, at: str, table: Tables) -> Span:
     if not isinstance(table.get("name"), str) or not isinstance(table["prompt"], bool):
         raise Fault(f"{path}: {at} has no name, or a prompt that is neither true nor false")
     keys = ("name", *NUMBERS, *WORDS, "prompt")
-    return Span(**{key: table[key] for key in keys}, **{key: tuple(table[key]) for key in LABELS})
+    return Span(**{key: table.get(key) for key in keys}, **{key: tuple(table[key]) for key in LABELS})
 
 
 def span_named(path: str | Path, spans: list[Span], name: str) -> Span:

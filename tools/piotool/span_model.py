@@ -267,6 +267,10 @@ class Machine:
         side = wires(side_letter(self.setup), mapping(self.setup["side_base"], bits))
         return {wire: value >> place & 1 for place, wire in enumerate(side)}, delay
 
+    def bits_of(self, word: int, wire: str) -> set[int]:
+        """The bits that an instruction may write to a wire in its first tick or in a late one."""
+        return {write[wire] for path in self.paths_of(word)[0] for write in path if wire in write}
+
     def writes(self, word: int) -> list[Wires]:
         """What the instruction itself may write, by wire: one or more possibilities."""
         kind, high = word >> 13, word >> 5 & 7

@@ -7,6 +7,7 @@ from typing import Any, Optional
 
 from piotool.breaking import Answer, Shown
 from piotool.set_up import SetUp
+from piotool.setups import quoted
 
 ROOM = 30  # clocks that a picture shows before the from-edge and after the end
 # How each edge is written: it does so, it has done so, it may do so.
@@ -16,11 +17,26 @@ EDGES = {
     "out": ("becomes an output", "become an output", "become an output"),
     "in": ("becomes an input", "become an input", "become an input"),
 }
+DONE = ("finishes", "finished", "finish")
 
 
 def bounds_of(span: dict[str, Any]) -> str:
     """The declared bounds, as `2..7`, or `at least 2`."""
     return f"at least {span['min']}" if span["max"] == inf else f"{span['min']}..{span['max']}"
+
+
+def event_of(block: SetUp, span: dict[str, Any], end: str) -> tuple[str, tuple[str, ...]]:
+    """Whose the event at an end of a span is, a pin or an instruction, and how it is written: it does so, has done so, may do so."""
+    if done := span.get(f"{end}_done"):
+        return labels_of(block, span, done), DONE
+    at = span.get(f"{end}_at")
+    by = f" by {labels_of(block, span, at)}" if at else ""
+    return f"p{span[f'{end}_pin']}", tuple(it + by for it in EDGES[span[f"{end}_edge"]])
+
+
+def labels_of(block: SetUp, span: dict[str, Any], addresses: list[int]) -> str:
+    """The labels of these addresses as a text."""
+    return quoted(place_of(block, span["machine"], (it,)).strip('"') for it in addresses)
 
 
 def line_of(block: SetUp, span: dict[str, Any], answer: Answer, seconds: float, stem: Optional[str] = None) -> str:
@@ -30,7 +46,7 @@ def line_of(block: SetUp, span: dict[str, Any], answer: Answer, seconds: float, 
         how = f"by {stem or name}.stim" if answer.shown.lines else "with no stimulus at all"
         return f"span {name} broken {how}: {broken_text(block, span, answer.shown)}"
     if answer.unmoved is not None:
-        return f"span {name}: no run breaks it: no instruction that a run comes to writes p{answer.unmoved}; not a proof"
+        return f"span {name}: no run breaks it: {answer.unmoved}; not a proof"
     if answer.is_done:
         visited = f"({answer.states} state{'s' * (answer.states != 1)}, all visited)"
         return f"span {name}: no run breaks it beside a stimulus without enable, disable and restart {visited}; not a proof"
@@ -39,11 +55,11 @@ def line_of(block: SetUp, span: dict[str, Any], answer: Answer, seconds: float, 
 
 def broken_text(block: SetUp, span: dict[str, Any], shown: Shown) -> str:
     """How a run breaks a span."""
-    broken, pins = shown.broken, (span["from_pin"], span["to_pin"])
-    begins = f"p{pins[0]} {EDGES[span['from_edge']][0]} at clock {broken.begin}"
-    ends, ended, _ = EDGES[span["to_edge"]]
+    broken = shown.broken
+    (first, (does, *_)), (second, (ends, ended, _)) = (event_of(block, span, end) for end in ("from", "to"))
+    begins = f"{first} {does} at clock {broken.begin}"
     if shown.loop:
-        same = f" and never {ends}" if pins[0] == pins[1] else f", and p{pins[1]} never {ends}"
+        same = f" and never {ends}" if first == second else f", and {second} never {ends}"
         return f"{begins}{same}: it goes round {place_of(block, span['machine'], shown.loop)} from then on"
     if broken.wait:
         clock, address = broken.wait
@@ -51,8 +67,8 @@ def broken_text(block: SetUp, span: dict[str, Any], shown: Shown) -> str:
         return f"{begins}, and machine {span['machine']} waits at clock {clock} at {where}, which the span doesn't name"
     count = f"{broken.count} {span['unit'] if broken.count != 1 else span['unit'][:-1]} of {bounds_of(span)}"
     if broken.end is not None:
-        return f"{begins}, p{pins[1]} {ends} at clock {broken.end}: {count}"
-    same = f" and hasn't {ended}" if pins[0] == pins[1] else f", and p{pins[1]} hasn't {ended}"
+        return f"{begins}, {second} {ends} at clock {broken.end}: {count}"
+    same = f" and hasn't {ended}" if first == second else f", and {second} hasn't {ended}"
     return f"{begins}{same} at clock {broken.last}: {count}"
 
 

@@ -5,7 +5,7 @@ from typing import Any
 from piotool.machine_model import Setup
 from piotool.set_up import SetUp
 from piotool.span_model import Graph, Machine, mapping, wire_of
-from piotool.telling import EDGES
+from piotool.telling import EDGES, labels_of
 
 # What a wire is by its kind, and the edges of the other kind.
 NAMES = {"p": "level", "d": "direction"}
@@ -21,12 +21,6 @@ def mappings_of(setup: Setup) -> dict[str, list[int]]:
     }
 
 
-def bits_of(machine: Machine, word: int, wire: str) -> set[int]:
-    """The bits that an instruction may write to a wire."""
-    side, _ = machine.side_and_delay(word)
-    return {bit for write in machine.writes(word) if (bit := {**write, **side}.get(wire)) is not None}
-
-
 def pins_text(pins: list[int]) -> str:
     """Pins of a mapping: those that follow each other as `p4..p7`."""
     if not pins:
@@ -36,9 +30,24 @@ def pins_text(pins: list[int]) -> str:
 
 def why_unopened(block: SetUp, span: dict[str, Any], graph: Graph) -> list[str]:
     """The lines that say why: what writes the from-pin, and what doesn't."""
-    number, edge = span["machine"], f"p{span['from_pin']} {EDGES[span['from_edge']][0]}"
+    number, wire = span["machine"], wire_of(span, "from")
+    if wire is None:
+        named = labels_of(block, span, span["from_done"])
+        return [f"  the span never opens: machine {number} never comes to {named}, whose end is its from-edge"]
+    edge = f"p{span['from_pin']} {EDGES[span['from_edge']][0]}"
+    at = span.get("from_at")
+    if at and has_edge_elsewhere(block, span, graph):
+        named = labels_of(block, span, at)
+        return [f"  the span never opens: machine {number} makes edges at which {edge}, and none of them by {named}"]
     line = f"  the span never opens: no instruction that machine {number} comes to makes an edge at which {edge}"
-    return [line, *(f"  {it}" for it in causes_of(block, span, wire_of(span, "from"), graph))]
+    return [line, *(f"  {it}" for it in causes_of(block, span, wire, graph))]
+
+
+def has_edge_elsewhere(block: SetUp, span: dict[str, Any], graph: Graph) -> bool:
+    """Whether an instruction that the span doesn't name may make the from-edge."""
+    machine = Machine(block.memory, block.setups[span["machine"]], span | {"from_at": []})
+    courses = (it for context in graph.rows for it in machine.courses(context))
+    return any(tick.begins for course in courses for tick in course.ticks)
 
 
 def named(wire: str) -> str:
@@ -51,8 +60,8 @@ def causes_of(block: SetUp, span: dict[str, Any], wire: str, graph: Graph) -> li
     number, pin, (letter, *edges) = span["machine"], span["from_pin"], OTHER[wire[0]]
     machine, aside = (Machine(block.memory, block.setups[number], it) for it in (span, span | {"from_edge": edges[0]}))
     words = {address: block.memory[address] for address in sorted({context.address for context in graph.rows})}
-    bits = {address: found for address, word in words.items() if (found := bits_of(machine, word, wire))}
-    others = [address for address, word in words.items() if bits_of(aside, word, f"{letter}{pin}")]
+    bits = {address: found for address, word in words.items() if (found := machine.bits_of(word, wire))}
+    others = [address for address, word in words.items() if aside.bits_of(word, f"{letter}{pin}")]
     found = []
     if bits:
         always = set().union(*bits.values())
@@ -69,7 +78,7 @@ def causes_of(block: SetUp, span: dict[str, Any], wire: str, graph: Graph) -> li
         else:
             mapped = ", ".join(f"{name} has {pins_text(it)}" for name, it in pins.items())
             found.append(f"p{pin} is in no mapping of machine {number}: {mapped}")
-    unreached = [it for it in block_addresses(block, number) if it not in words and bits_of(machine, block.memory[it], wire)]
+    unreached = [it for it in block_addresses(block, number) if it not in words and machine.bits_of(block.memory[it], wire)]
     if unreached:
         found.append(f"of the program it never comes to {listed(block, unreached)}")
     for other in sorted(set(block.setups) - {number}):
