@@ -55,10 +55,10 @@ fn found_of(alloc: Global, load: &TimedProgram) -> Option<Derived> {
         name: Name::new(String::from_str(alloc, "s").ok()?),
         machine: 0,
         from_pin: 0,
-        from_signal: PinSignal::Level,
+        from_signal: Some(PinSignal::Level),
         from_rise: true,
         to_pin: load.to_pin.min(31),
-        to_signal: PinSignal::Level,
+        to_signal: Some(PinSignal::Level),
         to_rise: false,
         unit: SpanUnit::Ticks,
         min: 0,
@@ -66,6 +66,8 @@ fn found_of(alloc: Global, load: &TimedProgram) -> Option<Derived> {
         stalls: Addresses::empty(alloc),
         prompt: false,
         without: Addresses::empty(alloc),
+        from_at: Addresses::empty(alloc),
+        to_at: Addresses::empty(alloc),
     };
     let mut setup = Setup::of(memory_of(load), Spans::empty(alloc));
     setup.place(machine_of(load));

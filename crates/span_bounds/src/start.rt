@@ -1,9 +1,10 @@
 //! Where a table starts.
 ghost use Rattle.std.specs.Prelude.{◌≡◌, ◌<◌, IsSome, None, Some, slice_index_or, IsTrue};
+ghost use Rattle.pin_matrix.specs.Pins as pins;
+ghost use Rattle.pin_matrix.specs.Spans as spans;
 ghost use Rattle.span_bounds.specs.Tables as spec;
-ghost use Rattle.span_step.specs.Contexts as contexts;
 
-use pin_matrix::{MachineSetup, PinSignal, Setup, Span, is_high};
+use pin_matrix::{MachineSetup, PinSignal, Setup, Span, is_high, signal_bits};
 use span_step::Context;
 
 /// Where a table starts: the machine's first address, its X and Y where they are below 32, and of the span's pins the initial
@@ -18,21 +19,19 @@ pub fn start_context(setup: &Setup, span: &Span) -> Context
             address: machine.start,
             x: known_of(machine.x),
             y: known_of(machine.y),
-            from: is_high(signal_bits(setup, span.from_signal), span.from_pin),
-            to: is_high(signal_bits(setup, span.to_signal), span.to_pin),
+            from: is_high_at_start(setup, span.from_signal, span.from_pin),
+            to: is_high_at_start(setup, span.to_signal, span.to_pin),
         },
         None => unreachable!(),
     }
 }
 
-/// The initial levels or directions of all pins.
-fn signal_bits(setup: &Setup, signal: PinSignal) -> u32
-    ensures { result ≡ contexts.signal_bits signal setup.now.level setup.now.out }
+/// Whether the watched signal of a pin (0 to 31) is high at first: its level, or its direction.
+fn is_high_at_start(setup: &Setup, watched: Option<PinSignal>, pin: u8) -> bool
+    requires { pin < 32 }
+    ensures { result ≡ pins.is_high (spans.signal_bits watched setup.now.level setup.now.out) pin }
 {
-    match signal {
-        PinSignal::Level => setup.level,
-        PinSignal::Direction => setup.out,
-    }
+    is_high(signal_bits(watched, setup.level, setup.out), pin)
 }
 
 /// X or Y, where it is below 32.

@@ -15,5 +15,6 @@ pub mod Pacing
 pub mod InClocks
 pub mod Sound
 pub mod Held
+mod EventRows
 mod HoldsRows
 mod PairRows

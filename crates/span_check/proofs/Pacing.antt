@@ -1,11 +1,12 @@
 -- The clocks of a machine's ticks, from a clock in which the span's from-edge comes to the next line that disables or restarts it.
-use Rattle.std.proofs.Common.{◌≡◌, ◌==◌, ℕ, zero, suc, ◌+◌, ◌*◌, ◌/◌, ◌<◌, ◌≤◌, inl, inr, Bool, true, false, ◌&&◌, cond, Some, List, slice_index_or, refl, ap, sym, subst, ◌∙◌, arith, add-one}
+use Rattle.std.proofs.Common.{◌≡◌, ◌==◌, ℕ, zero, suc, ◌+◌, ◌*◌, ◌/◌, ◌<◌, ◌≤◌, inl, inr, Bool, true, false, ◌&&◌, cond, Option, Some, List, slice_index_or, refl, ap, sym, subst, ◌∙◌, arith, add-one}
 use Rattle.std.proofs.lemmas.Bool.{and_parts, or_parts}
 use Rattle.std.specs.Int.{bit_at}
 use Rattle.clock_divider.specs.Timing.{Timing}
 use Rattle.clock_divider.specs.Timing as timing
 use Rattle.clock_divider.specs.Ticks.{IsTickClock, is_tick}
 use Rattle.pin_matrix.specs.Pins.{last_of}
+use Rattle.pin_matrix.specs.Spans.{signal_bits}
 use Rattle.pin_matrix.specs.declared.span.PinSignal.{PinSignal}
 use Rattle.pin_matrix.specs.declared.span.PinSignal.TheVariants.{Level}
 use Rattle.pin_matrix.specs.declared.span.Span.{Span}
@@ -21,14 +22,13 @@ use Rattle.block_core.specs.Block.{BlockState, view_of}
 use Rattle.block_core.specs.Following.{place_at, intent_in}
 use Rattle.pin_matrix.specs.Pins.{is_high}
 use Rattle.block_core.specs.Edges.{changes}
-use Rattle.span_step.specs.Contexts.{signal_bits}
-use Rattle.span_ticks.specs.Following.{writes_to}
-use Rattle.span_check.specs.Marks.{Mark, mark_of, counts, names}
+use Rattle.span_ticks.specs.Following.{finishes, works, writes_to}
+use Rattle.span_check.specs.Marks.{Mark, mark_of, counts, names, pending_at}
 use Rattle.span_check.specs.Holding.{counted, IsUnbroken}
 use Rattle.span_check.specs.Runs.{marks_over}
 use Rattle.span_check.proofs.Counting.{one_if, before_suc, counted-suc, counted-none}
 use Rattle.span_check.proofs.Premises.{Laws}
-use Rattle.span_check.proofs.Levels.{level-none, changes-is_edge, no-edge, of-tick}
+use Rattle.span_check.proofs.Levels.{level-none, changes-is_edge, no-edge, no-event, of-tick}
 use Rattle.span_check.proofs.Periods.{IsBetween, between-start, between-tick, between-idle}
 use Rattle.span_check.proofs.Steps.{IsAfter}
 
@@ -130,28 +130,33 @@ pub record IsRun (sp : Span) (period : ℕ) (memory : List ℕ) (seen : ℕ → 
 -- in a run, for a span that names no address
 module _ (laws : Laws) (sp : Span) (period : ℕ) (long : 256 ≤ period) (none : (address : ℕ) → names sp address ≡ false) (memory : List ℕ) (seen : ℕ → ℕ) (host : ℕ → Due) (states : ℕ → BlockState) (r : IsRun sp period memory seen host states) where
   -- a level that nothing is written to stays, and so does a direction
-  same_level : (signal : PinSignal) (p old new : ℕ) → new ≡ last_of p old (two_writes (writes_to signal no_intent)) → (new == 1) ≡ (old == 1)
+  same_level : (signal : Option PinSignal) (p old new : ℕ) → new ≡ last_of p old (two_writes (writes_to signal no_intent)) → (new == 1) ≡ (old == 1)
   same_level signal p old new e = ap (λ n. n == 1) e ∙ sym (laws.levels p (two_writes (writes_to signal no_intent)) old) ∙ level-none signal p (old == 1)
 
-  -- the from-edge comes only in a tick
-  edge_ticks : (sees : ℕ) (d : Due) (b a : BlockState) (m : Slot) → IsAfter sp memory sees d b a → place_at b sp.machine ≡ Some m → (mark_of sp memory sees d b a).from ≡ true → has_tick (lined d m) ≡ true
+  -- the from-event comes only in a tick
+  event_ticks : (sees : ℕ) (d : Due) (b a : BlockState) (m : Slot) → IsAfter sp memory sees d b a → place_at b sp.machine ≡ Some m → (mark_of sp memory sees d b a).from ≡ true → has_tick (lined d m) ≡ true
   unfolding mark_of
-  edge_ticks sees d b a m h slot edge = by (has_tick (lined d m)) refl where
+  event_ticks sees d b a m h slot edge = by (has_tick (lined d m)) refl where
     old : ℕ
     old = signal_bits sp.from_signal b.levels b.directions
 
     new : ℕ
     new = signal_bits sp.from_signal a.levels a.directions
 
+    pending : Option ℕ
+    pending = pending_at (place_at b sp.machine)
+
+    intent : has_tick (lined d m) ≡ false → intent_in memory sees d b sp.machine ≡ no_intent
+    intent off = ap (place_intent (view_of memory sees b) d) slot ∙ idle_intent (view_of memory sees b) d m off
+
     unmoved : has_tick (lined d m) ≡ false → changes sp.from_rise (is_high old sp.from_pin) (is_high new sp.from_pin) ≡ false
     unmoved off =
-        let intent : intent_in memory sees d b sp.machine ≡ no_intent = ap (place_intent (view_of memory sees b) d) slot ∙ idle_intent (view_of memory sees b) d m off in
         no_change sp.from_rise (is_high old sp.from_pin) (is_high new sp.from_pin)
-        (same_level sp.from_signal sp.from_pin (bit_at old sp.from_pin) (bit_at new sp.from_pin) (h.from ∙ ap (λ (i : Intent). last_of sp.from_pin (bit_at old sp.from_pin) (two_writes (writes_to sp.from_signal i))) intent))
+        (same_level sp.from_signal sp.from_pin (bit_at old sp.from_pin) (bit_at new sp.from_pin) (h.from ∙ ap (λ (i : Intent). last_of sp.from_pin (bit_at old sp.from_pin) (two_writes (writes_to sp.from_signal i))) (intent off)))
 
     by : (t : Bool) → has_tick (lined d m) ≡ t → has_tick (lined d m) ≡ true
     by true e = e
-    by false e = absurd (never (sym (unmoved e) ∙ edge)) where
+    by false e = absurd (never (sym (no-event sp.from_signal sp.from_at _ _ _ _ (unmoved e) (ap (λ (i : Intent). finishes (works i.kind pending) i.stalled) (intent e))) ∙ edge)) where
       never : false ≡ true → ⊥
       never f = cc
 
@@ -170,7 +175,7 @@ module _ (laws : Laws) (sp : Span) (period : ℕ) (long : 256 ≤ period) (none 
       let whole : now ≡ record { clock = s; restarted = now.restarted; period = period } =
       whole_timing now s period (restart-clock restarts t.m.timing ∙ t.clock) (restart-period restarts t.m.timing ∙ t.period_is) in
       let tick = and_parts (enabled_by d t.m.machine.setup.id t.m.enabled) (is_tick now.restarted now.period now.clock)
-      (edge_ticks (seen s) d (states s) (states (suc s)) t.m (r.after s) t.slot edge) in
+      (event_ticks (seen s) d (states s) (states (suc s)) t.m (r.after s) t.slot edge) in
       let which : IsTickClock now.restarted period s = (laws.tick_test now.restarted period s (omega (arith, long))).0 (sym (ticks_with now s now.restarted period whole) ∙ tick.1) in
       let marks : ℕ → Mark = marks_over sp memory seen host states in
       record {

@@ -1,16 +1,17 @@
--- A span with neither `prompt` nor `without` excuses nothing.
-use Rattle.std.proofs.Common.{◌≡◌, ◌↔◌, ℕ, ◌==◌, Bool, true, false, not, ◌&&◌, ◌||◌, Option, Some, None, List, refl, ap, ◌∙◌}
+-- A span with neither `prompt` nor `without` excuses nothing, and one between edges of any instruction looks at edges alone.
+use Rattle.std.proofs.Common.{◌≡◌, ◌↔◌, ℕ, suc, ◌==◌, Bool, true, false, not, ◌&&◌, ◌||◌, Option, Some, None, IsSome, List, [], length, refl, ap, ◌∙◌}
 use Rattle.std.specs.List.{list_any}
+use Rattle.pin_matrix.specs.declared.span.PinSignal.{PinSignal}
 use Rattle.pin_matrix.specs.declared.span.Span.{Span}
 use Rattle.pin_matrix.specs.declared.span.SpanUnit.{SpanUnit}
 use Rattle.dreq_pacing.specs.declared.due.Due.{Due}
 use Rattle.block_core.specs.Slots.{Slot}
 use Rattle.block_core.specs.Block.{BlockState}
 use Rattle.block_core.specs.Following.{place_at}
-use Rattle.span_step.specs.Steps.{is_named, is_left_out}
+use Rattle.span_step.specs.Steps.{is_event, is_named, is_left_out}
 use Rattle.span_ticks.specs.UnderWay.{stands_before, flow_of}
-use Rattle.span_check.specs.Asked.{IsPlain}
-use Rattle.span_check.specs.Marks.{mark_of, excused_at}
+use Rattle.span_check.specs.Asked.{IsOfEdges, IsPlain}
+use Rattle.span_check.specs.Marks.{mark_of, excused_at, has_signal_edge}
 use Rattle.span_check.specs.Holding.{IsUnbrokenIn, IsSpokenOf}
 use Rattle.span_check.specs.Runs.{marks_over}
 
@@ -38,3 +39,21 @@ plain_spoken sp memory seen host states unit s end plain = (
   λ h. h.unbroken,
   λ h. record { free = λ c after before. plain_free sp memory seen host states c plain; unbroken = h },
 )
+
+-- an edge that any instruction may make is an event
+any_edge : (watched : Option PinSignal) (at : List ℕ) (address : ℕ) (edge works finishes : Bool) → IsSome watched → at ≡ [] → is_event watched at address edge works finishes ≡ edge
+any_edge None at address edge works finishes s e = cc
+any_edge (Some signal) at address edge works finishes s e = rw e (whole edge) where
+  whole : (x : Bool) → (x && true) ≡ x
+  whole true = refl
+  whole false = refl
+
+pub from_edge : (sp : Span) (memory : List ℕ) (seen : ℕ → ℕ) (host : ℕ → Due) (states : ℕ → BlockState) (clock : ℕ) → IsOfEdges sp
+    → (marks_over sp memory seen host states clock).from ≡ has_signal_edge sp.from_signal sp.from_pin sp.from_rise (states clock) (states (suc clock))
+unfolding mark_of
+from_edge sp memory seen host states clock edges = any_edge sp.from_signal sp.from_at _ _ _ _ edges.from edges.from_any
+
+pub to_edge : (sp : Span) (memory : List ℕ) (seen : ℕ → ℕ) (host : ℕ → Due) (states : ℕ → BlockState) (clock : ℕ) → IsOfEdges sp
+    → (marks_over sp memory seen host states clock).to ≡ has_signal_edge sp.to_signal sp.to_pin sp.to_rise (states clock) (states (suc clock))
+unfolding mark_of
+to_edge sp memory seen host states clock edges = any_edge sp.to_signal sp.to_at _ _ _ _ edges.to edges.to_any

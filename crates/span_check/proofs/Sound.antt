@@ -6,6 +6,7 @@ use Rattle.std.specs.Int.{bit_at}
 use Rattle.std.specs.List.{AllByRecursion, Contains}
 use Rattle.pin_matrix.specs.Pins.{last_of}
 use Rattle.pin_matrix.specs.Setups.{ids_are_places}
+use Rattle.pin_matrix.specs.Spans.{is_signal, signal_bits}
 use Rattle.pin_matrix.specs.declared.machine.MachineSetup.{MachineSetup}
 use Rattle.pin_matrix.specs.declared.setup.Setup.{Setup}
 use Rattle.pin_matrix.specs.declared.span.PinSignal.{PinSignal}
@@ -20,7 +21,7 @@ use Rattle.block_core.specs.Following.{Follows, place_at, intent_in, leaves, Oth
 use Rattle.span_step.specs.declared.ages.Ages.{Ages}
 use Rattle.span_step.specs.declared.ages.Ages.TheVariants.{Empty}
 use Rattle.span_step.specs.declared.stepped.Next.{Next}
-use Rattle.span_step.specs.Contexts.{Context, signal_bits, is_small}
+use Rattle.span_step.specs.Contexts.{Context, is_small}
 use Rattle.span_step.specs.Courses.{start}
 use Rattle.span_step.specs.Laws.{first_cause}
 use Rattle.span_step.specs.Steps.{context_steps, period_of}
@@ -33,6 +34,7 @@ use Rattle.span_ticks.specs.Rows.{IsInRow, HasRow, IsSoundTable}
 use Rattle.span_ticks.specs.UnderWay.{Covers, IsContextOf, flow_of}
 use Rattle.span_ticks.specs.Following.{writes_to}
 use Rattle.span_verdict.specs.Sharing.{holds, writes_pin, writes_span, may_write, shares, IsUnshared}
+use Rattle.span_check.proofs.Levels.{bit-none}
 use Rattle.span_check.proofs.Premises.{Laws}
 use Rattle.span_check.proofs.Steps.{IsAfter}
 use Rattle.span_check.proofs.Walk.{IsBeside}
@@ -74,14 +76,14 @@ sound_table laws u sp rows table closed good = record {
 }
 
 -- a machine that may not write the span's pins leaves them
-leaves-level : (out set dirs side : Bool) → (out || (set || (not dirs && side))) ≡ false → (not out && (not set && (dirs || not side))) ≡ true
+leaves-level : (out set dirs side : Bool) → (out || (set || (is_signal (cond {A = PinSignal} dirs Direction Level) (Some Level) && side))) ≡ false → (not out && (not set && (dirs || not side))) ≡ true
 leaves-level true set dirs side h = cc
 leaves-level false true dirs side h = cc
 leaves-level false false true side h = refl
 leaves-level false false false true h = cc
 leaves-level false false false false h = refl
 
-leaves-direction : (out set dirs side : Bool) → (out || (set || (dirs && side))) ≡ false → (not out && (not set && (not dirs || not side))) ≡ true
+leaves-direction : (out set dirs side : Bool) → (out || (set || (is_signal (cond {A = PinSignal} dirs Direction Level) (Some Direction) && side))) ≡ false → (not out && (not set && (not dirs || not side))) ≡ true
 leaves-direction true set dirs side h = cc
 leaves-direction false true dirs side h = cc
 leaves-direction false false false side h = refl
@@ -89,7 +91,7 @@ leaves-direction false false true true h = cc
 leaves-direction false false true false h = refl
 
 -- what is watched of the pin is what the span watches of one of its own
-may-not : (p : ℕ) (signal : PinSignal) (sp : Span) (m : Option MachineSetup) → ((s : MachineSetup) → writes_span s sp ≡ false → writes_pin s signal p ≡ false) → may_write m sp ≡ false → IfSome m (λ s. leaves p signal s ≡ true)
+may-not : (p : ℕ) (signal : PinSignal) (sp : Span) (m : Option MachineSetup) → ((s : MachineSetup) → writes_span s sp ≡ false → writes_pin s (Some signal) p ≡ false) → may_write m sp ≡ false → IfSome m (λ s. leaves p signal s ≡ true)
 may-not p signal sp None of h = tt
 may-not p Level sp (Some s) of h = leaves-level (holds s.out p) (holds s.set p) s.side_rule.pindirs (holds s.side p) (of s h)
 may-not p Direction sp (Some s) of h = leaves-direction (holds s.out p) (holds s.set p) s.side_rule.pindirs (holds s.side p) (of s h)
@@ -104,11 +106,19 @@ not-shared u sp h m apart = by (m == sp.machine) (not-own m sp.machine apart) (h
   by true e f = cc
   by false e f = f
 
-pub others-leave-from : (u : Setup) (sp : Span) → IsUnshared u sp → OthersLeave sp.from_signal sp.machine sp.from_pin u.machines
-others-leave-from u sp h m apart = may-not sp.from_pin sp.from_signal sp (slice_index_or u.machines m None) (λ s e. (or_parts (writes_pin s sp.from_signal sp.from_pin) (writes_pin s sp.to_signal sp.to_pin) e).0) (not-shared u sp h m apart)
+-- the other machines leave the watched signal of a pin, if one is watched
+abbrev pub LeaveWatched : Option PinSignal → (id p : ℕ) → List (Option MachineSetup) → Type 0
+LeaveWatched watched id p machines = IfSome watched (λ signal. OthersLeave signal id p machines)
 
-pub others-leave-to : (u : Setup) (sp : Span) → IsUnshared u sp → OthersLeave sp.to_signal sp.machine sp.to_pin u.machines
-others-leave-to u sp h m apart = may-not sp.to_pin sp.to_signal sp (slice_index_or u.machines m None) (λ s e. (or_parts (writes_pin s sp.from_signal sp.from_pin) (writes_pin s sp.to_signal sp.to_pin) e).1) (not-shared u sp h m apart)
+others-leave : (u : Setup) (sp : Span) → IsUnshared u sp → (watched : Option PinSignal) (p : ℕ) → ((s : MachineSetup) → writes_span s sp ≡ false → writes_pin s watched p ≡ false) → LeaveWatched watched sp.machine p u.machines
+others-leave u sp h None p of = tt
+others-leave u sp h (Some signal) p of = λ m apart. may-not p signal sp (slice_index_or u.machines m None) of (not-shared u sp h m apart)
+
+pub others-leave-from : (u : Setup) (sp : Span) → IsUnshared u sp → LeaveWatched sp.from_signal sp.machine sp.from_pin u.machines
+others-leave-from u sp h = others-leave u sp h sp.from_signal sp.from_pin (λ s e. (or_parts (writes_pin s sp.from_signal sp.from_pin) (writes_pin s sp.to_signal sp.to_pin) e).0)
+
+pub others-leave-to : (u : Setup) (sp : Span) → IsUnshared u sp → LeaveWatched sp.to_signal sp.machine sp.to_pin u.machines
+others-leave-to u sp h = others-leave u sp h sp.to_signal sp.to_pin (λ s e. (or_parts (writes_pin s sp.from_signal sp.from_pin) (writes_pin s sp.to_signal sp.to_pin) e).1)
 
 -- the machine's number is that of its place
 place_id : (place i : ℕ) (machines : List (Option MachineSetup)) (s : MachineSetup) → ids_are_places place machines ≡ true → slice_index_or machines i None ≡ Some s → s.id ≡ place + i
@@ -156,11 +166,12 @@ start-agrees u sp s = record {
 -- in a run of a setup, for a span whose pins no other machine may write
 module _ (laws : Laws) (u : Setup) (sp : Span) (s : MachineSetup) (configured : slice_index_or u.machines sp.machine None ≡ Some s) (alone : IsUnshared u sp) (seen : ℕ → ℕ) (host : ℕ → Due) (states : ℕ → BlockState) (begins : states 0 ≡ first_state u) (follows : Follows u.memory seen host states) where
   -- what is watched of a pin that is the machine's alone
-  own-signal : (signal : PinSignal) (p : ℕ) → p < 32 → OthersLeave signal sp.machine p u.machines → (c : ℕ)
+  own-signal : (signal : Option PinSignal) (p : ℕ) → p < 32 → LeaveWatched signal sp.machine p u.machines → (c : ℕ)
       → bit_at (signal_bits signal (states (suc c)).levels (states (suc c)).directions) p
       ≡ last_of p (bit_at (signal_bits signal (states c).levels (states c).directions) p) (two_writes (writes_to signal (intent_in u.memory (seen c) (host c) (states c) sp.machine)))
-  own-signal Level p inside others c = laws.own_levels u u.memory seen host states begins follows sp.machine p inside others c
-  own-signal Direction p inside others c = laws.own_directions u u.memory seen host states begins follows sp.machine p inside others c
+  own-signal None p inside others c = bit-none p
+  own-signal (Some Level) p inside others c = laws.own_levels u u.memory seen host states begins follows sp.machine p inside others c
+  own-signal (Some Direction) p inside others c = laws.own_directions u u.memory seen host states begins follows sp.machine p inside others c
 
   after-each : (c : ℕ) → IsAfter sp u.memory (seen c) (host c) (states c) (states (suc c))
   after-each c = record {

@@ -1,7 +1,8 @@
 -- One clock of the span's machine beside the checker's table.
-use Rattle.std.proofs.Common.{◌≡◌, ◌==◌, ℕ, ◌+◌, ◌≤◌, Bool, true, false, ◌&&◌, cond, Option, Some, None, List, [], ◌∷◌, slice_index_or, refl, ap, sym, subst, ◌∙◌, arith}
+use Rattle.std.proofs.Common.{◌≡◌, ◌==◌, ℕ, ◌+◌, ◌≤◌, Bool, true, false, ◌&&◌, cond, Option, Some, None, List, [], ◌∷◌, slice_index_or, refl, ap, sym, subst, ◌∙◌, inl, inr, arith}
 use Rattle.std.specs.Int.{bit_at}
 use Rattle.pin_matrix.specs.Pins.{last_of}
+use Rattle.pin_matrix.specs.Spans.{signal_bits}
 use Rattle.pin_matrix.specs.declared.machine.MachineSetup.{MachineSetup}
 use Rattle.pin_matrix.specs.declared.setup.Setup.{Setup}
 use Rattle.pin_matrix.specs.declared.span.PinSignal.{PinSignal}
@@ -21,16 +22,16 @@ use Rattle.block_core.specs.Slots.{Slot, lined, has_tick, acted, settled_slot, s
 use Rattle.block_core.specs.Block.{BlockState, view_of}
 use Rattle.block_core.specs.Following.{place_at, intent_in}
 use Rattle.span_step.specs.declared.ages.Ages.{Ages}
-use Rattle.span_step.specs.Contexts.{Context, signal_bits}
+use Rattle.span_step.specs.Contexts.{Context}
 use Rattle.span_step.specs.Steps.{bounds_of, is_bounded}
 use Rattle.span_ticks.specs.Rows.{IsSoundTable}
-use Rattle.span_ticks.specs.UnderWay.{Watch, IsUnderWay, flow_of, is_excused_in}
+use Rattle.span_ticks.specs.UnderWay.{Flow, Watch, IsUnderWay, flow_of, is_excused_in}
 use Rattle.span_ticks.specs.Following.{InAges, writes_to, level_after, is_late, opens, closes, IsFollowed}
 use Rattle.pin_matrix.specs.Pins.{is_high}
-use Rattle.span_check.specs.Marks.{Mark, mark_of, counts, strays, names, pc_at, excused_at}
+use Rattle.span_check.specs.Marks.{Mark, mark_of, counts, strays, names, pc_at, pending_at, excused_at}
 use Rattle.span_check.proofs.Counting.{one_if}
 use Rattle.span_check.proofs.Premises.{Laws}
-use Rattle.span_check.proofs.Levels.{level-none, changes-is_edge, no-edge, of-tick}
+use Rattle.span_check.proofs.Levels.{level-none, changes-is_edge, no-edge, no-event, of-tick}
 
 -- a number of ticks is one of the ages, and no more than the greatest bound where there is one
 abbrev pub Fits : (bounded : Bool) → (max n : ℕ) → Ages → Type 0
@@ -51,7 +52,7 @@ record IsStep (u : Setup) (sp : Span) (rows : Context → Option Ages) (s : Mach
   under_way : IsUnderWay u sp rows s (flow_of act.0) after
   from : after.from ≡ level_after sp.from_pin (two_writes (writes_to sp.from_signal act.1)) w.from
   to : after.to ≡ level_after sp.to_pin (two_writes (writes_to sp.to_signal act.1)) w.to
-  goes : Goes (is_bounded sp) (bounds_of sp s).0 (bounds_of sp s).1 (opens sp w after) (closes sp w after) (counts act.1.kind (names sp address)) (strays act.1.kind (names sp address)) excused w.ages after.ages
+  goes : Goes (is_bounded sp) (bounds_of sp s).0 (bounds_of sp s).1 (opens sp address act.1 w after) (closes sp address act.1 w after) (counts act.1.kind (names sp address)) (strays act.1.kind (names sp address)) excused w.ages after.ages
 
 -- how a tick counts, by its kind
 record CountsAs (kind : Kind) (named : Bool) (writes : List (ℕ × ℕ)) : Type 0 where
@@ -70,6 +71,17 @@ counts_late true w x = record { older = refl; stray = λ h. refl; two = refl }
 counts_late false w x = record { older = refl; stray = λ h. absurd (no (h refl)); two = refl } where
   no : false ≡ true → ⊥
   no e = cc
+
+-- so the level after its writes is that after two
+two_alike : (watched : Option PinSignal) (p : ℕ) (level : Bool) (i : Intent) → ((signal : PinSignal) → two_writes (writes_to (Some signal) i) ≡ writes_to (Some signal) i)
+    → level_after p (writes_to watched i) level ≡ level_after p (two_writes (writes_to watched i)) level
+two_alike None p level i two = sym (level-none None p level)
+two_alike (Some signal) p level i two = ap (λ writes. level_after p writes level) (sym (two signal))
+
+-- a machine that is under way has no word pending
+none_pending : (u : Setup) (sp : Span) (rows : Context → Option Ages) (s : MachineSetup) (f : Flow) (w : Watch) → IsUnderWay u sp rows s f w → f.pending ≡ None
+none_pending u sp rows s f w (inl h) = h.pending
+none_pending u sp rows s f w (inr h) = h.pending
 
 -- where the machine is at the start of a clock
 pub record IsGoing (u : Setup) (sp : Span) (rows : Context → Option Ages) (s : MachineSetup) (b : BlockState) (m : Slot) (w : Watch) : Type 0 where
@@ -100,14 +112,16 @@ module _ (laws : Laws) (u : Setup) (sp : Span) (rows : Context → Option Ages) 
   ticked : (v : View) (q : Queues) (r : Registers) (w : Watch) → IsFollowed u sp rows s r.pc (is_excused_in sp (flow_of r)) w (tick_of s v q r) → IsStep u sp rows s r.pc (is_excused_in sp (flow_of r)) w (tick_of s v q r)
   ticked v q r w f =
       let named = names sp r.pc in
-      let as_signal : (signal : PinSignal) → CountsAs (tick_of s v q r).1.kind named (writes_to signal (tick_of s v q r).1) =
+      let as_signal : (signal : PinSignal) → CountsAs (tick_of s v q r).1.kind named (writes_to (Some signal) (tick_of s v q r).1) =
       λ signal. of-tick signal (λ kind writes. CountsAs kind named writes) (counts_delay named) (counts_first named) (counts_late named) s v q r in
-      let kinds : CountsAs (tick_of s v q r).1.kind named (writes_to Level (tick_of s v q r).1) = as_signal Level in
+      let kinds : CountsAs (tick_of s v q r).1.kind named (writes_to (Some Level) (tick_of s v q r).1) = as_signal Level in
+      let two : (watched : Option PinSignal) (p : ℕ) (level : Bool) → level_after p (writes_to watched (tick_of s v q r).1) level ≡ level_after p (two_writes (writes_to watched (tick_of s v q r).1)) level =
+      λ watched p level. two_alike watched p level (tick_of s v q r).1 (λ signal. (as_signal signal).two) in
       record {
         after = f.after;
         under_way = f.under_way;
-        from = f.from ∙ ap (λ writes. level_after sp.from_pin writes w.from) (sym (as_signal sp.from_signal).two);
-        to = f.to ∙ ap (λ writes. level_after sp.to_pin writes w.to) (sym (as_signal sp.to_signal).two);
+        from = f.from ∙ two sp.from_signal sp.from_pin w.from;
+        to = f.to ∙ two sp.to_signal sp.to_pin w.to;
         goes = record {
           most = λ free n h b. rw kinds.older ((f.ages free n h.0).most b);
           least = λ free n h e. rw kinds.older ((f.ages free n h.0).least e);
@@ -126,10 +140,10 @@ module _ (laws : Laws) (u : Setup) (sp : Span) (rows : Context → Option Ages) 
     to = sym (level-none sp.to_signal sp.to_pin w.to);
     goes = record {
       most = λ free n h b. omega (arith, h.1 b);
-      least = λ free n h e. absurd (never (sym (no-edge sp.to_rise w.to) ∙ e));
+      least = λ free n h e. absurd (never (sym (no-event sp.to_signal sp.to_at r.pc _ false false (no-edge sp.to_rise w.to) refl) ∙ e));
       stays = λ free n h e. subst (λ k. Fits (is_bounded sp) (bounds_of sp s).1 k w.ages) (still n) h;
       strays = λ free n h b. refl;
-      fresh = λ e. absurd (never (sym (no-edge sp.from_rise w.from) ∙ e));
+      fresh = λ e. absurd (never (sym (no-event sp.from_signal sp.from_at r.pc _ false false (no-edge sp.from_rise w.from) refl) ∙ e));
     };
   } where
     never : false ≡ true → ⊥
@@ -167,6 +181,7 @@ module _ (laws : Laws) (u : Setup) (sp : Span) (rows : Context → Option Ages) 
       let to_after = signal_bits sp.to_signal after.levels after.directions in
       let intent : intent_in u.memory seen d before sp.machine ≡ (acted v (lined d m)).1 = ap (place_intent v d) g.slot in
       let pc : pc_at (place_at before sp.machine) ≡ m.machine.registers.pc = ap pc_at g.slot in
+      let plain : pending_at (place_at before sp.machine) ≡ None = ap pending_at g.slot ∙ none_pending u sp rows s (flow_of m.machine.registers) w g.under_way in
       let stands : excused_at sp (place_at before sp.machine) ≡ is_excused_in sp (flow_of m.machine.registers) = ap (excused_at sp) g.slot in
       let from : step.after.from ≡ is_high from_after sp.from_pin =
       pin_level sp.from_pin _ _ _ w.from step.after.from (h.from ∙ ap (λ (i : Intent). last_of sp.from_pin (bit_at from_before sp.from_pin) (two_writes (writes_to sp.from_signal i))) intent) g.from step.from in
@@ -182,7 +197,7 @@ module _ (laws : Laws) (u : Setup) (sp : Span) (rows : Context → Option Ages) 
           from = from;
           to = to;
         };
-        goes = rw (intent, pc, stands, changes-is_edge sp.from_rise (is_high from_before sp.from_pin) (is_high from_after sp.from_pin), changes-is_edge sp.to_rise (is_high to_before sp.to_pin) (is_high to_after sp.to_pin), ← g.from, ← g.to, ← from, ← to) step.goes;
+        goes = rw (intent, pc, plain, stands, changes-is_edge sp.from_rise (is_high from_before sp.from_pin) (is_high from_after sp.from_pin), changes-is_edge sp.to_rise (is_high to_before sp.to_pin) (is_high to_after sp.to_pin), ← g.from, ← g.to, ← from, ← to) step.goes;
       }
 
   pub one_clock : (seen : ℕ) (d : Due) (before after : BlockState) (m : Slot) (w : Watch) → IsAfter sp u.memory seen d before after → IsGoing u sp rows s before m w → GoesOn u sp rows s after (mark_of sp u.memory seen d before after) w.ages

@@ -101,10 +101,10 @@ span_of from_rise to_rise min max ordered bounded stalls = record {
   name = 97 ∷ [];
   machine = 0;
   from_pin = 0;
-  from_signal = Level;
+  from_signal = Some Level;
   from_rise = from_rise;
   to_pin = 0;
-  to_signal = Level;
+  to_signal = Some Level;
   to_rise = to_rise;
   unit = Ticks;
   min = min;
@@ -112,6 +112,8 @@ span_of from_rise to_rise min max ordered bounded stalls = record {
   stalls = stalls;
   prompt = false;
   without = [];
+  from_at = [];
+  to_at = [];
   named = refl;
   machine_in_block = omega arith;
   from_pin_is_a_pin = omega arith;
@@ -128,10 +130,10 @@ span_from from_rise to_rise min fits stalls = record {
   name = 97 ∷ [];
   machine = 0;
   from_pin = 0;
-  from_signal = Level;
+  from_signal = Some Level;
   from_rise = from_rise;
   to_pin = 0;
-  to_signal = Level;
+  to_signal = Some Level;
   to_rise = to_rise;
   unit = Ticks;
   min = min;
@@ -139,6 +141,8 @@ span_from from_rise to_rise min fits stalls = record {
   stalls = stalls;
   prompt = false;
   without = [];
+  from_at = [];
+  to_at = [];
   named = refl;
   machine_in_block = omega arith;
   from_pin_is_a_pin = omega arith;
@@ -151,7 +155,15 @@ span_from from_rise to_rise min fits stalls = record {
 
 -- one between edges of the pin's direction
 abbrev pub turn_of : (from_out to_out : Bool) → Span
-turn_of from_out to_out = record (span_of from_out to_out 0 9 (omega arith) (omega arith) []) { from_signal = Direction; to_signal = Direction }
+turn_of from_out to_out = record (span_of from_out to_out 0 9 (omega arith) (omega arith) []) { from_signal = Some Direction; to_signal = Some Direction }
+
+-- one between ends of instructions
+abbrev pub ends_of : (from_at to_at : List ℕ) → Span
+ends_of from_at to_at = record (span_of true false 1 1 (omega arith) (omega arith) []) { from_signal = None; to_signal = None; from_at = from_at; to_at = to_at }
+
+-- one between edges that the instructions at these addresses make
+abbrev pub made_at : (from_at to_at : List ℕ) → Span
+made_at from_at to_at = record (span_of true false 1 1 (omega arith) (omega arith) []) { from_at = from_at; to_at = to_at }
 
 -- one that speaks of nothing after which its machine waits, but at these addresses
 abbrev pub prompt_of : (stalls : List ℕ) → Span

@@ -1,11 +1,12 @@
--- What a span looks at in one clock of a run: edges, as a logic analyser at the block's outputs would see them, the ticks of its
--- machine, and how it stands.
+-- What a span looks at in one clock of a run: edges, as a logic analyser at the block's outputs would see them, the instructions that
+-- make them or finish, the ticks of its machine, and how it stands.
 --   Mark             what it looks at
 --   counts, strays   which ticks count, and which must not come while the span is open
---   excused_at       a machine stands so that the span doesn't speak of the from-edges before
+--   excused_at       a machine stands so that the span doesn't speak of the from-events before
 --   mark_of          the mark of a clock
 use Rattle.std.specs.Prelude.{ℕ, ◌==◌, Bool, true, false, not, ◌||◌, Option, Some, None, List, slice_index_or}
 use Rattle.std.specs.List.{list_any}
+use Rattle.pin_matrix.specs.Spans.{signal_bits}
 use Rattle.pin_matrix.specs.declared.span.PinSignal.{PinSignal}
 use Rattle.pin_matrix.specs.declared.span.Span.{Span}
 use Rattle.sm_registers.specs.declared.intent.Kind.{Kind}
@@ -15,12 +16,13 @@ use Rattle.block_core.specs.Slots.{Slot}
 use Rattle.block_core.specs.Block.{BlockState}
 use Rattle.block_core.specs.Edges.{has_edge}
 use Rattle.block_core.specs.Following.{place_at, intent_in}
-use Rattle.span_step.specs.Contexts.{signal_bits}
+use Rattle.span_step.specs.Steps.{is_event}
+use Rattle.span_ticks.specs.Following.{finishes, works}
 use Rattle.span_ticks.specs.UnderWay.{flow_of, is_excused_in}
 
--- What a span looks at in a clock: whether its from-edge and its to-edge come, whether the machine has a tick that counts,
+-- What a span looks at in a clock: whether its from-event and its to-event come, whether the machine has a tick that counts,
 -- whether it has a late tick at an address that the span doesn't name, whether a line disables or restarts it, and whether it
--- stands so at the clock's start that the from-edges before are excused.
+-- stands so at the clock's start that the from-events before are excused.
 pub record Mark : Type 0 where
   pub from : Bool
   pub to : Bool
@@ -52,14 +54,19 @@ abbrev pub pc_at : Option Slot → ℕ
 pc_at None = 0
 pc_at (Some m) = m.machine.registers.pc
 
+-- the word pending at a place at the start of a clock
+abbrev pub pending_at : Option Slot → Option ℕ
+pending_at None = None
+pending_at (Some m) = m.machine.registers.pending
+
 -- The machine at a place waits at the start of a clock, or comes to an instruction next, so that the span doesn't speak of the
--- from-edges before. Its state there says so and not its tick, of which a clock may have none.
+-- from-events before. Its state there says so and not its tick, of which a clock may have none.
 abbrev pub excused_at : Span → Option Slot → Bool
 excused_at sp None = false
 excused_at sp (Some m) = is_excused_in sp (flow_of m.machine.registers)
 
--- an edge of a pin between two states: of its level, or of its direction
-abbrev pub has_signal_edge : PinSignal → (pin : ℕ) → (rise : Bool) → (before after : BlockState) → Bool
+-- an edge of a pin between two states: of its level, or of its direction; none where no signal is watched
+abbrev pub has_signal_edge : Option PinSignal → (pin : ℕ) → (rise : Bool) → (before after : BlockState) → Bool
 has_signal_edge signal pin rise before after =
     has_edge pin rise (signal_bits signal before.levels before.directions) (signal_bits signal after.levels after.directions)
 
@@ -67,16 +74,20 @@ has_signal_edge signal pin rise before after =
 abbrev pub is_broken : Due → ℕ → Bool
 is_broken d id = slice_index_or d.disable id false || slice_index_or d.restart id false
 
--- the mark of a clock between these two states, in which the machines see this and the system does this
+-- The mark of a clock between these two states, in which the machines see this and the system does this. Where the machine is, and
+-- whether a word is pending there, is as at the clock's start.
 unfoldable pub mark_of : Span → (memory : List ℕ) → (seen : ℕ) → Due → (before after : BlockState) → Mark
 mark_of sp memory seen d before after =
-    let tick = (intent_in memory seen d before sp.machine).kind in
-    let named = names sp (pc_at (place_at before sp.machine)) in
+    let tick = intent_in memory seen d before sp.machine in
+    let address = pc_at (place_at before sp.machine) in
+    let at_work = works tick.kind (pending_at (place_at before sp.machine)) in
+    let ends = finishes at_work tick.stalled in
+    let named = names sp address in
     record {
-      from = has_signal_edge sp.from_signal sp.from_pin sp.from_rise before after;
-      to = has_signal_edge sp.to_signal sp.to_pin sp.to_rise before after;
-      counts = counts tick named;
-      strays = strays tick named;
+      from = is_event sp.from_signal sp.from_at address (has_signal_edge sp.from_signal sp.from_pin sp.from_rise before after) at_work ends;
+      to = is_event sp.to_signal sp.to_at address (has_signal_edge sp.to_signal sp.to_pin sp.to_rise before after) at_work ends;
+      counts = counts tick.kind named;
+      strays = strays tick.kind named;
       breaks = is_broken d sp.machine;
       excused = excused_at sp (place_at before sp.machine);
     }

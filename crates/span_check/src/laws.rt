@@ -1,5 +1,5 @@
 //! Laws of the timing checker, each on a function that does nothing.
-ghost use Rattle.std.specs.Prelude.{◌≡◌, ◌↔◌, ℕ, IsSome, List, None, Some, false, slice_index_or};
+ghost use Rattle.std.specs.Prelude.{◌≡◌, ◌↔◌, ℕ, suc, IsSome, List, None, Some, false, slice_index_or};
 ghost use Rattle.pin_matrix.specs.declared.setup.Setup.{Setup};
 ghost use Rattle.pin_matrix.specs.declared.span.Span.{Span};
 ghost use Rattle.pin_matrix.specs.declared.span.SpanUnit.{SpanUnit};
@@ -8,9 +8,9 @@ ghost use Rattle.dreq_pacing.specs.declared.line.Line.{Line};
 ghost use Rattle.block_core.specs.Block.{BlockState};
 ghost use Rattle.span_bounds.specs.Tables.{IsProvable};
 ghost use Rattle.span_verdict.specs.Sharing.{IsUnshared};
-ghost use Rattle.span_check.specs.Asked.{HoldsBetween, IsNeverEarly, IsPlain};
+ghost use Rattle.span_check.specs.Asked.{HoldsBetween, IsNeverEarly, IsOfEdges, IsPlain};
 ghost use Rattle.span_check.specs.Holding.{Holds, IsSpokenOf, IsUnbrokenIn};
-ghost use Rattle.span_check.specs.Marks.{Mark};
+ghost use Rattle.span_check.specs.Marks.{Mark, has_signal_edge};
 ghost use Rattle.span_check.specs.Proved.{HoldsInEveryRun};
 ghost use Rattle.span_check.specs.Runs.{has_breaking, marks_in, marks_over};
 
@@ -51,9 +51,9 @@ pub fn only_a_disable_or_a_restart_breaks_a_span()
     clocks_are_counted();
 }
 
-/// What a span asks. With a greatest bound it asks all that both bounds ask (`bounded`); without one it asks of a first to-edge alone
+/// What a span asks. With a greatest bound it asks all that both bounds ask (`bounded`); without one it asks of a first to-event alone
 /// that it doesn't come too early (`unbounded`), however long it takes and wherever the machine waits. So with a greatest bound it
-/// asks more (`more`). All is asked of the from-edges of which it speaks.
+/// asks more (`more`). All is asked of the from-events of which it speaks.
 pub fn what_a_span_asks()
     ensures bounded { (unit : SpanUnit) (min max : ℕ) (m : ℕ → Mark) (n : ℕ)
         → Holds unit min (Some max) m n ↔ HoldsBetween unit min max m n }
@@ -63,7 +63,7 @@ pub fn what_a_span_asks()
         → Holds unit min (Some max) m n → Holds unit min None m n }
 {}
 
-/// A span with neither `prompt` nor `without` excuses nothing (`excused`). So in ticks it speaks of each from-edge, and in clocks of
+/// A span with neither `prompt` nor `without` excuses nothing (`excused`). So in ticks it speaks of each from-event, and in clocks of
 /// each after which no line disables or restarts its machine (`spoken`).
 pub fn a_plain_span_excuses_nothing()
     ensures excused { (sp : Span) (memory : List ℕ) (seen : ℕ → ℕ) (host : ℕ → Due) (states : ℕ → BlockState)
@@ -72,4 +72,17 @@ pub fn a_plain_span_excuses_nothing()
         (unit : SpanUnit) (s end : ℕ) → IsPlain sp
         → IsSpokenOf unit (marks_over sp memory seen host states) s end
         ↔ IsUnbrokenIn unit (marks_over sp memory seen host states) s end }
+{}
+
+/// Of a span between edges that any instruction may make, the events are the edges: what comes of the two pins says whether one
+/// comes, whatever instruction makes it.
+pub fn any_edge_is_an_event()
+    ensures from { (sp : Span) (memory : List ℕ) (seen : ℕ → ℕ) (host : ℕ → Due) (states : ℕ → BlockState)
+        (clock : ℕ) → IsOfEdges sp
+        → (marks_over sp memory seen host states clock).from
+        ≡ has_signal_edge sp.from_signal sp.from_pin sp.from_rise (states clock) (states (suc clock)) }
+    ensures to { (sp : Span) (memory : List ℕ) (seen : ℕ → ℕ) (host : ℕ → Due) (states : ℕ → BlockState)
+        (clock : ℕ) → IsOfEdges sp
+        → (marks_over sp memory seen host states clock).to
+        ≡ has_signal_edge sp.to_signal sp.to_pin sp.to_rise (states clock) (states (suc clock)) }
 {}

@@ -1,13 +1,15 @@
 -- The run of a setup without stimulus lines, for a span whose pins no other machine may write.
-use Rattle.std.proofs.Common.{◌≡◌, ◌==◌, ℕ, zero, suc, ◌+◌, ◌<◌, Bool, true, false, not, ◌&&◌, ◌||◌, Option, Some, None, option_map, is_some, if◌then◌else◌, IfSome, List, [], ◌∷◌, unwrap_or, slice_index_or, refl, sym, ap, subst, ◌∙◌, arith}
+use Rattle.std.proofs.Common.{◌≡◌, ◌==◌, ℕ, zero, suc, ◌+◌, ◌<◌, Bool, true, false, not, ◌&&◌, ◌||◌, Option, Some, None, option_map, is_some, cond, if◌then◌else◌, IfSome, List, [], ◌∷◌, unwrap_or, slice_index_or, refl, sym, ap, subst, ◌∙◌, arith}
 use Rattle.std.proofs.lemmas.Bool.{and_parts, or_parts}
 use Rattle.std.proofs.lemmas.Bool.Decides.{nat_tests}
 use Rattle.std.specs.Int.{bit_at}
 use Rattle.pin_matrix.specs.Pins.{is_high, last_of}
 use Rattle.pin_matrix.specs.Setups.{ids_are_places}
+use Rattle.pin_matrix.specs.Spans.{is_signal, signal_bits}
 use Rattle.pin_matrix.specs.declared.machine.MachineSetup.{MachineSetup}
 use Rattle.pin_matrix.specs.declared.setup.Setup.{Setup}
-use Rattle.pin_matrix.specs.declared.span.PinSignal.TheVariants.{Level}
+use Rattle.pin_matrix.specs.declared.span.PinSignal.{PinSignal}
+use Rattle.pin_matrix.specs.declared.span.PinSignal.TheVariants.{Level, Direction}
 use Rattle.pin_matrix.specs.declared.span.Span.{Span}
 use Rattle.pin_matrix.specs.declared.span.SpanUnit.{SpanUnit}
 use Rattle.pin_matrix.specs.declared.span.SpanUnit.TheVariants.{Ticks}
@@ -20,7 +22,6 @@ use Rattle.sm_registers.specs.Intents.{two_writes}
 use Rattle.block_core.specs.Block.{BlockState, Run, first_state, first_run, first_place, run_from, stepped, next, view_of}
 use Rattle.block_core.specs.Following.{Follows, place_at, intent_in, leaves, OthersLeave}
 use Rattle.block_core.specs.Hosted.{hosted_at, hosted_next, host_of}
-use Rattle.span_step.specs.Contexts.{signal_bits}
 use Rattle.span_step.specs.Courses.{start}
 use Rattle.span_step.specs.Steps.{bounds_of, bounds_in, is_bounded, most_or, period_of}
 use Rattle.span_bounds.specs.Tables.{start_context}
@@ -53,14 +54,14 @@ pub record AreRuns : Type 0 where
   pub memory : (start : Run) (host : ℕ → Due) (clock : ℕ) → (run_from start host clock).memory ≡ start.memory
 
 -- a machine that may not write the span's pins leaves them
-leaves_by : (out set dirs side : Bool) → (out || (set || (not dirs && side))) ≡ false → (not out && (not set && (dirs || not side))) ≡ true
+leaves_by : (out set dirs side : Bool) → (out || (set || (is_signal (cond {A = PinSignal} dirs Direction Level) (Some Level) && side))) ≡ false → (not out && (not set && (dirs || not side))) ≡ true
 leaves_by true set dirs side h = cc
 leaves_by false true dirs side h = cc
 leaves_by false false true side h = refl
 leaves_by false false false true h = cc
 leaves_by false false false false h = refl
 
-may_not : (p : ℕ) (sp : Span) (m : Option MachineSetup) → ((s : MachineSetup) → writes_span s sp ≡ false → writes_pin s Level p ≡ false) → may_write m sp ≡ false → IfSome m (λ s. leaves p Level s ≡ true)
+may_not : (p : ℕ) (sp : Span) (m : Option MachineSetup) → ((s : MachineSetup) → writes_span s sp ≡ false → writes_pin s (Some Level) p ≡ false) → may_write m sp ≡ false → IfSome m (λ s. leaves p Level s ≡ true)
 may_not p sp None of h = tt
 may_not p sp (Some s) of h = leaves_by (holds s.out p) (holds s.set p) s.side_rule.pindirs (holds s.side p) (of s h)
 

@@ -19,7 +19,7 @@ use Rattle.dreq_pacing.specs.declared.due.Due.{Due}
 use Rattle.block_core.specs.Slots.{Slot, lined, has_tick, acted, settled_slot, slot_after, place_after, place_intent}
 use Rattle.block_core.specs.Block.{BlockState, view_of}
 use Rattle.block_core.specs.Following.{place_at, intent_in}
-use Rattle.span_step.specs.Courses.{Rules, is_edge, watched}
+use Rattle.span_step.specs.Courses.{Rules, closes, comes, is_edge, opens, watched}
 use Rattle.span_ticks.specs.Following.{level_after}
 use Rattle.pin_matrix.specs.Pins.{is_high}
 use Rattle.block_core.specs.Edges.{changes}
@@ -29,7 +29,7 @@ use Rattle.span_refuted.specs.OneWay.{IsSimple}
 use Rattle.span_refuted.proofs.Single.{Watch, Tick}
 use Rattle.span_refuted.proofs.Joining.{IsClean, clean_joined}
 use Rattle.span_refuted.proofs.Registers.{IsRest, IsTick, no_levels}
-use Rattle.span_step.specs.Steps.{is_bounded}
+use Rattle.span_step.specs.Steps.{is_bounded, is_event}
 use Rattle.span_refuted.proofs.Exact.{AreExact, IsFree, IsBrokenBy, IsRuled, exact_tick, exact_idle}
 
 -- what a law of span_ticks says
@@ -126,8 +126,22 @@ level_of : AreLevels → (p old new : ℕ) (before after : Bool) (wanted : Inten
 level_of levels p old new before after wanted i same e f g =
     sym g ∙ pin_level levels p old new (two_writes i.level) before (e ∙ ap (λ (x : Intent). last_of p old (two_writes x.level)) same) f
 
--- an edge of a span of levels
-level_edge : (signal : PinSignal) (p : ℕ) (rise : Bool) (b a : BlockState) → signal ≡ Level → has_signal_edge signal p rise b a ≡ changes rise (is_high b.levels p) (is_high a.levels p)
+-- an event of a span between edges of levels, in a clock and in a tick
+event_edge : (watched : Option PinSignal) (at : List ℕ) (address : ℕ) (edge works finishes : Bool) → watched ≡ Some Level → at ≡ [] → is_event watched at address edge works finishes ≡ edge
+event_edge watched at address edge works finishes e f = rw (e, f) (whole edge) where
+  whole : (x : Bool) → (x && true) ≡ x
+  whole true = refl
+  whole false = refl
+
+comes_edge : (edge edges finishes ends : Bool) → edges ≡ true → ends ≡ false → comes edge edges finishes ends ≡ edge
+comes_edge edge edges finishes ends e f = rw (e, f) (whole edge finishes) where
+  whole : (x y : Bool) → ((x && true) || (y && false)) ≡ x
+  whole true y = refl
+  whole false true = refl
+  whole false false = refl
+
+-- its edge
+level_edge : (signal : Option PinSignal) (p : ℕ) (rise : Bool) (b a : BlockState) → signal ≡ Some Level → has_signal_edge signal p rise b a ≡ changes rise (is_high b.levels p) (is_high a.levels p)
 level_edge signal p rise b a e = ap (λ z. has_signal_edge z p rise b a) e
 
 edge_of : (rise before after old new : Bool) → before ≡ old → after ≡ new → changes rise old new ≡ is_edge rise before after
@@ -160,7 +174,7 @@ idle_clock levels sp s most memory seen host states c w address ticks simple h i
   to = to;
   exact = exact_idle (is_bounded sp) (marks_over sp memory seen host states) most c w.ages
       (ap (λ (i : Intent). counts i.kind (names sp (pc_at (place_at (states c) sp.machine)))) k.intent)
-      (level_edge sp.to_signal sp.to_pin sp.to_rise (states c) (states (suc c)) simple.to ∙ edge_of sp.to_rise w.to w.to _ _ g.to to ∙ no_edge sp.to_rise w.to) g.exact;
+      (event_edge sp.to_signal sp.to_at _ _ _ _ simple.to simple.to_any ∙ level_edge sp.to_signal sp.to_pin sp.to_rise (states c) (states (suc c)) simple.to ∙ edge_of sp.to_rise w.to w.to _ _ g.to to ∙ no_edge sp.to_rise w.to) g.exact;
 } where
   k : IsClock sp s memory (seen c) (host c) (states c) (states (suc c)) g.m (g.m.machine.registers, no_intent) c
   k = clocked sp s memory (seen c) (host c) (states c) (states (suc c)) g.m _ c h g.slot g.setup id g.enabled g.running
@@ -186,10 +200,12 @@ pub tick_clock : AreLevels → (sp : Span) (s : MachineSetup) (r : Rules) (memor
     → IsBrokenBy (is_bounded sp) r.min r.max (marks_over sp memory seen host states) ⊎ IsTicked sp s r (marks_over sp memory seen host states) (states (suc c)) (suc c) w t next left
 unfolding mark_of watched
 tick_clock levels sp s r memory seen host states c w t address ticks next left simple free h id some from_rise to_rise ruled prompt acts g =
-    elim (exact_tick (is_bounded sp) r (marks_over sp memory seen host states) c w.ages (is_edge r.to_rise w.to (unwrap_or t.to w.to)) (is_edge r.from_rise w.from (unwrap_or t.from w.from)) ruled free
+    elim (exact_tick (is_bounded sp) r (marks_over sp memory seen host states) c w.ages (closes r w t) (opens r w t) ruled free
     (ap (λ (i : Intent). counts i.kind (names sp (pc_at (place_at (states c) sp.machine)))) k.intent ∙ tick.counting _)
-    (level_edge sp.to_signal sp.to_pin sp.to_rise (states c) (states (suc c)) simple.to ∙ edge_of sp.to_rise w.to _ _ _ g.to to ∙ ap (λ z. is_edge z w.to (unwrap_or t.to w.to)) (sym to_rise))
-    (level_edge sp.from_signal sp.from_pin sp.from_rise (states c) (states (suc c)) simple.from ∙ edge_of sp.from_rise w.from _ _ _ g.from from ∙ ap (λ z. is_edge z w.from (unwrap_or t.from w.from)) (sym from_rise))
+    (event_edge sp.to_signal sp.to_at _ _ _ _ simple.to simple.to_any ∙ level_edge sp.to_signal sp.to_pin sp.to_rise (states c) (states (suc c)) simple.to ∙ edge_of sp.to_rise w.to _ _ _ g.to to ∙ ap (λ z. is_edge z w.to (unwrap_or t.to w.to)) (sym to_rise)
+    ∙ sym (comes_edge (is_edge r.to_rise w.to (unwrap_or t.to w.to)) r.to_edges t.finishes r.to_ends ruled.to_edges ruled.to_ends))
+    (event_edge sp.from_signal sp.from_at _ _ _ _ simple.from simple.from_any ∙ level_edge sp.from_signal sp.from_pin sp.from_rise (states c) (states (suc c)) simple.from ∙ edge_of sp.from_rise w.from _ _ _ g.from from ∙ ap (λ z. is_edge z w.from (unwrap_or t.from w.from)) (sym from_rise)
+    ∙ sym (comes_edge (is_edge r.from_rise w.from (unwrap_or t.from w.from)) r.from_edges t.finishes r.from_ends ruled.from_edges ruled.from_ends))
     g.exact) [
       | inl broken ↦ inl broken
       | inr well ↦ inr (record {

@@ -5,7 +5,7 @@ use Rattle.std.proofs.lemmas.Bool.Decides.{nat_tests}
 use Rattle.pin_matrix.specs.declared.span.SpanUnit.TheVariants.{Ticks}
 use Rattle.span_step.specs.declared.ages.Ages.{Ages}
 use Rattle.span_step.specs.declared.ages.Ages.TheVariants.{Empty, Between}
-use Rattle.span_step.specs.Courses.{Rules, older, after_edges, is_above, is_below, tick_causes}
+use Rattle.span_step.specs.Courses.{Rules, older, after_events, is_above, is_below, tick_causes}
 use Rattle.span_check.specs.Marks.{Mark}
 use Rattle.span_check.specs.Holding.{counted, IsQuiet, IsSpokenOf, Holds}
 use Rattle.span_refuted.proofs.Joining.{IsClean}
@@ -127,7 +127,7 @@ below_breaks bounded min max m c n free e f h less = (suc c, λ holds. under _ m
 
 -- what a tick leaves where it breaks nothing
 pub record GoesWell (bounded : Bool) (r : Rules) (m : ℕ → Mark) (c : ℕ) (a : Ages) (closes opens : Bool) : Type 0 where
-  pub exact : AreExact bounded m r.max (suc c) (after_edges closes opens (older r.max a))
+  pub exact : AreExact bounded m r.max (suc c) (after_events closes opens (older r.max a))
   pub clean : IsClean (tick_causes r false closes a (older r.max a))
 
 exact_fresh : (bounded : Bool) (m : ℕ → Mark) (most c : ℕ) → (m c).from ≡ true → AreExact bounded m most (suc c) (Between 0 0)
@@ -138,9 +138,14 @@ and_none : (b x : Bool) → x ≡ false → (b && x) ≡ false
 and_none true x e = e
 and_none false x e = refl
 
--- the rules are those of a span with a greatest bound or without one, whose least is up to the age at which ages stop then
+-- the rules are those of a span with a greatest bound or without one, whose least is up to the age at which ages stop then, and whose
+-- events are edges that any instruction may make
 pub record IsRuled (bounded : Bool) (r : Rules) : Type 0 where
   pub same : r.bounded ≡ bounded
+  pub from_edges : r.from_edges ≡ true
+  pub from_ends : r.from_ends ≡ false
+  pub to_edges : r.to_edges ≡ true
+  pub to_ends : r.to_ends ≡ false
   pub stops : bounded ≡ false → r.min ≤ r.max + 1
 
 -- a tick of a span with a greatest bound
@@ -151,7 +156,7 @@ exact_between r m c lo hi closes opens free e f g h = elim (cases_lt r.max (hi +
   | inr fine ↦ elim (too_early closes f) [
     | inl broken ↦ inl broken
     | inr early ↦ inr (record {
-      exact = subst (λ x. AreExact true m r.max (suc c) (after_edges closes opens x)) (sym (one_older r.max lo hi h.0 h.1.0)) (left closes opens f g fine);
+      exact = subst (λ x. AreExact true m r.max (suc c) (after_events closes opens x)) (sym (one_older r.max lo hi h.0 h.1.0)) (left closes opens f g fine);
       clean = record { u1 = and_none r.bounded _ (lt_no r.max _ (capped r.max hi fine)); u2 = early; u3 = refl; u4 = refl };
     })
   ]
@@ -174,7 +179,7 @@ exact_between r m c lo hi closes opens free e f g h = elim (cases_lt r.max (hi +
   ]
   too_early false q = inr refl
 
-  left : (z o : Bool) → (m c).to ≡ z → (m c).from ≡ o → hi + 1 ≤ r.max → AreExact true m r.max (suc c) (after_edges z o (Between (lo + 1) (hi + 1)))
+  left : (z o : Bool) → (m c).to ≡ z → (m c).from ≡ o → hi + 1 ≤ r.max → AreExact true m r.max (suc c) (after_events z o (Between (lo + 1) (hi + 1)))
   left true true p q l = exact_fresh true m r.max c q
   left true false p q l = tt
   left false true p q l = (omega arith, (l, (since_fresh m c q, since_tick m c hi e p h.1.1.1)))
@@ -209,7 +214,7 @@ exact_from r m c lo hi closes opens ruled free e f g h = elim (too_early closes 
   ]
   too_early false q = inr refl
 
-  left : (z o : Bool) → (m c).to ≡ z → (m c).from ≡ o → AreExact false m r.max (suc c) (after_edges z o (older r.max (Between lo hi)))
+  left : (z o : Bool) → (m c).to ≡ z → (m c).from ≡ o → AreExact false m r.max (suc c) (after_events z o (older r.max (Between lo hi)))
   left true true p q = exact_fresh false m r.max c q
   left true false p q = tt
   left false true p q = λ l. since_fresh m c q
@@ -221,7 +226,7 @@ exact_tick bounded r m c Empty closes opens ruled free e f g h = inr (record {
   exact = left closes opens g;
   clean = record { u1 = and_none r.bounded false refl; u2 = and_none closes false refl; u3 = refl; u4 = refl };
 }) where
-  left : (z o : Bool) → (m c).from ≡ o → AreExact bounded m r.max (suc c) (after_edges z o Empty)
+  left : (z o : Bool) → (m c).from ≡ o → AreExact bounded m r.max (suc c) (after_events z o Empty)
   left true true q = exact_fresh bounded m r.max c q
   left true false q = tt
   left false true q = exact_fresh bounded m r.max c q

@@ -6,7 +6,7 @@ use Rattle.span_step.specs.declared.ages.Ages.{Ages}
 use Rattle.span_step.specs.declared.ages.Ages.TheVariants.{Empty, Between}
 use Rattle.span_step.specs.declared.cause.Causes.{Causes}
 use Rattle.span_step.specs.Contexts.{Context, is_open}
-use Rattle.span_step.specs.Courses.{Rules, older, with_fresh, after_edges, is_edge, is_above, is_below, joined, tick_causes, start, watched, followed}
+use Rattle.span_step.specs.Courses.{Rules, older, with_fresh, after_events, closes, opens, is_above, is_below, joined, tick_causes, start, watched, followed}
 use Rattle.span_step.specs.Laws.{first_cause}
 use Rattle.span_bounds.specs.Sums.{join}
 use Rattle.span_refuted.proofs.Single.{Watch, Tick}
@@ -80,7 +80,7 @@ older_join m Empty b = refl
 older_join m (Between lo hi) Empty = refl
 older_join m (Between lo hi) (Between low high) = pair _ _ _ _ (omega arith) (omega arith)
 
-edges_join : (closes opens : Bool) (a b : Ages) → after_edges closes opens (join a b) ≡ join (after_edges closes opens a) (after_edges closes opens b)
+edges_join : (closes opens : Bool) (a b : Ages) → after_events closes opens (join a b) ≡ join (after_events closes opens a) (after_events closes opens b)
 edges_join true true a b = refl
 edges_join true false a b = refl
 edges_join false true a b = fresh_join a b
@@ -140,18 +140,15 @@ watched_joins r t a b c h = record {
   from_joined = rw h.from_joined refl;
   to_joined = rw h.to_joined refl;
   ages = rw (h.from_joined, h.to_joined, h.from, h.to, h.ages, aged_join r.max t.late a.ages b.ages)
-      (edges_join ((t.late && r.excuses) || is_edge r.to_rise a.to (unwrap_or t.to a.to)) (is_edge r.from_rise a.from (unwrap_or t.from a.from)) (aged r.max t.late a.ages) (aged r.max t.late b.ages));
+      (edges_join ((t.late && r.excuses) || closes r a t) (opens r a t) (aged r.max t.late a.ages) (aged r.max t.late b.ages));
   clean = λ p q. clean_more excused _ _ (h.clean (clean_kept excused _ _ p) (clean_kept excused _ _ q)) (λ e. told (clean_told excused _ _ e p) (clean_told excused _ _ e q));
 } where
   excused : Bool
   excused = t.late && r.excuses
 
-  closing : Watch → Bool
-  closing w = is_edge r.to_rise w.to (unwrap_or t.to w.to)
-
-  told : IsClean (tick_causes r t.late (is_edge r.to_rise a.to (unwrap_or t.to a.to)) a.ages (aged r.max t.late a.ages))
-      → IsClean (tick_causes r t.late (is_edge r.to_rise b.to (unwrap_or t.to b.to)) b.ages (aged r.max t.late b.ages))
-      → IsClean (tick_causes r t.late (is_edge r.to_rise c.to (unwrap_or t.to c.to)) c.ages (aged r.max t.late c.ages))
+  told : IsClean (tick_causes r t.late (closes r a t) a.ages (aged r.max t.late a.ages))
+      → IsClean (tick_causes r t.late (closes r b t) b.ages (aged r.max t.late b.ages))
+      → IsClean (tick_causes r t.late (closes r c t) c.ages (aged r.max t.late c.ages))
   told p q = rw (h.to_joined, h.ages, aged_join r.max t.late a.ages b.ages) (told_join r t.late _ a.ages b.ages _ _ p (rw h.to at q))
 
 pub followed_joins : (r : Rules) (ts : List Tick) (a b c : Watch) → Joins a b c → Joins (followed r ts a) (followed r ts b) (followed r ts c)
@@ -171,7 +168,7 @@ older_small m true a h = h
 older_small m false Empty h = tt
 older_small m false (Between lo hi) h = (omega arith, omega arith)
 
-edges_small : (n : ℕ) (closes opens : Bool) (a : Ages) → AreSmall n a → AreSmall n (after_edges closes opens a)
+edges_small : (n : ℕ) (closes opens : Bool) (a : Ages) → AreSmall n a → AreSmall n (after_events closes opens a)
 edges_small n true true a h = (omega arith, omega arith)
 edges_small n true false a h = tt
 edges_small n false true Empty h = (omega arith, omega arith)

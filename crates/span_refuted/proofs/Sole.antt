@@ -1,5 +1,5 @@
 -- An instruction with one way has one outcome.
-use Rattle.std.proofs.Common.{◌≡◌, ◌==◌, ◌&&◌, ℕ, Bool, true, false, if◌then◌else◌, Option, None, List, [], ◌∷◌, map, flat_map, refl, ap, ◌∙◌}
+use Rattle.std.proofs.Common.{◌≡◌, ◌==◌, ◌&&◌, ℕ, Bool, true, false, if◌then◌else◌, Option, Some, None, List, [], ◌∷◌, map, flat_map, refl, ap, ◌∙◌}
 use Rattle.pio_encode.specs.declared.act.Act.{Act}
 use Rattle.pio_encode.specs.declared.act.Act.TheVariants.{Jmp, Wait, In, Out, Push, Pull, Mov, Irq, Set, Nothing}
 use Rattle.pio_encode.specs.declared.act.Condition.TheVariants as condition
@@ -12,7 +12,7 @@ use Rattle.pin_matrix.specs.declared.span.PinSignal.{PinSignal}
 use Rattle.pin_matrix.specs.declared.span.PinSignal.TheVariants.{Level, Direction}
 use Rattle.pin_matrix.specs.declared.span.Span.{Span}
 use Rattle.span_step.specs.Contexts.{Context}
-use Rattle.span_step.specs.Outcomes.{ContextOutcome, nothing_done, is_signal, is_held, either_level, unknown_levels, outcomes, is_wild}
+use Rattle.span_step.specs.Outcomes.{ContextOutcome, nothing_done, has_one_signal, is_held, either_level, unknown_levels, outcomes, is_wild}
 use Rattle.span_step.specs.Steps.{address_after}
 use Rattle.span_refuted.specs.OneWay.{is_settled, goes_to, IsSimple}
 
@@ -25,12 +25,12 @@ pub record HasOutcome (a : Act) (s : MachineSetup) (sp : Span) (k : Context) : T
 -- the mapping of OUT gets directions: a span of levels sees nothing of it
 pub no_turn : (m : Mapping) (sp : Span) → IsSimple sp → unknown_levels Direction m sp ≡ (None, None) ∷ []
 no_turn m sp simple =
-    ap (λ z. levels_by z sp.to_signal) simple.from ∙ ap (levels_by Level) simple.to ∙ either (sp.from_pin == sp.to_pin && true) where
-      levels_by : PinSignal → PinSignal → List (Option Bool × Option Bool)
+    ap (λ z. levels_by z sp.to_signal) simple.from ∙ ap (levels_by (Some Level)) simple.to ∙ either (sp.from_pin == sp.to_pin && true) where
+      levels_by : Option PinSignal → Option PinSignal → List (Option Bool × Option Bool)
       levels_by f t =
           let from = either_level (is_held Direction f m sp.from_pin) in
           let to = either_level (is_held Direction t m sp.to_pin) in
-          if sp.from_pin == sp.to_pin && is_signal f t then map (λ l. (l, l)) from else flat_map (λ x. map (λ y. (x, y)) to) from
+          if sp.from_pin == sp.to_pin && has_one_signal f t then map (λ l. (l, l)) from else flat_map (λ x. map (λ y. (x, y)) to) from
 
       nothing : List (Option Bool × Option Bool)
       nothing = (None, None) ∷ []

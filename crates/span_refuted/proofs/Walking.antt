@@ -106,7 +106,7 @@ module _ (levels : AreLevels) (tested : IsTested) (sp : Span) (s : MachineSetup)
       → IsPassed sp s r.max (marks_over sp memory seen host states) states w address 0
       → IsBrokenBy (is_bounded sp) r.min r.max (marks_over sp memory seen host states) ⊎ IsPassed sp s r.max (marks_over sp memory seen host states) states (followed r (course s sp op o) w) next 0
   unfolding prompt
-  passes r op w o address next from_rise to_rise ruled acts p = elim (one_tick r w (record { late = false; from = over (side_of s sp op.side).from o.from; to = over (side_of s sp op.side).to o.to }) address 0 next op.delay from_rise to_rise ruled refl acts p) [
+  passes r op w o address next from_rise to_rise ruled acts p = elim (one_tick r w (record { late = false; finishes = true; from = over (side_of s sp op.side).from o.from; to = over (side_of s sp op.side).to o.to }) address 0 next op.delay from_rise to_rise ruled refl acts p) [
     | inl broken ↦ inl broken
     | inr passed ↦ delays r op.delay _ next from_rise to_rise ruled passed
   ]
@@ -150,9 +150,16 @@ stops_in Clocks sp period e = stops_at (least_ticks sp.min period) (option_map (
   mapped None e = refl
   mapped (Some most) e = cc
 
-ruled_by : (sp : Span) (s : MachineSetup) (address : ℕ) → IsRuled (is_bounded sp) (rules_of s sp address)
+ruled_by : (sp : Span) (s : MachineSetup) (address : ℕ) → IsSimple sp → IsRuled (is_bounded sp) (rules_of s sp address)
 unfolding rules_of bounds_of
-ruled_by sp s address = record { same = refl; stops = λ e. stops_in sp.unit sp (period_of s) e }
+ruled_by sp s address simple = record {
+  same = refl;
+  from_edges = rw (simple.from, simple.from_any) refl;
+  from_ends = rw simple.from refl;
+  to_edges = rw (simple.to, simple.to_any) refl;
+  to_ends = rw simple.to refl;
+  stops = λ e. stops_in sp.unit sp (period_of s) e;
+}
 
 -- a visit, in a run of its setup
 pub visit_passes : AreLevels → IsTested → (u : Setup) (sp : Span) (s : MachineSetup) (seen : ℕ → ℕ) (host : ℕ → Due) (states : ℕ → BlockState) (i : ℕ) → IsSimple sp → IsFree (marks_over sp u.memory seen host states) → IsRun sp s u.memory seen host states → IsSingle u sp s (visit u sp i).0
@@ -161,7 +168,7 @@ pub visit_passes : AreLevels → IsTested → (u : Setup) (sp : Span) (s : Machi
 unfolding rules_of
 visit_passes levels tested u sp s seen host states i simple free run h there =
     elim (passes levels tested sp s u.memory seen host states simple free run (rules_of s sp (visit u sp i).0.address) (instruction_at u s (visit u sp i).0.address) (start false (visit u sp i).0 (visit u sp i).1) h.outcome
-    (visit u sp i).0.address (address_after h.outcome.jump (next_address s (visit u sp i).0.address)) refl refl (ruled_by sp s (visit u sp i).0.address)
+    (visit u sp i).0.address (address_after h.outcome.jump (next_address s (visit u sp i).0.address)) refl refl (ruled_by sp s (visit u sp i).0.address simple)
     (λ v q x memory r. first_tick u s sp (visit u sp i).0 v q x (visit u sp i).0.address h.outcome simple memory r h.settled h.quick h.only)
     (record { there = there; clean = clean_start })) [
       | inl broken ↦ inl broken

@@ -3,9 +3,9 @@
 --   has_one_way      that, and it never waits
 --   goes_to          the address after such an instruction
 --   reached          the addresses that a machine comes to
---   IsSimple         a span of levels that excuses no from-edge
+--   IsSimple         a span between edges of levels that excuses no from-event
 --   LeavesNoChoice   each instruction that a span's machine comes to has one way
-use Rattle.std.specs.Prelude.{◌≡◌, ℕ, zero, suc, Bool, true, false, not, ◌&&◌, Some, None, slice_index, slice_index_or}
+use Rattle.std.specs.Prelude.{◌≡◌, ℕ, zero, suc, Bool, true, false, not, ◌&&◌, Some, None, [], slice_index, slice_index_or}
 use Rattle.pio_encode.specs.declared.act.Act.{Act}
 use Rattle.pio_encode.specs.declared.act.Act.TheVariants.{Jmp, Wait, In, Out, Push, Pull, Mov, Irq, Set, Nothing}
 use Rattle.pio_encode.specs.declared.act.Condition.{Condition}
@@ -84,10 +84,12 @@ reached u s zero = s.start
 reached u s (suc i) =
     goes_to (instruction_at u s (reached u s i)).act (next_address s (reached u s i))
 
--- both edges of the span are of levels, and it has neither `prompt` nor `without`
+-- both events of the span are edges of levels, which any instruction may make, and it has neither `prompt` nor `without`
 pub record IsSimple (sp : Span) : Type 0 where
-  pub from : sp.from_signal ≡ Level
-  pub to : sp.to_signal ≡ Level
+  pub from : sp.from_signal ≡ Some Level
+  pub to : sp.to_signal ≡ Some Level
+  pub from_any : sp.from_at ≡ []
+  pub to_any : sp.to_at ≡ []
   pub plain : IsPlain sp
 
 -- The span is simple, its machine is configured and begins with no pending word, and each instruction that it comes to has one way:

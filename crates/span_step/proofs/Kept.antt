@@ -11,7 +11,7 @@ use Rattle.span_step.specs.declared.stepped.Next.{Next}
 use Rattle.span_step.specs.declared.stepped.Stepped.{Stepped}
 use Rattle.span_step.specs.Contexts.{Context}
 use Rattle.span_step.specs.Outcomes.{ContextOutcome, outcomes, is_wild}
-use Rattle.span_step.specs.Courses.{Rules, watched, start, followed, prompt, delayed, courses, delay_ticks, older, with_fresh, after_edges, joined, no_causes, tick_causes}
+use Rattle.span_step.specs.Courses.{Rules, watched, start, followed, prompt, delayed, courses, delay_ticks, older, with_fresh, after_events, joined, no_causes, tick_causes}
 use Rattle.span_step.specs.Steps.{Visit, visit_of, rules_of, with_end, end_of, with_outcome, nothing_found, wild_step, step_by, is_lost}
 use Rattle.pin_matrix.specs.declared.machine.MachineSetup.{MachineSetup}
 use Rattle.pin_matrix.specs.declared.span.Span.{Span}
@@ -57,8 +57,8 @@ AreAlike-append R (m ∷ ms) [] x y h p = absurd h
 AreAlike-append R (m ∷ ms) (n ∷ ns) x y h p = (h.0, AreAlike-append R ms ns x y h.1 p)
 
 module _ (r : Rules) (S : Ages → Ages → Type 0) (R : Bool → Ages → Ages → Type 0) (C : Causes → Causes → Type 0) (k : Keeps r S R C) where
-  -- the tick's edges keep it
-  pub edges : (p closes opens : Bool) (a b : Ages) → R p a b → R (p && not closes) (after_edges closes opens a) (after_edges closes opens b)
+  -- the tick's events keep it
+  pub edges : (p closes opens : Bool) (a b : Ages) → R p a b → R (p && not closes) (after_events closes opens a) (after_events closes opens b)
   edges true true true a b h = k.opened false Empty Empty k.ended
   edges true true false a b h = k.ended
   edges true false true a b h = k.opened true a b h
@@ -89,9 +89,9 @@ module _ (r : Rules) (S : Ages → Ages → Type 0) (R : Bool → Ages → Ages 
   })
 
   -- the first tick makes it
-  pub Alike-first : (l : Bool) (c : Context) (f g : Option Bool) (a b : Ages) → S a b → Alike R C (watched r (start l c a) (record { late = false; from = f; to = g })) (watched r (start l c b) (record { late = false; from = f; to = g }))
+  pub Alike-first : (l : Bool) (c : Context) (e : Bool) (f g : Option Bool) (a b : Ages) → S a b → Alike R C (watched r (start l c a) (record { late = false; finishes = e; from = f; to = g })) (watched r (start l c b) (record { late = false; finishes = e; from = f; to = g }))
   unfolding watched
-  Alike-first true c f g a b h = record {
+  Alike-first true c e f g a b h = record {
     from = refl;
     to = refl;
     passes = refl;
@@ -99,7 +99,7 @@ module _ (r : Rules) (S : Ages → Ages → Type 0) (R : Bool → Ages → Ages 
     ages = edges false _ _ Empty Empty k.ended;
     causes = k.joins _ _ _ _ k.none (k.told false false _ Empty Empty k.ended);
   }
-  Alike-first false c f g a b h = record {
+  Alike-first false c e f g a b h = record {
     from = refl;
     to = refl;
     passes = refl;
@@ -112,12 +112,12 @@ module _ (r : Rules) (S : Ages → Ages → Type 0) (R : Bool → Ages → Ages 
   pub Alike-prompt : (l : Bool) (c : Context) (side : Write) (o : ContextOutcome) (d : ℕ) (a b : Ages) → S a b → Alike R C (followed r (prompt side o d) (start l c a)) (followed r (prompt side o d) (start l c b))
   unfolding prompt
   Alike-prompt l c side o d a b h =
-      fold_along (watched r) (watched r) (Alike R C) Alike-watched _ _ (delay_ticks d) (Alike-first l c _ _ a b h)
+      fold_along (watched r) (watched r) (Alike R C) Alike-watched _ _ (delay_ticks d) (Alike-first l c _ _ _ a b h)
 
   pub Alike-delayed : (l : Bool) (c : Context) (side : Write) (o : ContextOutcome) (d : ℕ) (a b : Ages) → S a b → Alike R C (followed r (delayed side o d) (start l c a)) (followed r (delayed side o d) (start l c b))
   unfolding delayed
   Alike-delayed l c side o d a b h =
-      fold_along (watched r) (watched r) (Alike R C) Alike-watched _ _ (delay_ticks d) (Alike-watched _ _ _ (Alike-first l c _ _ a b h))
+      fold_along (watched r) (watched r) (Alike R C) Alike-watched _ _ (delay_ticks d) (Alike-watched _ _ _ (Alike-first l c _ _ _ a b h))
 
   -- one more end
   pub Together-with_end : (v : Visit) (a b : Ages) (o : ContextOutcome) (s t : Stepped) (x y : Watch) → Together R C s t → Alike R C x y → Together R C (with_end (record v { ages = a }) o s x) (with_end (record v { ages = b }) o t y)

@@ -123,14 +123,14 @@ watched_u1 : (r : Rules) (w : Watch) (t : Tick) → w.causes.u1 ≡ true → (wa
 unfolding watched
 watched_u1 r w t e = still_u1 (t.late && r.excuses) w.causes _ e
 
-first_u1 : (r : Rules) (l : Bool) (k : Context) (a : Ages) (f g : Option Bool) → l ≡ false → r.bounded ≡ true → ReachesAge r.max a → (watched r (start l k a) (record { late = false; from = f; to = g })).causes.u1 ≡ true
+first_u1 : (r : Rules) (l : Bool) (k : Context) (a : Ages) (x : Bool) (f g : Option Bool) → l ≡ false → r.bounded ≡ true → ReachesAge r.max a → (watched r (start l k a) (record { late = false; finishes = x; from = f; to = g })).causes.u1 ≡ true
 unfolding watched
-first_u1 r l k a f g e b h = rw (e, b) (above_older r.max a h)
+first_u1 r l k a x f g e b h = rw (e, b) (above_older r.max a h)
 
 prompt_u1 : (r : Rules) (l : Bool) (k : Context) (a : Ages) (side : Write) (o : ContextOutcome) (d : ℕ) → l ≡ false → r.bounded ≡ true → ReachesAge r.max a → (followed r (prompt side o d) (start l k a)).causes.u1 ≡ true
 unfolding prompt
 prompt_u1 r l k a side o d e b h =
-    fold_along (watched r) (watched r) (λ w v. w.causes.u1 ≡ true) (λ w v t c. watched_u1 r w t c) _ (start l k a) (delay_ticks d) (first_u1 r l k a _ _ e b h)
+    fold_along (watched r) (watched r) (λ w v. w.causes.u1 ≡ true) (λ w v t c. watched_u1 r w t c) _ (start l k a) (delay_ticks d) (first_u1 r l k a _ _ _ e b h)
 
 outcome_u1 : (v : Visit) (found : Stepped) (o : ContextOutcome) → v.left_out ≡ false → v.rules.bounded ≡ true → ReachesAge v.rules.max v.ages → (with_outcome v found o).causes.u1 ≡ true
 unfolding with_outcome courses with_end

@@ -1,11 +1,11 @@
--- A tick that writes nothing, and an excused one.
-use Rattle.std.proofs.Common.{◌≡◌, Bool, true, false, not, ◌&&◌, ◌||◌, if◌then◌else◌, refl}
+-- A tick without events, and an excused one.
+use Rattle.std.proofs.Common.{◌≡◌, Bool, true, false, not, ◌&&◌, ◌||◌, if◌then◌else◌, None, refl}
 use Rattle.std.proofs.Math.Bool.{or-false, and-false, and-true}
 use Rattle.span_step.specs.declared.ages.Ages.{Ages}
 use Rattle.span_step.specs.declared.ages.Ages.TheVariants.{Empty, Between}
 use Rattle.span_step.specs.declared.course.Tick.{Tick}
 use Rattle.span_step.specs.declared.course.Watch.{Watch}
-use Rattle.span_step.specs.Courses.{Rules, older, is_edge, joined, tick_causes, delay_tick, watched}
+use Rattle.span_step.specs.Courses.{Rules, older, is_edge, opens, joined, tick_causes, delay_tick, watched}
 
 no_edge : (rise level : Bool) → is_edge rise level level ≡ false
 no_edge true true = refl
@@ -13,13 +13,28 @@ no_edge true false = refl
 no_edge false true = refl
 no_edge false false = refl
 
--- a tick that writes nothing has no edge
+-- a tick that writes nothing and ends nothing has no event
 pub rested : (r : Rules) (w : Watch) → watched r w delay_tick ≡ record w { ages = older r.max w.ages; causes = joined w.causes (tick_causes r false false w.ages (older r.max w.ages)) }
 unfolding watched
 rested r w = rw (no_edge r.to_rise w.to, no_edge r.from_rise w.from, or-false w.from_edge, or-false w.closes, and-true w.passes) refl
 
--- an excused tick leaves no age but that of its own from-edge
-pub excused_ages : (r : Rules) (w : Watch) (t : Tick) → (t.late && r.excuses) ≡ true → (watched r w t).ages ≡ (if is_edge r.from_rise w.from (watched r w t).from then Between 0 0 else Empty)
+-- nor has one that writes nothing where the end of its instruction is no event
+pub eventless : (r : Rules) (w : Watch) (f : Bool) → (f && (r.from_ends || r.to_ends)) ≡ false → watched r w (record { late = false; finishes = f; from = None; to = None }) ≡ watched r w delay_tick
+unfolding watched
+eventless r w f e = rw (none f r.from_ends r.to_ends e, none f r.to_ends r.from_ends (either f r.from_ends r.to_ends e)) refl where
+  none : (f a b : Bool) → (f && (a || b)) ≡ false → (f && a) ≡ false
+  none true true b e = cc
+  none true false b e = refl
+  none false a b e = refl
+
+  either : (f a b : Bool) → (f && (a || b)) ≡ false → (f && (b || a)) ≡ false
+  either true true b e = cc
+  either true false true e = cc
+  either true false false e = refl
+  either false a b e = refl
+
+-- an excused tick leaves no age but that of its own from-event
+pub excused_ages : (r : Rules) (w : Watch) (t : Tick) → (t.late && r.excuses) ≡ true → (watched r w t).ages ≡ (if opens r w t then Between 0 0 else Empty)
 unfolding watched
 excused_ages r w t e = rw e refl
 

@@ -1,28 +1,21 @@
 -- What the checker knows of a machine between two instructions.
 --   Context          the address and what is known of X, Y and the span's two pins
---   signal_bits      of all pins, the levels or the directions
 --   is_placed        a context's numbers are in range
 --   IsInside         ages lie within others
 --   is_open          there are ages
 use Rattle.std.specs.Prelude.{ℕ, ◌≤◌, Bool, true, false, ◌&&◌, Option, Some, None, nat_lt}
-use Rattle.pin_matrix.specs.declared.span.PinSignal.{PinSignal}
-use Rattle.pin_matrix.specs.declared.span.PinSignal.TheVariants.{Level, Direction}
 use Rattle.span_step.specs.declared.ages.Ages.{Ages}
 use Rattle.span_step.specs.declared.ages.Ages.TheVariants.{Empty, Between}
 
 -- What the checker knows before an instruction: where it lies in memory, X and Y where they are known and below 32, and of the
--- span's from-pin and to-pin whether the watched signal is high: the level, or the direction where it is out.
+-- span's from-pin and to-pin whether the watched signal is high: the level, or the direction where it is out. It never is where
+-- no signal is watched.
 pub record Context : Type 0 where
   pub address : ℕ
   pub x : Option ℕ
   pub y : Option ℕ
   pub from : Bool
   pub to : Bool
-
--- of all pins, the levels or the directions, whose bits are 1 where a pin is an output
-abbrev pub signal_bits : PinSignal → (levels directions : ℕ) → ℕ
-signal_bits Level levels directions = levels
-signal_bits Direction levels directions = directions
 
 -- what is known of X or Y is below 32
 abbrev pub is_small : Option ℕ → Bool
@@ -39,7 +32,7 @@ IsInside Empty b = Unit {0}
 IsInside (Between lo hi) Empty = ⊥
 IsInside (Between lo hi) (Between low high) = (low ≤ lo) × (hi ≤ high)
 
--- a from-edge is open
+-- a from-event is open
 abbrev pub is_open : Ages → Bool
 is_open Empty = false
 is_open (Between lo hi) = true

@@ -30,7 +30,7 @@ AreAlike R [] (y ∷ ys) = ⊥
 AreAlike R (x ∷ xs) [] = ⊥
 AreAlike R (x ∷ xs) (y ∷ ys) = R x y × AreAlike R xs ys
 
--- two nexts go to one context by courses that both pass or both have a to-edge; their ages are related, which may look at that
+-- two nexts go to one context by courses that both pass or both have a to-event; their ages are related, which may look at that
 pub record GoesLike (R : Bool → Ages → Ages → Type 0) (m n : Next) : Type 0 where
   pub context : m.context ≡ n.context
   pub passes : m.passes ≡ n.passes
@@ -55,11 +55,11 @@ AreInside p a b = IsInside a b
 abbrev pub OpenAlike : Bool → Ages → Ages → Type 0
 OpenAlike p a b = is_open a ≡ is_open b
 
--- the ages are the same where a to-edge came
+-- the ages are the same where a to-event came
 abbrev pub SameAfterEdge : Bool → Ages → Ages → Type 0
 SameAfterEdge p a b = p ≡ false → a ≡ b
 
--- a step has the same next contexts with ages inside, no more causes, and the same from-edge
+-- a step has the same next contexts with ages inside, no more causes, and the same from-event
 pub record IsNarrower (s t : Stepped) : Type 0 where
   pub nexts : AreAlike (GoesLike AreInside) s.nexts t.nexts
   pub causes : AllImplied s.causes t.causes

@@ -24,6 +24,7 @@ use Rattle.pio_encode.specs.declared.act.MovSource.TheVariants as mov_source
 use Rattle.pio_encode.specs.declared.act.SetDestination.{SetDestination}
 use Rattle.pio_encode.specs.declared.act.SetDestination.TheVariants as set_destination
 use Rattle.pin_matrix.specs.Pins.{writes_of}
+use Rattle.pin_matrix.specs.Spans.{is_signal}
 use Rattle.pin_matrix.specs.declared.machine.MachineSetup.{MachineSetup}
 use Rattle.pin_matrix.specs.declared.mapping.Mapping.{Mapping}
 use Rattle.pin_matrix.specs.declared.span.PinSignal.{PinSignal}
@@ -53,16 +54,9 @@ level_at p w = if bit_at w.0 p == 1 then Some (bit_at w.1 p == 1) else None
 abbrev pub holds : Mapping → ℕ → Bool
 holds m p = bit_at (writes_of m 0).0 p == 1
 
--- the written signal is the watched one
-abbrev pub is_signal : (written watched : PinSignal) → Bool
-is_signal Level Level = true
-is_signal Level Direction = false
-is_signal Direction Level = false
-is_signal Direction Direction = true
-
 -- what a write of one signal does to the watched signal of a pin: only a write of levels changes a level, and only a write of
 -- directions a direction
-abbrev pub signal_at : (written watched : PinSignal) → ℕ → ℕ × ℕ → Option Bool
+abbrev pub signal_at : (written : PinSignal) → (watched : Option PinSignal) → ℕ → ℕ × ℕ → Option Bool
 signal_at written watched p w = if is_signal written watched then level_at p w else None
 
 -- what a value that goes to a mapping, as levels or as directions, writes to the from-pin and the to-pin
@@ -73,16 +67,21 @@ written_to signal m value sp = record {
 }
 
 -- a value that goes to a mapping, as levels or as directions, writes the watched signal of a pin
-abbrev pub is_held : (written watched : PinSignal) → Mapping → ℕ → Bool
+abbrev pub is_held : (written : PinSignal) → (watched : Option PinSignal) → Mapping → ℕ → Bool
 is_held written watched m p = is_signal written watched && holds m p
 
 -- an unknown value may leave what it writes either way, and writes nothing else
 abbrev pub either_level : (held : Bool) → List (Option Bool)
 either_level held = if held then Some false ∷ Some true ∷ [] else None ∷ []
 
--- both edges are of one signal of one pin
+-- both events are edges of one signal
+abbrev pub has_one_signal : (from to : Option PinSignal) → Bool
+has_one_signal None to = false
+has_one_signal (Some from) to = is_signal from to
+
+-- both events are edges of one signal of one pin
 abbrev pub has_one_pin : Span → Bool
-has_one_pin sp = sp.from_pin == sp.to_pin && is_signal sp.from_signal sp.to_signal
+has_one_pin sp = sp.from_pin == sp.to_pin && has_one_signal sp.from_signal sp.to_signal
 
 -- What an unknown value may write to the from-pin and the to-pin: each choice of both, or one and the same where both edges
 -- are of one signal of one pin.

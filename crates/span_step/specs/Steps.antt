@@ -3,7 +3,8 @@
 --   is_bounded       it has a greatest bound
 --   is_named         stalls at an address are left out
 --   is_left_out      ways through an address are left out
---   is_excused       where a machine stands so that its span doesn't speak of the from-edges before
+--   is_excused       where a machine stands so that its span doesn't speak of the from-events before
+--   is_event         an event of a span comes
 --   next_address     the address that follows
 --   side_of          what side-set writes to the two pins
 --   Visit            what all courses of a row share
@@ -11,14 +12,14 @@
 --   is_lost          no address is known after a row
 --   step_by          the step of a machine's row
 --   context_steps    the step of a span's row
-use Rattle.std.specs.Prelude.{ℕ, ◌+◌, ◌-◌, ◌*◌, ◌/◌, ◌%◌, ◌==◌, Bool, true, false, not, ◌&&◌, ◌||◌, if◌then◌else◌, Option, Some, None, is_some, option_map, List, [], ◌∷◌, ◌++◌, fold, slice_index, slice_index_or}
+use Rattle.std.specs.Prelude.{ℕ, ◌+◌, ◌-◌, ◌*◌, ◌/◌, ◌%◌, ◌==◌, Bool, true, false, not, ◌&&◌, ◌||◌, if◌then◌else◌, Option, Some, None, is_some, option_map, List, [], ◌∷◌, ◌++◌, fold, length, slice_index, slice_index_or}
 use Rattle.std.specs.List.{list_any}
 use Rattle.pio_encode.specs.declared.op.Op.{Op}
 use Rattle.pio_encode.specs.Word.{reading_of}
+use Rattle.pin_matrix.specs.Spans.{side_signal}
 use Rattle.pin_matrix.specs.declared.machine.MachineSetup.{MachineSetup}
 use Rattle.pin_matrix.specs.declared.setup.Setup.{Setup}
 use Rattle.pin_matrix.specs.declared.span.PinSignal.{PinSignal}
-use Rattle.pin_matrix.specs.declared.span.PinSignal.TheVariants.{Level, Direction}
 use Rattle.pin_matrix.specs.declared.span.Span.{Span}
 use Rattle.pin_matrix.specs.declared.span.SpanUnit.{SpanUnit}
 use Rattle.pin_matrix.specs.declared.span.SpanUnit.TheVariants.{Ticks, Clocks}
@@ -63,20 +64,40 @@ bounds_of sp s = bounds_in sp.unit sp (period_of s)
 abbrev pub is_bounded : Span → Bool
 is_bounded sp = is_some sp.max
 
+-- this address is one of these
+abbrev pub is_among : List ℕ → ℕ → Bool
+is_among addresses address = list_any (λ a. a == address) addresses
+
 -- stalls at this address are left out
 abbrev pub is_named : Span → ℕ → Bool
-is_named sp address = list_any (λ a. a == address) sp.stalls
+is_named sp address = is_among sp.stalls address
 
 -- ways through the instruction at this address are left out
 abbrev pub is_left_out : Span → ℕ → Bool
-is_left_out sp address = list_any (λ a. a == address) sp.without
+is_left_out sp address = is_among sp.without address
 
--- A stall at this address excuses open from-edges: the span speaks only of ways on which its machine doesn't wait, but at the
+-- An event comes, where a machine is at this address. Of a watched signal it is an edge, and where instructions are named one that
+-- comes while the machine works at one of them; else it is the end of one of them.
+abbrev pub is_event : (watched : Option PinSignal) → (at : List ℕ) → (address : ℕ) → (edge works finishes : Bool) → Bool
+is_event (Some signal) at address edge works finishes = edge && (length at == 0 || (works && is_among at address))
+is_event None at address edge works finishes = finishes && is_among at address
+
+-- an edge in the row of this address is an event
+abbrev pub are_edges_events : Option PinSignal → List ℕ → ℕ → Bool
+are_edges_events (Some signal) at address = length at == 0 || is_among at address
+are_edges_events None at address = false
+
+-- the end of the instruction at this address is one
+abbrev pub is_end_event : Option PinSignal → List ℕ → ℕ → Bool
+is_end_event (Some signal) at address = false
+is_end_event None at address = is_among at address
+
+-- A stall at this address excuses open from-events: the span speaks only of ways on which its machine doesn't wait, but at the
 -- named addresses.
 abbrev pub is_excusing : Span → ℕ → Bool
 is_excusing sp address = sp.prompt && not (is_named sp address)
 
--- How a machine stands at the start of a clock so that the span doesn't speak of the from-edges before. It waits at this
+-- How a machine stands at the start of a clock so that the span doesn't speak of the from-events before. It waits at this
 -- address: it has begun the instruction there. It stands before this address: it comes to the instruction there next, with no
 -- delay left, nothing pending and nothing begun.
 abbrev pub is_excused : Span → (address : ℕ) → (waits stands_before : Bool) → Bool
@@ -87,7 +108,11 @@ is_excused sp address waits stands_before =
 unfoldable pub rules_of : MachineSetup → Span → ℕ → Rules
 rules_of s sp address = let bounds = bounds_of sp s in record {
   from_rise = sp.from_rise;
+  from_edges = are_edges_events sp.from_signal sp.from_at address;
+  from_ends = is_end_event sp.from_signal sp.from_at address;
   to_rise = sp.to_rise;
+  to_edges = are_edges_events sp.to_signal sp.to_at address;
+  to_ends = is_end_event sp.to_signal sp.to_at address;
   min = bounds.0;
   max = bounds.1;
   bounded = is_bounded sp;
@@ -98,10 +123,6 @@ rules_of s sp address = let bounds = bounds_of sp s in record {
 -- the address that follows: the program wraps after wrap_top, and the memory after 31 (section 3.5.2)
 abbrev pub next_address : MachineSetup → ℕ → ℕ
 next_address s address = if address == s.wrap_top then s.wrap_bottom else (address + 1) % 32
-
--- side-set writes levels, unless the rule sends it to directions (section 3.5.1)
-abbrev pub side_signal : MachineSetup → PinSignal
-side_signal s = if s.side_rule.pindirs then Direction else Level
 
 -- what side-set writes to the two pins
 abbrev pub side_of : MachineSetup → Span → Option ℕ → Write
@@ -189,6 +210,6 @@ machine_steps None memory sp k ages = nothing_found
 machine_steps (Some s) memory sp k ages = step_by s sp (reading_of (slice_index memory k.address) s.side_rule) k ages
 
 -- The step of a row of the span's machine: the next contexts with their ages, the causes for which the row is bad, whether a
--- from-edge comes, and whether a to-edge comes while one is open. There is none where the machine isn't configured.
+-- from-event comes, and whether a to-event comes while one is open. There is none where the machine isn't configured.
 unfoldable pub context_steps : Setup → Span → Context → Ages → Stepped
 context_steps u sp k ages = machine_steps (slice_index_or u.machines sp.machine None) u.memory sp k ages

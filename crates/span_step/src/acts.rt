@@ -5,10 +5,10 @@ ghost use Rattle.span_step.specs.Contexts.{is_small};
 ghost use Rattle.span_step.specs.Outcomes as spec;
 
 use crate::context::Context;
-use crate::levels::{is_signal, written_to};
+use crate::levels::written_to;
 use crate::outcome::ContextOutcome;
 use arrayvec::ArrayVec;
-use pin_matrix::{MachineSetup, Mapping, PinSignal, Span, writes_of};
+use pin_matrix::{MachineSetup, Mapping, PinSignal, Span, is_signal, writes_of};
 use pio_encode::{
     Act, Condition, MovDestination, MovOperation, MovSource, OutDestination, SetDestination,
 };
@@ -246,7 +246,7 @@ fn set_pins(
     one(writing(context, write.from, write.to))
 }
 
-/// OUT PINS, MOV PINS and OUT PINDIRS: each pin of the mapping may be left either way, and both edges' pins alike where they
+/// OUT PINS, MOV PINS and OUT PINDIRS: each pin of the mapping may be left either way, and both events' pins alike where they
 /// are one.
 fn unknown_pins(
     signal: PinSignal,
@@ -281,11 +281,21 @@ fn unknown_pins(
     }
 }
 
-/// Whether both edges are of one signal of one pin.
+/// Whether both events are edges of one signal of one pin.
 fn has_one_pin(span: &Span) -> bool
     ensures { result ≡ spec.has_one_pin span.now }
 {
-    span.from_pin == span.to_pin && is_signal(span.from_signal, span.to_signal)
+    span.from_pin == span.to_pin && has_one_signal(span.from_signal, span.to_signal)
+}
+
+/// Whether both events are edges of one signal.
+fn has_one_signal(from: Option<PinSignal>, to: Option<PinSignal>) -> bool
+    ensures { result ≡ spec.has_one_signal from to }
+{
+    match from {
+        Some(signal) => is_signal(signal, to),
+        None => false,
+    }
 }
 
 /// It goes on, and writes this to the span's pins.
@@ -300,7 +310,7 @@ fn writing(context: &Context, from: Option<bool>, to: Option<bool>) -> ContextOu
 }
 
 /// Whether a value that goes to a mapping writes the watched signal of a pin (0 to 31).
-fn is_held(written: PinSignal, watched: PinSignal, mapping: &Mapping, pin: u8) -> bool
+fn is_held(written: PinSignal, watched: Option<PinSignal>, mapping: &Mapping, pin: u8) -> bool
     requires { pin < 32 }
     ensures { result ≡ spec.is_held written watched mapping.now pin }
 {

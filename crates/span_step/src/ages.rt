@@ -1,12 +1,12 @@
-//! The ages of a span's open from-edges, in ticks.
+//! The ages of a span's open from-events, in ticks.
 ghost use Rattle.std.specs.Prelude.{◌≡◌, ◌<◌, ◌^◌};
 ghost use Rattle.span_step.specs.Contexts as contexts;
 ghost use Rattle.span_step.specs.Courses as spec;
 
-/// How many ticks ago a from-edge may have been to which no to-edge came since.
+/// How many ticks ago a from-event may have been to which no to-event came since.
 #[derive(Clone, Copy, Default)]
 pub enum Ages {
-    /// No from-edge is open.
+    /// No from-event is open.
     #[default]
     Empty,
     /// From the first to the second.
@@ -14,7 +14,7 @@ pub enum Ages {
 }
 
 impl Ages {
-    /// Whether a from-edge is open.
+    /// Whether a from-event is open.
     pub fn is_open(self) -> bool
         ensures { result ≡ contexts.is_open self }
     {
@@ -52,9 +52,9 @@ impl Ages {
         }
     }
 
-    /// The ages after a tick's edges: a to-edge empties them, then a from-edge adds the age 0.
-    pub(crate) fn after_edges(self, closes: bool, opens: bool) -> Ages
-        ensures { result ≡ spec.after_edges closes opens self }
+    /// The ages after a tick's events: a to-event empties them, then a from-event adds the age 0.
+    pub(crate) fn after_events(self, closes: bool, opens: bool) -> Ages
+        ensures { result ≡ spec.after_events closes opens self }
     {
         let left = if closes { Ages::Empty } else { self };
         if opens { left.with_fresh() } else { left }

@@ -8,9 +8,9 @@ ghost use Rattle.span_step.specs.Laws as laws;
 pub enum Cause {
     /// An age is above the span's greatest bound.
     U1,
-    /// A to-edge comes while an age is below the span's least.
+    /// A to-event comes while an age is below the span's least.
     U2,
-    /// The machine waits, at an address that the span doesn't name, while a from-edge is open. It isn't asked of a span without
+    /// The machine waits, at an address that the span doesn't name, while a from-event is open. It isn't asked of a span without
     /// a greatest bound.
     U3,
     /// No address is known after the instruction.

@@ -14,6 +14,8 @@ use crate::rules::Rules;
 pub(crate) struct Tick {
     /// It doesn't count: the machine waits, or ends a stall.
     pub(crate) late: bool,
+    /// The instruction finishes in it.
+    pub(crate) finishes: bool,
     /// What it writes to the from-pin's watched signal, if anything.
     pub(crate) from: Option<bool>,
     /// What it writes to the to-pin's.
@@ -30,11 +32,11 @@ pub(crate) struct Watch {
     pub(crate) ages: Ages,
     /// The causes that came so far.
     pub(crate) causes: Causes,
-    /// A from-edge came.
+    /// A from-event came.
     pub(crate) from_edge: bool,
-    /// A to-edge came while a from-edge of an earlier tick was open.
+    /// A to-event came while a from-event of an earlier tick was open.
     pub(crate) closes: bool,
-    /// The ages at the start still live: no to-edge came, and no excuse.
+    /// The ages at the start still live: no to-event came, and no excuse.
     pub(crate) passes: bool,
 }
 
@@ -69,7 +71,7 @@ impl Watch {
             from: over(side.from, outcome.from),
             to: over(side.to, outcome.to),
         };
-        self.begun(rules, first).delayed(rules, delay)
+        self.begun(rules, first, true).delayed(rules, delay)
     }
 
     /// At the end of the delayed course: side-set in the first tick, the other effects in the last late one.
@@ -85,25 +87,28 @@ impl Watch {
     {
         let last = Tick {
             late: true,
+            finishes: true,
             from: outcome.from,
             to: outcome.to,
         };
-        self.begun(rules, side)
+        self.begun(rules, side, false)
             .watched(rules, last)
             .delayed(rules, delay)
     }
 
-    /// After the first tick of a course, which counts and in which this is written.
-    fn begun(self, rules: &Rules, write: Write) -> Watch
+    /// After the first tick of a course, which counts, in which this is written, and in which the instruction may finish.
+    #[tactic(auto, using(crate::proofs::Ticks::eventless))]
+    fn begun(self, rules: &Rules, write: Write, finishes: bool) -> Watch
         ensures { result
-            ≡ spec.watched rules.now self (record { late = false; from = write.from; to = write.to }) }
+            ≡ spec.watched rules.now self (record { late = false; finishes = finishes; from = write.from; to = write.to }) }
     {
         match (write.from, write.to) {
-            (None, None) => self.rested(rules),
+            (None, None) if !(finishes && (rules.from_ends || rules.to_ends)) => self.rested(rules),
             (from, to) => self.watched(
                 rules,
                 Tick {
                     late: false,
+                    finishes,
                     from,
                     to,
                 },
@@ -122,7 +127,7 @@ impl Watch {
         watch
     }
 
-    /// After one tick that counts and writes nothing, and so has no edge.
+    /// After one tick that counts, writes nothing and ends no instruction, and so has no event.
     #[tactic(auto, using(crate::proofs::Ticks::rested))]
     fn rested(self, rules: &Rules) -> Watch
         ensures { result ≡ spec.watched rules.now self spec.delay_tick }
@@ -141,16 +146,18 @@ impl Watch {
     fn watched(self, rules: &Rules, tick: Tick) -> Watch
         ensures { result ≡ spec.watched rules.now self tick }
     {
-        let from = tick.from.unwrap_or(self.from);
-        let to = tick.to.unwrap_or(self.to);
         let aged = if tick.late {
             self.ages
         } else {
             self.ages.older(rules.max)
         };
         let excused = tick.late && rules.excuses;
-        let closes = is_edge(rules.to_rise, self.to, to);
-        let opens = is_edge(rules.from_rise, self.from, from);
+        let from = tick.from.unwrap_or(self.from);
+        let to = tick.to.unwrap_or(self.to);
+        let closes = (is_edge(rules.to_rise, self.to, to) && rules.to_edges)
+            || (tick.finishes && rules.to_ends);
+        let opens = (is_edge(rules.from_rise, self.from, from) && rules.from_edges)
+            || (tick.finishes && rules.from_ends);
         let causes = if excused {
             self.causes
         } else {
@@ -160,7 +167,7 @@ impl Watch {
         Watch {
             from,
             to,
-            ages: aged.after_edges(excused || closes, opens),
+            ages: aged.after_events(excused || closes, opens),
             causes,
             from_edge: self.from_edge || opens,
             closes: self.closes || (closes && !excused && aged.is_open()),

@@ -5,7 +5,7 @@ ghost use Rattle.pin_matrix.specs.declared.span.Span as span;
 ghost use Rattle.span_step.specs.Contexts as contexts;
 ghost use Rattle.span_step.specs.Contexts.{IsInside, is_open, is_placed};
 ghost use Rattle.span_step.specs.Courses as courses;
-ghost use Rattle.span_step.specs.Courses.{is_edge, watched};
+ghost use Rattle.span_step.specs.Courses.{opens, watched};
 ghost use Rattle.span_step.specs.declared.ages.Ages as ages;
 ghost use Rattle.span_step.specs.declared.ages.Ages.TheVariants.{Empty, Between};
 ghost use Rattle.span_step.specs.declared.course.Tick as tick;
@@ -13,13 +13,13 @@ ghost use Rattle.span_step.specs.declared.course.Watch as watch;
 ghost use Rattle.span_step.specs.Steps.{context_steps, is_left_out};
 ghost use Rattle.span_step.specs.Laws.{aim_of, IsNarrower, AreAlike, GoesLike, OpenAlike, SameAfterEdge, AllUpTo, AllReach, ReachesAge, most_of, first_cause, NonePass, AllPlaced};
 
-/// Ages inside others give the same next contexts with ages inside, no more causes and the same from-edge.
+/// Ages inside others give the same next contexts with ages inside, no more causes and the same from-event.
 pub fn a_step_is_monotone()
     ensures { (u : setup.Setup) (sp : span.Span) (k : contexts.Context) (a b : ages.Ages)
         → IsInside a b → IsNarrower (context_steps u sp k a) (context_steps u sp k b) }
 {}
 
-/// The next contexts, which of them are reached by a course that passes, and whether a from-edge comes don't depend on the
+/// The next contexts, which of them are reached by a course that passes, and whether a from-event comes don't depend on the
 /// ages. Nor do the ages after a course that doesn't pass; and whether ages are open afterwards depends on no more than whether
 /// they were.
 pub fn next_contexts_do_not_depend_on_ages()
@@ -65,13 +65,13 @@ pub fn rows_left_out_lose_ages()
         → is_left_out sp k.address ≡ true → NonePass (context_steps u sp k a).nexts }
 {}
 
-/// An excused tick, a late one where the row excuses, leaves no age but that of a from-edge of its own. It adds no cause and
+/// An excused tick, a late one where the row excuses, leaves no age but that of a from-event of its own. It adds no cause and
 /// closes nothing.
 pub fn an_excused_tick_leaves_a_fresh_age_at_most()
     ensures ages { (r : courses.Rules) (w : watch.Watch) (t : tick.Tick)
         → (t.late && r.excuses) ≡ true
         → (watched r w t).ages
-        ≡ (if is_edge r.from_rise w.from (watched r w t).from then Between 0 0 else Empty) }
+        ≡ (if opens r w t then Between 0 0 else Empty) }
     ensures causes { (r : courses.Rules) (w : watch.Watch) (t : tick.Tick)
         → (t.late && r.excuses) ≡ true → (watched r w t).causes ≡ w.causes }
     ensures closes { (r : courses.Rules) (w : watch.Watch) (t : tick.Tick)

@@ -3,7 +3,7 @@ ghost use Rattle.std.specs.Prelude.{◌≡◌, ◌<◌};
 ghost use Rattle.span_step.specs.Outcomes as outcomes;
 ghost use Rattle.span_step.specs.Steps as steps;
 
-use pin_matrix::{MachineSetup, Mapping, PinSignal, Span, writes_of};
+use pin_matrix::{MachineSetup, Mapping, PinSignal, Span, is_signal, side_signal, writes_of};
 
 /// What is written to the watched signals of the from-pin and the to-pin: high, low or nothing.
 #[derive(Clone, Copy)]
@@ -25,20 +25,13 @@ fn level_at(pin: u8, write: (u32, u32)) -> Option<bool>
     }
 }
 
-/// Whether the written signal is the watched one.
-pub(crate) fn is_signal(written: PinSignal, watched: PinSignal) -> bool
-    ensures { result ≡ outcomes.is_signal written watched }
-{
-    match (written, watched) {
-        (PinSignal::Level, PinSignal::Level) => true,
-        (PinSignal::Level, PinSignal::Direction) => false,
-        (PinSignal::Direction, PinSignal::Level) => false,
-        (PinSignal::Direction, PinSignal::Direction) => true,
-    }
-}
-
 /// What a write of one signal does to the watched signal of a pin (0 to 31).
-fn signal_at(written: PinSignal, watched: PinSignal, pin: u8, write: (u32, u32)) -> Option<bool>
+fn signal_at(
+    written: PinSignal,
+    watched: Option<PinSignal>,
+    pin: u8,
+    write: (u32, u32),
+) -> Option<bool>
     requires { pin < 32 }
     ensures { result ≡ outcomes.signal_at written watched pin write }
 {
@@ -70,16 +63,5 @@ pub(crate) fn side_of(machine: &MachineSetup, span: &Span, side: Option<u8>) -> 
             from: None,
             to: None,
         },
-    }
-}
-
-/// Whether side-set writes levels or directions.
-fn side_signal(machine: &MachineSetup) -> PinSignal
-    ensures { result ≡ steps.side_signal machine.now }
-{
-    if machine.side_rule.pindirs {
-        PinSignal::Direction
-    } else {
-        PinSignal::Level
     }
 }

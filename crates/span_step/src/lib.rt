@@ -1,5 +1,5 @@
 //! One step of the timing checker: from what is known of a machine between two instructions, with the ages of a span's open
-//! from-edges, to what can come next.
+//! from-events, to what can come next.
 #![tactic(auto)]
 
 mod acts;

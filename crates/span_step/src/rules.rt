@@ -2,15 +2,19 @@
 ghost use Rattle.std.specs.Prelude.{◌≡◌, ◌+◌, ◌-◌, ◌*◌, ◌/◌, ◌<◌, ◌≤◌, ◌^◌, IfSome};
 ghost use Rattle.span_step.specs.Steps as spec;
 
-use pin_matrix::{MachineSetup, Span, SpanUnit};
+use pin_matrix::{Addresses, MachineSetup, PinSignal, Span, SpanUnit};
 use std::marker::Model;
 
-/// The edges, the bounds in ticks, whether `max` is one, whether stalls at the row's address are left out, and whether they
-/// excuse. The type keeps `max` below 2^24.
+/// Which edges and ends are events in the row, the bounds in ticks, whether `max` is one, whether stalls at the row's address are
+/// left out, and whether they excuse. The type keeps `max` below 2^24.
 #[derive(Clone, Copy)]
 pub(crate) struct Rules {
     pub(crate) from_rise: bool,
+    pub(crate) from_edges: bool,
+    pub(crate) from_ends: bool,
     pub(crate) to_rise: bool,
+    pub(crate) to_edges: bool,
+    pub(crate) to_ends: bool,
     pub(crate) min: u32,
     pub(crate) max: u32,
     pub(crate) bounded: bool,
@@ -26,7 +30,11 @@ impl Model for Rules {
 
     ghost view = { λ r. record {
       from_rise = r.from_rise;
+      from_edges = r.from_edges;
+      from_ends = r.from_ends;
       to_rise = r.to_rise;
+      to_edges = r.to_edges;
+      to_ends = r.to_ends;
       min = r.min;
       max = r.max;
       bounded = r.bounded;
@@ -38,7 +46,11 @@ impl Model for Rules {
 
     ghost inverse = { λ r. record {
       from_rise = r.from_rise;
+      from_edges = r.from_edges;
+      from_ends = r.from_ends;
       to_rise = r.to_rise;
+      to_edges = r.to_edges;
+      to_ends = r.to_ends;
       min = r.min;
       max = r.max;
       bounded = r.bounded;
@@ -55,9 +67,15 @@ impl Rules {
     {
         let (min, max) = bounds(span, machine);
         let named = is_named(span, address);
+        let (from_edges, from_ends) = events(span.from_signal, &span.from_at, address);
+        let (to_edges, to_ends) = events(span.to_signal, &span.to_at, address);
         Rules {
             from_rise: span.from_rise,
+            from_edges,
+            from_ends,
             to_rise: span.to_rise,
+            to_edges,
+            to_ends,
             min,
             max,
             bounded: span.max.is_some(),
@@ -77,18 +95,36 @@ pub(crate) fn cap_in(machine: &MachineSetup, span: &Span) -> u32
     most + 1
 }
 
+/// Whether edges in the row of an address are events, and whether the end of the instruction there is one.
+fn events(watched: Option<PinSignal>, at: &Addresses, address: u8) -> (bool, bool)
+    ensures edges { result.0 ≡ spec.are_edges_events watched at.now address }
+    ensures ends { result.1 ≡ spec.is_end_event watched at.now address }
+{
+    match watched {
+        Some(_) => (at.as_slice().is_empty() || is_among(at, address), false),
+        None => (false, is_among(at, address)),
+    }
+}
+
+/// Whether an address is one of these.
+fn is_among(addresses: &Addresses, address: u8) -> bool
+    ensures { result ≡ spec.is_among addresses.now address }
+{
+    addresses.as_slice().iter().any(|one| *one == address)
+}
+
 /// Whether stalls at an address are left out.
 fn is_named(span: &Span, address: u8) -> bool
     ensures { result ≡ spec.is_named span.now address }
 {
-    span.stalls.as_slice().iter().any(|named| *named == address)
+    is_among(&span.stalls, address)
 }
 
 /// Whether ways through an address are left out.
 pub(crate) fn is_left_out(span: &Span, address: u8) -> bool
     ensures { result ≡ spec.is_left_out span.now address }
 {
-    span.without.as_slice().iter().any(|left| *left == address)
+    is_among(&span.without, address)
 }
 
 /// The span's bounds in ticks of the machine.

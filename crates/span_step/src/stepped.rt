@@ -12,7 +12,7 @@ use std::marker::Model;
 pub struct Next {
     pub context: Context,
     pub ages: Ages,
-    /// The ages before live on in these: no to-edge came on the way, and nothing of which the span doesn't speak.
+    /// The ages before live on in these: no to-event came on the way, and nothing of which the span doesn't speak.
     pub passes: bool,
 }
 
@@ -63,8 +63,8 @@ impl Nexts {
 pub struct Stepped {
     pub nexts: Nexts,
     pub causes: Causes,
-    /// A from-edge comes.
+    /// A from-event comes.
     pub from_edge: bool,
-    /// A to-edge comes while a from-edge of an earlier tick is open.
+    /// A to-event comes while a from-event of an earlier tick is open.
     pub closes: bool,
 }

@@ -30,14 +30,15 @@ use Rattle.sm_registers.specs.View.{View}
 use Rattle.sm_registers.specs.Queues.{Queues}
 use Rattle.sm_registers.specs.Effects.{Effect, fallen, counted_down, jumps, jmp_effect, wait_effect, in_effect, autopushed, out_to, out_effect, push_effect, pulled, pull_effect, mov_word, operated, mov_to, mov_effect, irq_effect, set_effect, effect_of}
 use Rattle.span_step.specs.Contexts.{Context, is_small}
-use Rattle.span_step.specs.Outcomes.{ContextOutcome, nothing_done, level_at, signal_at, is_signal, is_held, either_level, has_one_pin, unknown_levels, unknown_pins, is_zero, is_nonzero, differ, taken, after_count, ways, out_outcomes, copied, mov_outcomes, set_outcomes, outcomes, is_wild, may_stall}
+use Rattle.span_step.specs.Outcomes.{ContextOutcome, nothing_done, level_at, signal_at, is_held, either_level, has_one_signal, has_one_pin, unknown_levels, unknown_pins, is_zero, is_nonzero, differ, taken, after_count, ways, out_outcomes, copied, mov_outcomes, set_outcomes, outcomes, is_wild, may_stall}
 use Rattle.span_step.specs.Outcomes as outcome
 use Rattle.span_ticks.specs.UnderWay.{Covers, flow_of}
 
--- an effect's write to levels, or to directions
-abbrev pub effect_write : PinSignal → Effect → ℕ × ℕ
-effect_write Level e = e.level
-effect_write Direction e = e.direction
+-- an effect's write to the watched signal: to levels, or to directions
+abbrev pub effect_write : Option PinSignal → Effect → ℕ × ℕ
+effect_write None e = (0, 0)
+effect_write (Some Level) e = e.level
+effect_write (Some Direction) e = e.direction
 
 -- an effect that finishes is as this outcome says
 pub record Explains (sp : Span) (e : Effect) (o : ContextOutcome) : Type 0 where
@@ -58,20 +59,23 @@ pub level_none : (p : ℕ) → level_at p (0, 0) ≡ None
 level_none p = ap (λ b. cond (b == 1) (Some (bit_at 0 p == 1)) None) (bit_at-zero p)
 
 -- an effect that writes nothing
-pub writes_none : (signal : PinSignal) (p : ℕ) (e : Effect) → e.level ≡ (0, 0) → e.direction ≡ (0, 0) → level_at p (effect_write signal e) ≡ None
-writes_none Level p e l d = ap (level_at p) l ∙ level_none p
-writes_none Direction p e l d = ap (level_at p) d ∙ level_none p
+pub writes_none : (signal : Option PinSignal) (p : ℕ) (e : Effect) → e.level ≡ (0, 0) → e.direction ≡ (0, 0) → level_at p (effect_write signal e) ≡ None
+writes_none None p e l d = level_none p
+writes_none (Some Level) p e l d = ap (level_at p) l ∙ level_none p
+writes_none (Some Direction) p e l d = ap (level_at p) d ∙ level_none p
 
 -- one that writes levels, or directions, and nothing else
 abbrev IsWriteTo : PinSignal → ℕ × ℕ → Effect → Type 0
 IsWriteTo Level w e = (e.level ≡ w) × (e.direction ≡ (0, 0))
 IsWriteTo Direction w e = (e.direction ≡ w) × (e.level ≡ (0, 0))
 
-writes_one : (signal watched : PinSignal) (p : ℕ) (e : Effect) (w : ℕ × ℕ) → IsWriteTo signal w e → level_at p (effect_write watched e) ≡ signal_at signal watched p w
-writes_one Level Level p e w h = ap (level_at p) h.0
-writes_one Level Direction p e w h = ap (level_at p) h.1 ∙ level_none p
-writes_one Direction Level p e w h = ap (level_at p) h.1 ∙ level_none p
-writes_one Direction Direction p e w h = ap (level_at p) h.0
+writes_one : (signal : PinSignal) (watched : Option PinSignal) (p : ℕ) (e : Effect) (w : ℕ × ℕ) → IsWriteTo signal w e → level_at p (effect_write watched e) ≡ signal_at signal watched p w
+writes_one Level None p e w h = level_none p
+writes_one Level (Some Level) p e w h = ap (level_at p) h.0
+writes_one Level (Some Direction) p e w h = ap (level_at p) h.1 ∙ level_none p
+writes_one Direction None p e w h = level_none p
+writes_one Direction (Some Level) p e w h = ap (level_at p) h.1 ∙ level_none p
+writes_one Direction (Some Direction) p e w h = ap (level_at p) h.0
 
 -- an effect that does nothing that the checker follows
 record IsSilent (r : Registers) (e : Effect) : Type 0 where
@@ -239,20 +243,25 @@ all_either Q true true h = h.1.0
 all_either Q true false h = h.0
 all_either Q false level h = h.0
 
-held_at : (signal watched : PinSignal) (m : Mapping) (p value : ℕ) → cond (is_held signal watched m p) (Some (bit_at (writes_of m value).1 p == 1)) None ≡ signal_at signal watched p (writes_of m value)
-held_at Level Level m p value = refl
-held_at Level Direction m p value = refl
-held_at Direction Level m p value = refl
-held_at Direction Direction m p value = refl
+held_at : (signal : PinSignal) (watched : Option PinSignal) (m : Mapping) (p value : ℕ) → cond (is_held signal watched m p) (Some (bit_at (writes_of m value).1 p == 1)) None ≡ signal_at signal watched p (writes_of m value)
+held_at Level None m p value = refl
+held_at Level (Some Level) m p value = refl
+held_at Level (Some Direction) m p value = refl
+held_at Direction None m p value = refl
+held_at Direction (Some Level) m p value = refl
+held_at Direction (Some Direction) m p value = refl
 
-all_signal : (Q : Option Bool → Type 0) (signal watched : PinSignal) (m : Mapping) (p value : ℕ) → AllByRecursion Q (either_level (is_held signal watched m p)) → Q (signal_at signal watched p (writes_of m value))
+all_signal : (Q : Option Bool → Type 0) (signal : PinSignal) (watched : Option PinSignal) (m : Mapping) (p value : ℕ) → AllByRecursion Q (either_level (is_held signal watched m p)) → Q (signal_at signal watched p (writes_of m value))
 all_signal Q signal watched m p value h = subst Q (held_at signal watched m p value) (all_either Q (is_held signal watched m p) (bit_at (writes_of m value).1 p == 1) h)
 
-same_signal : (a b : PinSignal) → is_signal a b ≡ true → b ≡ a
-same_signal Level Level h = refl
-same_signal Level Direction h = cc
-same_signal Direction Level h = cc
-same_signal Direction Direction h = refl
+same_signal : (a b : Option PinSignal) → has_one_signal a b ≡ true → b ≡ a
+same_signal None b h = cc
+same_signal (Some Level) None h = cc
+same_signal (Some Level) (Some Level) h = refl
+same_signal (Some Level) (Some Direction) h = cc
+same_signal (Some Direction) None h = cc
+same_signal (Some Direction) (Some Level) h = cc
+same_signal (Some Direction) (Some Direction) h = refl
 
 pub all_levels : (Q : Option Bool × Option Bool → Type 0) (signal : PinSignal) (m : Mapping) (sp : Span) (value : ℕ) → AllByRecursion Q (unknown_levels signal m sp)
     → Q (signal_at signal sp.from_signal sp.from_pin (writes_of m value), signal_at signal sp.to_signal sp.to_pin (writes_of m value))
@@ -279,7 +288,7 @@ all_levels Q signal m sp value = by (has_one_pin sp) refl where
 
   same : has_one_pin sp ≡ true → t ≡ f
   same e =
-      let parts = and_parts (sp.from_pin == sp.to_pin) (is_signal sp.from_signal sp.to_signal) e in
+      let parts = and_parts (sp.from_pin == sp.to_pin) (has_one_signal sp.from_signal sp.to_signal) e in
       let pin : sp.to_pin ≡ sp.from_pin = is_same sp.from_pin sp.to_pin parts.0 in
       let kind : sp.to_signal ≡ sp.from_signal = same_signal sp.from_signal sp.to_signal parts.1 in
       ap (λ p. signal_at signal sp.to_signal p (writes_of m value)) pin ∙ ap (λ k. signal_at signal k sp.from_pin (writes_of m value)) kind where

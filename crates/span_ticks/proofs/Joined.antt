@@ -19,9 +19,9 @@ use Rattle.span_step.specs.Laws.{AllPlaced}
 use Rattle.span_step.specs.Steps.{visit_of, rules_of, side_of, bounds_of, is_bounded, is_named, is_left_out, is_excusing, context_steps}
 use Rattle.span_ticks.specs.Rows.{IsInRow, IsSoundTable}
 use Rattle.span_ticks.specs.UnderWay.{Watch, flow_of, is_excused_in, IsContextOf, IsResting, IsBegun, IsUnderWay, op_at, rested, stalled_from}
-use Rattle.span_ticks.specs.Following.{InAges, IsFollowed, IsAged, is_late, opens}
+use Rattle.span_ticks.specs.Following.{InAges, IsFollowed, IsAged, finishes, is_late, works}
 use Rattle.span_ticks.proofs.Clean.{IsClean, clean_followed, clean_watched}
-use Rattle.span_ticks.proofs.Aging.{inside_ages, tick_ages, tick_fresh, waiting_ages, no_fresh, widened_ages}
+use Rattle.span_ticks.proofs.Aging.{IsTickOf, and_no, inside_ages, tick_ages, worked_ages, worked_fresh, waiting_ages, no_fresh}
 use Rattle.span_ticks.proofs.Ends.{EndsWell, AllEnds, IsKnownRow, known_row}
 use Rattle.span_ticks.proofs.Explained.{Picked, Explains, explained, writes_none}
 use Rattle.span_ticks.proofs.Stalls.{IsStall, stalls, Found, found}
@@ -32,8 +32,9 @@ late_is : (begun : Bool) → is_late (if begun then Late else First) ≡ begun
 late_is true = refl
 late_is false = refl
 
-widened_opens : (sp : Span) (w v x : Watch) → w.from ≡ v.from → opens sp v x ≡ true → opens sp w x ≡ true
-widened_opens sp w v x e h = rw e h
+works_in : (begun : Bool) → works (if begun then Late else First) None ≡ true
+works_in true = refl
+works_in false = refl
 
 -- the ages at a row's start, through which no ways are left out
 started_ages : (left bounded : Bool) (k : Context) (a : Ages) (n : ℕ) → left ≡ false → InAges bounded n a → InAges bounded n (start left k a).ages
@@ -58,11 +59,11 @@ record IsWidened (k : Context) (a : Ages) (w : Watch) : Type 0 where
 abbrev prompt_from : Setup → Span → MachineSetup → Context → Ages → ContextOutcome → Watch
 prompt_from u sp s k a o =
     let side = side_of s sp (op_at u s k.address).side in
-    watched (rules_of s sp k.address) (start (is_left_out sp k.address) k a) (record { late = false; from = over side.from o.from; to = over side.to o.to })
+    watched (rules_of s sp k.address) (start (is_left_out sp k.address) k a) (record { late = false; finishes = true; from = over side.from o.from; to = over side.to o.to })
 
 -- the late tick in which the rest of an outcome comes
 abbrev late_from : Setup → Span → MachineSetup → Context → Ages → ContextOutcome → Watch
-late_from u sp s k a o = watched (rules_of s sp k.address) (stalled_from u sp s k a) (record { late = true; from = o.from; to = o.to })
+late_from u sp s k a o = watched (rules_of s sp k.address) (stalled_from u sp s k a) (record { late = true; finishes = true; from = o.from; to = o.to })
 
 -- no cause comes with the ticks of a course that ends well
 late_clean : (u : Setup) (sp : Span) (rows : Context → Option Ages) (s : MachineSetup) (k : Context) (a : Ages) (o : ContextOutcome) → may_stall (op_at u s k.address).act s ≡ true
@@ -85,7 +86,8 @@ first_stall u sp rows s q r k a w e here begun wide st stalled =
     let side = side_of s sp op.side in
     let one : Found (AllEnds rows (visit_of s sp op k a)) = found _ op.act s sp k here.known.tame here.known.ends in
     let clean : IsClean (stalled_from u sp s k a).causes =
-    clean_watched (rules_of s sp k.address) (stalled_from u sp s k a) (record { late = true; from = one.outcome.from; to = one.outcome.to }) (late_clean u sp rows s k a one.outcome (st.stalls stalled) one.holds) in
+    clean_watched (rules_of s sp k.address) (stalled_from u sp s k a) (record { late = true; finishes = true; from = one.outcome.from; to = one.outcome.to }) (late_clean u sp rows s k a one.outcome (st.stalls stalled) one.holds) in
+    let t : IsTickOf (record { late = false; finishes = false; from = side.from; to = side.to }) (tick_by op s q r e).1 = record { at_work = works_in r.begun; ends = ap not stalled } in
     record {
       after = stalled_from u sp s k a;
       under_way = inr (subst (λ f. IsBegun u sp rows s f (stalled_from u sp s k a)) (sym (flow_stalled op s q r e stalled (st.flow stalled))) (record {
@@ -103,9 +105,9 @@ first_stall u sp rows s q r k a w e here begun wide st stalled =
           ∙ tick_levels sp.from_signal sp.from_pin op s q r e side.from None w.from (side_from s sp op.side r.begun begun) (writes_none sp.from_signal sp.from_pin e (st.level stalled) (st.direction stalled));
       to = ap (unwrap_or side.to) wide.to
           ∙ tick_levels sp.to_signal sp.to_pin op s q r e side.to None w.to (side_to s sp op.side r.begun begun) (writes_none sp.to_signal sp.to_pin e (st.level stalled) (st.direction stalled));
-      ages = λ free n i. widened_ages s sp k.address _ (start (is_left_out sp k.address) k a) w (stalled_from u sp s k a) n (sym wide.to)
-          (tick_ages s sp k.address _ (start (is_left_out sp k.address) k a) (record { late = false; from = side.from; to = side.to }) (late_is r.begun ∙ begun) refl clean n (started_ages (is_left_out sp k.address) (is_bounded sp) k a n free (inside_ages (is_bounded sp) n w.ages a wide.inside i)));
-      fresh = λ o. tick_fresh s sp k.address (start (is_left_out sp k.address) k a) (record { late = false; from = side.from; to = side.to }) (widened_opens sp (start (is_left_out sp k.address) k a) w (stalled_from u sp s k a) wide.from o);
+      ages = λ free n i. worked_ages s sp k.address (tick_by op s q r e).1 (start (is_left_out sp k.address) k a) w _ t (sym wide.to) (late_is r.begun ∙ begun) refl clean n
+          (started_ages (is_left_out sp k.address) (is_bounded sp) k a n free (inside_ages (is_bounded sp) n w.ages a wide.inside i));
+      fresh = λ o. worked_fresh s sp k.address (tick_by op s q r e).1 (start (is_left_out sp k.address) k a) w _ t (sym wide.from) o;
     }
 
 -- where its rest goes
@@ -127,6 +129,7 @@ first_finish u sp rows s q r k a w e here begun wide ends p =
     let op : Op = op_at u s k.address in
     let side = side_of s sp op.side in
     let o : ContextOutcome = p.outcome in
+    let t : IsTickOf (record { late = false; finishes = true; from = over side.from o.from; to = over side.to o.to }) (tick_by op s q r e).1 = record { at_work = works_in r.begun; ends = ap not ends } in
     record {
       after = prompt_from u sp s k a o;
       under_way = inl (end_rests sp rows u s q r k a e o (prompt_from u sp s k a o) here ends p.explains p.holds.at_once);
@@ -134,9 +137,9 @@ first_finish u sp rows s q r k a w e here begun wide ends p =
           ∙ tick_levels sp.from_signal sp.from_pin op s q r e side.from o.from w.from (side_from s sp op.side r.begun begun) p.explains.from;
       to = over_levels side.to o.to k.to ∙ ap (λ l. unwrap_or side.to (unwrap_or o.to l)) wide.to
           ∙ tick_levels sp.to_signal sp.to_pin op s q r e side.to o.to w.to (side_to s sp op.side r.begun begun) p.explains.to;
-      ages = λ free n i. widened_ages s sp k.address _ (start (is_left_out sp k.address) k a) w (prompt_from u sp s k a o) n (sym wide.to)
-          (tick_ages s sp k.address _ (start (is_left_out sp k.address) k a) (record { late = false; from = over side.from o.from; to = over side.to o.to }) (late_is r.begun ∙ begun) refl (prompt_clean u sp rows s k a o p.holds) n (started_ages (is_left_out sp k.address) (is_bounded sp) k a n free (inside_ages (is_bounded sp) n w.ages a wide.inside i)));
-      fresh = λ h. tick_fresh s sp k.address (start (is_left_out sp k.address) k a) (record { late = false; from = over side.from o.from; to = over side.to o.to }) (widened_opens sp (start (is_left_out sp k.address) k a) w (prompt_from u sp s k a o) wide.from h);
+      ages = λ free n i. worked_ages s sp k.address (tick_by op s q r e).1 (start (is_left_out sp k.address) k a) w _ t (sym wide.to) (late_is r.begun ∙ begun) refl (prompt_clean u sp rows s k a o p.holds) n
+          (started_ages (is_left_out sp k.address) (is_bounded sp) k a n free (inside_ages (is_bounded sp) n w.ages a wide.inside i));
+      fresh = λ h. worked_fresh s sp k.address (tick_by op s q r e).1 (start (is_left_out sp k.address) k a) w _ t (sym wide.from) h;
     }
 
 -- it has stalled, and does so again
@@ -148,6 +151,7 @@ late_stall u sp rows s q r k a e here begun may st stalled =
     let op : Op = op_at u s k.address in
     let w : Watch = stalled_from u sp s k a in
     let one : Found (AllEnds rows (visit_of s sp op k a)) = found _ op.act s sp k here.known.tame here.known.ends in
+    let waits : finishes (works (if r.begun then Late else First) None) e.stalled ≡ false = and_no _ _ (ap not stalled) in
     record {
       after = w;
       under_way = inr (subst (λ f. IsBegun u sp rows s f w) (sym (flow_stalled op s q r e stalled (st.flow stalled))) (record {
@@ -163,8 +167,8 @@ late_stall u sp rows s q r k a e here begun may st stalled =
       }));
       from = tick_levels sp.from_signal sp.from_pin op s q r e None None w.from (side_late sp.from_signal sp.from_pin s op.side r.begun begun) (writes_none sp.from_signal sp.from_pin e (st.level stalled) (st.direction stalled));
       to = tick_levels sp.to_signal sp.to_pin op s q r e None None w.to (side_late sp.to_signal sp.to_pin s op.side r.begun begun) (writes_none sp.to_signal sp.to_pin e (st.level stalled) (st.direction stalled));
-      ages = λ free n i. waiting_ages s sp k.address _ w (record { late = true; from = one.outcome.from; to = one.outcome.to }) (late_is r.begun ∙ begun) refl free (late_clean u sp rows s k a one.outcome may one.holds) n i;
-      fresh = λ h. no_fresh sp w h;
+      ages = λ free n i. waiting_ages s sp k.address (tick_by op s q r e).1 w (record { late = true; finishes = true; from = one.outcome.from; to = one.outcome.to }) waits (late_is r.begun ∙ begun) refl free (late_clean u sp rows s k a one.outcome may one.holds) n i;
+      fresh = λ h. no_fresh sp k.address (tick_by op s q r e).1 w waits h;
     }
 
 -- it has stalled, and finishes
@@ -176,13 +180,14 @@ late_finish u sp rows s q r k a e here begun may ends p =
     let op : Op = op_at u s k.address in
     let w : Watch = stalled_from u sp s k a in
     let o : ContextOutcome = p.outcome in
+    let t : IsTickOf (record { late = true; finishes = true; from = o.from; to = o.to }) (tick_by op s q r e).1 = record { at_work = works_in r.begun; ends = ap not ends } in
     record {
       after = late_from u sp s k a o;
       under_way = inl (end_rests sp rows u s q r k a e o (late_from u sp s k a o) here ends p.explains (p.holds.later may));
       from = tick_levels sp.from_signal sp.from_pin op s q r e None o.from w.from (side_late sp.from_signal sp.from_pin s op.side r.begun begun) p.explains.from;
       to = tick_levels sp.to_signal sp.to_pin op s q r e None o.to w.to (side_late sp.to_signal sp.to_pin s op.side r.begun begun) p.explains.to;
-      ages = λ free n i. tick_ages s sp k.address _ w (record { late = true; from = o.from; to = o.to }) (late_is r.begun ∙ begun) free (late_clean u sp rows s k a o may p.holds) n i;
-      fresh = λ h. tick_fresh s sp k.address w (record { late = true; from = o.from; to = o.to }) h;
+      ages = λ free n i. worked_ages s sp k.address (tick_by op s q r e).1 w w _ t refl (late_is r.begun ∙ begun) free (late_clean u sp rows s k a o may p.holds) n i;
+      fresh = λ h. worked_fresh s sp k.address (tick_by op s q r e).1 w w _ t refl h;
     }
 
 and_left : (a b : Bool) → (a && b) ≡ true → a ≡ true
@@ -305,7 +310,7 @@ ages_have_room u sp rows s r w known bounded unnamed free (inl h) n i = elim (ca
       let side = side_of s sp op.side in
       let one : Found (AllEnds rows (visit_of s sp op k at.0)) = found _ op.act s sp k at.1.0.known.tame at.1.0.known.ends in
       let kept : is_left_out sp k.address ≡ false = excused_before sp r k.address h.agrees.address h.begun h.pending left ∙ free in
-      (tick_ages s sp k.address First (start (is_left_out sp k.address) k at.0) (record { late = false; from = over side.from one.outcome.from; to = over side.to one.outcome.to }) refl refl
+      (tick_ages s sp k.address First (start (is_left_out sp k.address) k at.0) (record { late = false; finishes = true; from = over side.from one.outcome.from; to = over side.to one.outcome.to }) refl refl
       (prompt_clean u sp rows s k at.0 one.outcome one.holds) n (started_ages (is_left_out sp k.address) (is_bounded sp) k at.0 n kept (inside_ages (is_bounded sp) n w.ages at.0 at.1.1.inside i))).most bounded
 ]
 ages_have_room u sp rows s r w known bounded unnamed free (inr h) n i =
@@ -314,7 +319,7 @@ ages_have_room u sp rows s r w known bounded unnamed free (inr h) n i =
     let op : Op = op_at u s k.address in
     let one : Found (AllEnds rows (visit_of s sp op k h.ages)) = found _ op.act s sp k here.known.tame here.known.ends in
     let unexcused : is_excusing sp k.address ≡ false = excused_begun sp r k.address h.agrees.address h.begun ∙ free in
-    let late : IsAged s sp k.address Late (stalled_from u sp s k h.ages) _ n =
-    tick_ages s sp k.address Late (stalled_from u sp s k h.ages) (record { late = true; from = one.outcome.from; to = one.outcome.to }) refl unexcused
+    let late : IsAged s sp k.address Late _ _ n =
+    tick_ages s sp k.address Late (stalled_from u sp s k h.ages) (record { late = true; finishes = true; from = one.outcome.from; to = one.outcome.to }) refl unexcused
     (late_clean u sp rows s k h.ages one.outcome h.stalls one.holds) n (subst (λ (x : Watch). InAges (is_bounded sp) n x.ages) h.watch i) in
     absurd (let x : false ≡ true = sym (unnamed k.address) ∙ late.named bounded refl in cc)

@@ -4,6 +4,7 @@ use Rattle.std.proofs.lemmas.Bool.Decides.{nat_tests}
 use Rattle.pio_encode.specs.declared.op.Op.{Op}
 use Rattle.pio_encode.specs.Word.{reading_of}
 use Rattle.pin_matrix.specs.Pins.{writes_of}
+use Rattle.pin_matrix.specs.Spans.{side_signal}
 use Rattle.pin_matrix.specs.declared.machine.MachineSetup.{MachineSetup}
 use Rattle.pin_matrix.specs.declared.setup.Setup.{Setup}
 use Rattle.pin_matrix.specs.declared.span.PinSignal.{PinSignal}
@@ -16,7 +17,7 @@ use Rattle.sm_registers.specs.Effects.{Effect, effect_of}
 use Rattle.sm_registers.specs.Tick.{current_word, word_at, pc_after, delay_after, after_effect, refilled, osr_filled_from, side_writes, tick_delay, tick_by, tick_word, tick_of}
 use Rattle.span_step.specs.Outcomes.{ContextOutcome, level_at, signal_at}
 use Rattle.span_step.specs.Courses.{over}
-use Rattle.span_step.specs.Steps.{next_address, side_signal, side_of, address_after}
+use Rattle.span_step.specs.Steps.{next_address, side_of, address_after}
 use Rattle.span_ticks.specs.Following.{writes_to, level_after}
 use Rattle.span_ticks.specs.UnderWay.{Flow, flow_of, op_at}
 use Rattle.span_ticks.proofs.Explained.{effect_write, Explains, level_none}
@@ -87,47 +88,58 @@ pub over_levels : (a b : Option Bool) (level : Bool) → unwrap_or (over a b) le
 over_levels (Some x) b level = refl
 over_levels None b level = refl
 
--- side-set's write to levels, or to directions
-abbrev pub side_write : PinSignal → MachineSetup → Option ℕ → Bool → ℕ × ℕ
-side_write Level s side begun = if s.side_rule.pindirs then (0, 0) else side_writes side begun s
-side_write Direction s side begun = if s.side_rule.pindirs then side_writes side begun s else (0, 0)
+-- side-set's write to the watched signal: to levels, or to directions
+abbrev pub side_write : Option PinSignal → MachineSetup → Option ℕ → Bool → ℕ × ℕ
+side_write None s side begun = (0, 0)
+side_write (Some Level) s side begun = if s.side_rule.pindirs then (0, 0) else side_writes side begun s
+side_write (Some Direction) s side begun = if s.side_rule.pindirs then side_writes side begun s else (0, 0)
 
 -- what a tick writes: its instruction, and then side-set
-tick_writes : (signal : PinSignal) (op : Op) (s : MachineSetup) (q : Queues) (r : Registers) (e : Effect) → writes_to signal (tick_by op s q r e).1 ≡ effect_write signal e ∷ side_write signal s op.side r.begun ∷ []
+tick_writes : (signal : PinSignal) (op : Op) (s : MachineSetup) (q : Queues) (r : Registers) (e : Effect) → writes_to (Some signal) (tick_by op s q r e).1 ≡ effect_write (Some signal) e ∷ side_write (Some signal) s op.side r.begun ∷ []
 unfolding tick_by
 tick_writes Level op s q r e = refl
 tick_writes Direction op s q r e = refl
 
-pub tick_levels : (signal : PinSignal) (p : ℕ) (op : Op) (s : MachineSetup) (q : Queues) (r : Registers) (e : Effect) (a b : Option Bool) (level : Bool) → level_at p (side_write signal s op.side r.begun) ≡ a → level_at p (effect_write signal e) ≡ b
+none_levels : (a b : Option Bool) (level : Bool) → a ≡ None → b ≡ None → unwrap_or a (unwrap_or b level) ≡ level
+none_levels a b level h k = rw (h, k) refl
+
+pub tick_levels : (signal : Option PinSignal) (p : ℕ) (op : Op) (s : MachineSetup) (q : Queues) (r : Registers) (e : Effect) (a b : Option Bool) (level : Bool) → level_at p (side_write signal s op.side r.begun) ≡ a → level_at p (effect_write signal e) ≡ b
     → unwrap_or a (unwrap_or b level) ≡ level_after p (writes_to signal (tick_by op s q r e).1) level
-tick_levels signal p op s q r e a b level h k =
-    two_levels p (effect_write signal e) (side_write signal s op.side r.begun) a b level h k
+tick_levels None p op s q r e a b level h k = none_levels a b level (sym h ∙ level_none p) (sym k ∙ level_none p)
+tick_levels (Some signal) p op s q r e a b level h k =
+    two_levels p (effect_write (Some signal) e) (side_write (Some signal) s op.side r.begun) a b level h k
     ∙ ap (λ writes. level_after p writes level) (sym (tick_writes signal op s q r e))
 
 -- a tick of a delay writes nothing
-pub delay_levels : (signal : PinSignal) (p : ℕ) (s : MachineSetup) (q : Queues) (r : Registers) (level : Bool) → level ≡ level_after p (writes_to signal (tick_delay s q r).1) level
+pub delay_levels : (signal : Option PinSignal) (p : ℕ) (s : MachineSetup) (q : Queues) (r : Registers) (level : Bool) → level ≡ level_after p (writes_to signal (tick_delay s q r).1) level
 unfolding tick_delay
-delay_levels Level p s q r level = two_levels p (0, 0) (0, 0) None None level (level_none p) (level_none p)
-delay_levels Direction p s q r level = two_levels p (0, 0) (0, 0) None None level (level_none p) (level_none p)
+delay_levels None p s q r level = refl
+delay_levels (Some Level) p s q r level = two_levels p (0, 0) (0, 0) None None level (level_none p) (level_none p)
+delay_levels (Some Direction) p s q r level = two_levels p (0, 0) (0, 0) None None level (level_none p) (level_none p)
 
 no_side : (b : Bool) (p : ℕ) → level_at p (cond b (0, 0) (0, 0)) ≡ None
 no_side true p = level_none p
 no_side false p = level_none p
 
 -- side-set's value, to the signal that its rule says
-side_at : (watched : PinSignal) (p : ℕ) (s : MachineSetup) (value : ℕ) → level_at p (side_write watched s (Some value) false) ≡ signal_at (side_signal s) watched p (writes_of s.side value)
-side_at Level p s value = by s.side_rule.pindirs where
-  by : (b : Bool) → level_at p (cond b (0, 0) (writes_of s.side value)) ≡ signal_at (cond {A = PinSignal} b Direction Level) Level p (writes_of s.side value)
+side_at : (watched : Option PinSignal) (p : ℕ) (s : MachineSetup) (value : ℕ) → level_at p (side_write watched s (Some value) false) ≡ signal_at (side_signal s) watched p (writes_of s.side value)
+side_at None p s value = by s.side_rule.pindirs where
+  by : (b : Bool) → level_at p (0, 0) ≡ signal_at (cond {A = PinSignal} b Direction Level) None p (writes_of s.side value)
+  by true = level_none p
+  by false = level_none p
+side_at (Some Level) p s value = by s.side_rule.pindirs where
+  by : (b : Bool) → level_at p (cond b (0, 0) (writes_of s.side value)) ≡ signal_at (cond {A = PinSignal} b Direction Level) (Some Level) p (writes_of s.side value)
   by true = level_none p
   by false = refl
-side_at Direction p s value = by s.side_rule.pindirs where
-  by : (b : Bool) → level_at p (cond b (writes_of s.side value) (0, 0)) ≡ signal_at (cond {A = PinSignal} b Direction Level) Direction p (writes_of s.side value)
+side_at (Some Direction) p s value = by s.side_rule.pindirs where
+  by : (b : Bool) → level_at p (cond b (writes_of s.side value) (0, 0)) ≡ signal_at (cond {A = PinSignal} b Direction Level) (Some Direction) p (writes_of s.side value)
   by true = refl
   by false = level_none p
 
-side_none : (signal : PinSignal) (p : ℕ) (s : MachineSetup) (begun : Bool) → level_at p (side_write signal s None begun) ≡ None
-side_none Level p s begun = no_side s.side_rule.pindirs p
-side_none Direction p s begun = no_side s.side_rule.pindirs p
+side_none : (signal : Option PinSignal) (p : ℕ) (s : MachineSetup) (begun : Bool) → level_at p (side_write signal s None begun) ≡ None
+side_none None p s begun = level_none p
+side_none (Some Level) p s begun = no_side s.side_rule.pindirs p
+side_none (Some Direction) p s begun = no_side s.side_rule.pindirs p
 
 pub side_from : (s : MachineSetup) (sp : Span) (side : Option ℕ) (begun : Bool) → begun ≡ false → level_at sp.from_pin (side_write sp.from_signal s side begun) ≡ (side_of s sp side).from
 side_from s sp None begun h = side_none sp.from_signal sp.from_pin s begun
@@ -140,8 +152,9 @@ side_to s sp (Some value) true h = absurd (let x : true ≡ false = h in cc)
 side_to s sp (Some value) false h = side_at sp.to_signal sp.to_pin s value
 
 -- an instruction that has begun writes no side-set
-pub side_late : (signal : PinSignal) (p : ℕ) (s : MachineSetup) (side : Option ℕ) (begun : Bool) → begun ≡ true → level_at p (side_write signal s side begun) ≡ None
+pub side_late : (signal : Option PinSignal) (p : ℕ) (s : MachineSetup) (side : Option ℕ) (begun : Bool) → begun ≡ true → level_at p (side_write signal s side begun) ≡ None
 side_late signal p s None begun h = side_none signal p s begun
 side_late signal p s (Some value) false h = absurd (let x : false ≡ true = h in cc)
-side_late Level p s (Some value) true h = no_side s.side_rule.pindirs p
-side_late Direction p s (Some value) true h = no_side s.side_rule.pindirs p
+side_late None p s (Some value) true h = level_none p
+side_late (Some Level) p s (Some value) true h = no_side s.side_rule.pindirs p
+side_late (Some Direction) p s (Some value) true h = no_side s.side_rule.pindirs p

@@ -1,22 +1,23 @@
 -- A delay, tick by tick, and where an instruction that has finished rests.
-use Rattle.std.proofs.Common.{◌≡◌, ℕ, zero, suc, ◌-◌, ◌<◌, Bool, true, false, Option, None, refl, sym, ap, ◌∙◌, inl, subst, arith}
+use Rattle.std.proofs.Common.{◌≡◌, ℕ, zero, suc, ◌-◌, ◌<◌, ◌==◌, ◌&&◌, ◌||◌, Bool, true, false, Option, None, length, refl, sym, ap, ◌∙◌, inl, subst, arith}
 use Rattle.pin_matrix.specs.declared.machine.MachineSetup.{MachineSetup}
 use Rattle.pin_matrix.specs.declared.setup.Setup.{Setup}
 use Rattle.pin_matrix.specs.declared.span.Span.{Span}
+use Rattle.sm_registers.specs.declared.intent.Intent.{Intent}
 use Rattle.sm_registers.specs.declared.registers.Registers.{Registers}
 use Rattle.sm_registers.specs.declared.intent.Kind.TheVariants.{Delay}
 use Rattle.sm_registers.specs.Queues.{Queues}
 use Rattle.sm_registers.specs.Tick.{tick_delay}
 use Rattle.span_step.specs.declared.ages.Ages.{Ages}
 use Rattle.span_step.specs.Contexts.{Context, is_placed}
-use Rattle.span_step.specs.Courses.{Rules, watched, followed, delay_tick, delay_ticks}
+use Rattle.span_step.specs.Courses.{Rules, closes, is_edge, watched, followed, delay_tick, delay_ticks}
 use Rattle.span_step.specs.Laws.{first_cause}
 use Rattle.span_step.specs.Steps.{rules_of}
 use Rattle.span_ticks.specs.Rows.{IsInRow}
 use Rattle.span_ticks.specs.UnderWay.{Watch, Flow, flow_of, rested, IsResting, Covers}
-use Rattle.span_ticks.specs.Following.{IsFollowed}
+use Rattle.span_ticks.specs.Following.{IsAged, IsFollowed}
 use Rattle.span_ticks.proofs.Clean.{IsClean, clean_of, none_of, clean_followed}
-use Rattle.span_ticks.proofs.Aging.{tick_ages, tick_fresh}
+use Rattle.span_ticks.proofs.Aging.{no_closes, no_edge, no_opens, tick_ages}
 use Rattle.span_ticks.proofs.Opened.{flow_delay, delay_levels}
 
 pub rested_none : (s : MachineSetup) (sp : Span) (f : Flow) (w : Watch) → f.delay ≡ 0 → rested s sp f w ≡ w
@@ -30,7 +31,9 @@ delay_step r w (suc d) h = let e : d ≡ suc d - 1 = omega arith in ap (λ n. fo
 pub same_rest : (s : MachineSetup) (sp : Span) (a b d : ℕ) (w : Watch) → followed (rules_of s sp a) (delay_ticks d) w ≡ followed (rules_of s sp b) (delay_ticks d) w
 unfolding watched rules_of
 same_rest s sp a b zero w = refl
-same_rest s sp a b (suc d) w = same_rest s sp a b d (watched (rules_of s sp a) w delay_tick)
+same_rest s sp a b (suc d) w = same_rest s sp a b d (watched (rules_of s sp a) w delay_tick) ∙ ap (followed (rules_of s sp b) (delay_ticks d)) same_tick where
+  same_tick : watched (rules_of s sp a) w delay_tick ≡ watched (rules_of s sp b) w delay_tick
+  same_tick = rw (no_edge sp.to_rise w.to, no_edge sp.from_rise w.from) refl
 
 -- after one tick of a delay
 pub delay_clean : (sp : Span) (rows : Context → Option Ages) (s : MachineSetup) (r : Registers) (w : Watch) → 0 < r.delay → IsResting sp rows s (flow_of r) w
@@ -56,6 +59,14 @@ delay_rests sp rows s r w more h =
       row = subst (λ (x : Watch). IsInRow x.ages (rows h.context)) step h.row;
     }
 
+-- a tick of a delay has no event
+delay_closes : (s : MachineSetup) (sp : Span) (address : ℕ) (w : Watch) → closes (rules_of s sp address) w delay_tick ≡ false
+unfolding rules_of
+delay_closes s sp address w = rw (no_edge sp.to_rise w.to) refl
+
+false≢true : false ≡ true → ⊥
+false≢true e = cc
+
 pub delay_followed : (u : Setup) (sp : Span) (rows : Context → Option Ages) (s : MachineSetup) (q : Queues) (r : Registers) (w : Watch) → 0 < r.delay → IsResting sp rows s (flow_of r) w
     → (z : Bool) → IsFollowed u sp rows s r.pc z w (tick_delay s q r)
 unfolding tick_delay watched
@@ -64,8 +75,10 @@ delay_followed u sp rows s q r w more h z = record {
   under_way = inl (subst (λ f. IsResting sp rows s f (watched (rules_of s sp r.pc) w delay_tick)) (sym (flow_delay s q r)) (delay_rests sp rows s r w more h));
   from = delay_levels sp.from_signal sp.from_pin s q r w.from;
   to = delay_levels sp.to_signal sp.to_pin s q r w.to;
-  ages = λ free n i. tick_ages s sp r.pc Delay w delay_tick refl refl (delay_clean sp rows s r w more h) n i;
-  fresh = λ o. tick_fresh s sp r.pc w delay_tick o;
+  ages = λ free n i. subst (λ z. IsAged s sp r.pc Delay z (watched (rules_of s sp r.pc) w delay_tick) n)
+      (delay_closes s sp r.pc w ∙ sym (no_closes sp r.pc (tick_delay s q r).1 w (watched (rules_of s sp r.pc) w delay_tick) refl refl))
+      (tick_ages s sp r.pc Delay w delay_tick refl refl (delay_clean sp rows s r w more h) n i);
+  fresh = λ o. absurd (false≢true (sym (no_opens sp r.pc (tick_delay s q r).1 w (watched (rules_of s sp r.pc) w delay_tick) refl refl) ∙ o));
 }
 
 -- where an instruction has finished

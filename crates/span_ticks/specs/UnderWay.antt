@@ -1,7 +1,7 @@
 -- Where a machine is on its way through the rows of a table.
 --   Watch            what is known in the middle of a course
 --   Flow             what of a machine's registers the checker follows
---   is_excused_in    a machine stands so that its span doesn't speak of the from-edges before
+--   is_excused_in    a machine stands so that its span doesn't speak of the from-events before
 --   Covers           what is known of X or Y agrees with it
 --   IsContextOf      a context agrees with a machine
 --   IsResting        at an instruction, or in the delay before it
@@ -27,7 +27,7 @@ use Rattle.span_ticks.specs.Rows.{IsInRow}
 abbrev pub ValueOf : {A B : Type 0} → (A → B) → Type 0
 ValueOf {A} {B} f = B
 
--- What is known in the middle of a course: what is watched of the span's pins, the ages of its open from-edges, and the causes so
+-- What is known in the middle of a course: what is watched of the span's pins, the ages of its open from-events, and the causes so
 -- far. It is what a course starts with; its crate gives the type no name to others.
 abbrev pub Watch : Type 0
 Watch = ValueOf (λ (k : Context). start false k Empty)
@@ -92,7 +92,7 @@ op_at u s address = reading_of (slice_index u.memory address) s.side_rule
 abbrev pub stalled_from : Setup → Span → MachineSetup → Context → Ages → Watch
 stalled_from u sp s k a =
     let side = side_of s sp (op_at u s k.address).side in
-    watched (rules_of s sp k.address) (start (is_left_out sp k.address) k a) (record { late = false; from = side.from; to = side.to })
+    watched (rules_of s sp k.address) (start (is_left_out sp k.address) k a) (record { late = false; finishes = false; from = side.from; to = side.to })
 
 -- At an instruction that may stall, and has: the first tick of its row's delayed course is over.
 pub record IsBegun (u : Setup) (sp : Span) (rows : Context → Option Ages) (s : MachineSetup) (f : Flow) (w : Watch) : Type 0 where

@@ -1,31 +1,28 @@
 -- Which machines may write the pins of a span.
 --   holds            a mapping holds a pin
---   writes_pin       a mapping of a machine writes the level of a pin, or its direction
+--   writes_pin       a mapping of a machine writes what is watched of a pin: its level, or its direction
 --   shares           a machine of this number may write a pin of the span, which isn't its own
 --   IsUnshared       no other machine does
 --   IsLeastSharer    the least other machine that does
 use Rattle.std.specs.Prelude.{◌≡◌, ℕ, ◌<◌, ◌==◌, nat_lt, Bool, true, false, not, ◌&&◌, ◌||◌, Option, Some, None, List, slice_index_or}
 use Rattle.pin_matrix.specs.Pins.{place_of}
+use Rattle.pin_matrix.specs.Spans.{is_signal, side_signal}
 use Rattle.pin_matrix.specs.declared.mapping.Mapping.{Mapping}
 use Rattle.pin_matrix.specs.declared.machine.MachineSetup.{MachineSetup}
 use Rattle.pin_matrix.specs.declared.setup.Setup.{Setup}
 use Rattle.pin_matrix.specs.declared.span.PinSignal.{PinSignal}
-use Rattle.pin_matrix.specs.declared.span.PinSignal.TheVariants.{Level, Direction}
 use Rattle.pin_matrix.specs.declared.span.Span.{Span}
 
 -- a mapping holds a pin: the pin's place is below the mapping's count
 abbrev pub holds : Mapping → ℕ → Bool
 holds m p = nat_lt (place_of m p) m.count
 
--- side-set writes levels, or directions where its rule says so
-abbrev pub side_writes : MachineSetup → PinSignal → Bool
-side_writes s Level = not s.side_rule.pindirs
-side_writes s Direction = s.side_rule.pindirs
-
--- The mapping of OUT, of SET, or of side-set that writes levels holds the pin; or that writes directions (RP2040 Datasheet,
--- section 3.5.6).
-abbrev pub writes_pin : MachineSetup → PinSignal → ℕ → Bool
-writes_pin s signal p = holds s.out p || (holds s.set p || (side_writes s signal && holds s.side p))
+-- The mapping of OUT, of SET, or of side-set that writes the watched signal holds the pin (RP2040 Datasheet, section 3.5.6). Where
+-- no signal is watched nothing is asked.
+abbrev pub writes_pin : MachineSetup → Option PinSignal → ℕ → Bool
+writes_pin s None p = false
+writes_pin s (Some signal) p =
+    holds s.out p || (holds s.set p || (is_signal (side_signal s) (Some signal) && holds s.side p))
 
 -- what the span watches of its from-pin, or of its to-pin, is so written
 abbrev pub writes_span : MachineSetup → Span → Bool

@@ -3,11 +3,12 @@ ghost use Rattle.std.specs.Prelude.{◌≡◌, ◌<◌, MatchOption};
 ghost use Rattle.span_verdict.specs.Sharing as spec;
 ghost use Rattle.span_verdict.specs.Sharing.{NoneShares, IsFirstSharer, IsUnshared, IsLeastSharer};
 
-use pin_matrix::{MachineSetup, Mapping, PinSignal, Setup, Span};
+use pin_matrix::{MachineSetup, Mapping, PinSignal, Setup, Span, is_signal, side_signal};
 
 /// The least machine (0 to 3), other than the span's own, whose OUT, SET or side-set mapping holds the span's from-pin or
-/// to-pin. Side-set is asked of a level unless it goes to directions, and of a direction only where it does. `None` exactly where
-/// there is no such machine. Mappings are asked, and not what the machine's program writes (choice of this profile).
+/// to-pin. Side-set is asked of a level unless it goes to directions, and of a direction only where it does. An event without a pin
+/// asks nothing. `None` exactly where there is no such machine. Mappings are asked, and not what the machine's program writes (choice
+/// of this profile).
 pub fn shared_by(setup: &Setup, span: &Span) -> Option<u8>
     ensures { MatchOption result (IsUnshared setup.now span.now) (λ machine. IsLeastSharer setup.now span.now machine) }
 {
@@ -41,23 +42,18 @@ fn writes_span(machine: &MachineSetup, span: &Span) -> bool
         || writes_pin(machine, span.to_signal, span.to_pin)
 }
 
-/// Whether a mapping of the machine writes levels, or directions, of a pin (0 to 31).
-fn writes_pin(machine: &MachineSetup, signal: PinSignal, pin: u8) -> bool
+/// Whether a mapping of the machine writes the watched signal of a pin (0 to 31).
+fn writes_pin(machine: &MachineSetup, watched: Option<PinSignal>, pin: u8) -> bool
     requires { pin < 32 }
-    ensures { result ≡ spec.writes_pin machine.now signal pin }
+    ensures { result ≡ spec.writes_pin machine.now watched pin }
 {
-    holds(&machine.out, pin)
-        || holds(&machine.set, pin)
-        || (side_writes(machine, signal) && holds(&machine.side, pin))
-}
-
-/// Whether side-set writes levels, or directions.
-fn side_writes(machine: &MachineSetup, signal: PinSignal) -> bool
-    ensures { result ≡ spec.side_writes machine.now signal }
-{
-    match signal {
-        PinSignal::Level => !machine.side_rule.pindirs,
-        PinSignal::Direction => machine.side_rule.pindirs,
+    match watched {
+        Some(signal) => {
+            holds(&machine.out, pin)
+                || holds(&machine.set, pin)
+                || (is_signal(side_signal(machine), Some(signal)) && holds(&machine.side, pin))
+        }
+        None => false,
     }
 }
 
