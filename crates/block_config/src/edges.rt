@@ -1,4 +1,4 @@
-//! The events of a span by their keys: a pin and its edge, the instructions that make the edge, or those whose end it is.
+//! The events of a span by their keys: a pin, its edge, the instructions that make the edge, or those whose end it is.
 ghost use Rattle.std.specs.Prelude.{◌≡◌, ◌≤◌, ◌<◌, Some, option_map, IfOk, IsTrue};
 ghost use Rattle.pin_matrix.specs.Spans.{are_addresses};
 ghost use Rattle.toml.specs.View.{table_view, view};

@@ -16,7 +16,7 @@ use crate::table::{Lack, value_at};
 use arrayvec::ArrayVec;
 use toml::{Table, Value};
 
-/// The addresses of a key's labels, of the program that is loaded so: at least and at most so many where the table has the key.
+/// The addresses of a key's labels, of the program that is loaded so: at least and at most so many where the table has it.
 pub fn labels_at(
     table: &Table,
     key: &'static str,

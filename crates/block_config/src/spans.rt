@@ -176,6 +176,7 @@ impl SpanValues {
     }
 
     /// The span of this name; only for want of memory there is none.
+    #[tactic(auto, using(crate::proofs::SpansInRange::few_in_ticks))]
     fn span(&self, alloc: Global, name: &str) -> Result<Span, ConfigFault>
         requires { IsTrue (is_span_name name.now) }
         ensures { Gives told keys_of_span result (Ok (spec.span_keys_of name.now (values_view self.now))) }

@@ -44,7 +44,7 @@ pub record MachineKeys : Type 0 where
   pub status_rx : Bool
   pub status_n : ℕ
 
--- what a span says; `most` is none where it has no greatest bound, and a signal where the event is the end of an instruction
+-- what a span says; `most` is none without a greatest bound, and a signal where the event is the end of an instruction
 pub record SpanKeys : Type 0 where
   pub name : List ℕ
   pub machine : ℕ

@@ -13,15 +13,15 @@ use Rattle.verdict_lines.specs.declared.refusal.Finding.{Finding}
 use Rattle.verdict_lines.specs.declared.refusal.Refusal.{Refusal}
 use Rattle.verdict_lines.specs.declared.refusal.Refusal.TheVariants as refusal
 
--- An event is an edge of a level that any instruction may make. Else it is one of a direction, or instructions are named that
--- alone may make it, or whose end it is.
+-- An event is an edge of a level that any instruction may make. Else it is one of a direction, or instructions are named
+-- that alone may make it, or whose end it is.
 abbrev pub is_any_edge : Option PinSignal → (named : List ℕ) → Bool
 is_any_edge (Some Level) named = length named == 0
 is_any_edge (Some Direction) named = false
 is_any_edge None named = false
 
--- A span has no greatest bound, or an event that isn't any edge of a level, or says nothing of some from-events: of such a one it
--- is told whether it closes, since it may be proved where nothing ends it.
+-- A span has no greatest bound, or an event that isn't any edge of a level, or says nothing of some from-events: of such a
+-- one it is told whether it closes, since it may be proved where nothing ends it.
 abbrev pub says_more : Span → Bool
 says_more sp =
     (((not (is_bounded sp) || not (is_any_edge sp.from_signal sp.from_at)) || not (is_any_edge sp.to_signal sp.to_at)) || sp.prompt)

@@ -11,8 +11,8 @@ use span_verdict::Verdict;
 pub struct Finding {
     /// Whether it opens.
     pub opens: bool,
-    /// Whether it closes. It is told exactly where the span has no greatest bound, an event that isn't any edge of a level,
-    /// or from-events of which it says nothing.
+    /// Whether it closes. It is told exactly where the span has no greatest bound, an event that isn't any edge of a
+    /// level, or from-events of which it says nothing.
     pub closes: Option<bool>,
     /// Whether nothing is said of a from-edge after which the machine waits.
     pub prompt: bool,
@@ -49,7 +49,7 @@ pub fn found_by(verdict: Verdict, span: &Span) -> Result<Finding, Refusal>
     }
 }
 
-/// Whether a span has no greatest bound, an event that isn't any edge of a level, or from-events of which it says nothing.
+/// Whether a span has no greatest bound, an event that isn't any edge of a level, or from-events of which nothing is said.
 fn says_more(span: &Span) -> bool
     ensures { result ≡ spec.says_more span.now }
 {
