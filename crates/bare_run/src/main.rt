@@ -97,7 +97,7 @@ fn schedule_at<R: Files + AllocGlobal>(rt: &R, path: Option<&String>) -> Option<
     read_stimulus(rt.alloc(), &bytes).ok()
 }
 
-/// The block of a setup after so many clocks beside a stimulus.
+/// The block of a setup after so many clocks with a stimulus.
 fn run<L: Ledger>(
     alloc: Global,
     setup: &Setup,

@@ -1,7 +1,7 @@
--- The faults of a configuration as definitions compute them, and what a returned fault tells of them.
+-- The faults of a configuration as definitions compute them, and what a returned fault says of them.
 --   ConfigRefusal  a fault as a definition computes it
 --   Tells          a fault is of this kind and is at this path
---   told           the fault that is told, nothing where memory ran out
+--   told           the fault that is returned, nothing where memory ran out
 use Rattle.std.specs.Prelude.{◌≡◌, ℕ, List, Option, Some, None, Result, Err}
 use Rattle.block_config.specs.declared.fault.ConfigFault.{ConfigFault}
 use Rattle.block_config.specs.declared.fault.ConfigFault.TheVariants.{Memory, At}
@@ -21,7 +21,7 @@ abbrev pub Tells : ConfigFault → List ℕ → ConfigKind → Type 0
 Tells Memory path kind = Unit {0}
 Tells (At key found) path kind = (key ≡ path) × (found ≡ kind)
 
--- the fault that is told, nothing where memory ran out
+-- the fault that is returned, nothing where memory ran out
 abbrev pub told : ConfigFault → Option ConfigRefusal
 told Memory = None
 told (At key kind) = Some (record { key = key; kind = kind })

@@ -1,6 +1,6 @@
 -- The codes of a configuration's faults, and the paths of its keys (choice of this profile).
 --   code_of      the code of a kind
---   kind_text    the code with what a message tells beside it
+--   kind_text    the code with what a message says after it
 --   section_path   the path of a table
 --   key_path     the path of a key of a table
 use Rattle.std.specs.Prelude.{ℕ, ◌++◌, List, codes, decimal}

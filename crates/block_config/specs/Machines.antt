@@ -177,7 +177,7 @@ pub record FirstKeys : Type 0 where
   pub osr_count : ℕ
   pub pending : Option ℕ
 
--- the shift registers by name, beside that word
+-- the shift registers by name, with that word
 abbrev pub first_keys_of : List ℕ → Option ℕ → FirstKeys
 first_keys_of values pending = record {
   isr = slice_index values 0;

@@ -1,6 +1,6 @@
 -- The table of pins (choice of this profile): lists of pins, each 0 to 31, as numbers in which bit i is for pin i.
 --   all_numbers   each element is a number
---   mask_from     the pins of a list, beside those of a number
+--   mask_from     the pins of a list, and those of a number
 --   mask_at       the pins of a key; an element of another type comes before one out of range
 --   PinTable      the five lists
 --   pin_names     every key of a block's table
@@ -23,7 +23,7 @@ use Rattle.block_config.specs.Tables.{and_then, on_key, section_at}
 abbrev pub all_numbers : Items → Bool
 all_numbers ds = all_items (λ d. is_some (as_integer d)) ds
 
--- the pins of a list, beside those of a number
+-- the pins of a list, and those of a number
 unfoldable pub mask_from : ℕ → Items → Result ℕ ConfigKind
 mask_from mask no_items = Ok mask
 mask_from mask (item d ds) = and_then (number_in 0 31 d) (λ pin. mask_from (bit_or mask (2 ^ pin)) ds)

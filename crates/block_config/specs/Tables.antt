@@ -1,12 +1,12 @@
 -- Reading a table of a configuration by the list of its keys, in order (choice of this profile).
 --   and_then     what follows on a value, unless there is a fault
---   on_key       what is wrong with a value is told of its key
+--   on_key       what is wrong with a value is a fault of its key
 --   has_key      a table has a key
 --   number_at, flag_at   the value of a table's key
 --   each_at      the values of keys in order, or the first fault
 --   AreWithin    values are in the ranges of keys
 --   are_known    a table has no key but these
---   section_at   what a table gives: an unknown key comes first, and other faults are told of the table's keys
+--   section_at   what a table gives: an unknown key comes first, and other faults are of the table's keys
 --   element_of   an element of an array of tables
 use Rattle.std.specs.Prelude.{ℕ, ◌+◌, ◌≤◌, slice_index, is_some, Bool, true, ◌&&◌, if◌then◌else◌, Option, Some, None, List, [], ◌∷◌, Result, Ok, Err}
 use Rattle.std.specs.List.{list_any}
@@ -26,12 +26,12 @@ abbrev pub and_then : {X Y E : Type 0} → Result X E → (X → Result Y E) →
 and_then (Ok x) next = next x
 and_then (Err e) next = Err e
 
--- what is wrong with a value is told of its key
+-- what is wrong with a value is a fault of its key
 abbrev pub on_key : {X : Type 0} → List ℕ → Result X ConfigKind → Result X ConfigRefusal
 on_key name (Ok x) = Ok x
 on_key name (Err kind) = refused name kind
 
--- what the code tells of a key
+-- what the code says of a key
 abbrev pub refusal_of : Lack → ConfigRefusal
 refusal_of l = record { key = l.key.now; kind = l.kind }
 
@@ -67,7 +67,7 @@ abbrev pub are_known : List (List ℕ) → Members → Bool
 are_known names no_members = true
 are_known names (member key d rest) = list_any (bytes_eq key) names && are_known names rest
 
--- a fault of a key is told with its table
+-- a fault of a key has its table
 abbrev pub in_section : {X : Type 0} → Section → Result X ConfigRefusal → Result X ConfigRefusal
 in_section section (Ok x) = Ok x
 in_section section (Err r) = refused (key_path section r.key) r.kind

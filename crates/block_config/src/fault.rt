@@ -31,7 +31,7 @@ pub enum ConfigKind {
     MachineTwice,
     /// `C10`: the machine's FIFOs are joined both ways.
     BothJoins,
-    /// `C11`: a fraction beside a divider of 0, which means 65,536.
+    /// `C11`: a fraction with a divider of 0, which means 65,536.
     Divider,
     /// `C12`: more than 64 spans, or more than 16 labels of a key.
     Many,

@@ -175,7 +175,7 @@ impl SpanValues {
         })
     }
 
-    /// The span of this name; only for want of memory there is none.
+    /// The span of this name; none only where memory runs out.
     #[tactic(auto, using(crate::proofs::SpansInRange::few_in_ticks))]
     fn span(&self, alloc: Global, name: &str) -> Result<Span, ConfigFault>
         requires { IsTrue (is_span_name name.now) }

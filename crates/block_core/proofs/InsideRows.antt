@@ -40,7 +40,7 @@ at_start pc instruction = record {
   enabled = true;
 }
 
--- `pull block` and `set y, 5`, beside a word for TX in clock 3
+-- `pull block` and `set y, 5`, with a word for TX in clock 3
 abbrev pull_run : Run
 pull_run = run plain (32928 ∷ 57413 ∷ []) 0
 
@@ -66,7 +66,7 @@ pull_finishes : machines_at pull_run word_in_3 4 ≡ alone (record (at_start 1 5
 unfolding is_tick settled merged wait_at in_at push_or_pull_at mov_at irq_at set_at act_of side_of delay_of reading_of jmp_effect wait_effect in_effect out_effect push_effect pull_effect mov_effect irq_effect set_effect effect_of settled_ports after_effect tick_delay tick_by tick_word tick_of due_in transfers_after acts_in stepped next hosted_next hosted_at requests_of sample_of acted settled_slot inside_of machine_inside
 pull_finishes = refl
 
--- `set x, 0 [31]` and `out pins, 1` with autopull, beside a word for TX in clock 10
+-- `set x, 0 [31]` and `out pins, 1` with autopull, with a word for TX in clock 10
 abbrev delay_run : Run
 delay_run = run pulling (65312 ∷ 24577 ∷ []) 0
 
@@ -141,7 +141,7 @@ enabled_again : machines_at pull_run (record { clock = 2; act = Disable 0 } ∷ 
 unfolding is_tick settled merged wait_at in_at push_or_pull_at mov_at irq_at set_at act_of side_of delay_of reading_of jmp_effect wait_effect in_effect out_effect push_effect pull_effect mov_effect irq_effect set_effect effect_of settled_ports after_effect tick_delay tick_by tick_word tick_of due_in transfers_after acts_in stepped next hosted_next hosted_at requests_of sample_of acted settled_slot inside_of machine_inside
 enabled_again = refl
 
--- `wait 1 pin 0` and `set y, 5`, with these pins that bypass the synchroniser, beside a pin 0 that rises in clock 2
+-- `wait 1 pin 0` and `set y, 5`, with these pins that bypass the synchroniser, with a pin 0 that rises in clock 2
 abbrev wait_run : (bypass : ℕ) → Run
 wait_run bypass = record (run plain (8352 ∷ 57413 ∷ []) 0) { synchroniser = first_synchroniser 0 bypass }
 

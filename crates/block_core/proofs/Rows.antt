@@ -105,7 +105,7 @@ nobody_there : stirring (run plain (8352 ∷ []) 0) (record { clock = 3; act = T
 unfolding is_tick settled merged wait_at in_at push_or_pull_at mov_at irq_at set_at act_of side_of delay_of reading_of jmp_effect wait_effect in_effect out_effect push_effect pull_effect mov_effect irq_effect set_effect effect_of settled_ports after_effect tick_delay tick_by tick_word tick_of due_in transfers_after acts_in stepped next hosted_next hosted_at requests_of acted settled_slot moves_on stirs_in stirring
 nobody_there = refl
 
--- `mov y, y [31]`, which begins in clock 0, beside a feed of three words, which moves in 0, 5 and 10
+-- `mov y, y [31]`, which begins in clock 0, with a feed of three words, which moves in 0, 5 and 10
 fed : stirring (run plain (48962 ∷ []) 0) (record { clock = 0; act = Feed 0 5 (1 ∷ 2 ∷ 3 ∷ []) } ∷ []) 20 ≡ 3
 unfolding is_tick settled merged wait_at in_at push_or_pull_at mov_at irq_at set_at act_of side_of delay_of reading_of jmp_effect wait_effect in_effect out_effect push_effect pull_effect mov_effect irq_effect set_effect effect_of settled_ports after_effect tick_delay tick_by tick_word tick_of due_in transfers_after acts_in stepped next hosted_next hosted_at requests_of acted settled_slot moves_on stirs_in stirring
 fed = refl

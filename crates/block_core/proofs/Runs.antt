@@ -78,7 +78,7 @@ seen_at s host c = seen_of s.bypass (pad_at s host c) (pad_before s host c)
 pub run_follows : (s : Setup) (host : ℕ → Due) → Follows s.memory (seen_at s host) host (λ c. (run_at s host c).state)
 run_follows s host c = state-run_at s host c
 
--- beside a stimulus
+-- with a stimulus
 pub hosted_follows : (s : Setup) (lines : List Line) → Follows s.memory (seen_at s (host_of (first_run s) lines)) (host_of (first_run s) lines) (λ c. (hosted_at (first_run s) lines c).run.state)
 hosted_follows s lines c =
     let start = first_run s in

@@ -92,7 +92,7 @@ module _ {a b c d : Option Slot} {levels directions flags outside : ℕ} {s : Sa
         rw (e, f, g, h, shown_leaps n a, shown_leaps n b, shown_leaps n c, shown_leaps n d) kept.is;
   }
 
--- at the start nothing is in the FIFOs, and nothing was read or told
+-- at the start nothing is in the FIFOs, and nothing was read or reported
 record ShowsNothing (place : Option Slot) : Type 0 where
   tx : (shown_in place).tx ≡ 0
   rx : (shown_in place).rx ≡ 0

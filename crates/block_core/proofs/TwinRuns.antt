@@ -71,7 +71,7 @@ second_follows own s t first second c =
       (pad_2-twin_at own s t first second c).1,
     ) refl
 
--- beside stimuli
+-- with stimuli
 pub twin-hosted_at : (start : TwinRun) (first second : List Line) (c : ℕ) → twin_of (hosted_twin_at start first second c) ≡ twin_from start (first_host_of start first second) (second_host_of start first second) c
 unfolding twin_from hosted_twin_at hosted_twin_next twin_next
 twin-hosted_at start first second zero = refl

@@ -1,4 +1,4 @@
--- A run beside the system's ports, whose transfers look at the FIFOs.
+-- A run with the system's ports, whose transfers look at the FIFOs.
 --   Hosted        the run and what is left of the transfers
 --   due_of        what the system does in its clock
 --   hosted_next_over   one clock on with given pads, hosted_next with its own

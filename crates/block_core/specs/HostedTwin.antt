@@ -1,4 +1,4 @@
--- Two blocks on one set of pins, each beside its own stimulus.
+-- Two blocks on one set of pins, each with its own stimulus.
 --   HostedTwin      both, with what is left of the transfers of each
 --   twin_of         the two blocks alone
 --   hosted_pads     the pads of their clock
@@ -71,7 +71,7 @@ unfoldable pub twin_stirs_in : (first second : List Line) → HostedTwin → Boo
 twin_stirs_in first second h =
     stirs_over (hosted_pads first h) first h.first || stirs_over (hosted_pads first h) second h.second
 
--- how many of the first n clocks of a run beside two stimuli stir
+-- how many of the first n clocks of a run with two stimuli stir
 unfoldable pub twin_stirring : TwinRun → (first second : List Line) → ℕ → ℕ
 twin_stirring start first second zero = 0
 twin_stirring start first second (suc n) =

@@ -1,8 +1,8 @@
--- What is inside a block after a clock, beside what its sample shows (which values are shown is a choice of this profile).
+-- What is inside a block after a clock, besides what its sample shows (which values are shown is a choice of this profile).
 --   machine_inside   one machine
 --   inside_of        the block, by a run that is at the start of the next clock
 --   is_of_an_instruction   which of a machine's ticks tell whether it waits
---   inside_at        after a clock of a run beside a stimulus
+--   inside_at        after a clock of a run with a stimulus
 --   insides          after each of the first clocks
 use Rattle.std.specs.Prelude.{ℕ, zero, suc, Bool, true, false, List, [], ◌∷◌, ◌++◌, map, option_map}
 use Rattle.sm_registers.specs.declared.intent.Kind.{Kind}
@@ -51,7 +51,7 @@ is_of_an_instruction First = true
 is_of_an_instruction Late = true
 is_of_an_instruction Delay = false
 
--- what is inside after a clock of a run beside a stimulus
+-- what is inside after a clock of a run with a stimulus
 abbrev pub inside_at : Run → List Line → ℕ → Inside
 inside_at start lines clock = inside_of (hosted_at start lines (suc clock)).run
 

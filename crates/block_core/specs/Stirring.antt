@@ -60,7 +60,7 @@ unfoldable pub stirs_in : List Line → Hosted → Bool
 stirs_in lines h =
     acts_in lines h.run.clock (requests_of h.run.state) h.transfers || moves_on (due_of lines h) h.run
 
--- how many of the first n clocks of a run beside a stimulus stir
+-- how many of the first n clocks of a run with a stimulus stir
 unfoldable pub stirring : Run → List Line → ℕ → ℕ
 stirring start lines zero = 0
 stirring start lines (suc n) = stirring start lines n + (if stirs_in lines (hosted_at start lines n) then 1 else 0)

@@ -42,7 +42,7 @@ impl<F: Fifo> Model for Block<F> {
 }
 
 impl<F: Fifo> Block<F> {
-    /// The block of a setup in clock 0. The error is want of memory; no other call takes any.
+    /// The block of a setup in clock 0. The error is out of memory; no other call takes any.
     pub fn new(alloc: Global, setup: &Setup) -> Result<Block<F>, AllocError>
         ensures { IfOk result (λ block. block ≡ record { run = first_run setup.now; calls = 0 }) }
     {
@@ -91,7 +91,7 @@ impl<F: Fifo> Block<F> {
 
     /// Whether the present clock stirs, if the system does nothing in it, by what is known without asking a machine what it
     /// sees: the pads change, or a machine begins an instruction. Such a clock moves the block on
-    /// (`what_begins_moves_on`); whether others do is told by `next_stir`.
+    /// (`what_begins_moves_on`); whether others do, `next_stir` says.
     #[inline(always)]
     pub fn begins_or_changes(&self) -> bool
         ensures { result ≡ begins_or_changes self.now.run }

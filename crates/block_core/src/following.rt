@@ -19,7 +19,7 @@ use pin_matrix::{no_write_changes_nothing, the_last_write_counts};
 use sm_registers::{a_tick_writes_its_own_pins, writes_are_of_pins};
 
 /// The run of a setup is the one in which the machines see the block's own pads, two clocks late where they don't bypass the
-/// synchroniser; beside a stimulus too.
+/// synchroniser; with a stimulus too.
 pub fn a_block_sees_its_own_pads()
     ensures run { (s : Setup) (host : ℕ → Due) →
         Follows s.memory (λ c. seen_of s.bypass (pad_at s host c) (pad_before s host c)) host

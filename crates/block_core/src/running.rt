@@ -43,7 +43,7 @@ pub(crate) struct Running<F: Fifo> {
     alone: bool,
     // Whether it is known that the only machine is ready in the present clock, so that a clock asks nothing of it.
     ready: bool,
-    // What `view` tells, brought up to date by each clock, since a trace asks after each and little of it changes.
+    // What `view` shows, brought up to date by each clock, since a trace asks after each and little of it changes.
     sample: Sample,
 }
 
@@ -87,7 +87,7 @@ impl<F: Fifo> Model for Running<F> {
 }
 
 impl<F: Fifo> Running<F> {
-    /// The machines of a setup in clock 0, before which these were always the pads. The error is want of memory.
+    /// The machines of a setup in clock 0, before which these were always the pads. The error is out of memory.
     pub fn new(alloc: Global, setup: &Setup, pad: u32) -> Result<Running<F>, AllocError>
         ensures { IfOk result (λ running. running ≡ first_run_over pad setup.now) }
     {

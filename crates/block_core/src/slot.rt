@@ -70,7 +70,7 @@ impl<F: Fifo> Slot<F> {
         })
     }
 
-    /// One clock, in which the system does this. It tells what the machine wants of its block, and whether it or the system did
+    /// One clock, in which the system does this. It returns what the machine wants of its block, and whether it or the system did
     /// anything at its FIFOs.
     #[inline(always)]
     pub fn clock(&mut self, view: &View, due: &Due) -> (Intent, bool)
@@ -104,7 +104,7 @@ impl<F: Fifo> Slot<F> {
     }
 
     /// Its clock, where the system does nothing in it and it is a simple one: it has no tick, or a simple tick. Else nothing is
-    /// done. Where it was done, it tells whether the machine is known to be ready in the next clock; of one that is known to be,
+    /// done. Where it was done, it says whether the machine is known to be ready in the next clock; of one that is known to be,
     /// nothing more is asked. It wants nothing of its block but pins then, which it writes over those of the machines before it,
     /// nor of its FIFOs.
     #[inline(always)]

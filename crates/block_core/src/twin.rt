@@ -114,7 +114,7 @@ impl<F: Fifo> Twin<F> {
 
     /// Whether the present clock stirs, if the system does nothing in it, by what is known without asking a machine what it
     /// sees: the pads change, or a machine begins an instruction. Such a clock moves one of the two on
-    /// (`what_begins_moves_two_on`); whether others do is told by `next_stir`.
+    /// (`what_begins_moves_two_on`); whether others do, `next_stir` says.
     #[inline(always)]
     pub fn begins_or_changes(&self) -> bool
         ensures { result ≡ twin_begins_or_changes self.now.twin }

@@ -71,7 +71,7 @@ paced_after (suc (suc zero)) lines c q t h = refl
 paced_after (suc (suc (suc zero))) lines c q t h = refl
 paced_after (suc (suc (suc (suc m)))) lines c q t h = absurd (omega arith)
 
--- what the lines say of machines and pins stays beside the transfers
+-- what the lines say of machines and pins stays next to the transfers
 pub record SaysLines (lines : List Line) (c : ℕ) (d : Due) : Type 0 where
   pub pins : d.pins ≡ (with_lines (lines_in c lines) quiet).pins
   pub values : d.values ≡ (with_lines (lines_in c lines) quiet).values

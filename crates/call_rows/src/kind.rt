@@ -1,4 +1,4 @@
-//! The kinds of rows: what a table's first line may name, and what is told of its rows.
+//! The kinds of rows: what a table's first line may name, and what its rows give.
 use crate::calls::{CALL_KINDS, CallKind, tell_call};
 use crate::edge::{
     EDGE_BLOCK_KINDS, EDGE_LINE_KINDS, EdgeBlockKind, EdgeLineKind, FILE_KINDS, FileKind,

@@ -67,7 +67,7 @@ both_refused_asks slots before after s t (fault.Unproved place name refusal) h w
 both_refused_asks slots before after s t (fault.SecondUnproved place name refusal) h w = h
 both_refused_asks slots before after s t e h w = absurd w
 
--- verdicts were told
+-- verdicts were written
 pub verdicts_asks : (slots : List Slot) (before after : List Fetched) (u : Setup) (from to : Output)
     (r : Result (Unit {0}) Fault) → after ≡ before ++ fetches_of slots → TellsVerdicts u from to r
     → AsksFiles slots before after r
@@ -77,7 +77,7 @@ verdicts_asks slots before after u from to (Err fault.Memory) h w = part_all slo
 verdicts_asks slots before after u from to (Err (fault.Unproved place name refusal)) h w = h
 verdicts_asks slots before after u from to (Err e) h w = absurd w.1
 
--- the table of a span was told
+-- the table of a span was written
 pub table_asks : (slots : List Slot) (before after : List Fetched) (u : Setup) (at : ℕ) (sp : Span) (from to : Output)
     (r : Result (Unit {0}) Fault) → after ≡ before ++ fetches_of slots → TellsTable u at sp from to r
     → AsksFiles slots before after r

@@ -1,4 +1,4 @@
--- What was told of a span ends its command.
+-- The verdict on a span ends its command.
 use Rattle.std.proofs.Common.{◌≡◌, ◌∙◌, ℕ, Bool, true, Option, Some, None, IfSome, List, Result, Ok, Err, option_map, refl, sym, ap, subst}
 use Rattle.pio_edge.specs.Count.{Faults, failed_at}
 use Rattle.pio_edge.specs.Edge.{Files}
@@ -24,7 +24,7 @@ use Rattle.commands.specs.Tasks.{Task, tabled, rechecked, judge, file_in, reache
 use Rattle.commands.specs.Needs.{IsNamedAt}
 use Rattle.commands.specs.Tables.{IsTold, TellsTable, TellsRecheck}
 
--- what follows of told files from one fact, and from two
+-- what follows of known files from one fact, and from two
 told : (files : Option Files) (P R : Files → Type 0) → ((f : Files) → P f → R f) → IfSome files P → IfSome files R
 told None P R so p = tt
 told (Some f) P R so p = so f p
@@ -68,7 +68,7 @@ recheck_wrong f source config name table_name e h =
 
 -- ---- the span of a name
 
--- a span that was found is the one that is told
+-- a span that was found is the one that is named
 told_at : (u : Setup) (at : ℕ) (sp : Span) (name : List ℕ) (place : ℕ) (n : List ℕ) → Some (at, sp) ≡ named_from 0 name u.spans → IsTold at sp place n → IsNamedAt u sp place n
 told_at u at sp name place n found told = record {
   named = told.1;
@@ -117,7 +117,7 @@ judged_tabled : (f : Files) (source : List ℕ) (config : Option (List ℕ)) (na
 unfolding judge
 judged_tabled f source config name u sp e = ap (λ (j : Judged (Setup × Span)). and_then j (λ asked. right (tabled asked.0 asked.1))) e
 
--- where the files come to this span, what was told of it ends the command `table`
+-- where the files give this span, its verdict ends the command `table`
 tabled_ends : (files : Option Files) (faults : Faults) (before after : Output) (source : List ℕ) (config : Option (List ℕ)) (name : List ℕ) (u : Setup) (at : ℕ) (sp : Span) (r : Result (Unit {0}) Fault)
     → Some (at, sp) ≡ named_from 0 name u.spans → IfSome files (λ f. span_at f source config name ≡ right (u, sp)) → TellsTable u at sp before after r → CommandEnds (table source config name) (call_of files faults faults before after) r
 tabled_ends files faults before after source config name u at sp (Ok done) found t h = record {
@@ -171,7 +171,7 @@ judged_wrong f source config name file u sp e s g =
     ap (λ (j : Judged (Setup × Span)). as_task (and_then j (λ asked. with_rows (table_at f file) asked))) s
     ∙ ap (λ (j : Judged (List Row)). as_task (with_rows j (u, sp))) g
 
--- where the files come to this span and this table, what was told of them ends the command `recheck`
+-- where the files give this span and this table, their verdict ends the command `recheck`
 rechecked_ends : (files : Option Files) (faults : Faults) (before after : Output) (source : List ℕ) (config : Option (List ℕ)) (name file : List ℕ) (u : Setup) (at : ℕ) (sp : Span) (rows : List Row) (r : Result (Unit {0}) Fault)
     → Some (at, sp) ≡ named_from 0 name u.spans → IfSome files (λ f. span_at f source config name ≡ right (u, sp)) → IfSome files (λ f. table_at f file ≡ right rows) → TellsRecheck u at sp rows before after r → CommandEnds (recheck source config name file) (call_of files faults faults before after) r
 rechecked_ends files faults before after source config name file u at sp rows (Ok done) found s t h = record {
@@ -322,9 +322,9 @@ recheck_unread_table files before after out source config name table_name u sp e
     reached file.Table n at r = told files _ _ (λ f k. ap is_right k) s
     reached file.Send n at r = no_name n at
 
--- ---- the same where the shelf after a stage is told by equations
+-- ---- the same where equations say the shelf after a stage
 
--- what was told of the span of a name ends `table`
+-- the verdict on the span of a name ends `table`
 pub table_found_ends : (files : Option Files) (before after : Faults) (out_before out_after : Output) (source : List ℕ) (config : Option (List ℕ)) (name : List ℕ)
     (u : Setup) (lines : List Line) (at : ℕ) (sp : Span) (r : Result (Unit {0}) Fault) → after ≡ before → IfSome files (λ f. prepared_at f source config None ≡ right (u, lines))
     → Some (at, sp) ≡ named_from 0 name u.spans → TellsTable u at sp out_before out_after r → CommandEnds (table source config name) (call_of files before after out_before out_after) r
@@ -332,7 +332,7 @@ table_found_ends files before after out_before out_after source config name u li
     subst (λ (x : Faults). CommandEnds (table source config name) (call_of files before x out_before out_after) r) (sym same)
     (tabled_ends files before out_before out_after source config name u at sp r found (span_told files source config name u lines sp t (ap (option_map (λ p. p.1)) found)) h)
 
--- what was told of it and of a table file ends `recheck`
+-- the verdict on it and on a table file ends `recheck`
 pub recheck_found_ends : (files mid_files : Option Files) (before mid after : Faults) (out_before out_after : Output) (source : List ℕ) (config : Option (List ℕ)) (name table_name : List ℕ)
     (u : Setup) (lines : List Line) (at : ℕ) (sp : Span) (r : Result (Unit {0}) Fault) → mid_files ≡ files → mid ≡ before → IfSome files (λ f. prepared_at f source config None ≡ right (u, lines))
     → Some (at, sp) ≡ named_from 0 name u.spans
@@ -342,7 +342,7 @@ recheck_found_ends files mid_files before mid after out_before out_after source 
     ends_later (recheck source config name table_name) files mid_files before mid after out_before out_after r same e
     (h (subst (λ (x : Option Files). IfSome x (λ f. span_at f source config name ≡ right (u, sp))) (sym same) (span_told files source config name u lines sp t (ap (option_map (λ p. p.1)) found))) found)
 
--- what was told of a table ends `recheck`
+-- the verdict on a table ends `recheck`
 pub recheck_read_ends : (files : Option Files) (before after : Faults) (out_before out_after : Output) (source : List ℕ) (config : Option (List ℕ)) (name table_name : List ℕ)
     (u : Setup) (at : ℕ) (sp : Span) (rows : List Row) (r : Result (Unit {0}) Fault) → after ≡ before → IfSome files (λ f. span_at f source config name ≡ right (u, sp))
     → Some (at, sp) ≡ named_from 0 name u.spans

@@ -28,7 +28,7 @@ use Rattle.commands.proofs.Quiet.{of_told, TookText}
 passes : (words : List Text) (c : Call) (f : Files) (a : Asked) → Passed words c f a → Passes c a
 passes words c f a p = subst (λ (asked : Option Asked). Ends asked c None) p.asked p.ends
 
--- what told files come to: the text of the task was taken, what it needs of spans is met, and they hold in every run
+-- what known files give: the text of the task was taken, what it needs of spans is met, and they hold in every run
 abbrev Done : Call → Judged Task → Type 0
 Done c j = IfRight j (TookText c) × IfRight j (λ task. IsMet (need_of task)) × IfRight j (λ task. AllRunsHold (need_of task))
 

@@ -23,7 +23,7 @@ use Rattle.commands.specs.Wanted.{wanted}
 use Rattle.commands.specs.Complete.{EndsByTask, EndsByFiles, FilesDecide}
 use Rattle.commands.proofs.NeverBoth.{not_both, never_both}
 
--- of files that are told, what holds of them holds
+-- of known files, what holds of them holds
 pub of_told : (P : Files → Type 0) (files : Option Files) (f : Files) → files ≡ Some f → IfSome files P → P f
 of_told P files f e h =
     let k : IfSome (Some f) P = subst (λ (o : Option Files). IfSome o P) e h in
@@ -67,7 +67,7 @@ of_right : (c : Call) (j : Judged Task) → IfRight j (TookText c) → IfRight j
 of_right c (right task) h p = of_done c task (need_of task) h p
 of_right c (wrong e) h p = absurd h
 
--- a span that is told is told by its own name
+-- a span is named by its own name
 own_name : (u : Setup) (sp : Span) (place : ℕ) (name : List ℕ) → IsNamedAt u sp place name → IsNamedAt u sp place sp.name
 own_name u sp place name h = subst (IsNamedAt u sp place) (sym h.named) h
 
@@ -145,7 +145,7 @@ of_flawed c (wrong e) place name flaw h = absurd h
 of_wrong : (c : Call) (j : Judged Task) (e : Fault) → j ≡ wrong e → EndsByFiles c j (Some e)
 of_wrong c j e h = subst (λ (k : Judged Task). EndsByFiles c k (Some e)) (sym h) refl
 
--- the same of told files
+-- the same of known files
 of_faulty : (c : Call) (f : Files) (a : Asked) (e : Fault) → c.files ≡ Some f → IfSome c.files (λ g. judge g a ≡ wrong e) → EndsByFiles c (judge f a) (Some e)
 of_faulty c f a e told h = of_wrong c (judge f a) e (of_told (λ g. judge g a ≡ wrong e) c.files f told h)
 

@@ -1,4 +1,4 @@
--- What an output has taken of a run that is told to a trace: the whole text, or a first part of it where the run stopped.
+-- What an output has taken of a run that a trace writes: the whole text, or a first part of it where the run stopped.
 use Rattle.std.proofs.Common.{◌≡◌, ℕ, Bool, Option, List, Result, Ok, Err, OnOk, OnErr}
 use Rattle.pio_edge.specs.Edge.{Takes, TakesPrefix, with_bytes}
 use Rattle.idle_engine.specs.Stops.{Stops}

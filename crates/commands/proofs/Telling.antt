@@ -1,4 +1,4 @@
--- What is told of a span that isn't provable, of a table with a flaw, and of a text that was written.
+-- The fault of a span that isn't provable, of a table with a flaw, and of a text that was written.
 use Rattle.std.proofs.Common.{◌≡◌, ℕ, List, Result, Ok, Err, inl, inr, refl, sym, subst}
 use Rattle.pin_matrix.specs.declared.setup.Setup.{Setup}
 use Rattle.pin_matrix.specs.declared.span.Span.{Span}
@@ -20,17 +20,17 @@ use Rattle.commands.specs.Needs.{HasFlaw, IsProvedBy, IsSharedBy}
 use Rattle.commands.specs.Written.{Writes}
 use Rattle.commands.specs.Tables.{IsTableVerdict, IsRefusalOf, IsFlawOf, TellsTable, TellsRecheck, table_or}
 
--- a span that isn't provable is told, or memory ran out
+-- a span that isn't provable is named, or memory ran out
 pub refused_tells : (u : Setup) (at : ℕ) (sp : Span) (out : Output) (refusal : Refusal) (e : Fault) → IsRefused u sp refusal → IsRefusalOf at sp refusal e → TellsTable u at sp out out (Err e)
 refused_tells u at sp out refusal e h (inl is) = subst (λ (x : Fault). TellsTable u at sp out out (Err x)) (sym is) (((refl, refl), h), refl)
 refused_tells u at sp out refusal e h (inr is) = subst (λ (x : Fault). TellsTable u at sp out out (Err x)) (sym is) refl
 
--- another machine that may write a pin is told, or memory ran out
+-- another machine that may write a pin is named, or memory ran out
 pub shared_tells : (u : Setup) (at : ℕ) (sp : Span) (rows : List Row) (out : Output) (refusal : Refusal) (e : Fault) → IsSharedBy u sp refusal → IsRefusalOf at sp refusal e → TellsRecheck u at sp rows out out (Err e)
 shared_tells u at sp rows out refusal e h (inl is) = subst (λ (x : Fault). TellsRecheck u at sp rows out out (Err x)) (sym is) (((refl, refl), h), refl)
 shared_tells u at sp rows out refusal e h (inr is) = subst (λ (x : Fault). TellsRecheck u at sp rows out out (Err x)) (sym is) refl
 
--- a flaw is told, or memory ran out
+-- a flaw is named, or memory ran out
 pub flaw_tells : (u : Setup) (at : ℕ) (sp : Span) (rows : List Row) (out : Output) (flaw : Flaw) (e : Fault) → HasFlaw u sp rows flaw → IsFlawOf at sp flaw e → TellsRecheck u at sp rows out out (Err e)
 flaw_tells u at sp rows out flaw e h (inl is) = subst (λ (x : Fault). TellsRecheck u at sp rows out out (Err x)) (sym is) (((refl, refl), h), refl)
 flaw_tells u at sp rows out flaw e h (inr is) = subst (λ (x : Fault). TellsRecheck u at sp rows out out (Err x)) (sym is) refl
@@ -85,7 +85,7 @@ finds u sp (verdict.Shared m) v k = v
 pub finds_by : (u : Setup) (sp : Span) (found : Verdict) (r : Result (List Row) Refusal) → r ≡ table_or found → IsVerdict u sp found → VerdictHolds u sp found → IsTableVerdict u sp r
 finds_by u sp found r is v k = subst (λ (x : Result (List Row) Refusal). IsTableVerdict u sp x) (sym is) (finds u sp found v k)
 
--- the table that was found is told
+-- the table that was found is written
 pub proved_tells : (u : Setup) (at : ℕ) (sp : Span) (rows : List Row) (before after : Output) (r : Result (Unit {0}) Fault) → IsTableVerdict u sp (Ok rows) → Writes before after (table_text rows) r
     → TellsTable u at sp before after r
 proved_tells u at sp rows before after r h w = written_tells u at sp rows before after r h.0 h.1.0 h.1.1 w

@@ -1,4 +1,4 @@
--- What is told of verdicts where their lines failed.
+-- Verdicts whose lines failed.
 use Rattle.std.proofs.Common.{◌≡◌, Bool, List, Result, Err, subst}
 use Rattle.pin_matrix.specs.declared.setup.Setup.{Setup}
 use Rattle.pin_matrix.specs.declared.span.Span.{Span}

@@ -70,7 +70,7 @@ of_both : TwinsAreFew → (clocks : ℕ) (j : Judged TwoBlocks) → pair_worked 
 of_both few clocks (right p) = few (twin_start p) p.first_lines p.second_lines clocks
 of_both few clocks (wrong e) = omega arith
 
--- whether its files are told or not
+-- whether its files are known or not
 of_files : AreFew → (files : Option Files) (source : List ℕ) (config stimulus : Option (List ℕ)) (clocks : ℕ) → worked_of files source config stimulus clocks ≤ clocks
 of_files few None source config stimulus clocks = omega arith
 of_files few (Some f) source config stimulus clocks = of_run few clocks (prepared_at f source config stimulus)

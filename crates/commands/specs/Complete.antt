@@ -22,7 +22,7 @@ use Rattle.commands.specs.Tasks.{Task, need_of, judge, HasText}
 use Rattle.commands.specs.Outside.{Call}
 use Rattle.commands.specs.Wanted.{wanted}
 
--- `tool` takes the words, the files are told, memory sufficed, and no count rose
+-- `tool` takes the words, the files are known, memory sufficed, and no count rose
 pub record Quiet (words : List Text) (c : Call) (f : Files) (found : Option Fault) : Type 0 where
   pub words_taken : WordsAreTaken words
   pub told : c.files ≡ Some f
@@ -42,7 +42,7 @@ pub record IsUndone (u : Setup) (found : Option Fault) : Type 0 where
   pub fault : found ≡ Some (fault.Unproved place name refusal)
   pub first : IsFirstRefused u u.spans place name refusal
 
--- where each span of the setup is provable, all is done; where one isn't, the first such one is told
+-- where each span of the setup is provable, all is done; where one isn't, the first such one is named
 pub record EndsBySpans (c : Call) (task : Task) (found : Option Fault) (u : Setup) : Type 0 where
   pub provable : AreProvable u → IsDone c task found
   pub unprovable : (AreProvable u → ⊥) → IsUndone u found
@@ -55,14 +55,14 @@ pub record IsSecondUndone (t : Setup) (found : Option Fault) : Type 0 where
   pub fault : found ≡ Some (fault.SecondUnproved place name refusal)
   pub first : IsFirstRefused t t.spans place name refusal
 
--- where each span of both blocks is provable, all is done; where one isn't, the first such one is told, the first block's before the
+-- where each span of both blocks is provable, all is done; where one isn't, the first such one is named, the first block's before the
 -- second's
 pub record EndsByBoth (c : Call) (task : Task) (found : Option Fault) (s t : Setup) : Type 0 where
   pub provable : AreProvable s → AreProvable t → IsDone c task found
   pub first_unprovable : (AreProvable s → ⊥) → IsUndone s found
   pub second_unprovable : AreProvable s → (AreProvable t → ⊥) → IsSecondUndone t found
 
--- the span's place and name are told, and why it isn't provable
+-- the fault has the span's place and name, and why it isn't provable
 pub record IsRefusalTold (found : Option Fault) (u : Setup) (sp : Span) : Type 0 where
   pub place : ℕ
   pub named : IsNamedAt u sp place sp.name
@@ -70,12 +70,12 @@ pub record IsRefusalTold (found : Option Fault) (u : Setup) (sp : Span) : Type 0
   pub why : IsRefused u sp refusal
   pub fault : found ≡ Some (fault.Unproved place sp.name refusal)
 
--- where the span is provable, all is done; where it isn't, the fault tells why
+-- where the span is provable, all is done; where it isn't, the fault says why
 pub record EndsBySpan (c : Call) (task : Task) (found : Option Fault) (u : Setup) (sp : Span) : Type 0 where
   pub provable : IsProvableAlone u sp → IsDone c task found
   pub unprovable : (IsProvableAlone u sp → ⊥) → IsRefusalTold found u sp
 
--- the span's place and name are told, and the first flaw of a table
+-- the fault has the span's place and name, and the first flaw of a table
 pub record IsFlawTold (found : Option Fault) (u : Setup) (sp : Span) (rows : List Row) : Type 0 where
   pub place : ℕ
   pub named : IsNamedAt u sp place sp.name
@@ -83,14 +83,14 @@ pub record IsFlawTold (found : Option Fault) (u : Setup) (sp : Span) (rows : Lis
   pub first : first_flaw u sp rows ≡ Some flaw
   pub fault : found ≡ Some (fault.Flaw place sp.name flaw)
 
--- the span's place and name are told, and this machine, which may write a pin of it
+-- the fault has the span's place and name, and this machine, which may write a pin of it
 pub record IsSharerTold (found : Option Fault) (u : Setup) (sp : Span) (m : ℕ) : Type 0 where
   pub place : ℕ
   pub named : IsNamedAt u sp place sp.name
   pub fault : found ≡ Some (fault.Unproved place sp.name (Shared m))
 
--- Where another machine may write a pin of the span, the least one is told. Where none may, all is done if the table is closed and
--- good, and else its first flaw is told.
+-- Where another machine may write a pin of the span, the least one is named. Where none may, all is done if the table is closed and
+-- good, and else its first flaw is named.
 pub record EndsByTable (c : Call) (task : Task) (found : Option Fault) (u : Setup) (sp : Span) (rows : List Row) : Type 0 where
   pub shared : (m : ℕ) → IsLeastSharer u sp m → IsSharerTold found u sp m
   pub proved : IsProvedBy u sp rows → IsDone c task found

@@ -1,4 +1,4 @@
--- What a task needs of the spans of a setup, beside its text.
+-- What a task needs of the spans of a setup, besides its text.
 --   Need        nothing; that each span is provable, of one setup or of two; that one span is; or that a table proves one
 --   IsMet       it is so
 --   AllRunsHold what it says of every run

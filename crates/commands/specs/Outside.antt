@@ -4,7 +4,7 @@ use Rattle.pio_edge.specs.Count.{Faults}
 use Rattle.pio_edge.specs.Edge.{Files}
 use Rattle.fault_lines.specs.Output.{Output, output_of}
 
--- the files where they are told, the shelf's faults and the output, before and after a call
+-- the files where they are known, the shelf's faults and the output, before and after a call
 pub record Call : Type 0 where
   pub files : Option Files
   pub shelf_before : Faults

@@ -1,5 +1,5 @@
--- What a call has done that ended with status 0: a record for each command, over told files. Each is a law from `EndsAs`.
---   Passed          the words want this command, its files are told, and the call ended without a fault
+-- What a call has done that ended with status 0: a record for each command, over known files. Each is a law from `EndsAs`.
+--   Passed          the words want this command, its files are known, and the call ended without a fault
 --   AsmPassed ..    what the command then read, wrote, and what holds of it
 use Rattle.std.specs.Prelude.{◌≡◌, ℕ, Bool, Option, Some, None, is_some, List, map, Result}
 use Rattle.std.specs.FinMap.{get}
@@ -46,7 +46,7 @@ use Rattle.commands.specs.Wanted.{wanted}
 use Rattle.commands.specs.Ends.{EndsAs}
 use Rattle.commands.specs.Written.{HasTaken}
 
--- the words want this command, its files are told, and the call ended without a fault
+-- the words want this command, its files are known, and the call ended without a fault
 pub record Passed (words : List Text) (c : Call) (files : Files) (a : Asked) : Type 0 where
   pub asked : wanted words ≡ Some a
   pub told : c.files ≡ Some files

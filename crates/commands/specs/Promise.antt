@@ -69,7 +69,7 @@ pub record OutFails (c : Call) (a : Asked) : Type 0 where
   pub rose : Rose c.out_before.faults c.out_after.faults
   pub shelf : SameShelf c
 
--- the told files come to this fault first, and nothing was written
+-- the known files give this fault first, and nothing was written
 pub record Faulty (c : Call) (a : Asked) (e : Fault) : Type 0 where
   pub judged : IfSome c.files (λ f. judge f a ≡ wrong e)
   pub untouched : Untouched c

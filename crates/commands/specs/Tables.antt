@@ -1,4 +1,4 @@
--- What it means that a table is told, and that a table was rechecked.
+-- What it means that a table is written, and that a table was rechecked.
 --   TellsTable    the text of the least closed table was taken and handed on, or why not
 --   TellsRecheck  the line of a table that proves a span was taken and handed on, or why not
 use Rattle.std.specs.Prelude.{◌≡◌, ◌⊎◌, ℕ, List, Result, Ok, Err}
@@ -32,15 +32,15 @@ abbrev pub IsTableVerdict : Setup → Span → Result (List Row) Refusal → Typ
 IsTableVerdict u sp (Ok rows) = IsProvableAlone u sp × (HoldsInEveryRun u sp × IsGoodLeast u sp rows)
 IsTableVerdict u sp (Err why) = IsRefused u sp why
 
--- the fault is that of the span at this place, which is refused, or want of memory
+-- the fault is that of the span at this place, which is refused, or out of memory
 abbrev pub IsRefusalOf : (place : ℕ) → Span → Refusal → Fault → Type 0
 IsRefusalOf place sp why e = (e ≡ fault.Unproved place sp.name why) ⊎ (e ≡ fault.Memory)
 
--- the fault is that of a table of the span at this place, which has this flaw, or want of memory
+-- the fault is that of a table of the span at this place, which has this flaw, or out of memory
 abbrev pub IsFlawOf : (place : ℕ) → Span → Flaw → Fault → Type 0
 IsFlawOf place sp flaw e = (e ≡ fault.Flaw place sp.name flaw) ⊎ (e ≡ fault.Memory)
 
--- the place and the name that are told are the span's
+-- the place and the name are the span's
 abbrev pub IsTold : (at : ℕ) → Span → (place : ℕ) → (name : List ℕ) → Type 0
 IsTold at sp place name = (place ≡ at) × (sp.name ≡ name)
 

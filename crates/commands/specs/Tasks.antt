@@ -1,8 +1,8 @@
 -- What a command comes to, from its files alone: a task, or the first fault in the order of reading.
 --   Task        what the files have a command do
 --   judge       what a command comes to
---   HasText     the text of a task is such; ComesTo: the told files come to a task that is such
---   need_of     what a task needs of spans, beside its text
+--   HasText     the text of a task is such; ComesTo: the known files give a task that is such
+--   need_of     what a task needs of spans, besides its text
 --   inputs_of   what a command reads: its files in order, and when it comes to each; file_in: which one in a role
 use Rattle.std.specs.Prelude.{ℕ, Bool, true, Option, Some, None, is_some, IfSome, List, [], ◌++◌, map}
 use Rattle.std.specs.FinMap.{get}
@@ -55,7 +55,7 @@ pub data Task : Type 0 where
   tabled : Setup → Span → Task
   rechecked : Setup → Span → List Row → Task
 
--- the text of so many clocks from a start, beside the lines of a stimulus
+-- the text of so many clocks from a start, with the lines of a stimulus
 unfoldable pub trace_text : Run → List Line → ℕ → List ℕ
 trace_text start lines clocks = vcd_text (samples start lines clocks)
 
@@ -63,16 +63,16 @@ trace_text start lines clocks = vcd_text (samples start lines clocks)
 abbrev pub twin_start : TwoBlocks → TwinRun
 twin_start p = first_twin p.own p.first p.second
 
--- the text of so many clocks of two blocks from a start, beside the lines of each
+-- the text of so many clocks of two blocks from a start, with the lines of each
 unfoldable pub twin_trace_text : TwinRun → (first second : List Line) → ℕ → List ℕ
 twin_trace_text start first second clocks = twin_text (twin_samples start first second clocks)
 
--- the text of what is inside the block of a setup in so many clocks, beside the lines of a stimulus: it has a scope for each machine that is
+-- the text of what is inside the block of a setup in so many clocks, with the lines of a stimulus: it has a scope for each machine that is
 -- configured
 unfoldable pub inspected_text : Setup → List Line → ℕ → List ℕ
 inspected_text s lines clocks = inside_text (map is_some s.machines) (insides (first_run s) lines clocks)
 
--- what a span measures in so many clocks from a start, beside the lines of a stimulus: before clock 0 the pins are the start's
+-- what a span measures in so many clocks from a start, with the lines of a stimulus: before clock 0 the pins are the start's
 abbrev pub seen_in : Run → Span → List Line → ℕ → SeenDistances
 seen_in start sp lines clocks = seen_of (measured (ends_in sp) (pins_in start.state) (samples start lines clocks))
 
@@ -118,7 +118,7 @@ judge files (pair source config second stimulus clocks) =
     and_then (pair_at files source config second stimulus)
     (λ p. right (twin_trace p.first p.second (twin_trace_text (twin_start p) p.first_lines p.second_lines clocks)))
 
--- the told files come to a task that is such
+-- the known files give a task that is such
 abbrev pub ComesTo : Call → Asked → (Task → Type 0) → Type 0
 ComesTo c a P = IfSome c.files (λ f. IfRight (judge f a) P)
 
@@ -135,7 +135,7 @@ HasText (verdicts u) P = HasVerdicts u P
 HasText (tabled u sp) P = HasTable u sp P
 HasText (rechecked u sp rows) P = P (rechecked_line sp.name)
 
--- what a task needs, beside its text
+-- what a task needs, besides its text
 abbrev pub need_of : Task → Need
 need_of (listing text) = nothing
 need_of (trace u text) = all_spans u

@@ -1,4 +1,4 @@
--- What it means that verdicts are told.
+-- What it means that verdicts are written.
 use Rattle.std.specs.Prelude.{◌≡◌, Result, Err}
 use Rattle.pin_matrix.specs.declared.setup.Setup.{Setup}
 use Rattle.fault_lines.specs.declared.fault.Fault.{Fault}
@@ -7,7 +7,7 @@ use Rattle.fault_lines.specs.Output.{Output}
 use Rattle.stages.specs.Spans.{AreAsked, HasVerdicts}
 use Rattle.commands.specs.Written.{HasTaken, TakesPart}
 
--- Verdicts were told: the text was taken and handed on, and each span is provable, or the first one that isn't is told; or the
+-- Verdicts were written: the text was taken and flushed, and each span is provable, or the first one that isn't is named; or the
 -- output failed after a first part of it; or memory ran out before the first piece.
 abbrev pub TellsVerdicts : Setup → Output → Output → Result (Unit {0}) Fault → Type 0
 TellsVerdicts u before after (Err fault.Out) = HasVerdicts u (λ text. TakesPart before text after)

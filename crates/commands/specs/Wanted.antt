@@ -15,6 +15,6 @@ unless_faulty [] asked = option_and_then with_room asked
 unless_faulty (fault ∷ faults) asked = None
 
 -- What the words ask for: what the matches of `tool` ask for, and nothing where clap gives no matches, or where `--opt`
--- is beside `--side 5`
+-- is with `--side 5`
 unfoldable pub wanted : List Text → Option Asked
 wanted words = unless_faulty (fault_of tool words) (asked_of words)

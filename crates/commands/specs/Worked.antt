@@ -2,8 +2,8 @@
 --   run_worked    of a run whose files come to this
 --   sent_worked   of a transmitter whose file comes to this
 --   pair_worked   of two blocks whose files come to this
---   worked_of     of a run, where the files are told or not
---   most_worked   of a command, where the files are told or not
+--   worked_of     of a run, whether the files are known or not
+--   most_worked   of a command, whether the files are known or not
 use Rattle.std.specs.Prelude.{ℕ, ◌+◌, Option, Some, None, List}
 use Rattle.std.specs.FinMap.{get}
 use Rattle.pio_edge.specs.Edge.{Files}
@@ -26,7 +26,7 @@ abbrev pub run_worked : ℕ → Judged (Setup × List Line) → ℕ
 run_worked clocks (right prepared) = worked_in (first_run prepared.0) prepared.1 clocks
 run_worked clocks (wrong e) = 0
 
--- Of files that aren't told no more is said than that it is at most the clocks asked.
+-- Of files that aren't known it says only that it is at most the clocks asked.
 abbrev pub worked_of : Option Files → (source : List ℕ) → (config stimulus : Option (List ℕ)) → (clocks : ℕ) → ℕ
 worked_of (Some files) source config stimulus clocks = run_worked clocks (prepared_at files source config stimulus)
 worked_of None source config stimulus clocks = clocks
@@ -36,7 +36,7 @@ abbrev pub sent_worked : (divider clocks : ℕ) → Judged (List ℕ) → ℕ
 sent_worked divider clocks (right bytes) = worked_in (first_run (transmitter_of divider)) (fed bytes) clocks
 sent_worked divider clocks (wrong e) = 0
 
--- and where its file is told or not
+-- and whether its file is known or not
 abbrev pub uart_worked : Option Files → (send : List ℕ) → (divider clocks : ℕ) → ℕ
 uart_worked (Some files) send divider clocks = sent_worked divider clocks (read_at Send (get files send))
 uart_worked None send divider clocks = clocks
@@ -46,7 +46,7 @@ abbrev pub pair_worked : ℕ → Judged TwoBlocks → ℕ
 pair_worked clocks (right p) = twin_worked_in (twin_start p) p.first_lines p.second_lines clocks
 pair_worked clocks (wrong e) = 0
 
--- and where their files are told or not
+-- and whether their files are known or not
 abbrev pub twin_worked : Option Files → (source config second : List ℕ) → (stimulus : Option (List ℕ)) → (clocks : ℕ) → ℕ
 twin_worked (Some files) source config second stimulus clocks = pair_worked clocks (pair_at files source config second stimulus)
 twin_worked None source config second stimulus clocks = clocks

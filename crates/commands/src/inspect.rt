@@ -58,7 +58,7 @@ pub fn inspect<F: Shelf, O: Sink, L: Ledger>(
     write_inspected(alloc, &setup, &schedule, clocks, out, steps)
 }
 
-/// Writes the text of so many clocks of a setup, or answers want of memory before it has put anything.
+/// Writes the text of so many clocks of a setup, or runs out of memory before it has put anything.
 fn write_inspected<O: Sink, L: Ledger>(
     alloc: Global,
     setup: &Setup,

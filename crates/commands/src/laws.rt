@@ -46,7 +46,7 @@ pub fn clocks_enough_send_all()
         → sent_text divider bytes clocks ≡ frames_text (all_frames divider 0 bytes) }
 {}
 
-/// A command works out no more clocks than it is asked for, whether its files are told or not.
+/// A command works out no more clocks than it is asked for, whether its files are known or not.
 pub fn no_more_clocks_are_worked_out_than_asked()
     ensures { (files : Option Files) (a : Asked) → most_worked files a ≤ clocks_asked a }
 {

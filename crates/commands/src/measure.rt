@@ -30,7 +30,7 @@ use std::sync::ledger::Ledger;
 use step_count::Steps;
 
 /// Writes a line for each span of the block that a source sets up, by a configuration or by default: what it measures in so
-/// many clocks, beside a stimulus where one is named. It doesn't ask whether a span is provable. All memory is taken before the
+/// many clocks, with a stimulus where one is named. It doesn't ask whether a span is provable. All memory is taken before the
 /// first piece is put.
 ///
 /// With status 0: `MeasurePassed` (`specs/Passed.antt`).
@@ -60,7 +60,7 @@ pub fn measure<F: Shelf, O: Sink, L: Ledger>(
     write_measured(alloc, &setup, &schedule, clocks, out, steps)
 }
 
-/// Writes the lines of what the spans of a setup measure in so many clocks, or answers want of memory before it has put
+/// Writes the lines of what the spans of a setup measure in so many clocks, or runs out of memory before it has put
 /// anything.
 fn write_measured<O: Sink, L: Ledger>(
     alloc: Global,
@@ -79,7 +79,7 @@ fn write_measured<O: Sink, L: Ledger>(
     write_lines(out, setup.spans.as_slice(), &meter)
 }
 
-/// A meter that was told so many clocks of a setup. All memory is taken before the first clock; the error is want of it.
+/// A meter after the first clocks of a setup. All memory is taken before the first clock; the error is want of it.
 fn metered<L: Ledger>(
     alloc: Global,
     setup: &Setup,

@@ -21,7 +21,7 @@ use std::sync::ledger::Ledger;
 use step_count::Steps;
 use vcd_trace::{TwinVcd, failing_early_leaves_a_first_part_of_two};
 
-/// Writes the trace of so many clocks of two blocks that a source sets up by two configurations, beside a stimulus where one is named.
+/// Writes the trace of so many clocks of two blocks that a source sets up by two configurations, with a stimulus where one is named.
 /// Each span of both has to be provable; the first one that isn't ends the run, and nothing is written. The first block's spans come
 /// before the second's. All memory is taken before the first piece is put.
 ///
@@ -53,7 +53,7 @@ pub fn pair<F: Shelf, O: Sink, L: Ledger>(
     write_pair(alloc, &blocks, clocks, out, steps)
 }
 
-/// Writes the text of so many clocks of two blocks, or answers want of memory before it has put anything.
+/// Writes the text of so many clocks of two blocks, or runs out of memory before it has put anything.
 fn write_pair<O: Sink, L: Ledger>(
     alloc: Global,
     blocks: &TwoBlocks,

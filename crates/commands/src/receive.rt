@@ -25,7 +25,7 @@ use std::sync::ledger::Ledger;
 use step_count::Steps;
 
 /// Writes a line for each frame that a pin sends in so many clocks of the block that a source sets up, by a configuration or by
-/// default, beside a stimulus where one is named. No span is asked. All memory is taken before the first piece is put.
+/// default, with a stimulus where one is named. No span is asked. All memory is taken before the first piece is put.
 ///
 /// With status 0: `ReceivePassed` (`specs/Passed.antt`).
 #[tactic(auto, unfolding(crate::specs::Tasks::judge), using(crate::proofs::Working::worked_by))]

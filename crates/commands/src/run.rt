@@ -1,4 +1,4 @@
-//! The command `run`: the trace of the first clocks of a block that a source and a configuration set up, beside a stimulus.
+//! The command `run`: the trace of the first clocks of a block that a source and a configuration set up, with a stimulus.
 ghost use Rattle.std.specs.Prelude.{◌≡◌, ◌+◌, ◌≤◌, ◌^◌, option_map};
 ghost use Rattle.block_core.specs.Block.{first_run};
 ghost use Rattle.command_line.specs.Words.{run as run_asked};
@@ -24,7 +24,7 @@ use std::sync::ledger::Ledger;
 use step_count::Steps;
 use vcd_trace::{VcdTrace, failing_early_leaves_a_first_part};
 
-/// Writes the trace of so many clocks of the block that a source sets up, by a configuration or by default, beside a
+/// Writes the trace of so many clocks of the block that a source sets up, by a configuration or by default, with a
 /// stimulus where one is named. Each span of the block has to be provable; the first one that isn't ends the run, and nothing
 /// is written. All memory is taken before the first piece is put.
 ///
@@ -56,7 +56,7 @@ pub fn run<F: Shelf, O: Sink, L: Ledger>(
     write_trace(alloc, &setup, &schedule, clocks, out, steps)
 }
 
-/// Writes the text of so many clocks from a setup, or answers want of memory before it has put anything.
+/// Writes the text of so many clocks from a setup, or runs out of memory before it has put anything.
 fn write_trace<O: Sink, L: Ledger>(
     alloc: Global,
     setup: &Setup,

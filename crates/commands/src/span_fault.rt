@@ -9,7 +9,7 @@ use span_verdict::Flaw;
 use std::alloc::{AllocError, Global};
 use verdict_lines::Refusal;
 
-/// The fault of the span at this place, which isn't provable, or want of memory.
+/// The fault of the span at this place, which isn't provable, or out of memory.
 pub fn unproved(alloc: Global, place: usize, span: &Span, refusal: Refusal) -> Fault
     ensures { IsRefusalOf place span.now refusal result }
 {
@@ -19,7 +19,7 @@ pub fn unproved(alloc: Global, place: usize, span: &Span, refusal: Refusal) -> F
     }
 }
 
-/// The fault of a table that doesn't prove the span at this place, or want of memory.
+/// The fault of a table that doesn't prove the span at this place, or out of memory.
 pub fn flawed(alloc: Global, place: usize, span: &Span, flaw: Flaw) -> Fault
     ensures { IsFlawOf place span.now flaw result }
 {
@@ -29,7 +29,7 @@ pub fn flawed(alloc: Global, place: usize, span: &Span, flaw: Flaw) -> Fault
     }
 }
 
-/// A span's name, once more. The error is want of memory.
+/// A span's name, once more. The error is out of memory.
 fn name_of(alloc: Global, span: &Span) -> Result<Name, AllocError>
     ensures { IfOk result (λ name. name ≡ span.now.name) }
 {

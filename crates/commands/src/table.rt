@@ -65,7 +65,7 @@ fn tell_table<O: Sink>(
     }
 }
 
-/// The table of a span, whose machine is configured, or why it isn't provable. The error is want of memory.
+/// The table of a span, whose machine is configured, or why it isn't provable. The error is out of memory.
 fn found_table(
     alloc: Global,
     setup: &Setup,

@@ -1,4 +1,4 @@
-//! The call: the words, then what they ask for, and its end told.
+//! The call: the words, then what they ask for, and the line and status of its end.
 ghost use Rattle.std.specs.Prelude.{◌≡◌, ◌≢◌, ◌+◌, ◌≤◌, map, Some, Err, string_bytes};
 ghost use Rattle.command_line.specs.Words.{WordsAreTaken, IsWithinRange, asked_by, most_clocks};
 ghost use Rattle.commands.specs.Outside.{call_by, output_by};

@@ -53,7 +53,7 @@ pub fn uart<F: Shelf, O: Sink, L: Ledger>(
     send_bytes(alloc, &bytes, divider, clocks, out, steps)
 }
 
-/// Writes a line for each of some bytes that the transmitter sends, or answers want of memory before it has put anything.
+/// Writes a line for each of some bytes that the transmitter sends, or runs out of memory before it has put anything.
 fn send_bytes<O: Sink, L: Ledger>(
     alloc: Global,
     bytes: &[u8],
@@ -73,7 +73,7 @@ fn send_bytes<O: Sink, L: Ledger>(
     write_sent(alloc, &schedule, divider, clocks, out, steps)
 }
 
-/// Writes a line for each byte that the transmitter sends beside this feed, or answers want of memory before it has put anything.
+/// Writes a line for each byte that the transmitter sends with this feed, or runs out of memory before it has put anything.
 fn write_sent<O: Sink, L: Ledger>(
     alloc: Global,
     schedule: &Schedule,

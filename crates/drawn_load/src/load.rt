@@ -1,4 +1,4 @@
-//! The whole load: the setup of a block, and the stimulus beside it.
+//! The whole load: the setup of a block, and its stimulus.
 ghost use Rattle.std.specs.Prelude.{◌≡◌, ℕ, IfOk};
 ghost use Rattle.drawn_load.specs.Draws.{letters_of, numbers_of, state_at};
 ghost use Rattle.drawn_load.specs.Loads.{lines_of, feed_line, drain_line};
@@ -20,14 +20,14 @@ use setup_keys::{
 };
 use std::alloc::{AllocError, Global};
 
-/// A block of four busy machines, and what the system does beside it.
+/// A block of four busy machines, and what the system does meanwhile.
 #[derive(Drop)]
 pub struct Load {
     pub setup: Setup,
     pub schedule: Schedule,
 }
 
-/// The load of a seed, whatever the seed is. The error is want of memory, and no other end is free.
+/// The load of a seed, whatever the seed is. The error is out of memory, and no other end is free.
 pub fn draw_load(alloc: Global, seed: u64) -> Result<Load, AllocError>
     ensures setup { IfOk result (λ load. load.setup ≡ setup_of seed) }
     ensures schedule { IfOk result (λ load. load.schedule ≡ lines_of seed) }

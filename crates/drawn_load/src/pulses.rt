@@ -7,7 +7,7 @@ use crate::draws::Draws;
 use dreq_pacing::{Line, LineAct};
 use std::alloc::AllocError;
 
-/// Appends the 1,000 lines of pin 2. The draws have given the letters and the words. The error is want of memory.
+/// Appends the 1,000 lines of pin 2. The draws have given the letters and the words. The error is out of memory.
 pub fn put_pin_lines(lines: &mut Vec<Line>, draws: &mut Draws) -> Result<(), AllocError>
     ensures { IfOk result (λ _. (seed : ℕ) → draws.old ≡ state_at seed 519
         → lines.new.items ≡ lines.old.items ++ pin_lines seed) }

@@ -17,7 +17,7 @@ use std::sync::ledger::Ledger;
 use step_count::Steps;
 
 /// The summary of the load of a seed, whatever the seed is, over so many clocks, up to 10^12. All memory is taken before the
-/// first clock. The error is want of memory, and no other end is free. A step is one clock worked out singly.
+/// first clock. The error is out of memory, and no other end is free. A step is one clock worked out singly.
 pub fn summarise<L: Ledger>(
     alloc: Global,
     seed: u64,
@@ -33,7 +33,7 @@ pub fn summarise<L: Ledger>(
     Ok(counted(&mut block, &load.schedule, clocks, steps))
 }
 
-/// The summary of the run of a block, which is in clock 0, beside a stimulus. It takes no memory.
+/// The summary of the run of a block, which is in clock 0, with a stimulus. It takes no memory.
 fn counted<F: Fifo, L: Ledger>(
     block: &mut Block<F>,
     schedule: &Schedule,

@@ -5,7 +5,7 @@ ghost use Rattle.drawn_load.specs.Draws.{drawn, state_at, words_of};
 use crate::draws::Draws;
 use std::alloc::{AllocError, Global};
 
-/// The 256 words of the feed. The draws have given the seven letters. The error is want of memory.
+/// The 256 words of the feed. The draws have given the seven letters. The error is out of memory.
 pub fn draw_words(alloc: Global, draws: &mut Draws) -> Result<Vec<u32>, AllocError>
     ensures words { IfOk result (λ words. (seed : ℕ) → draws.old ≡ state_at seed 7
         → words.items ≡ words_of seed) }

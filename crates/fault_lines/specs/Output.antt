@@ -1,7 +1,7 @@
 -- What is known of an output.
 use Rattle.std.specs.Prelude.{ℕ, Option, List}
 
--- what it has taken where it is told, what of this still waits, and its count of faults
+-- what it has taken where it is known, what of this still waits, and its count of faults
 pub record Output : Type 0 where
   pub taken : Option (List ℕ)
   pub waiting : List ℕ

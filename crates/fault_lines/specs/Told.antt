@@ -1,4 +1,4 @@
--- How an end is told: its status and its line (choice of this profile).
+-- The end of a call: its status and its line (choice of this profile).
 use Rattle.std.specs.Prelude.{◌≡◌, ℕ, ◌⊎◌, ◌++◌, Option, Some, None, List, [], codes, decimal}
 use Rattle.pio_edge.specs.Edge.{Rose, with_bytes, TakesPrefix}
 use Rattle.pio_assemble.specs.declared.fault.SourceKind.{SourceKind}
@@ -56,7 +56,7 @@ shelf_line role = codes "piotool: shelf " ++ file_word role ++ codes "\n"
 abbrev pub long_line : File → List ℕ
 long_line role = codes "piotool: long " ++ file_word role ++ codes "\n"
 
--- a line that tells a place: what comes before its number, the number, and a fault's text
+-- a line that names a place: what comes before its number, the number, and a fault's text
 abbrev pub line_fault : List ℕ → ℕ → List ℕ → List ℕ
 line_fault front line code = front ++ decimal line ++ codes ": " ++ code ++ codes "\n"
 
@@ -106,13 +106,13 @@ fault_line (fault.Flaw place name flaw) = flaw_line (codes "piotool: ") name fla
 fault_line fault.Out = codes "piotool: out\n"
 fault_line fault.Memory = codes "piotool: memory\n"
 
--- the line was told and handed on, or a first part of it taken where the count rose
+-- the line was put and flushed, or a first part of it taken where the count rose
 abbrev pub TellsLine : Output → Output → List ℕ → Type 0
 TellsLine before after line =
     ((after.taken ≡ with_bytes before.taken line) × (after.waiting ≡ []))
     ⊎ (TakesPrefix before.taken line after.taken × Rose before.faults after.faults)
 
--- a fault is told by its line, and the end of a whole command by nothing
+-- a fault has its line, and the end of a whole command has none
 abbrev pub TellsFault : Output → Output → Option Fault → Type 0
 TellsFault before after None = after ≡ before
 TellsFault before after (Some fault) = TellsLine before after (fault_line fault)

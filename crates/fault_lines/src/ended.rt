@@ -1,4 +1,4 @@
-//! The end of a call, told on the error output.
+//! The end of a call, on the error output.
 ghost use Rattle.std.specs.Prelude.{◌≡◌};
 ghost use Rattle.std.specs.Process.{exit_status};
 ghost use Rattle.fault_lines.specs.Output.{output_of};
@@ -29,7 +29,7 @@ impl Ended {
     }
 }
 
-/// Ends with a fault, which its line tells, or with none. Where the line fails there is nobody left to tell.
+/// Ends with a fault, which its line reports, or with none. Where the line fails there is no other place to report to.
 pub fn end_with<E: Sink>(err: &mut E, fault: Option<Fault>) -> Ended
     ensures fault { result.fault ≡ fault }
     ensures status { result.status ≡ told_spec.status_of fault }

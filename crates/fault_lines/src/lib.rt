@@ -1,4 +1,4 @@
-//! Everything that keeps a command from its text, and how it is told: a status, and a line on the error output.
+//! Everything that keeps a command from its text, and how it is reported: a status, and a line on the error output.
 #![tactic(auto)]
 
 mod ended;

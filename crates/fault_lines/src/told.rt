@@ -1,4 +1,4 @@
-//! How an end is told: its status, and its line on the standard error (choice of this profile).
+//! The end of a call: its status, and its line on the standard error (choice of this profile).
 ghost use Rattle.std.specs.Prelude.{◌≡◌, ◌++◌, codes, decimal};
 ghost use Rattle.std.specs.Fmt.{signed_decimal};
 ghost use Rattle.pio_assemble.specs.Fault.{quantity_text};
@@ -132,7 +132,7 @@ fn put_source_fault<E: Sink>(err: &mut E, line: usize, kind: &SourceKind) -> Res
     }
 }
 
-/// Puts the line of a source's fault that tells a name.
+/// Puts the line of a source's fault that has a name.
 fn put_named_fault<E: Sink>(
     err: &mut E,
     line: usize,

@@ -1,4 +1,4 @@
--- Runs beside the system's ports, clock by clock, of any kind: of one block beside a stimulus, or of two beside one each.
+-- Runs with the system's ports, clock by clock, of any kind: of one block with a stimulus, or of two with one each.
 --   Course   the states of a run, and what its first clocks show
 --   Kind     what a run of the kind does in a clock, and what it shows
 --   IsKind   what holds of each kind
@@ -12,7 +12,7 @@ pub record Course (H V : Type 0) : Type 0 where
   pub at : ℕ → H
   pub samples : ℕ → List V
 
--- H are the states of a run with what is left of its transfers, L the lines of what it runs beside, and V what it shows.
+-- H are the states of a run with what is left of its transfers, L the lines that it runs with, and V what it shows.
 --   in_clock    the state is at the start of the clock
 --   acts        the system acts in a clock, while the machines ask for what they ask in the state
 --   moves       the state moves on in its clock, if the system does nothing in it
@@ -64,7 +64,7 @@ pub record AreFirsts {T : Type 0} (at : ℕ → T) (all : ℕ → List T) : Type
 abbrev pub shown_at : {H L V : Type 0} → Kind H L V → Course H V → ℕ → V
 shown_at k c n = k.shown (c.at (suc n))
 
--- The run from this state on, which is in clock 0, goes beside these lines as the kind says.
+-- The run from this state on, which is in clock 0, goes with these lines as the kind says.
 pub record IsCourse {H L V : Type 0} (k : Kind H L V) (lines : L) (begin : H) (c : Course H V) : Type 0 where
   pub fresh : k.in_clock begin 0
   pub begins : c.at 0 ≡ begin

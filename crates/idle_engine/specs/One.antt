@@ -1,4 +1,4 @@
--- The run of one block beside a stimulus.
+-- The run of one block with a stimulus.
 use Rattle.std.specs.Prelude.{◌≡◌, List}
 use Rattle.dreq_pacing.specs.declared.line.Line.{Line}
 use Rattle.dreq_pacing.specs.Due.{quiet}

@@ -1,4 +1,4 @@
--- The run of one block beside a stimulus, which shows what is inside the block.
+-- The run of one block with a stimulus, which shows what is inside the block.
 use Rattle.std.specs.Prelude.{List}
 use Rattle.dreq_pacing.specs.declared.line.Line.{Line}
 use Rattle.block_core.specs.declared.inside.Inside.{Inside}

@@ -25,7 +25,7 @@ pub record Stops {R V : Type 0} (after : ℕ → R) (shown : ℕ → List V) (cl
   pub run : now ≡ after count
   pub breaks : broken (shown count) ended
 
--- a run of a block from this start, beside these lines
+-- a run of a block from this start, with these lines
 abbrev pub StopsAt : (start : Run) → (lines : List Line) → (clocks : ℕ) → (now : Run) → (broken : List Sample → Bool → Type 0) → Type 0
 StopsAt start lines clocks now broken =
     Stops (λ n. (hosted_at start lines n).run) (samples start lines) clocks now broken
@@ -35,7 +35,7 @@ abbrev pub InsideStopsAt : (start : Run) → (lines : List Line) → (clocks : �
 InsideStopsAt start lines clocks now broken =
     Stops (λ n. (hosted_at start lines n).run) (insides start lines) clocks now broken
 
--- a run of two blocks from this start, each beside its lines
+-- a run of two blocks from this start, each with its lines
 abbrev pub TwinStopsAt : (start : TwinRun) → (first second : List Line) → (clocks : ℕ) → (now : TwinRun) → (broken : List (Sample × Sample) → Bool → Type 0) → Type 0
 TwinStopsAt start first second clocks now broken =
     Stops (λ n. twin_of (hosted_twin_at start first second n)) (twin_samples start first second) clocks now broken

@@ -1,4 +1,4 @@
--- The run of two blocks on one set of pins, each beside its stimulus.
+-- The run of two blocks on one set of pins, each with its stimulus.
 use Rattle.std.specs.Prelude.{◌≡◌, ◌||◌, List}
 use Rattle.dreq_pacing.specs.declared.line.Line.{Line}
 use Rattle.dreq_pacing.specs.Due.{quiet}

@@ -1,5 +1,5 @@
 -- How many of a run's clocks are worked out singly: clock 0, and those that stir.
---   worked_in        of a block beside a stimulus
+--   worked_in        of a block with a stimulus
 --   twin_worked_in   of two blocks, each beside its own: a clock stirs that stirs in either
 use Rattle.std.specs.Prelude.{ℕ, List}
 use Rattle.dreq_pacing.specs.declared.line.Line.{Line}

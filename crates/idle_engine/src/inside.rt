@@ -1,4 +1,4 @@
-//! A run of one block beside a stimulus, which shows what is inside the block: it goes as the one that shows its sample.
+//! A run of one block with a stimulus, which shows what is inside the block: it goes as the one that shows its sample.
 ghost use Rattle.std.specs.Prelude.{◌≡◌, ◌≤◌, List};
 ghost use Rattle.idle_engine.specs.OneInside.{one_inside};
 

@@ -1,4 +1,4 @@
-//! What a run has to offer so that `run` can run it: one block beside a stimulus, or two beside one each.
+//! What a run has to offer so that `run` can run it: one block with a stimulus, or two with one each.
 ghost use Rattle.std.specs.Prelude.{◌≡◌, ℕ, ◌+◌, ◌<◌, ◌≤◌, ◌^◌, Bool, true, false};
 ghost use Rattle.std.specs.Cow.{cow_value};
 ghost use Rattle.dreq_pacing.specs.Ports.{IsFirst};
@@ -7,12 +7,12 @@ ghost use Rattle.idle_engine.specs.Kinds.{Kind, IsKind, IsUntil, IsCalm};
 use block_core::News;
 use std::borrow::Cow;
 
-/// A run beside ports P that shows a V after each clock.
+/// A run with ports P that shows a V after each clock.
 pub(crate) trait Runs<V, P> {
     /// The states of a run, with what is left of the transfers.
     ghost Hosted: { Type 0 };
 
-    /// The lines that it runs beside.
+    /// The lines that it runs with.
     ghost Lines: { Type 0 };
 
     /// What happens in its clocks.
@@ -50,7 +50,7 @@ pub(crate) trait Runs<V, P> {
         ensures ready { ready ports.new (clock + 1) }
         ensures calls { calls self.new ≡ calls self.old + 1 };
 
-    /// Works out a clock in which the system does nothing, and tells what it may have changed.
+    /// Works out a clock in which the system does nothing, and returns what it may have changed.
     fn quiet_clock(&mut self, ports: &P, clock: u64) -> News
         requires clock { kind.in_clock (hosted self.old ports.now) clock }
         requires within { clock < 2 ^ 40 }

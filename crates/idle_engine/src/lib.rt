@@ -1,4 +1,4 @@
-//! A run of a block beside a stimulus, and of two, told to a trace.
+//! A run of a block with a stimulus, and of two, written to a trace.
 #![tactic(auto)]
 
 mod clocks;

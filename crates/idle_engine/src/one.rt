@@ -1,4 +1,4 @@
-//! A run of one block beside a stimulus.
+//! A run of one block with a stimulus.
 ghost use Rattle.std.specs.Prelude.{◌≡◌, ◌≤◌, List};
 ghost use Rattle.idle_engine.specs.One.{one};
 

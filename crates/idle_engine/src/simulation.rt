@@ -1,4 +1,4 @@
-//! A run beside the system's ports, told to a trace. Clocks in which nothing can move are leapt over.
+//! A run with the system's ports, written to a trace. Clocks in which nothing can move are leapt over.
 ghost use Rattle.std.specs.Prelude.{◌≡◌, ℕ, ◌+◌, ◌≤◌, ◌^◌, Bool, false, true, is_err, Option, List, OnOk, OnErr};
 ghost use Rattle.pio_edge.specs.Edge.{PutCounts};
 ghost use Rattle.block_core.specs.Hosted.{hosted_at, samples};
@@ -19,7 +19,7 @@ use sample_trace::{Trace, TraceFailed};
 use std::sync::ledger::Ledger;
 use step_count::Steps;
 
-/// Runs a block for some clocks, beside a stimulus that begins in clock 0, and tells a trace the sample of each clock
+/// Runs a block for some clocks, with a stimulus that begins in clock 0, and tells a trace the sample of each clock
 /// and that the samples end there.
 ///
 /// The block is in clock 0, and the clocks are up to 10^12. One step is one clock worked out singly, by a call of
@@ -82,7 +82,7 @@ pub fn simulate_inside<F: Fifo, T: Trace<Inside>, L: Ledger>(
     run(block, &mut ports, clocks, trace, steps)
 }
 
-/// Runs two blocks for some clocks, beside stimuli that begin in clock 0, and tells a trace the samples of each clock and that
+/// Runs two blocks for some clocks, with stimuli that begin in clock 0, and tells a trace the samples of each clock and that
 /// the samples end there.
 ///
 /// Both blocks are in clock 0, and the clocks are up to 10^12. One step is one clock worked out singly, by a call of

@@ -1,4 +1,4 @@
-//! A run of two blocks on one set of pins, each beside its stimulus.
+//! A run of two blocks on one set of pins, each with its stimulus.
 ghost use Rattle.std.specs.Prelude.{◌≡◌, ◌≤◌, List};
 ghost use Rattle.idle_engine.specs.Two.{two};
 

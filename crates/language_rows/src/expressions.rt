@@ -1,4 +1,4 @@
-//! What is told of the first expression of a source.
+//! The first expression of a source.
 use crate::statement_texts::tell_expr;
 use pio_expr::{Expr, ExprFault, parse_expr};
 use pio_lex::tokens;

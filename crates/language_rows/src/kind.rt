@@ -1,4 +1,4 @@
-//! Rows of tokens, expressions, values, statements, sources and configurations: a source, and what is told of it.
+//! Rows of tokens, expressions, values, statements, sources and configurations: a source, and what it gives.
 
 use crate::configs::{tell_default, tell_fault, tell_kind, tell_second, tell_setup};
 use crate::expressions::tell_expression;
@@ -73,7 +73,7 @@ impl RowKind for LanguageKind {
     }
 }
 
-/// Adds what is told of a source; none where memory runs out, or the source is none of its table's kind.
+/// Adds what a source gives; none where memory runs out, or the source is none of its table's kind.
 fn tell_source(alloc: Global, kind: LanguageKind, source: &[u8], text: &mut String) -> Option<()> {
     match kind {
         LanguageKind::Tokens => tell_tokens(alloc, source, text),

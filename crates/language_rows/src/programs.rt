@@ -1,4 +1,4 @@
-//! What is told of the programs of a source.
+//! The programs of a source.
 use pio_assemble::{Program, ProgramSymbol, SourceFault, assemble};
 use std::alloc::{AllocError, Global};
 

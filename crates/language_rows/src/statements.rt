@@ -1,4 +1,4 @@
-//! What is told of the lines of a source, one after the other.
+//! The statements of a source, line by line.
 ghost use Rattle.std.specs.Prelude.{◌≤◌, length};
 ghost use Rattle.std.specs.List.{All};
 ghost use Rattle.pio_lex.specs.Tokens.{IsTokenOf};

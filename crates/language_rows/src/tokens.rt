@@ -1,4 +1,4 @@
-//! What is told of the tokens of a source.
+//! The tokens of a source.
 use pio_lex::{LexFault, Token, tokens};
 use std::alloc::{AllocError, Global};
 

@@ -1,4 +1,4 @@
-//! Machines of a block beside a stimulus, and what is seen after which clocks, with both kinds of FIFO.
+//! Machines of a block with a stimulus, and what is seen after which clocks, with both kinds of FIFO.
 ghost use Rattle.std.specs.Prelude.{◌≡◌};
 
 use crate::lines::stimulus;

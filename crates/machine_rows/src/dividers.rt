@@ -1,4 +1,4 @@
-//! What is told of a divider of a whole part and a fraction: `ticks 2 128` and `ticks 2 128 6` with a restart, `new 0 1`,
+//! Rows of a divider of a whole part and a fraction: `ticks 2 128` and `ticks 2 128 6` with a restart, `new 0 1`,
 //! `leap 2 128 5` over so many clocks, and `far 1 0` over 2^40.
 ghost use Rattle.std.specs.Prelude.{◌≡◌};
 

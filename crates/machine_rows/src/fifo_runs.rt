@@ -1,4 +1,4 @@
-//! A run of clocks of a pair of FIFOs beside plain lists, with both kinds of FIFO.
+//! A run of clocks of a pair of FIFOs with plain lists, with both kinds of FIFO.
 use crate::fifo_clocks::{ClockEvents, clock, joined, words_of_tx};
 use fifo_pair::{Fifo, Pair, PlainFifo, RingFifo, Settled};
 use std::alloc::{AllocError, Global};
@@ -49,7 +49,7 @@ fn events_at(clock: u32, takes: bool, gives: bool) -> ClockEvents {
     }
 }
 
-/// The rule on plain lists: what the system is told in a clock.
+/// The rule on plain lists: what the system sees in a clock.
 fn settled_lists(
     tx: &mut Vec<u32>,
     rx: &mut Vec<u32>,

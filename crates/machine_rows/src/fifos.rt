@@ -1,5 +1,5 @@
-//! What is told of a pair of FIFOs: of one clock, where `tx: 1 2; take; write 3` has the words of TX, and `rx join_rx: ;
-//! give 7; read` those of RX and how the two are joined; and of `run 60`, so many clocks beside plain lists. Both kinds of
+//! Rows of a pair of FIFOs: of one clock, where `tx: 1 2; take; write 3` has the words of TX, and `rx join_rx: ;
+//! give 7; read` those of RX and how the two are joined; and of `run 60`, so many clocks with plain lists. Both kinds of
 //! FIFO tell the same.
 use crate::fifo_clocks::{ClockEvents, NOTHING, clock, filled, words_of_rx, words_of_tx};
 use crate::fifo_runs::tell_run;
@@ -7,7 +7,7 @@ use crate::lines::{number, numbers};
 use fifo_pair::{Fifo, Pair, PlainFifo, RingFifo, Settled};
 use std::alloc::{AllocError, Global};
 
-/// Adds what the system is told in a clock, and the words after it; or whether a run is that of plain lists.
+/// Adds what the system sees in a clock, and the words after it; or whether a run is that of plain lists.
 pub fn tell_fifos(alloc: Global, asked: &str, text: &mut String) -> Option<()> {
     if let Some(clocks) = asked.strip_prefix("run ") {
         return tell_run(alloc, clocks.parse().ok()?, text);
@@ -75,7 +75,7 @@ fn tell_rx<F: Fifo>(
     tell_words(&words_of_rx(alloc, pair).ok()?, is_full, text).ok()
 }
 
-/// Adds what the system is told.
+/// Adds what the system sees.
 fn tell_settled(settled: &Settled, text: &mut String) -> Result<(), AllocError> {
     if let Some(word) = settled.got {
         write!(text, "got {word}; ")?;

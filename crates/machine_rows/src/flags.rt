@@ -1,4 +1,4 @@
-//! What is told of flags: `resolve 24 1` of an index and a machine, and `merge 0b11 0b110 0b1010` of the flags that are up,
+//! Rows of flags: `resolve 24 1` of an index and a machine, and `merge 0b11 0b110 0b1010` of the flags that are up,
 //! lowered and raised.
 use crate::lines::{number, up_to};
 use irq_flags::{Flags, resolve};

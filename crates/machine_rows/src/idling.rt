@@ -1,5 +1,5 @@
-//! What is told of a lone machine over a memory of one word at each address, no pin or flag up, which ticks in each clock:
-//! `idle ff3f  set x, 31 [31]; 5` of how long it idles after so many ticks, and with `; tx 7` beside a TX that then holds a
+//! Rows of a lone machine over a memory of one word at each address, no pin or flag up, which ticks in each clock:
+//! `idle ff3f  set x, 31 [31]; 5` of how long it idles after so many ticks, and with `; tx 7` with a TX that then holds a
 //! word; `leap ff3f  set x, 31 [31]` of how long it does at first, and after the leap that follows its first tick; and
 //! `reserved 20e0` of what the word and then `set pins, 1` write.
 use crate::alone::{Around, By, around_of, clock};
@@ -69,7 +69,7 @@ fn quiet_clock<F: Fifo>(machine: &mut Machine<F>, view: &View) {
     machine.settle(&intent, None, false);
 }
 
-/// How long a machine idles after so many ticks of a word, beside a TX that then holds a word or is empty.
+/// How long a machine idles after so many ticks of a word, with a TX that then holds a word or is empty.
 fn idle_after<F: Fifo>(
     alloc: Global,
     word: u16,

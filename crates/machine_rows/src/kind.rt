@@ -134,7 +134,7 @@ static MACHINE_KINDS: [(&str, MachineKind); 7] = [
     ("runs told to lists", MachineKind::Told),
 ];
 
-/// Adds what is told of a part; none where memory runs out, or the line is none of its table's kind.
+/// Adds what a part gives; none where memory runs out, or the line is none of its table's kind.
 fn tell_part(alloc: Global, kind: PartKind, asked: &str, text: &mut String) -> Option<()> {
     match kind {
         PartKind::Shifts => tell_shift(asked, text),

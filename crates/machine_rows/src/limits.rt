@@ -1,4 +1,4 @@
-//! What is told of the types of a setup: `stalls 0 31` and `spans 64`, which keep so many at most, `name high-1` of a span's
+//! Rows of the types of a setup: `stalls 0 31` and `spans 64`, which keep so many at most, `name high-1` of a span's
 //! name, and `setup` of the machines that are placed, one after the other, and of the stalls of its one span, as
 //! `setup 3 0; 0 31`.
 ghost use Rattle.std.specs.Prelude.{◌≡◌, ◌<◌, IsTrue, IfSome};

@@ -1,4 +1,4 @@
-//! Two blocks on one set of pins beside a stimulus, and what is seen after which clocks, with both kinds of FIFO.
+//! Two blocks on one set of pins with a stimulus, and what is seen after which clocks, with both kinds of FIFO.
 ghost use Rattle.std.specs.Prelude.{◌≡◌, IfSome};
 
 use crate::lines::{only, pins, stimulus};

@@ -1,4 +1,4 @@
-//! What is told of pins: `write 4 8 0x123` of a mapping's base and count and a value, `from 0x81 3` of pins and a base,
+//! Rows of pins: `write 4 8 0x123` of a mapping's base and count and a value, `from 0x81 3` of pins and a base,
 //! `merge 16; - 3:1 - - - - - -` of the pins before and two writes of each machine, `pad 1 0 1` of levels, directions and
 //! the outside, and `sync 1 0; 0 3 2` of the pads before, the pins without synchroniser, and the pads of clocks.
 use crate::lines::{number, numbers, up_to};

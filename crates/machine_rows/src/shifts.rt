@@ -1,4 +1,4 @@
-//! What is told of a shift or a reversal: `in 0x12 0x5 8 right` of ISR, source and bits, `out 0x12 8 left` of OSR and bits,
+//! Rows of a shift or a reversal: `in 0x12 0x5 8 right` of ISR, source and bits, `out 0x12 8 left` of OSR and bits,
 //! `reverse 0xf`, and `reverse_signed -1`.
 use crate::lines::{number, up_to};
 use shift_engine::{reverse_bits, reverse_bits_signed, shift_in, shift_out};

@@ -1,4 +1,4 @@
--- How what a function returns relates to what the definitions compute; want of memory is allowed.
+-- How what a function returns relates to what the definitions compute; out of memory is allowed.
 --   SourceRefusal  a fault with its line
 --   Answers        what was returned of a line, seen by a view, or its fault, is what is computed
 --   Finds          no fault of a line is found, or the one that was returned
@@ -17,17 +17,17 @@ pub record SourceRefusal : Type 0 where
   pub line : ℕ
   pub kind : SourceKind
 
--- a fault of a line is told with the line's number
+-- a fault of a line has the line's number
 abbrev pub at_line : {X : Type 0} → ℕ → Result X SourceKind → Result X SourceRefusal
 at_line number (Ok x) = Ok x
 at_line number (Err kind) = Err (record { line = number; kind = kind })
 
--- what a returned fault of a line tells; nothing where memory ran out
+-- what a returned fault of a line says; nothing where memory ran out
 abbrev pub line_told : LineFault → Option SourceKind
 line_told line_fault.Memory = None
 line_told (line_fault.Found kind) = Some kind
 
--- what a returned fault of a source tells; nothing where memory ran out
+-- what a returned fault of a source says; nothing where memory ran out
 abbrev pub told : SourceFault → Option SourceRefusal
 told Memory = None
 told (Found line kind) = Some (record { line = line; kind = kind })

@@ -1,4 +1,4 @@
--- How a fault of a source is told in a message (choice of this profile).
+-- The message of a fault of a source (choice of this profile).
 --   code_of         the code of a fault
 --   quantity_text   the word for a number of a statement
 --   kind_text       the code, and after it the name, or the number's word and its value

@@ -47,7 +47,7 @@ kind_of_value (value_kind.Cycle name) = Cycle name
 kind_of_value value_kind.DivZero = DivZero
 kind_of_value value_kind.Overflow = Overflow
 
--- what is told of an expression without a value
+-- the fault of an expression without a value
 abbrev pub told_of_value : ValueFault → LineFault
 told_of_value value_fault.Memory = line_fault.Memory
 told_of_value (value_fault.Found kind) = line_fault.Found (kind_of_value kind)

@@ -147,7 +147,7 @@ kind_of_lex lex_kind.BadNumber = BadNumber
 kind_of_lex lex_kind.OpenComment = OpenComment
 kind_of_lex lex_kind.OpenBlock = OpenBlock
 
--- what is told of it
+-- the fault of it
 abbrev pub told_of_lex : LexFault → SourceFault
 told_of_lex (lex_fault.Found line kind) = source_fault.Found line (kind_of_lex kind)
 told_of_lex lex_fault.Memory = source_fault.Memory

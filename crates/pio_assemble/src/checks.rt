@@ -69,7 +69,7 @@ fn line_fault<'a>(
     }
 }
 
-/// What is told of a line that is no statement.
+/// The fault of a line that is no statement.
 fn kind_of(kind: StatementKind) -> SourceKind
     ensures { result ≡ spec.kind_of kind }
 {

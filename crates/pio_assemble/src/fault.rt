@@ -61,7 +61,7 @@ pub enum SourceKind {
     Overflow,
     /// `V5`: more than 64 parentheses and signs are open at once.
     TooDeep,
-    /// `V6`: a `::` beside a sign or an operation in its parenthesis.
+    /// `V6`: a `::` next to a sign or an operation in its parenthesis.
     Ambiguous,
 }
 

@@ -15,7 +15,7 @@ use Rattle.serial_receiver.specs.Frames.{frames, levels_of}
 use Rattle.program_runs.specs.Accepted.{accepted}
 pub use Rattle.program_runs.specs.Steady.{is_steady, IsSteady}
 
--- the frames that a serial receiver hears on pin 0 in the first n clocks of a setup's run beside these lines, where a
+-- the frames that a serial receiver hears on pin 0 in the first n clocks of a setup's run with these lines, where a
 -- bit takes so many clocks
 abbrev pub frames_in : Setup → List Line → (bit n : ℕ) → List Frame
 frames_in u lines bit n = frames bit (is_high u.level 0) (levels_of 0 (samples (first_run u) lines n))

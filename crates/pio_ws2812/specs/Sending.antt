@@ -30,7 +30,7 @@ word_bits word = bits_down word 0 24
 abbrev pub bits_of : List ℕ → List Bool
 bits_of words = flat_map word_bits words
 
--- the pulses on a pin in the first n clocks of a setup's run beside these lines
+-- the pulses on a pin in the first n clocks of a setup's run with these lines
 abbrev pub pulses_in : Setup → List Line → (pin n : ℕ) → List Pulse
 pulses_in u lines pin n = pulses (is_high u.level pin) (levels_in u lines pin n)
 

@@ -1,4 +1,4 @@
--- A machine clock by clock, in the run of a setup beside a stimulus that leaves its ticks alone: what its place holds, and what a
+-- A machine clock by clock, in the run of a setup with a stimulus that leaves its ticks alone: what its place holds, and what a
 -- clock with a tick and one without do.
 --   Laws             what the laws of the crates below say, as one premise
 use Rattle.std.proofs.Common.{◌≡◌, ℕ, zero, suc, ◌<◌, Bool, true, false, ◌&&◌, cond, Option, Some, None, option_map, option_to_list, List, [], ◌∷◌, ◌++◌, slice_get, slice_index_or, refl, sym, ap, ◌∙◌, add-one, append-nil, append_assoc}
@@ -35,7 +35,7 @@ use Rattle.program_runs.proofs.Taking.{takes-more}
 
 -- what the laws of block_core and clock_divider say
 pub record Laws : Type 0 where
-  -- the run beside a stimulus is one in which the machines see the block's own pads
+  -- the run with a stimulus is one in which the machines see the block's own pads
   pub follows : (u : Setup) (lines : List Line) → Follows u.memory (λ c. seen_of u.bypass (pad_at u (host_of (first_run u) lines) c) (pad_before u (host_of (first_run u) lines) c))
       (host_of (first_run u) lines) (λ c. (hosted_at (first_run u) lines c).run.state)
   -- each place goes its own way

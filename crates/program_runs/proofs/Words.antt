@@ -1,4 +1,4 @@
--- The words that a TX accepts beside a stimulus are words of the stimulus.
+-- The words that a TX accepts with a stimulus are words of the stimulus.
 use Rattle.std.proofs.Common.{◌==◌, ℕ, zero, suc, ◌+◌, ◌^◌, ◌<◌, Bool, true, false, cond, Option, Some, None, IfSome, option_to_list, List, [], ◌∷◌, ◌++◌, drop, nat_lt, length, slice_get, slice_index_or, slice_set}
 use Rattle.std.specs.List.{AllByRecursion}
 use Rattle.fifo_pair.specs.Fifos.{if_room}

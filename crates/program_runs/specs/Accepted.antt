@@ -1,6 +1,6 @@
 -- The words that a machine's TX accepts in a run.
 --   accepted_in      in a clock
---   accepted         in the first clocks of a run beside a stimulus
+--   accepted         in the first clocks of a run with a stimulus
 use Rattle.std.specs.Prelude.{ℕ, zero, suc, Option, Some, None, option_to_list, List, [], ◌++◌, slice_index_or}
 use Rattle.fifo_pair.specs.Fifos.{if_room}
 use Rattle.dreq_pacing.specs.declared.due.Due.{Due}
@@ -17,7 +17,7 @@ accepted_in d None = None
 accepted_in d (Some m) =
     let fifos = m.machine.ports.fifos in if_room fifos.tx_room fifos.tx (slice_index_or d.word m.machine.setup.id None)
 
--- the words that the TX of the machine with this number accepts in the first n clocks of a run beside these lines, in
+-- the words that the TX of the machine with this number accepts in the first n clocks of a run with these lines, in
 -- order
 unfoldable pub accepted : Run → List Line → (id n : ℕ) → List ℕ
 accepted start lines id zero = []

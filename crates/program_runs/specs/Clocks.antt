@@ -1,4 +1,4 @@
--- One machine clock by clock, in the run of a setup beside a stimulus.
+-- One machine clock by clock, in the run of a setup with a stimulus.
 --   IsOwn            the machine and the pin that are looked at
 --   host_in, state_in, view_in      what the system does, the block's state, and what the machines see
 --   slots            the machine's place at the start of each clock
@@ -30,7 +30,7 @@ pub record IsOwn (u : Setup) (id : ℕ) (s : MachineSetup) (pin : ℕ) : Type 0 
   pub is_pin : pin < 32
   pub alone : OthersLeave Level id pin u.machines
 
--- what the system does in a clock of the setup's run beside a stimulus
+-- what the system does in a clock of the setup's run with a stimulus
 abbrev pub host_in : Setup → List Line → ℕ → Due
 host_in u lines c = host_of (first_run u) lines c
 

@@ -19,6 +19,6 @@ row at c (suc n) = at c ∷ row at (c + 1) n
 abbrev pub up_in : Setup → List Line → (pin c : ℕ) → Bool
 up_in u lines pin c = level_in u lines pin (suc c) == 1
 
--- the pin's levels in the samples of the first n clocks of a setup's run beside these lines
+-- the pin's levels in the samples of the first n clocks of a setup's run with these lines
 abbrev pub levels_in : Setup → List Line → (pin n : ℕ) → List Bool
 levels_in u lines pin n = map (λ s. is_high s.level pin) (samples (first_run u) lines n)

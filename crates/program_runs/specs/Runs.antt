@@ -16,7 +16,7 @@ use Rattle.program_runs.specs.Steps.{IsStep, takes}
 abbrev pub ticks_in : (int n : ℕ) → ℕ
 ticks_in int n = (n + (int - 1)) / int
 
--- The run of the machine with this number beside these lines, with tick t in clock `int * t`.
+-- The run of the machine with this number, with these lines and tick t in clock `int * t`.
 pub record GoesByTicks (u : Setup) (lines : List Line) (id : ℕ) (s : MachineSetup) (pin int : ℕ) : Type 0 where
   -- as it begins
   pub first_regs : regs_in u lines s (int * 0) ≡ first_registers s

@@ -1,4 +1,4 @@
-//! Laws of one machine in a run beside a stimulus, each on a function that does nothing.
+//! Laws of one machine in a run with a stimulus, each on a function that does nothing.
 ghost use Rattle.std.specs.Prelude.{◌≡◌, ℕ, suc, ◌+◌, ◌*◌, ◌^◌, ◌<◌, ◌≤◌, ◌++◌, true, false, Some, List};
 ghost use Rattle.std.specs.List.{AllByRecursion};
 ghost use Rattle.clock_divider.specs.Timing.{period_of};

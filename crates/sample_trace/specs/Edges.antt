@@ -29,7 +29,7 @@ pub record Counts : Type 0 where
   pub last : ℕ
   pub counts : List ℕ
 
--- a trace that was told of no sample
+-- a trace before its first sample
 abbrev pub no_edges : ℕ → Counts
 no_edges levels = record { first = levels; last = levels; counts = replicate 32 0 }
 

@@ -24,7 +24,7 @@ impl Model for EdgeTrace {
 }
 
 impl EdgeTrace {
-    /// A trace that was told of no sample. Before the first one the output levels are these; bit i is pin i.
+    /// A trace before its first sample. Before the first one the output levels are these; bit i is pin i.
     pub fn new(levels: u32) -> EdgeTrace
         ensures { result ≡ no_edges levels }
     {

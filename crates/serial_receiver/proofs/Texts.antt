@@ -45,7 +45,7 @@ length-held pin clock before told next =
     let after : length told ≤ clock = next.after in
     omega (arith, length-append levels more, length-replicate (clock - length levels) (level_after before levels))
 
--- more frames are told
+-- more frames are shown
 receives_more : (pin bit : ℕ) (level : Bool) (taken : Option (List ℕ)) (told more : List Sample) (now next : Option (List ℕ)) (p b : ℕ) (line after : LineSoFar) (fs : List Frame)
     → Receives pin bit level taken told now p b line → frames bit level (levels_of pin more) ≡ frames bit level (levels_of pin told) ++ fs
     → next ≡ with_bytes now (frames_text fs) → Hears bit level (levels_of pin more) after → Receives pin bit level taken more next p b after
@@ -109,7 +109,7 @@ told_brings pin bit clock level told s line one two next h holds steps =
     let P : List Bool → Type 0 = λ xs. Hears bit level xs two.line × (frames bit level xs ≡ fs ++ (frame_list one.frame ++ frame_list two.frame)) in
     subst P all (brings.state, brings.ended ∙ ap (λ x. x ++ frame_list two.frame) first.1 ∙ append_assoc fs (frame_list one.frame) (frame_list two.frame))
 
--- a sample is told
+-- a sample is shown
 pub sample_receives : (pin bit clock : ℕ) (level : Bool) (taken : Option (List ℕ)) (told : List Sample) (s : Sample) (now next : Option (List ℕ)) (p b : ℕ) (line : LineSoFar) (one two : Heard)
     → IsNext told clock → Receives pin bit level taken told now p b line → HoldsLine b clock line one → StepsLine b clock (is_high s.level p) one.line two
     → next ≡ with_bytes now (frames_text (frame_list one.frame ++ frame_list two.frame)) → Receives pin bit level taken (held_to clock told ++ s ∷ []) next p b two.line
@@ -130,7 +130,7 @@ sample_breaks pin bit clock level taken told s now next p b line one two at h ho
     let both = told_brings pin bit clock level told s line one two at h.heard (subst H h.own_bit holds) (subst T h.own_pin (subst S h.own_bit steps)) in
     breaks_more pin bit level taken told (held_to clock told ++ s ∷ []) now next p b line (frame_list one.frame ++ frame_list two.frame) h both.1 t
 
--- the end is told
+-- the end is shown
 pub end_receives : (pin bit clock : ℕ) (level : Bool) (taken : Option (List ℕ)) (told : List Sample) (now next : Option (List ℕ)) (p b : ℕ) (line : LineSoFar) (one : Heard)
     → IsNext told clock → Receives pin bit level taken told now p b line → HoldsLine b clock line one
     → next ≡ with_bytes now (frames_text (frame_list one.frame ++ [])) → Receives pin bit level taken (held_to clock told) next p b one.line
@@ -170,7 +170,7 @@ same_taken (Some a) (Some b) h = cc
 same_taken None (Some b) h = absurd (apart (head (taken_code None)) (head (taken_code (Some b))) (ap head h) refl refl)
 same_taken (Some a) None h = absurd (apart (head (taken_code None)) (head (taken_code (Some a))) (ap head (sym h)) refl refl)
 
--- a receiver of which nothing was told
+-- a receiver before its first clock
 pub begin_receives : (pin bit : ℕ) (level : Bool) (taken : Option (List ℕ)) (p b : ℕ) (first : Bool) (now : Option (List ℕ)) (line : LineSoFar)
     → first_heard p b first now ≡ first_heard pin bit level taken → Hears b first [] line → Receives pin bit level taken [] now p b line
 unfolding frames_from

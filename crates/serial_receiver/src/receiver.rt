@@ -27,7 +27,7 @@ pub struct Receiver<'a, S: Sink> {
 }
 
 impl<'a, S: Sink> Receiver<'a, S> {
-    /// A receiver into this sink, of which nothing was told: its pin, 0 to 31, the clocks of a bit, from 2 on, and the level before
+    /// A receiver into this sink before its first clock: its pin, 0 to 31, the clocks of a bit, from 2 on, and the level before
     /// clock 0.
     pub fn new(sink: &'a mut S, pin: u8, bit: u16, level: bool) -> Self
         requires pin { pin < 32 }

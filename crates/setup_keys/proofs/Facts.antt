@@ -85,7 +85,7 @@ formed_at false name is = refl
 pub has_form : (name : List ℕ) → is_span_name (formed name) ≡ true
 has_form name = formed_at (is_span_name name) name refl
 
--- bits that are brought into range fit, beside an enable bit and without one
+-- bits that are brought into range fit, with an enable bit and without one
 pub bits_fit : (bits : ℕ) (opt : Bool) → min bits (most_bits opt) + (if opt then 1 else 0) ≤ 5
 bits_fit bits true = add-le-add {c = 1} {d = 1} (min-le_right bits 4) (lit≤ tt)
 bits_fit bits false = add-le-add {c = 0} {d = 0} (min-le_right bits 5) (lit≤ tt)

@@ -1,4 +1,4 @@
--- Which words a tick takes from TX, and when it tells that TX is empty.
+-- Which words a tick takes from TX, and when it says that TX is empty.
 use Rattle.std.proofs.Common.{◌≡◌, ℕ, ◌+◌, ◌-◌, ◌<◌, ◌≤◌, ◌==◌, nat_le, min, Bool, true, false, cond, ◌&&◌, ◌||◌, Option, Some, None, is_some, List, [], ◌∷◌, length, slice_get, refl, sym, ap, ◌∙◌, inl, inr, rules, arith}
 use Rattle.std.proofs.lemmas.Bool.{cases_lt}
 use Rattle.std.proofs.lemmas.Bool.Decides.{nat_tests}
@@ -332,7 +332,7 @@ taken_only s v q r other t =
       | inr none ↦ let left : r.delay ≡ 0 = omega arith in only_at_rest s v q r other t left
     ]
 
--- an effect that tells of a stall on TX has none, and one that stalls for it tells so
+-- an effect that says that it stalls on TX has no word, and one that stalls for it says so
 record TellsTx (q : Queues) (waits : Bool) (e : Effect) : Type 0 where
   only : raises TX_STALL e.sticky ≡ true → (words : List ℕ) → q.tx_level ≡ length words → q.front ≡ slice_get words 0 → words ≡ []
   rises : waits ≡ true → e.stalled ≡ true → q.tx_level ≡ 0 → q.front ≡ None → raises TX_STALL e.sticky ≡ true
@@ -341,7 +341,7 @@ tells_if : (q : Queues) (waits : Bool) (b : Bool) (x y : Effect) → TellsTx q w
 tells_if q waits true x y h k = h
 tells_if q waits false x y h k = k
 
--- one that neither stalls nor tells
+-- one that neither stalls nor says so
 tells_none : (q : Queues) (waits : Bool) (e : Effect) → raises TX_STALL e.sticky ≡ false → e.stalled ≡ false → TellsTx q waits e
 tells_none q waits e h k = record { only = λ t words. cc; rises = λ t u. cc }
 

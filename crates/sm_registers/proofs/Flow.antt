@@ -181,7 +181,7 @@ pc_goes_on s v q r none left ends stays below =
     let here : (r.pc == s.wrap_top) ≡ false = grind (arith, nat_tests) in
     goes_on s v q r none left ends stays ∙ ap (λ b. cond b s.wrap_bottom ((r.pc + 1) % 32)) here
 
--- PC beside a pending word, in a tick that finishes, that stalls, and of a delay
+-- PC with a pending word, in a tick that finishes, that stalls, and of a delay
 pending_done :
     (s : MachineSetup) (v : View) (q : Queues) (r : Registers) → is_some r.pending ≡ true → writes_pc (current_act v r) s v r ≡ false
     → r.delay ≡ 0 → (tick_of s v q r).1.stalled ≡ false → (tick_of s v q r).0.pc ≡ r.pc

@@ -33,7 +33,7 @@ two_writes writes = slice_index_or writes 0 (0, 0) ∷ slice_index_or writes 1 (
 abbrev pub written_by : Outputs → Intent → Outputs
 written_by o i = record { levels = merged o.levels (two_writes i.level); directions = merged o.directions (two_writes i.direction) }
 
--- what is wanted beside pins: flags to be lowered and raised, a word taken of TX, a word given to RX, sticky flags raised
+-- what is wanted besides pins: flags to be lowered and raised, a word taken of TX, a word given to RX, sticky flags raised
 pub record Wants : Type 0 where
   pub clears : ℕ
   pub sets : ℕ

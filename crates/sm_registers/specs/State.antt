@@ -45,7 +45,7 @@ first_registers s = record {
   begun = false;
 }
 
--- at the start the FIFOs are empty, and nothing was read or told
+-- at the start the FIFOs are empty, and nothing was read or reported
 abbrev pub first_machine : MachineSetup → MachineState
 first_machine s = record {
   setup = s;

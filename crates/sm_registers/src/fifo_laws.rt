@@ -16,7 +16,7 @@ ghost use Rattle.sm_registers.specs.declared.sticky.TheConstants.{TX_STALL};
 ghost use Rattle.sm_registers.specs.declared.registers.Registers as registers;
 ghost use Rattle.sm_registers.specs.View as view;
 
-/// Autopull, beside a TX that has a word, leaves no OSR at its threshold: after any tick, first, late or of a delay, its
+/// Autopull, with a TX that has a word, leaves no OSR at its threshold: after any tick, first, late or of a delay, its
 /// count is below (`filled`). One that was at the threshold takes the word in the same tick, unless the tick fills it by a
 /// MOV (`taken`, `delayed`). No tick takes two words: a PULL that takes one isn't followed by a refill (`once`). But for a
 /// PULL, a word is taken only with autopull, at the threshold, counting the bits that the tick's OUT shifts out (`only`)
@@ -60,7 +60,7 @@ pub fn txstall_tells_an_empty_tx()
         → f.tx ≡ [] → raises TX_STALL (tick_of s v (queues_of f) r).1.sticky ≡ true }
 {}
 
-/// A late tick that stalls raises again the flags of its stall. Where these are up from the ticks before, it tells nothing
+/// A late tick that stalls raises again the flags of its stall. Where these are up from the ticks before, it says nothing
 /// new, and may be left out: `IsKnown` says that they are. Every tick keeps it, by the flags that this one raises (`after`),
 /// and so do flags that come to them (`more`). A tick that doesn't stir then changes no flag (`calm`). A machine that hasn't
 /// begun an instruction has it for any flags (section 3.7, FDEBUG).

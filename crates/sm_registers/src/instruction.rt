@@ -21,7 +21,7 @@ use fifo_pair::{Fifo, Pair};
 use pin_matrix::MachineSetup;
 use pio_encode::Act;
 
-/// Does to registers what an act does to them, tells what it wants of FIFOs and flags, and how it ends.
+/// Does to registers what an act does to them, and returns what it wants of FIFOs and flags, and how it ends.
 // One piece of code, in which each act goes straight to what it does.
 #[inline(always)]
 #[tactic(auto, unfolding(crate::specs::Effects::effect_of))]

@@ -51,7 +51,7 @@ impl<F: Fifo> Model for Machine<F> {
 }
 
 impl<F: Fifo> Machine<F> {
-    /// A machine at the start of a run. The error is want of memory; no other call takes any.
+    /// A machine at the start of a run. The error is out of memory; no other call takes any.
     pub fn new(alloc: Global, setup: &MachineSetup) -> Result<Machine<F>, AllocError>
         ensures { IfOk result (λ machine. machine ≡ first_machine setup.now) }
     {
@@ -103,7 +103,7 @@ impl<F: Fifo> Machine<F> {
         )
     }
 
-    /// Makes its next tick where that is simple, and else does nothing. Where it made it, it tells whether the next one is ready;
+    /// Makes its next tick where that is simple, and else does nothing. Where it made it, it says whether the next one is ready;
     /// of a tick that is known to be, nothing more is asked. Outside the registers a simple tick does nothing but write pins,
     /// over those of the machines before it.
     #[inline(always)]

@@ -23,7 +23,7 @@ use crate::view::View;
 use fifo_pair::{Fifo, Pair};
 use pin_matrix::MachineSetup;
 
-/// Makes a tick where it is simple, and else does nothing. Where it made it, it tells whether the next one is ready.
+/// Makes a tick where it is simple, and else does nothing. Where it made it, it says whether the next one is ready.
 #[inline(always)]
 #[tactic(auto, unfolding(crate::specs::Tick::tick_of))]
 pub(crate) fn simple_tick<F: Fifo>(

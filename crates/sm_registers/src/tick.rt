@@ -20,7 +20,7 @@ use crate::view::View;
 use fifo_pair::{Fifo, Pair};
 use pin_matrix::MachineSetup;
 
-/// A tick: changes the registers, and tells what it does outside them.
+/// A tick: changes the registers, and returns what it does outside them.
 #[inline(always)]
 #[tactic(auto, unfolding(crate::specs::Tick::tick_of, crate::specs::Tick::tick_delay))]
 pub(crate) fn tick_of<F: Fifo>(
@@ -145,7 +145,7 @@ fn finish(pc: u8, pending: Option<u16>, delay: u8, registers: &mut Registers)
     registers.begun = false;
 }
 
-/// Autopull: fills the OSR where it is due and TX has a word, and tells whether it took one.
+/// Autopull: fills the OSR where it is due and TX has a word, and returns whether it took one.
 fn refill<F: Fifo>(setup: &MachineSetup, fifos: &Pair<F>, registers: &mut Registers) -> bool
     ensures registers { registers.new ≡ spec.refilled setup.now (queues_of fifos.now) registers.old }
     ensures taken { result ≡ spec.refills setup.now (queues_of fifos.now) registers.old }

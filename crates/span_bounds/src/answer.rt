@@ -26,7 +26,7 @@ use std::sync::ledger::{Blank, Ledger};
 use step_count::Steps;
 
 /// The least closed table of the span where it is good, else its first bad context in context order, and in it the first
-/// cause. The span's machine is configured. The error is want of memory, which is taken before the first row is worked out.
+/// cause. The span's machine is configured. The error is out of memory, which is taken before the first row is worked out.
 pub fn derive(alloc: Global, setup: &Setup, span: &Span) -> Result<Derived, AllocError>
     requires { IsSome (slice_index_or setup.now.machines span.now.machine None) }
     ensures { IfOk result (λ derived. IsAnswer setup.now span.now derived) }

@@ -6,7 +6,7 @@ use std::alloc::{AllocError, Global};
 use std::collections::BinaryHeap;
 use std::marker::Model;
 
-/// Numbers with room for so many, each beside an age. It takes its memory when it is made, and none afterwards. A contract sees
+/// Numbers with room for so many, each with an age. It takes its memory when it is made, and none afterwards. A contract sees
 /// neither the ages nor the order.
 #[derive(Drop)]
 pub(crate) struct Queue {
@@ -38,7 +38,7 @@ impl Queue {
         Ok(Queue { heap, room })
     }
 
-    /// One number more, beside this age.
+    /// One number more, with this age.
     pub(crate) fn push(&mut self, age: u32, number: usize)
         requires { length self.old.numbers < self.old.room }
         ensures more { IsMore number self.old.numbers self.new.numbers }

@@ -39,7 +39,7 @@ impl Table {
         Table { grid }
     }
 
-    /// The table without rows, with room for any. The error is want of memory.
+    /// The table without rows, with room for any. The error is out of memory.
     pub fn new(alloc: Global) -> Result<Table, AllocError>
         ensures { IfOk result (λ table. table ≡ []) }
     {

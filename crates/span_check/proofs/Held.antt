@@ -44,7 +44,7 @@ holds_over laws u sp some p alone seen host states begins follows n =
     (beside laws u sp s machine.1 alone seen host states begins follows p.rows (sound_table laws u sp p.rows p.table p.closed p.good) p.closed.starts)
     (run_of laws u sp s machine.1 alone seen host states begins follows) n sp.unit refl
 
--- the block's own run beside a stimulus is such a run
+-- the block's own run with a stimulus is such a run
 beside_follows : (laws : Laws) (u : Setup) (lines : List Line) → Follows u.memory (seen_beside u lines) (host_of (first_run u) lines) (state_beside u lines)
 unfolding hosted_at hosted_next next
 beside_follows laws u lines c =

@@ -1,4 +1,4 @@
--- Rows of spans that don't hold in a run, worked by hand: of one block beside a stimulus that disturbs it, and of two blocks, of which
+-- Rows of spans that don't hold in a run, worked by hand: of one block with a stimulus that disturbs it, and of two blocks, of which
 -- the second owns pin 0.
 use Rattle.std.proofs.Common.{◌≡◌, ℕ, true, false, Some, List, [], ◌∷◌, refl, subst, arith}
 use Rattle.clock_divider.specs.Ticks.{is_tick}
@@ -48,7 +48,7 @@ too_short m from to count free holds =
           (record { free = λ c after before. subst (λ k. (m k).excused ≡ false) (let e : 1 ≡ c = omega (arith, after, before) in e) free; unbroken = tt }),
     )
 
--- in one block, beside a line that restarts its divider meanwhile
+-- in one block, with a line that restarts its divider meanwhile
 short_beside_a_line : HoldsUpTo at_least_two short (record { clock = 1; act = Restart 0 } ∷ []) 2 → ⊥
 unfolding short at_least_two mark_of counted hosted_at hosted_next next stepped acted settled_slot is_tick settled merged reading_of act_of push_or_pull_at delay_of side_of set_at mov_at effect_of jmp_effect out_effect pull_effect set_effect mov_effect settled_ports tick_of tick_delay tick_word tick_by after_effect due_in transfers_after requests_of
 short_beside_a_line = too_short (marks_in at_least_two short (record { clock = 1; act = Restart 0 } ∷ [])) refl refl refl refl

@@ -60,7 +60,7 @@ pub record Laws : Type 0 where
       → Follows memory seen host states → (id p : ℕ) → p < 32 → OthersLeave Direction id p s.machines → (clock : ℕ)
       → bit_at (states (suc clock)).directions p
       ≡ last_of p (bit_at (states clock).directions p) (two_writes (intent_in memory (seen clock) (host clock) (states clock) id).direction)
-  -- and its run beside a stimulus
+  -- and its run with a stimulus
   pub stimulus : (start : Run) (lines : List Line) (clock : ℕ) → (hosted_at start lines clock).run ≡ run_from start (host_of start lines) clock
   pub memory : (start : Run) (host : ℕ → Due) (clock : ℕ) → (run_from start host clock).memory ≡ start.memory
   -- of clock_divider: what the test for a tick means

@@ -1,4 +1,4 @@
--- One clock of the span's machine beside the checker's table.
+-- One clock of the span's machine along the checker's table.
 use Rattle.std.proofs.Common.{◌≡◌, ◌==◌, ℕ, ◌+◌, ◌≤◌, Bool, true, false, ◌&&◌, cond, Option, Some, None, List, [], ◌∷◌, slice_index_or, refl, ap, sym, subst, ◌∙◌, inl, inr, arith}
 use Rattle.std.specs.Int.{bit_at}
 use Rattle.pin_matrix.specs.Pins.{last_of}
@@ -106,7 +106,7 @@ pub record GoesOn (u : Setup) (sp : Span) (rows : Context → Option Ages) (s : 
   pub going : IsGoing u sp rows s after m w
   pub goes : Goes (is_bounded sp) (bounds_of sp s).0 (bounds_of sp s).1 k.from k.to k.counts k.strays k.excused ages w.ages
 
--- beside a sound table
+-- along a sound table
 module _ (laws : Laws) (u : Setup) (sp : Span) (rows : Context → Option Ages) (s : MachineSetup) (configured : slice_index_or u.machines sp.machine None ≡ Some s) (sound : IsSoundTable u sp rows) where
   -- a tick
   ticked : (v : View) (q : Queues) (r : Registers) (w : Watch) → IsFollowed u sp rows s r.pc (is_excused_in sp (flow_of r)) w (tick_of s v q r) → IsStep u sp rows s r.pc (is_excused_in sp (flow_of r)) w (tick_of s v q r)

@@ -1,4 +1,4 @@
--- A run beside the checker's table, clock by clock.
+-- A run along the checker's table, clock by clock.
 use Rattle.std.proofs.Common.{◌≡◌, ℕ, zero, suc, ◌+◌, ◌<◌, ◌≤◌, Bool, true, false, Option, Some, None, slice_index_or, sym, subst, arith}
 use Rattle.pin_matrix.specs.declared.machine.MachineSetup.{MachineSetup}
 use Rattle.pin_matrix.specs.declared.setup.Setup.{Setup}
@@ -18,7 +18,7 @@ use Rattle.span_check.proofs.Counting.{one_if, counted-suc, counted-none, free-b
 use Rattle.span_check.proofs.Premises.{Laws}
 use Rattle.span_check.proofs.Steps.{Fits, IsGoing, IsAfter, GoesOn, one_clock}
 
--- a run of a setup beside a table: what the proof asks of it
+-- a run of a setup along a table: what the proof asks of it
 pub record IsBeside (u : Setup) (sp : Span) (rows : Context → Option Ages) (s : MachineSetup) (seen : ℕ → ℕ) (host : ℕ → Due) (states : ℕ → BlockState) : Type 0 where
   pub configured : slice_index_or u.machines sp.machine None ≡ Some s
   pub sound : IsSoundTable u sp rows

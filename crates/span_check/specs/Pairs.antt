@@ -1,4 +1,4 @@
--- Spans in the runs of two blocks on one set of pins, each beside its own stimulus.
+-- Spans in the runs of two blocks on one set of pins, each with its own stimulus.
 --   first_does, second_does   what the system does at each
 --   pair_sees                 what the machines of one of them see
 --   HoldsInFirst, HoldsInSecond   a span of one of them holds in the run of both, up to some clock
@@ -27,7 +27,7 @@ pair_sees bypass own s t first second c =
     seen_of bypass (twin_pad_at own s t (first_does own s t first second) (second_does own s t first second) c)
     (twin_pad_before own s t (first_does own s t first second) (second_does own s t first second) c)
 
--- The span of the first block holds in the run of both beside these lines, up to clock n.
+-- The span of the first block holds in the run of both with these lines, up to clock n.
 abbrev pub HoldsInFirst : Span → (own : ℕ) → (s t : Setup) → (first second : List Line) → (n : ℕ) → Type 0
 HoldsInFirst sp own s t first second n =
     HoldsOver sp s.memory (pair_sees s.bypass own s t first second) (first_does own s t first second)

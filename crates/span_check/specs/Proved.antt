@@ -1,6 +1,6 @@
 -- What a proof of a span gives.
 --   HoldsOverAnyPads  a span holds in every run of its setup over any pads
---   HoldsInEveryRun   and in every run of it beside a stimulus
+--   HoldsInEveryRun   and in every run of it with a stimulus
 --   VerdictHolds      what a verdict says of runs
 use Rattle.std.specs.Prelude.{◌≡◌, ℕ, List}
 use Rattle.pin_matrix.specs.declared.setup.Setup.{Setup}
@@ -19,7 +19,7 @@ HoldsOverAnyPads u sp =
     (seen : ℕ → ℕ) (host : ℕ → Due) (states : ℕ → BlockState) → states 0 ≡ first_state u → Follows u.memory seen host states
     → (n : ℕ) → HoldsOver sp u.memory seen host states n
 
--- The span holds up to every clock, beside every stimulus, and so it does where the machines see any other pads.
+-- The span holds up to every clock, with every stimulus, and so it does where the machines see any other pads.
 pub record HoldsInEveryRun (u : Setup) (sp : Span) : Type 0 where
   pub beside : (lines : List Line) (n : ℕ) → HoldsUpTo sp u lines n
   pub over_any_pads : HoldsOverAnyPads u sp

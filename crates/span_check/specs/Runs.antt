@@ -1,7 +1,7 @@
 -- Spans in the runs of a setup.
 --   marks_over       the marks of a run in which the machines see any pads
 --   HoldsOver        a span holds in such a run, up to some clock
---   marks_in         the marks of a setup's run beside a stimulus
+--   marks_in         the marks of a setup's run with a stimulus
 --   HoldsUpTo        a span holds in it, up to some clock
 --   has_breaking     a line of a clock disables a machine or restarts its divider
 use Rattle.std.specs.Prelude.{ℕ, suc, ◌==◌, Bool, false, List}
@@ -26,7 +26,7 @@ marks_over sp memory seen host states c = mark_of sp memory (seen c) (host c) (s
 abbrev pub HoldsOver : Span → (memory : List ℕ) → (seen : ℕ → ℕ) → (host : ℕ → Due) → (states : ℕ → BlockState) → (n : ℕ) → Type 0
 HoldsOver sp memory seen host states n = Holds sp.unit sp.min sp.max (marks_over sp memory seen host states) n
 
--- what the machines see in each clock of the setup's run beside a stimulus, and the states of this run
+-- what the machines see in each clock of the setup's run with a stimulus, and the states of this run
 abbrev pub seen_beside : Setup → List Line → ℕ → ℕ
 seen_beside u lines c = seen_in (host_of (first_run u) lines c) (hosted_at (first_run u) lines c).run
 
@@ -34,11 +34,11 @@ seen_beside u lines c = seen_in (host_of (first_run u) lines c) (hosted_at (firs
 abbrev pub state_beside : Setup → List Line → ℕ → BlockState
 state_beside u lines c = (hosted_at (first_run u) lines c).run.state
 
--- the marks of the setup's run beside a stimulus
+-- the marks of the setup's run with a stimulus
 abbrev pub marks_in : Span → Setup → List Line → ℕ → Mark
 marks_in sp u lines = marks_over sp u.memory (seen_beside u lines) (host_of (first_run u) lines) (state_beside u lines)
 
--- The span holds in the run of the setup beside these lines, up to clock n.
+-- The span holds in the run of the setup with these lines, up to clock n.
 abbrev pub HoldsUpTo : Span → Setup → List Line → (n : ℕ) → Type 0
 HoldsUpTo sp u lines n = Holds sp.unit sp.min sp.max (marks_in sp u lines) n
 

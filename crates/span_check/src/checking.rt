@@ -12,7 +12,7 @@ use span_verdict::{Verdict, is_proof, judge};
 use std::alloc::{AllocError, Global};
 
 /// The verdict on a span, as `judge` of `span_verdict` gives it; a span that is proved holds in every run of the setup, whatever
-/// the stimulus and the length. The span's machine is configured. The error is want of memory.
+/// the stimulus and the length. The span's machine is configured. The error is out of memory.
 pub fn check(alloc: Global, setup: &Setup, span: &Span) -> Result<Verdict, AllocError>
     requires { IsSome (slice_index_or setup.now.machines span.now.machine None) }
     ensures verdict { IfOk result (λ verdict. IsVerdict setup.now span.now verdict) }

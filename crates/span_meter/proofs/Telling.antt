@@ -137,7 +137,7 @@ length-held clock (s ∷ rest) next =
     let after : length (s ∷ rest) ≤ clock = next.after in
     omega (arith, length-append rest (replicate n (last_of s rest)), length-replicate n (last_of s rest))
 
--- a meter that was told of nothing
+-- a meter before the first sample
 pub told_none : (e : SpanEdges) (pins : ShownPins) (edges : Edges) → Measures e pins [] (fresh edges)
 unfolding measured clocks_to pins_after
 told_none e pins edges = record {

@@ -128,6 +128,6 @@ pub record HasMeasured (pins : ShownPins) (ends : List SpanEdges) (told : List S
   pub each : AllByRecursion (λ m. Measures (ends_of m.edges) pins told m) t.meters
   pub seen : seen_so_far t ≡ map (λ e. seen_of (measured e pins told)) ends
 
--- a meter of these edges that was told of no sample
+-- a meter of these edges before the first sample
 abbrev pub fresh_meters : ShownPins → List Edges → Meters
 fresh_meters pins edges = record { first = pins; last = pins; meters = map fresh edges }

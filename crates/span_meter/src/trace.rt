@@ -31,8 +31,8 @@ impl Model for SpanMeter {
 }
 
 impl SpanMeter {
-    /// A meter of these spans that was told of no sample. Before the first one the pins are these.
-    /// The error is want of memory; no other call takes any.
+    /// A meter of these spans before the first sample. Before the first one the pins are these.
+    /// The error is out of memory; no other call takes any.
     pub fn new(alloc: Global, spans: &[Span], pins: ShownPins) -> Result<SpanMeter, AllocError>
         ensures { IfOk result (λ t. HasMeasured pins (map ends_in spans.now) [] t) }
     {

@@ -65,7 +65,7 @@ good_visit u sp s n h c = record { lies = rw (h.step (visit u sp n).1) (lies, tt
   lies : LiesAt (landed u sp s (visit u sp n).0 h.outcome (visit u sp n).1).ages (table (visit u sp) (suc (suc n)) (number_of (landed u sp s (visit u sp n).0 h.outcome (visit u sp n).1).context))
   lies = subst (λ v. LiesAt v.1 (table (visit u sp) (suc (suc n)) (number_of v.0))) (next_visit u sp s n h) (lies_visit (visit u sp) (suc n))
 
--- a visit beside what the table has at its context
+-- a visit and what the table has at its context
 good_joined : (u : Setup) (sp : Span) (s : MachineSetup) (f : ℕ → Entry) (k : Context) (a : Ages) (e : Entry) → IsSingle u sp s k
     → IsGoodRow u sp f k a → ((b : Ages) → e ≡ Present b → IsGoodRow u sp f k b) → IsGoodRow u sp f k (join_into a e)
 good_joined u sp s f k a Absent h p q = p

@@ -92,7 +92,7 @@ static SPAN_BLOCK_KINDS: [(&str, SpanBlockKind); 3] = [
     ("derived tables", SpanBlockKind::Derived),
 ];
 
-/// Adds what is told of a line; none where memory runs out, or the line is none of its table's kind.
+/// Adds what a line gives; none where memory runs out, or the line is none of its table's kind.
 fn tell_line(alloc: Global, kind: SpanLineKind, asked: &str, text: &mut String) -> Option<()> {
     match kind {
         SpanLineKind::Step => tell_step(alloc, asked, text),

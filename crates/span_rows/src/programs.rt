@@ -49,7 +49,7 @@ pub enum Part<'a> {
     Machine { id: u8, keys: &'a str },
     /// A line of a table.
     Table(&'a str),
-    /// What is told.
+    /// What is seen.
     Told(&'a str),
     /// Keys of machine 0 and of the span.
     Keys(&'a str),
@@ -116,7 +116,7 @@ pub fn setup_of(alloc: Global, lines: &str, keys: &Keys) -> Option<Setup> {
     Some(setup)
 }
 
-/// What the one line that tells says.
+/// What the one line of the answer says.
 pub fn told_of(lines: &str) -> Option<&str> {
     let mut found = None;
     for line in lines.lines() {

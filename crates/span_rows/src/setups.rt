@@ -76,7 +76,7 @@ pub fn span_of(alloc: Global, keys: &Keys, name: &str) -> Option<Span> {
     })
 }
 
-/// The greatest bound beside a least one, where both are in their ranges.
+/// The greatest bound and a least one, where both are in their ranges.
 fn most_of(min: u32, max: Option<u32>) -> Option<Option<u32>>
     ensures low { IfSome result (λ most. (min < 2 ^ 24) × ForSome most (λ m. min ≤ m)) }
     ensures high { IfSome result (λ most. ForSome most (λ m. m < 2 ^ 24)) }

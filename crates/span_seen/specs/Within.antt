@@ -17,7 +17,7 @@ use Rattle.span_meter.specs.Measured.{ends_in, measured, pins_in, seen_of}
 abbrev pub IsUndisturbed : Setup → Span → List Line → (n : ℕ) → Type 0
 IsUndisturbed u sp lines n = (c : ℕ) → c < n → is_broken (host_of (first_run u) lines c) sp.machine ≡ false
 
--- what the span measures in the first n clocks of the setup's run beside a stimulus
+-- what the span measures in the first n clocks of the setup's run with a stimulus
 abbrev pub measured_in : Setup → Span → List Line → (n : ℕ) → SeenDistances
 measured_in u sp lines n = seen_of (measured (ends_in sp) (pins_in (first_run u).state) (samples (first_run u) lines n))
 

@@ -37,7 +37,7 @@ use Rattle.span_step.specs.Courses.{Rules, courses, no_causes, joined, start, fo
 abbrev pub period_of : MachineSetup → ℕ
 period_of s = 256 * (if s.int == 0 then 65536 else s.int) + s.frac
 
--- The greatest bound beside this least one. Where there is none it is one below the least, above which ages are alike.
+-- The greatest bound with this least one. Where there is none it is one below the least, above which ages are alike.
 abbrev pub most_or : (least : ℕ) → Option ℕ → ℕ
 most_or least None = least - 1
 most_or least (Some most) = most

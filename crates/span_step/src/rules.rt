@@ -147,7 +147,7 @@ fn bounds(span: &Span, machine: &MachineSetup) -> (u32, u32)
     }
 }
 
-/// The greatest bound beside a least one, or what is in its place.
+/// The greatest bound with a least one, or what is in its place.
 fn most_or(least: u32, most: Option<u32>) -> u32
     requires least { least < 2 ^ 24 }
     requires most { IfSome most (λ m. m < 2 ^ 24) }

@@ -1,4 +1,4 @@
-//! Laws of a machine's ticks beside a table of the timing checker, each on a function that does nothing.
+//! Laws of a machine's ticks along a table of the timing checker, each on a function that does nothing.
 ghost use Rattle.std.specs.Prelude.{◌≡◌, ℕ, ◌+◌, ◌≤◌, ◌==◌, true, false, List, Option, Some, None, slice_index_or};
 ghost use Rattle.pin_matrix.specs.Pins.{last_of};
 ghost use Rattle.pin_matrix.specs.declared.machine.MachineSetup as setup;

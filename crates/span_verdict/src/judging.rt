@@ -12,7 +12,7 @@ use span_bounds::{Derived, derive, each_entry_is_that_of_a_row};
 use std::alloc::{AllocError, Global};
 
 /// The verdict on a span: shared where another machine's mapping holds a pin of it, else proved exactly where some closed table
-/// is good, else unproved. The span's machine is configured. The error is want of memory.
+/// is good, else unproved. The span's machine is configured. The error is out of memory.
 pub fn judge(alloc: Global, setup: &Setup, span: &Span) -> Result<Verdict, AllocError>
     requires { IsSome (slice_index_or setup.now.machines span.now.machine None) }
     ensures { IfOk result (λ verdict. IsVerdict setup.now span.now verdict) }

@@ -10,7 +10,7 @@ use Rattle.stages.specs.Judged.{Judged, wrong}
 use Rattle.stages.specs.Fetching.{name_in, one_slot}
 use Rattle.stages.specs.Stages.{HasSuch, Plan, ReadFails, plan_of, shelved}
 
--- of told files, what follows from one thing
+-- of known files, what follows from one thing
 pub told : (files : Option Files) (P R : Files → Type 0) → ((f : Files) → P f → R f) → IfSome files P → IfSome files R
 told None P R so p = tt
 told (Some f) P R so p = so f p
@@ -32,7 +32,7 @@ pub four_told : (files : Option Files) (P Q S T R : Files → Type 0) → ((f : 
 four_told None P Q S T R so p q s t = tt
 four_told (Some f) P Q S T R so p q s t = so f p q s t
 
--- what is so of all files is so of the told ones
+-- what is so of all files is so of the known ones
 pub of_all : (files : Option Files) (R : Files → Type 0) → ((f : Files) → R f) → IfSome files R
 of_all None R so = tt
 of_all (Some f) R so = so f
@@ -63,7 +63,7 @@ part_fails files before after part whole (fault.Stim line kind) is h = (h.0, is.
 part_fails files before after part whole (fault.Table line kind) is h = (h.0, is.faults (fault.Table line kind) h.1)
 part_fails files before after part whole fault.NoSpan is h = (h.0, is.faults fault.NoSpan h.1)
 
--- where the shelf before the part is told by equations
+-- where equations say the shelf before the part
 pub fails : {X Y : Type 0} (files mid_files : Option Files) (before mid after : Faults) (part : Plan X) (whole : Plan Y) (e : Fault)
     → mid_files ≡ files → mid ≡ before → IsPart files part whole → ReadFails (shelved mid_files mid after) part e
     → ReadFails (shelved files before after) whole e

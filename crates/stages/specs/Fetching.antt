@@ -26,7 +26,7 @@ pub record Slot : Type 0 where
 abbrev pub slot : File → Option (List ℕ) → Slot
 slot role name = record { role = role; name = name }
 
--- a fetch of a file: one byte more than its limit is asked for, so that a longer file is told by its length
+-- a fetch of a file: one byte more than its limit is asked for, so that its length shows a longer file
 abbrev pub fetch_of : File → List ℕ → Bool → Fetched
 fetch_of role name came = record { name = name; cap = limit role + 1; came = came }
 

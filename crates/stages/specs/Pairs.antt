@@ -15,7 +15,7 @@ pub record AllHoldInPairs (s t : Setup) : Type 0 where
   pub first : (own : ℕ) (lines others : List Line) (n : ℕ) → AllByRecursion (λ sp. HoldsInFirst sp own s t lines others n) s.spans
   pub second : (own : ℕ) (lines others : List Line) (n : ℕ) → AllByRecursion (λ sp. HoldsInSecond sp own s t lines others n) t.spans
 
--- how a command ends that asks the spans of the second block: each is provable, or the first one that isn't is told
+-- how a command ends that asks the spans of the second block: each is provable, or the first one that isn't is named
 abbrev pub AreSecondAsked : Setup → Result (Unit {0}) Fault → Type 0
 AreSecondAsked t (Ok done) = AreProvable t
 AreSecondAsked t (Err (fault.SecondUnproved place name refusal)) = IsFirstRefused t t.spans place name refusal

@@ -2,7 +2,7 @@
 --   IsProvableAlone  a span is provable, and no other machine may write a pin of it
 --   IsRefused        why a span isn't
 --   IsFirstRefused   the first span that isn't, its place and name, and why
---   IsProvedAs       a span is proved, and what is told of it
+--   IsProvedAs       a span is proved, and its line's words
 --   AreVerdicts      a verdict on each span, in order
 --   HasVerdicts      the lines of such verdicts
 use Rattle.std.specs.Prelude.{◌≡◌, ℕ, zero, suc, ◌++◌, Bool, List, [], ◌∷◌, Option, Some, None, Result, Ok, Err}
@@ -47,7 +47,7 @@ IsFirstRefused u [] place name refusal = ⊥
 IsFirstRefused u (sp ∷ spans) zero name refusal = (sp.name ≡ name) × IsRefused u sp refusal
 IsFirstRefused u (sp ∷ spans) (suc place) name refusal = IsProvableAlone u sp × IsFirstRefused u spans place name refusal
 
--- a span is proved, and this is told of it
+-- a span is proved, and its line says this
 pub record IsProvedAs (u : Setup) (sp : Span) (told : Finding) : Type 0 where
   pub rows : List Row
   pub opens : Bool
@@ -55,7 +55,7 @@ pub record IsProvedAs (u : Setup) (sp : Span) (told : Finding) : Type 0 where
   pub proved : IsProved u sp rows opens closes
   pub said : told ≡ finding_of sp opens closes
 
--- a span is proved, and this is told of it; or this is why it isn't
+-- a span is proved, and its line says this; or this is why it isn't
 abbrev pub IsVerdictOn : Setup → Span → Result Finding Refusal → Type 0
 IsVerdictOn u sp (Ok told) = IsProvedAs u sp told
 IsVerdictOn u sp (Err refusal) = IsRefused u sp refusal
@@ -103,7 +103,7 @@ pub record IsNextVerdict (u : Setup) (place : ℕ) (sp : Span) (before after : L
   pub more : after ≡ before ++ found ∷ []
   pub first : refused ≡ first_refused earlier place sp.name found
 
--- how a command ends that asks the spans: each is provable and holds in every run, or the first one that isn't is told
+-- how a command ends that asks the spans: each is provable and holds in every run, or the first one that isn't is named
 abbrev pub AreAsked : Setup → Result (Unit {0}) Fault → Type 0
 AreAsked u (Ok done) = AreProvable u × AllHold u
 AreAsked u (Err (fault.Unproved place name refusal)) = IsFirstRefused u u.spans place name refusal

@@ -25,7 +25,7 @@ abbrev pub HasSuch : {X : Type 0} → Option X → (X → Type 0) → Type 0
 HasSuch None P = ⊥
 HasSuch (Some x) P = P x
 
--- the files where they are told, and the faults before and after a stage
+-- the files where they are known, and the faults before and after a stage
 pub record Shelved : Type 0 where
   pub files : Option Files
   pub before : Faults
@@ -41,7 +41,7 @@ pub record Plan (X : Type 0) : Type 0 where
   pub slots : List Slot
   pub reaches : Files → File → Bool
 
--- a stage that reads ends with a fault: one failed fetch, of a file that it comes to; want of memory; or the fault of the files
+-- a stage that reads ends with a fault: one failed fetch, of a file that it comes to; out of memory; or the fault of the files
 abbrev pub ReadFails : {X : Type 0} → Shelved → Plan X → Fault → Type 0
 ReadFails shelf plan (fault.Shelf role) =
     HasSuch (name_in plan.slots role) (λ name. shelf.after ≡ failed_at name shelf.before)

@@ -9,7 +9,7 @@ use pio_edge::{Fetch, Shelf};
 use std::alloc::Global;
 
 /// The bytes of a file, if it is within its limit. One byte more than the limit is asked for, so that a longer
-/// file is told by its length alone.
+/// file is known by its length alone.
 pub fn fetch_file<F: Shelf>(
     alloc: Global,
     shelf: &mut F,

@@ -20,7 +20,7 @@ pub struct Verdicts {
 }
 
 /// Asks that each span be provable; then each holds in every run. The machines of the spans are configured. The fault is that of
-/// the first span that isn't provable, or want of memory.
+/// the first span that isn't provable, or out of memory.
 pub fn ask_spans(alloc: Global, setup: &Setup) -> Result<(), Fault>
     requires { AreConfigured setup.now }
     ensures { AreAsked setup.now result }
@@ -44,7 +44,7 @@ pub fn refuse(setup: &Setup, refused: Option<(usize, Name, Refusal)>) -> Result<
 }
 
 /// The verdicts on the spans of a setup, whose machines are configured. Room for all is made first, and each table is
-/// dropped as it comes. The error is want of memory.
+/// dropped as it comes. The error is out of memory.
 pub fn judge_spans(alloc: Global, setup: &Setup) -> Result<Verdicts, AllocError>
     requires { AreConfigured setup.now }
     ensures { IfOk result (λ verdicts. AreJudged setup.now setup.now.spans verdicts.found.items verdicts.refused) }
@@ -60,7 +60,7 @@ pub fn judge_spans(alloc: Global, setup: &Setup) -> Result<Verdicts, AllocError>
     Ok(verdicts)
 }
 
-/// Adds the verdict on the span at this place, whose machine is configured. The error is want of memory.
+/// Adds the verdict on the span at this place, whose machine is configured. The error is out of memory.
 fn judge_next(
     alloc: Global,
     setup: &Setup,
@@ -77,7 +77,7 @@ fn judge_next(
     keep(&mut verdicts.found, found)
 }
 
-/// Adds a verdict to those that are found. The error is want of memory.
+/// Adds a verdict to those that are found. The error is out of memory.
 fn keep(
     verdicts: &mut Vec<Result<Finding, Refusal>>,
     found: Result<Finding, Refusal>,
@@ -88,7 +88,7 @@ fn keep(
     Ok(())
 }
 
-/// The verdict on a span, whose machine is configured, without its table. The error is want of memory.
+/// The verdict on a span, whose machine is configured, without its table. The error is out of memory.
 fn judge_span(
     alloc: Global,
     setup: &Setup,

@@ -36,7 +36,7 @@ ended_more number (b ∷ bs) l =
       | inr no' ↦ ap (ended number) (slice_split-cons_no (λ c. eqb c 10) b bs no' ∙ ap (onto_first b) more.2)
     ]
 
--- a fault that is told
+-- a fault that is returned
 pub refuses : (o : Option TableRefusal) (r : TableRefusal) (d : Result (List Row) TableRefusal) → o ≡ Some r → d ≡ Err r → Refuses o d
 refuses o r d e h = subst (λ (x : Option TableRefusal). Refuses x d) (sym e) h
 

@@ -177,7 +177,7 @@ own_entries n (r ∷ rs) h =
 most_fits : (u : Setup) (sp : Span) → most_of u sp + 1 ≤ 16777216
 most_fits u sp = omega (arith, most_small u sp)
 
--- the ages of a least closed table can be told
+-- the ages of a least closed table can be written
 pub least_told : IsMonotone → IsCapped → (u : Setup) (sp : Span) (rows : List Row) → IsLeast u sp rows → HaveAgeRanges rows
 least_told monotone capped u sp rows h =
     let most = most_of u sp + 1 in

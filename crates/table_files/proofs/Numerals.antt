@@ -105,7 +105,7 @@ bytes_same (x ∷ xs) (y ∷ ys) e =
     let p = and_parts (nat_eq x y) (bytes_eq xs ys) e in
     ap (λ (z : ℕ). z ∷ xs) (same_byte x y p.0) ∙ ap (λ (zs : List ℕ). y ∷ zs) (bytes_same xs ys p.1)
 
--- what is known of X or Y is told by its text
+-- what is known of X or Y is known from its text
 pub known_text-known_in : (o : Option ℕ) (field : List ℕ) → ((n : ℕ) → o ≡ Some n → n < 2 ^ 64) → known_in field ≡ Some o → known_text o ≡ field
 known_text-known_in o field h e = elim (cases_Bool (bytes_eq field (codes "any"))) [
   | inl yes' ↦ (

@@ -1,7 +1,7 @@
 -- Why bytes aren't the text of a table.
 --   code_of          the code of a kind
 --   TableRefusal     a fault with its line
---   told             the fault that a call tells
+--   told             the fault that a call returns
 use Rattle.std.specs.Prelude.{ℕ, Option, Some, None, List, codes}
 use Rattle.table_files.specs.declared.fault.TableKind.{TableKind}
 use Rattle.table_files.specs.declared.fault.TableKind.TheVariants.{BadLine, Range, Order, NoEnd}
@@ -20,7 +20,7 @@ pub record TableRefusal : Type 0 where
   pub line : ℕ
   pub kind : TableKind
 
--- the fault that is told, nothing where memory ran out
+-- the fault that is returned, nothing where memory ran out
 abbrev pub told : TableFault → Option TableRefusal
 told Memory = None
 told (At line kind) = Some (record { line = line; kind = kind })

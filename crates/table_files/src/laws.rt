@@ -10,19 +10,19 @@ ghost use Rattle.table_files.specs.Told.{HaveAgeRanges};
 
 use span_step::{a_step_is_monotone, ages_grow_up_to_the_cap};
 
-/// The text of a table is read back as that table, where its ages can be told.
+/// The text of a table is read back as that table, where its ages can be written.
 pub fn a_table_is_read_back()
     ensures { (rows : List row.Row) → IsTable rows → HaveAgeRanges rows → table_of (table_text rows) ≡ Ok rows }
 {}
 
-/// A text that is read as a table is that table's text, so a table has one text; and its ages can be told.
+/// A text that is read as a table is that table's text, so a table has one text; and its ages can be written.
 pub fn a_table_has_one_text()
     ensures text { (bytes : List ℕ) (rows : List row.Row) → table_of bytes ≡ Ok rows → table_text rows ≡ bytes }
     ensures table { (bytes : List ℕ) (rows : List row.Row) → table_of bytes ≡ Ok rows → IsTable rows }
     ensures ages { (bytes : List ℕ) (rows : List row.Row) → table_of bytes ≡ Ok rows → HaveAgeRanges rows }
 {}
 
-/// The ages of a least closed table can be told.
+/// The ages of a least closed table can be written.
 pub fn a_least_table_is_told()
     ensures { (u : setup.Setup) (sp : span.Span) (rows : List row.Row) → IsLeast u sp rows → HaveAgeRanges rows }
 {

@@ -1,4 +1,4 @@
--- What things that are told one by one add to a text.
+-- What things add to a text, one by one.
 use Rattle.std.proofs.Common.{◌≡◌, ℕ, ◌+◌, ◌-◌, ◌≤◌, true, false, List, [], ◌∷◌, ◌++◌, zero, suc, length, Option, Some, refl, sym, ap, ◌∙◌, append_assoc, append-nil, length-append, arith, subst}
 use Rattle.std.specs.Prelude.{replicate}
 use Rattle.std.proofs.lemmas.List.{length-replicate}
@@ -7,7 +7,7 @@ use Rattle.pio_edge.proofs.PutLaws.{with_bytes-append, takes_prefix-append_r, ta
 use Rattle.sample_trace.specs.Told.{IsNext, last_of, held_to, told_at}
 use Rattle.vcd_trace.specs.TextForm.{TextForm, later_text, opened_text, closing_text, whole_text, last_told, HasPut, added, ended}
 
--- what is told again adds nothing
+-- what is shown again adds nothing
 abbrev pub AddsNothing : {T : Type 0} → TextForm T → Type 0
 AddsNothing {T} f = (clock : ℕ) (s : T) → f.later clock s s ≡ []
 
@@ -90,7 +90,7 @@ opened_text-told {T} f none clock t (s ∷ rest) h =
     ∙ ap (λ c. opened_text f (s ∷ rest) ++ f.later c (last_of s (rest ++ more)) t) (let e : 1 + length (rest ++ more) ≡ clock = omega (arith, length-held clock s rest h.after) in e)
     ∙ ap (λ x. opened_text f (s ∷ rest) ++ f.later clock x t) (last_of-repeat s rest (clock - length (s ∷ rest)))
 
--- the end adds what closes the text, where one was told
+-- the end adds what closes the text, where something was shown
 pub whole_text-held : {T : Type 0} (f : TextForm T) → AddsNothing f → (clock : ℕ) (l : List T) → IsNext l clock → whole_text f (held_to clock l) ≡ opened_text f l ++ ended f clock (last_told l)
 whole_text-held f none clock [] h = refl
 whole_text-held f none clock (s ∷ rest) h =

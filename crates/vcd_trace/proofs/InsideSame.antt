@@ -1,4 +1,4 @@
--- Where the same is inside, and what is told of it.
+-- Where the same is inside, and what the text says of it.
 use Rattle.std.proofs.Common.{◌≡◌, ℕ, ◌+◌, ◌*◌, ◌<◌, ◌^◌, Bool, true, false, cond, eqb, Option, Some, None, List, [], ◌∷◌, ◌++◌, length, refl, sym, ap, subst, ◌∙◌, arith, eq-eqb, Result}
 use Rattle.std.specs.Prelude.{◌&&◌, map, is_some, replicate}
 use borrow.Author.Tests.{eqb-true}

@@ -1,4 +1,4 @@
--- What samples that are told one by one add to the text.
+-- What samples add to the text, one by one.
 use Rattle.std.proofs.Common.{◌≡◌, ℕ, Bool, true, false, cond, eqb, Option, Some, None, List, [], ◌∷◌, ◌++◌, refl, ap, eq-eqb}
 use Rattle.std.specs.Prelude.{◌&&◌}
 use lib.Pointwise.{pointwise}

@@ -169,6 +169,6 @@ inside_open_text configured told = opened_text (inside_form configured) told
 abbrev pub inside_text : List Bool → List Inside → List ℕ
 inside_text configured told = whole_text (inside_form configured) told
 
--- the text after these, with the clock that closes it where their end was told
+-- the text after these, with the clock that closes it where they have ended
 abbrev pub inside_text_of : List Bool → List Inside → Bool → List ℕ
 inside_text_of configured told ended = told_text (inside_form configured) told ended

@@ -1,4 +1,4 @@
--- Texts of what is told clock by clock, by what their parts add.
+-- Texts of what is shown clock by clock, by what their parts add.
 --   TextForm      how such a text begins, goes on and closes
 --   later_text    what things add after another
 --   opened_text   the text of some, without what closes it
@@ -10,7 +10,7 @@ use Rattle.std.specs.Prelude.{◌≡◌, ℕ, ◌+◌, Bool, true, false, Option
 use Rattle.pio_edge.specs.Edge.{with_bytes}
 use Rattle.sample_trace.specs.Told.{last_of}
 
--- What comes before the first thing told, what the first one adds, what a later one adds in its clock after the one before, and
+-- What comes before the first thing shown, what the first one adds, what a later one adds in its clock after the one before, and
 -- what closes the text in the clock after the last one.
 pub record TextForm (T : Type 0) : Type 0 where
   pub head : List ℕ
@@ -37,7 +37,7 @@ closing_text f (s ∷ rest) = f.closing (length (s ∷ rest))
 abbrev pub whole_text : {T : Type 0} → TextForm T → List T → List ℕ
 whole_text f told = opened_text f told ++ closing_text f told
 
--- the text after these, with what closes it where their end was told
+-- the text after these, with what closes it where they have ended
 abbrev pub told_text : {T : Type 0} → TextForm T → List T → Bool → List ℕ
 told_text f told true = whole_text f told
 told_text f told false = opened_text f told

@@ -37,6 +37,6 @@ twin_open_text told = opened_text twin_form told
 abbrev pub twin_text : List (Sample × Sample) → List ℕ
 twin_text told = whole_text twin_form told
 
--- the text after these samples, with the clock that closes it where their end was told
+-- the text after these samples, with the clock that closes it where they have ended
 abbrev pub twin_text_of : List (Sample × Sample) → Bool → List ℕ
 twin_text_of told ended = told_text twin_form told ended

@@ -123,6 +123,6 @@ open_text told = opened_text vcd_form told
 abbrev pub vcd_text : List Sample → List ℕ
 vcd_text told = whole_text vcd_form told
 
--- the text after these samples, with the clock that closes it where their end was told
+-- the text after these samples, with the clock that closes it where they have ended
 abbrev pub text_of : List Sample → Bool → List ℕ
 text_of told ended = told_text vcd_form told ended

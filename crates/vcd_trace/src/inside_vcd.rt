@@ -31,7 +31,7 @@ pub struct InsideVcd<'a, S: Sink> {
 }
 
 impl<'a, S: Sink> InsideVcd<'a, S> {
-    /// A trace into this sink, of which nothing was told, with a scope for each configured machine.
+    /// A trace into this sink before its first clock, with a scope for each configured machine.
     pub fn new(sink: &'a mut S, configured: [bool; 4]) -> Self
         ensures lent { result.sink.ghost_name ≡ sink.entry.ghost_name }
         ensures same { result.sink.now ≡ sink.old }

@@ -1,4 +1,4 @@
-//! What holds of the text of two blocks as a whole, beside its definition.
+//! What holds of the text of two blocks as a whole, after its definition.
 ghost use Rattle.std.specs.Prelude.{◌≡◌, ◌≢◌, ℕ, Option, List, false, [], ◌++◌, length};
 ghost use Rattle.pio_edge.specs.Edge.{TakesPrefix};
 ghost use Rattle.block_core.specs.declared.sample.Sample.{Sample as Values};

@@ -26,7 +26,7 @@ pub struct VcdTrace<'a, S: Sink> {
 }
 
 impl<'a, S: Sink> VcdTrace<'a, S> {
-    /// A trace into this sink, of which nothing was told.
+    /// A trace into this sink before its first clock.
     pub fn new(sink: &'a mut S) -> Self
         ensures lent { result.sink.ghost_name ≡ sink.entry.ghost_name }
         ensures same { result.sink.now ≡ sink.old }

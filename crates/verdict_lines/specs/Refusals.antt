@@ -1,6 +1,6 @@
 -- What a verdict comes to without its table.
 --   says_more        a span says more than two edges of levels and two bounds
---   finding_of       what is told of a span that is proved
+--   finding_of       what the line of a proved span says
 --   found_by         that, or why it isn't proved
 use Rattle.std.specs.Prelude.{ℕ, Bool, true, false, ◌||◌, ◌==◌, not, List, length, if◌then◌else◌, Option, Some, None, Result, Ok, Err}
 use Rattle.pin_matrix.specs.declared.span.PinSignal.{PinSignal}
@@ -31,7 +31,7 @@ says_more sp =
 abbrev pub finding_of : Span → (opens closes : Bool) → Finding
 finding_of sp opens closes = record { opens = opens; closes = if says_more sp then Some closes else None; prompt = sp.prompt }
 
--- what is told of a span that is proved, or why it isn't
+-- what the line of a proved span says, or why it isn't proved
 abbrev pub found_by : Span → Verdict → Result Finding Refusal
 found_by sp (verdict.Proved table opens closes) = Ok (finding_of sp opens closes)
 found_by sp (verdict.Unproved context cause) = Err (refusal.Unproved context cause)

@@ -9,7 +9,7 @@ use pio_edge::{Sink, SinkFailed, put_all};
 use pio_encode::Name;
 use span_bounds::{Cause, Context};
 
-/// Puts the line of a verdict on the span with this name: whether it opens, and where that is told whether it closes and under
+/// Puts the line of a verdict on the span with this name: whether it opens, and where the line has them whether it closes and under
 /// which premise; or why it isn't proved.
 pub fn put_verdict<S: Sink>(
     sink: &mut S,
@@ -42,7 +42,7 @@ fn put_proved<S: Sink>(sink: &mut S, name: &[u8], finding: Finding) -> Result<()
     }
 }
 
-/// Puts the pieces of the line that tells whether a span opens and closes.
+/// Puts the pieces of the line that says whether a span opens and closes.
 fn put_closing<S: Sink>(
     sink: &mut S,
     name: &[u8],
@@ -69,7 +69,7 @@ fn put_closing<S: Sink>(
     )
 }
 
-/// Puts the pieces of the line that tells whether a span opens.
+/// Puts the pieces of the line that says whether a span opens.
 fn put_opening<S: Sink>(sink: &mut S, name: &[u8], opens: &str) -> Result<(), SinkFailed>
     ensures bytes { Takes (S.taken sink.old) (spec.opening_line [] name.now opens.now) (S.taken sink.new) result }
     ensures cause { PutCounts (S.faults sink.old) (S.faults sink.new) result }

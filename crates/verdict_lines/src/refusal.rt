@@ -6,7 +6,7 @@ use pin_matrix::{Addresses, PinSignal, Span};
 use span_bounds::{Cause, Context};
 use span_verdict::Verdict;
 
-/// What is told of a span that is proved.
+/// What the line of a proved span says.
 #[derive(Clone, Copy)]
 pub struct Finding {
     /// Whether it opens.
@@ -27,7 +27,7 @@ pub enum Refusal {
     Shared(u8),
 }
 
-/// What is told of a span with this verdict, or why it isn't proved. The table is dropped.
+/// What the line of a span with this verdict says, or why it isn't proved. The table is dropped.
 pub fn found_by(verdict: Verdict, span: &Span) -> Result<Finding, Refusal>
     ensures { result ≡ spec.found_by span.now verdict }
 {

@@ -1,5 +1,5 @@
 //! The trace of what is inside a block over a sink in memory. Its rows have one line more, `configured 0 2`: the machines that are
-//! declared. What is told at a clock is a sample, the pads, and each machine: `3: quiet / pads 1 / sm0 pc 1, waits 1 / sm2 quiet`.
+//! declared. What is shown at a clock is a sample, the pads, and each machine: `3: quiet / pads 1 / sm0 pc 1, waits 1 / sm2 quiet`.
 //! A machine has its values in hexadecimal digits, under the names of its variables.
 ghost use Rattle.std.specs.Prelude.{◌≡◌, false};
 
@@ -27,7 +27,7 @@ const QUIET: MachineInside = MachineInside {
     enabled: false,
 };
 
-/// Adds the text that a row says, and the one that is told of what is inside.
+/// Adds the text that a row says, and the one of what is inside.
 pub fn tell_insides(
     alloc: Global,
     lines: &str,
@@ -63,7 +63,7 @@ fn configured_of(lines: &str) -> Option<[bool; 4]> {
     Some(configured)
 }
 
-/// What is told at which clock.
+/// What is shown at which clock.
 fn told_of(alloc: Global, lines: &str) -> Option<Vec<(u64, Inside)>> {
     let mut told = Vec::new(alloc);
     for line in lines.lines() {

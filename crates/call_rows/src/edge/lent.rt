@@ -11,7 +11,7 @@ use pio_edge::{MemSink, Sink};
 use std::alloc::Global;
 use vcd_trace::{InsideVcd, Trace, TraceFailed, TwinVcd, VcdTrace};
 
-/// Adds what a lent sink takes of the samples of the clocks from 0 on; none where others are told.
+/// Adds what a lent sink takes of the samples of the clocks from 0 on; none where others are shown.
 pub fn tell_lent(alloc: Global, told: &[(u64, Sample)], end: u64, seen: &mut String) -> Option<()> {
     let mut samples = Vec::new(alloc);
     for (place, (clock, sample)) in told.iter().enumerate() {

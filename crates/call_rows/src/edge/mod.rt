@@ -97,7 +97,7 @@ pub static EDGE_BLOCK_KINDS: [(&str, EdgeBlockKind); 5] = [
     ("lists of samples", EdgeBlockKind::List),
 ];
 
-/// Adds what is told of a line; none where memory runs out, or the line is none of its table's kind.
+/// Adds what a line gives; none where memory runs out, or the line is none of its table's kind.
 pub fn tell_edge_line(
     alloc: Global,
     kind: EdgeLineKind,
@@ -118,7 +118,7 @@ pub fn tell_edge_line(
     }
 }
 
-/// Adds what is told of files; none where memory runs out, a file can't be written, or the line is none of its table's kind.
+/// Adds what files give; none where memory runs out, a file can't be written, or the line is none of its table's kind.
 pub fn tell_files<R: Files>(
     rt: &R,
     alloc: Global,

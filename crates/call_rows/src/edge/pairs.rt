@@ -8,7 +8,7 @@ use pio_edge::{MemSink, Sink};
 use std::alloc::Global;
 use vcd_trace::{Trace, TraceFailed, TwinVcd};
 
-/// Adds the text that a row says, and the one that is told of its pairs of samples.
+/// Adds the text that a row says, and the one of its pairs of samples.
 pub fn tell_pairs(
     alloc: Global,
     lines: &str,
@@ -27,7 +27,7 @@ pub fn tell_pairs(
     add_taken(sink.bytes(), passes, has_failed, sink.faults(), seen)
 }
 
-/// What is told of both blocks at which clock.
+/// What both blocks show at which clock.
 fn told_of(alloc: Global, lines: &str) -> Option<Vec<(u64, Sample, Sample)>> {
     let mut told = Vec::new(alloc);
     for line in lines.lines() {

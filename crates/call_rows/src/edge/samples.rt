@@ -2,7 +2,7 @@
 //!
 //! | A line | says |
 //! |---|---|
-//! | `3: level 1, direction 1` | what is told at clock 3; of two blocks `3: quiet / level 2` |
+//! | `3: level 1, direction 1` | what is shown at clock 3; of two blocks `3: quiet / level 2` |
 //! | `end 8` | the clock of the end |
 //! | `> $upscope $end` | a line of the text |
 //! | `v b0 p` | a line of the dump; it has another value where `dump` says one of this variable |
@@ -89,7 +89,7 @@ fn four_small(list: &str) -> Option<[u8; 4]> {
     ])
 }
 
-/// The clock and the samples of a line that tells some.
+/// The clock and the samples of a line that has some.
 pub fn told_at(line: &str) -> Option<(u64, &str)> {
     let (clock, samples) = line.split_once(": ")?;
     Some((clock.parse().ok()?, samples))

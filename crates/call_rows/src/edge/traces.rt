@@ -10,7 +10,7 @@ use pio_edge::{MemSink, Sink};
 use std::alloc::{AllocError, Global};
 use vcd_trace::{ListTrace, Trace, TraceFailed, VcdTrace};
 
-/// Adds the text that a row says, and the one that is told of its samples.
+/// Adds the text that a row says, and the one of its samples.
 pub fn tell_trace(
     alloc: Global,
     lines: &str,
@@ -29,7 +29,7 @@ pub fn tell_trace(
     add_taken(sink.bytes(), passes, has_failed, sink.faults(), seen)
 }
 
-/// What is told at which clock.
+/// What is shown at which clock.
 fn told_of(alloc: Global, lines: &str) -> Option<Vec<(u64, Sample)>> {
     let mut told = Vec::new(alloc);
     for line in lines.lines() {

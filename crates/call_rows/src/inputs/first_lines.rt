@@ -1,4 +1,4 @@
-//! What is told of the first line of a text.
+//! What the first line of a text gives.
 use byte_lines::first_line;
 
 /// Adds how many bytes the first line of a text has, and how many come after its newline.

@@ -1,4 +1,4 @@
-//! What is told of the load that a seed draws.
+//! The load that a seed draws.
 use drawn_load::{Load, draw_load};
 use dreq_pacing::{Line, LineAct};
 use pin_matrix::MachineSetup;

@@ -50,7 +50,7 @@ pub static INPUT_KINDS: [(&str, InputKind); 9] = [
     ("edges of loads", InputKind::Edges),
 ];
 
-/// Adds what is told of a row; none where memory runs out, or the row is none of its table's kind.
+/// Adds what a row gives; none where memory runs out, or the row is none of its table's kind.
 pub fn tell_input(alloc: Global, kind: InputKind, asked: &str, text: &mut String) -> Option<()> {
     match kind {
         InputKind::FirstLine => tell_first_line(asked, text),

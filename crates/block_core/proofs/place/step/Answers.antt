@@ -29,6 +29,6 @@ returns-in-None-clause-sample g c =
     (c.simple_clock.ensures.after done) (sym (uses_none v c.in-Some.slot wants)) (ap (λ (w : Wants). w.sticky) wants)
     (subst (λ s. Shows c.args.place s c.args.sample.now) c.in-Some.is c.requires.shows)
 
--- as the search finds it: a refused body is told at once
+-- as the search finds it; a wrong body is refused at once
 pub returns-in-None-2-clause-used : goal.returns-in-None-2-clause-used
 returns-in-None-2-clause-used g c = search rules steps 300000

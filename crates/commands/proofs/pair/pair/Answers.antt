@@ -5,7 +5,7 @@ use Rattle.stages.specs.Fetching.{pair_slots}
 use Rattle.commands.proofs.Asking.{written_asks, both_refused_asks}
 use Rattle.commands.proofs.pair.pair.Goals as goal
 
--- as the search finds it: a refused body is told at once
+-- as the search finds it; a wrong body is refused at once
 pub returns-clause-ends : goal.returns-clause-ends
 unfolding judge
 returns-clause-ends g c = search rules

@@ -9,7 +9,7 @@ returns-in-Gen-clause-worked g c =
     subst (λ (o : Order). c.generate.new.steps ≤ c.args.steps.now + most_worked (g.F.Shelf.holds c.args.shelf.now) (asked_by o))
     (sym c.in-Gen.is) c.generate.ensures.worked
 
--- as the search finds it: a refused body is told at once
+-- as the search finds it; a wrong body is refused at once
 pub returns-in-Uart-clause-ends : goal.returns-in-Uart-clause-ends
 returns-in-Uart-clause-ends g c = search rules
 

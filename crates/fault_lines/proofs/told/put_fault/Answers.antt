@@ -18,7 +18,7 @@ pub returns-in-SecondUnproved-clause-bytes : goal.returns-in-SecondUnproved-clau
 unfolding fault_line
 returns-in-SecondUnproved-clause-bytes g c = rw c.in-SecondUnproved.is c.put_refusal-in-SecondUnproved.ensures.bytes
 
--- as the search finds it: a refused body is told at once
+-- as the search finds it; a wrong body is refused at once
 pub returns-in-Unproved-clause-bytes : goal.returns-in-Unproved-clause-bytes
 unfolding fault_line
 returns-in-Unproved-clause-bytes g c = search rules

@@ -8,6 +8,6 @@ loop-number-preserved g c = record {
   steps = omega (arith, c.judged.ensures.steps, c.loop-number.invariant.steps);
 }
 
--- as the search finds it: a refused body is told at once
+-- as the search finds it; a wrong body is refused at once
 pub returns-clause-value : goal.returns-clause-value
 returns-clause-value g c = search rules

@@ -2,7 +2,7 @@ use Rattle.std.proofs.Common.{rules}
 use Rattle.span_step.proofs.Periods.{least_fits}
 use Rattle.span_step.proofs.rules.least_ticks.Goals as goal
 
--- as the search finds it: a refused body is told at once
+-- as the search finds it; a wrong body is refused at once
 pub returns-clause-value : goal.returns-clause-value
 returns-clause-value c = search rules
 

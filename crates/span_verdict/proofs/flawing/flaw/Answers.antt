@@ -27,7 +27,7 @@ returns-else-has_start-clause-none c =
       none : {A : Type 0} {x : A} → Some x ≡ None → ⊥
       none e = cc
 
--- as the search finds it: a refused body is told at once
+-- as the search finds it; a wrong body is refused at once
 pub returns-else-has_start-clause-first : goal.returns-else-has_start-clause-first
 unfolding first_flaw
 returns-else-has_start-clause-first c = search rules

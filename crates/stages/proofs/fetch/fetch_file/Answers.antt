@@ -12,7 +12,7 @@ returns-in-Err-Failed-clause-asked g c =
     fails_alone c.args.role c.args.name.now _ _
     (rw (c.limit_of-most.ensures.value, c.in-Err-Failed.is, c.in-Err-Failed.field-0-is) at c.fetch.ensures.asked)
 
--- as the search finds it: a refused body is told at once
+-- as the search finds it; a wrong body is refused at once
 pub returns-in-Ok-2-clause-asked : goal.returns-in-Ok-2-clause-asked
 returns-in-Ok-2-clause-asked g c = search rules steps 300000
 

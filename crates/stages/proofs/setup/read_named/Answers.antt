@@ -16,7 +16,7 @@ returns-in-Err-Memory-clause-asked g c = part_all (one_slot Config (Some c.args.
 pub returns-clause-asked : goal.returns-clause-asked
 returns-clause-asked g c = stops_last [] Config (Some c.args.name.now) _ _ c.in_ok-bytes.ensures.asked
 
--- as the search finds it: a refused body is told at once
+-- as the search finds it; a wrong body is refused at once
 pub returns-in-Ok-clause-stage : goal.returns-in-Ok-clause-stage
 unfolding config_at
 returns-in-Ok-clause-stage g c = search rules steps 1000000

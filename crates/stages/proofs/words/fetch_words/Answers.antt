@@ -7,7 +7,7 @@ use Rattle.stages.proofs.words.fetch_words.Goals as goal
 pub returns-clause-asked : goal.returns-clause-asked
 returns-clause-asked g c = stops_last [] Words (Some c.args.name.now) _ _ c.in_ok-bytes.ensures.asked
 
--- as the search finds it: a refused body is told at once
+-- as the search finds it; a wrong body is refused at once
 pub returns-in-Ok-clause-stage : goal.returns-in-Ok-clause-stage
 unfolding words_at
 returns-in-Ok-clause-stage g c = search rules steps 1000000

@@ -27,6 +27,6 @@ returns-clause-fifos g c =
     let t : TwinRun = record { own = b.own; first = b.first; second = b.second } in
     twin_uses_with quiet quiet t c.args.self.now.twin c.pads-pad.result c.quiet_step-one.result.fifos c.quiet_step-other.result.fifos (ap (λ (w : WorkedTwin). w.twin) c.self.view_is) c.pads-pad.ensures c.quiet_step-one.ensures.fifos c.quiet_step-other.ensures.fifos
 
--- as the search finds it: a refused body is told at once
+-- as the search finds it; a wrong body is refused at once
 pub returns-clause-second : goal.returns-clause-second
 returns-clause-second g c = search rules steps 300000

@@ -1,7 +1,7 @@
 use Rattle.std.proofs.Common.{rules}
 use Rattle.sm_registers.proofs.intent.Intent.of.Goals as goal
 
--- as the search finds it: a refused body is told at once
+-- as the search finds it; a wrong body is refused at once
 pub returns-in-Nothing : goal.returns-in-Nothing
 returns-in-Nothing c = search rules steps 1000000
 

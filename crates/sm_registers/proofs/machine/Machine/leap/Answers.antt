@@ -2,7 +2,7 @@ use Rattle.std.proofs.Common.{rules}
 use Rattle.sm_registers.proofs.Stirs.{passes}
 use Rattle.sm_registers.proofs.machine.Machine.leap.Goals as goal
 
--- as the search finds it: a refused body is told at once
+-- as the search finds it; a wrong body is refused at once
 pub returns-clause-ticks : goal.returns-clause-ticks
 returns-clause-ticks g c = search (rules, passes) steps 3000000
 

@@ -2,6 +2,6 @@ use Rattle.std.proofs.Common.{rules}
 use Rattle.sm_registers.proofs.Written.{masked}
 use Rattle.sm_registers.proofs.outputs.Outputs.write_levels.Goals as goal
 
--- as the search finds it: a refused body is told at once
+-- as the search finds it; a wrong body is refused at once
 pub returns : goal.returns
 returns c = search (rules, masked) steps 300000
