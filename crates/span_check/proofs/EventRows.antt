@@ -18,7 +18,7 @@ use Rattle.block_core.specs.Hosted.{hosted_at, hosted_next}
 use Rattle.block_core.specs.Slots.{acted, settled_slot}
 use Rattle.span_ticks.specs.Following.{finishes, works}
 use Rattle.span_check.specs.Marks.{Mark, mark_of}
-use Rattle.span_check.specs.Holding.{counted, HoldsFrom}
+use Rattle.span_check.specs.Holding.{counted, HoldsFrom, IsSpokenOf}
 use Rattle.span_check.specs.Runs.{marks_in}
 use Rattle.span_check.proofs.Plain.{plain_spoken}
 use Rattle.span_check.proofs.WorkedSetups.{plain_machine, side_one, pin_0, block_of, ends_of, made_at, span_of}
@@ -57,13 +57,15 @@ ends-hold = record {
   strays = λ some c after before quiet spoken. at_7 (λ k. (ends k).strays ≡ false) ends-row.6 c after before;
 }
 
-ends-early : HoldsFrom Ticks 2 (Some 9) ends 8 6 → ⊥
+ends-spoken : IsSpokenOf Ticks ends 6 8
 unfolding ends
+ends-spoken = (plain_spoken _ _ _ _ _ Ticks 6 8 (record { waits = refl; leaves = refl })).1 tt
+
+ends-early : HoldsFrom Ticks 2 (Some 9) ends 8 6 → ⊥
 ends-early h = omega (
   arith,
   ends-row.7,
-  h.least 7 (record { after = omega arith; first = λ c after before. absurd (omega (arith, after, before)); edge = ends-row.5 }) (omega arith)
-      ((plain_spoken _ _ _ _ _ Ticks 6 8 (record { waits = refl; leaves = refl })).1 tt),
+  h.least 7 (record { after = omega arith; first = λ c after before. absurd (omega (arith, after, before)); edge = ends-row.5 }) (omega arith) ends-spoken,
 )
 
 -- side-set makes the rise in the PULL's first tick, in which it stalls; NOP makes the fall

@@ -23,7 +23,7 @@ use Rattle.block_core.specs.Following.{place_at, intent_in}
 use Rattle.pin_matrix.specs.Pins.{is_high}
 use Rattle.block_core.specs.Edges.{changes}
 use Rattle.span_ticks.specs.Following.{finishes, works, writes_to}
-use Rattle.span_check.specs.Marks.{Mark, mark_of, counts, names, pending_at}
+use Rattle.span_check.specs.Marks.{Mark, mark_of, counts, names, pc_at, pending_at}
 use Rattle.span_check.specs.Holding.{counted, IsUnbroken}
 use Rattle.span_check.specs.Runs.{marks_over}
 use Rattle.span_check.proofs.Counting.{one_if, before_suc, counted-suc, counted-none}
@@ -143,6 +143,9 @@ module _ (laws : Laws) (sp : Span) (period : ℕ) (long : 256 ≤ period) (none 
     new : ℕ
     new = signal_bits sp.from_signal a.levels a.directions
 
+    wanted : Intent
+    wanted = intent_in memory sees d b sp.machine
+
     pending : Option ℕ
     pending = pending_at (place_at b sp.machine)
 
@@ -156,7 +159,7 @@ module _ (laws : Laws) (sp : Span) (period : ℕ) (long : 256 ≤ period) (none 
 
     by : (t : Bool) → has_tick (lined d m) ≡ t → has_tick (lined d m) ≡ true
     by true e = e
-    by false e = absurd (never (sym (no-event sp.from_signal sp.from_at _ _ _ _ (unmoved e) (ap (λ (i : Intent). finishes (works i.kind pending) i.stalled) (intent e))) ∙ edge)) where
+    by false e = absurd (never (sym (no-event sp.from_signal sp.from_at (pc_at (place_at b sp.machine)) (changes sp.from_rise (is_high old sp.from_pin) (is_high new sp.from_pin)) (works wanted.kind pending) (finishes (works wanted.kind pending) wanted.stalled) (unmoved e) (ap (λ (i : Intent). finishes (works i.kind pending) i.stalled) (intent e))) ∙ edge)) where
       never : false ≡ true → ⊥
       never f = cc
 

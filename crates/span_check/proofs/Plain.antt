@@ -7,11 +7,12 @@ use Rattle.pin_matrix.specs.declared.span.SpanUnit.{SpanUnit}
 use Rattle.dreq_pacing.specs.declared.due.Due.{Due}
 use Rattle.block_core.specs.Slots.{Slot}
 use Rattle.block_core.specs.Block.{BlockState}
-use Rattle.block_core.specs.Following.{place_at}
+use Rattle.block_core.specs.Following.{intent_in, place_at}
 use Rattle.span_step.specs.Steps.{is_event, is_named, is_left_out}
+use Rattle.span_ticks.specs.Following.{finishes, works}
 use Rattle.span_ticks.specs.UnderWay.{stands_before, flow_of}
 use Rattle.span_check.specs.Asked.{IsOfEdges, IsPlain}
-use Rattle.span_check.specs.Marks.{mark_of, excused_at, has_signal_edge}
+use Rattle.span_check.specs.Marks.{mark_of, excused_at, has_signal_edge, pc_at, pending_at}
 use Rattle.span_check.specs.Holding.{IsUnbrokenIn, IsSpokenOf}
 use Rattle.span_check.specs.Runs.{marks_over}
 
@@ -51,9 +52,17 @@ any_edge (Some signal) at address edge works finishes s e = rw e (whole edge) wh
 pub from_edge : (sp : Span) (memory : List ℕ) (seen : ℕ → ℕ) (host : ℕ → Due) (states : ℕ → BlockState) (clock : ℕ) → IsOfEdges sp
     → (marks_over sp memory seen host states clock).from ≡ has_signal_edge sp.from_signal sp.from_pin sp.from_rise (states clock) (states (suc clock))
 unfolding mark_of
-from_edge sp memory seen host states clock edges = any_edge sp.from_signal sp.from_at _ _ _ _ edges.from edges.from_any
+from_edge sp memory seen host states clock edges =
+    let tick = intent_in memory (seen clock) (host clock) (states clock) sp.machine in
+    let place = place_at (states clock) sp.machine in
+    any_edge sp.from_signal sp.from_at (pc_at place) (has_signal_edge sp.from_signal sp.from_pin sp.from_rise (states clock) (states (suc clock)))
+    (works tick.kind (pending_at place)) (finishes (works tick.kind (pending_at place)) tick.stalled) edges.from edges.from_any
 
 pub to_edge : (sp : Span) (memory : List ℕ) (seen : ℕ → ℕ) (host : ℕ → Due) (states : ℕ → BlockState) (clock : ℕ) → IsOfEdges sp
     → (marks_over sp memory seen host states clock).to ≡ has_signal_edge sp.to_signal sp.to_pin sp.to_rise (states clock) (states (suc clock))
 unfolding mark_of
-to_edge sp memory seen host states clock edges = any_edge sp.to_signal sp.to_at _ _ _ _ edges.to edges.to_any
+to_edge sp memory seen host states clock edges =
+    let tick = intent_in memory (seen clock) (host clock) (states clock) sp.machine in
+    let place = place_at (states clock) sp.machine in
+    any_edge sp.to_signal sp.to_at (pc_at place) (has_signal_edge sp.to_signal sp.to_pin sp.to_rise (states clock) (states (suc clock)))
+    (works tick.kind (pending_at place)) (finishes (works tick.kind (pending_at place)) tick.stalled) edges.to edges.to_any

@@ -1,5 +1,5 @@
 -- One clock of the machine in its block, with a tick or without.
-use Rattle.std.proofs.Common.{◌≡◌, ◌==◌, ℕ, suc, ◌⊎◌, Bool, true, false, ◌&&◌, cond, Some, List, unwrap_or, slice_index_or, inl, inr, refl, sym, ap, subst, ◌∙◌, add-one}
+use Rattle.std.proofs.Common.{◌≡◌, ◌==◌, ℕ, suc, ◌⊎◌, Bool, true, false, ◌&&◌, ◌||◌, cond, Option, Some, List, [], length, unwrap_or, slice_index_or, inl, inr, refl, sym, ap, subst, ◌∙◌, add-one}
 use Rattle.std.specs.Int.{bit_at}
 use Rattle.clock_divider.specs.Timing.{Timing}
 use Rattle.clock_divider.specs.Timing as timing
@@ -20,10 +20,10 @@ use Rattle.block_core.specs.Slots.{Slot, lined, has_tick, acted, settled_slot, s
 use Rattle.block_core.specs.Block.{BlockState, view_of}
 use Rattle.block_core.specs.Following.{place_at, intent_in}
 use Rattle.span_step.specs.Courses.{Rules, closes, comes, is_edge, opens, watched}
-use Rattle.span_ticks.specs.Following.{level_after}
+use Rattle.span_ticks.specs.Following.{finishes, level_after, works}
 use Rattle.pin_matrix.specs.Pins.{is_high}
 use Rattle.block_core.specs.Edges.{changes}
-use Rattle.span_check.specs.Marks.{Mark, mark_of, counts, names, pc_at, has_signal_edge}
+use Rattle.span_check.specs.Marks.{Mark, mark_of, counts, names, pc_at, pending_at, has_signal_edge}
 use Rattle.span_check.specs.Runs.{marks_over}
 use Rattle.span_refuted.specs.OneWay.{IsSimple}
 use Rattle.span_refuted.proofs.Single.{Watch, Tick}
@@ -144,6 +144,23 @@ comes_edge edge edges finishes ends e f = rw (e, f) (whole edge finishes) where
 level_edge : (signal : Option PinSignal) (p : ℕ) (rise : Bool) (b a : BlockState) → signal ≡ Some Level → has_signal_edge signal p rise b a ≡ changes rise (is_high b.levels p) (is_high a.levels p)
 level_edge signal p rise b a e = ap (λ z. has_signal_edge z p rise b a) e
 
+-- so in a mark
+to_event : (sp : Span) (memory : List ℕ) (seen : ℕ) (d : Due) (b a : BlockState) → IsSimple sp → (mark_of sp memory seen d b a).to ≡ changes sp.to_rise (is_high b.levels sp.to_pin) (is_high a.levels sp.to_pin)
+unfolding mark_of
+to_event sp memory seen d b a simple =
+    let tick = intent_in memory seen d b sp.machine in
+    let place = place_at b sp.machine in
+    event_edge sp.to_signal sp.to_at (pc_at place) (has_signal_edge sp.to_signal sp.to_pin sp.to_rise b a) (works tick.kind (pending_at place)) (finishes (works tick.kind (pending_at place)) tick.stalled) simple.to simple.to_any
+    ∙ level_edge sp.to_signal sp.to_pin sp.to_rise b a simple.to
+
+from_event : (sp : Span) (memory : List ℕ) (seen : ℕ) (d : Due) (b a : BlockState) → IsSimple sp → (mark_of sp memory seen d b a).from ≡ changes sp.from_rise (is_high b.levels sp.from_pin) (is_high a.levels sp.from_pin)
+unfolding mark_of
+from_event sp memory seen d b a simple =
+    let tick = intent_in memory seen d b sp.machine in
+    let place = place_at b sp.machine in
+    event_edge sp.from_signal sp.from_at (pc_at place) (has_signal_edge sp.from_signal sp.from_pin sp.from_rise b a) (works tick.kind (pending_at place)) (finishes (works tick.kind (pending_at place)) tick.stalled) simple.from simple.from_any
+    ∙ level_edge sp.from_signal sp.from_pin sp.from_rise b a simple.from
+
 edge_of : (rise before after old new : Bool) → before ≡ old → after ≡ new → changes rise old new ≡ is_edge rise before after
 edge_of rise before after old new e f = changes_edge rise old new ∙ rw (e, f) refl
 
@@ -174,7 +191,7 @@ idle_clock levels sp s most memory seen host states c w address ticks simple h i
   to = to;
   exact = exact_idle (is_bounded sp) (marks_over sp memory seen host states) most c w.ages
       (ap (λ (i : Intent). counts i.kind (names sp (pc_at (place_at (states c) sp.machine)))) k.intent)
-      (event_edge sp.to_signal sp.to_at _ _ _ _ simple.to simple.to_any ∙ level_edge sp.to_signal sp.to_pin sp.to_rise (states c) (states (suc c)) simple.to ∙ edge_of sp.to_rise w.to w.to _ _ g.to to ∙ no_edge sp.to_rise w.to) g.exact;
+      (to_event sp memory (seen c) (host c) (states c) (states (suc c)) simple ∙ edge_of sp.to_rise w.to w.to _ _ g.to to ∙ no_edge sp.to_rise w.to) g.exact;
 } where
   k : IsClock sp s memory (seen c) (host c) (states c) (states (suc c)) g.m (g.m.machine.registers, no_intent) c
   k = clocked sp s memory (seen c) (host c) (states c) (states (suc c)) g.m _ c h g.slot g.setup id g.enabled g.running
@@ -202,9 +219,9 @@ unfolding mark_of watched
 tick_clock levels sp s r memory seen host states c w t address ticks next left simple free h id some from_rise to_rise ruled prompt acts g =
     elim (exact_tick (is_bounded sp) r (marks_over sp memory seen host states) c w.ages (closes r w t) (opens r w t) ruled free
     (ap (λ (i : Intent). counts i.kind (names sp (pc_at (place_at (states c) sp.machine)))) k.intent ∙ tick.counting _)
-    (event_edge sp.to_signal sp.to_at _ _ _ _ simple.to simple.to_any ∙ level_edge sp.to_signal sp.to_pin sp.to_rise (states c) (states (suc c)) simple.to ∙ edge_of sp.to_rise w.to _ _ _ g.to to ∙ ap (λ z. is_edge z w.to (unwrap_or t.to w.to)) (sym to_rise)
+    (to_event sp memory (seen c) (host c) (states c) (states (suc c)) simple ∙ edge_of sp.to_rise w.to _ _ _ g.to to ∙ ap (λ z. is_edge z w.to (unwrap_or t.to w.to)) (sym to_rise)
     ∙ sym (comes_edge (is_edge r.to_rise w.to (unwrap_or t.to w.to)) r.to_edges t.finishes r.to_ends ruled.to_edges ruled.to_ends))
-    (event_edge sp.from_signal sp.from_at _ _ _ _ simple.from simple.from_any ∙ level_edge sp.from_signal sp.from_pin sp.from_rise (states c) (states (suc c)) simple.from ∙ edge_of sp.from_rise w.from _ _ _ g.from from ∙ ap (λ z. is_edge z w.from (unwrap_or t.from w.from)) (sym from_rise)
+    (from_event sp memory (seen c) (host c) (states c) (states (suc c)) simple ∙ edge_of sp.from_rise w.from _ _ _ g.from from ∙ ap (λ z. is_edge z w.from (unwrap_or t.from w.from)) (sym from_rise)
     ∙ sym (comes_edge (is_edge r.from_rise w.from (unwrap_or t.from w.from)) r.from_edges t.finishes r.from_ends ruled.from_edges ruled.from_ends))
     g.exact) [
       | inl broken ↦ inl broken

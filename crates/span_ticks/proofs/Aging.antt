@@ -1,5 +1,5 @@
 -- What one tick of a course makes of an open age.
-use Rattle.std.proofs.Common.{◌≡◌, ℕ, ◌+◌, ◌≤◌, ◌==◌, min, Bool, true, false, not, ◌&&◌, ◌||◌, if◌then◌else◌, nat_lt, Option, Some, None, List, length, refl, sym, subst, ◌∙◌, arith}
+use Rattle.std.proofs.Common.{◌≡◌, ℕ, ◌+◌, ◌≤◌, ◌==◌, min, Bool, true, false, not, ◌&&◌, ◌||◌, if◌then◌else◌, nat_lt, unwrap_or, Option, Some, None, List, length, refl, sym, subst, ◌∙◌, arith}
 use Rattle.std.proofs.lemmas.Bool.Decides.{nat_tests}
 use Rattle.pin_matrix.specs.declared.machine.MachineSetup.{MachineSetup}
 use Rattle.pin_matrix.specs.declared.span.Span.{Span}
@@ -139,12 +139,12 @@ pub record IsTickOf (t : Tick) (i : Intent) : Type 0 where
 pub closes_of : (s : MachineSetup) (sp : Span) (address : ℕ) (i : Intent) (w v : Watch) (t : Tick) → IsTickOf t i → v.to ≡ w.to
     → course.closes (rules_of s sp address) w t ≡ closes sp address i v (watched (rules_of s sp address) w t)
 unfolding watched rules_of
-closes_of s sp address i w v t h e = rw e (event_of sp.to_signal sp.to_at address _ t.finishes (works i.kind None) (finishes (works i.kind None) i.stalled) h.at_work (rw h.at_work h.ends))
+closes_of s sp address i w v t h e = rw e (event_of sp.to_signal sp.to_at address (is_edge sp.to_rise w.to (unwrap_or t.to w.to)) t.finishes (works i.kind None) (finishes (works i.kind None) i.stalled) h.at_work (rw h.at_work h.ends))
 
 pub opens_of : (s : MachineSetup) (sp : Span) (address : ℕ) (i : Intent) (w v : Watch) (t : Tick) → IsTickOf t i → v.from ≡ w.from
     → course.opens (rules_of s sp address) w t ≡ opens sp address i v (watched (rules_of s sp address) w t)
 unfolding watched rules_of
-opens_of s sp address i w v t h e = rw e (event_of sp.from_signal sp.from_at address _ t.finishes (works i.kind None) (finishes (works i.kind None) i.stalled) h.at_work (rw h.at_work h.ends))
+opens_of s sp address i w v t h e = rw e (event_of sp.from_signal sp.from_at address (is_edge sp.from_rise w.from (unwrap_or t.from w.from)) t.finishes (works i.kind None) (finishes (works i.kind None) i.stalled) h.at_work (rw h.at_work h.ends))
 
 -- so with the ages
 pub worked_ages : (s : MachineSetup) (sp : Span) (address : ℕ) (i : Intent) (w v : Watch) (t : Tick) → IsTickOf t i → v.to ≡ w.to → is_late i.kind ≡ t.late
@@ -165,10 +165,10 @@ no_edge false false = refl
 
 -- a tick that writes nothing and in which nothing finishes has neither event
 pub no_closes : (sp : Span) (address : ℕ) (i : Intent) (w v : Watch) → v.to ≡ w.to → finishes (works i.kind None) i.stalled ≡ false → closes sp address i w v ≡ false
-no_closes sp address i w v e h = no_event sp.to_signal sp.to_at address _ (works i.kind None) _ (rw e (no_edge sp.to_rise w.to)) h
+no_closes sp address i w v e h = no_event sp.to_signal sp.to_at address (is_edge sp.to_rise w.to v.to) (works i.kind None) (finishes (works i.kind None) i.stalled) (rw e (no_edge sp.to_rise w.to)) h
 
 pub no_opens : (sp : Span) (address : ℕ) (i : Intent) (w v : Watch) → v.from ≡ w.from → finishes (works i.kind None) i.stalled ≡ false → opens sp address i w v ≡ false
-no_opens sp address i w v e h = no_event sp.from_signal sp.from_at address _ (works i.kind None) _ (rw e (no_edge sp.from_rise w.from)) h
+no_opens sp address i w v e h = no_event sp.from_signal sp.from_at address (is_edge sp.from_rise w.from v.from) (works i.kind None) (finishes (works i.kind None) i.stalled) (rw e (no_edge sp.from_rise w.from)) h
 
 -- an open age of one that waits
 waiting_age : (bounded late named : Bool) (n : ℕ) (a : Ages) → late ≡ true → (bounded ≡ true → late ≡ true → named ≡ true) → InAges bounded n a

@@ -68,7 +68,8 @@ pub record IsContextOf (k : Context) (f : Flow) : Type 0 where
   pub x : Covers k.x f.x
   pub y : Covers k.y f.y
 
--- what is known after the rest of a delay; the rules of each address say the same of it, since no tick of a delay is late
+-- what is known after the rest of a delay; the rules of each address say the same of it, since no tick of a delay is late or has an
+-- event
 abbrev pub rested : MachineSetup → Span → Flow → Watch → Watch
 rested s sp f w = followed (rules_of s sp f.pc) (delay_ticks f.delay) w
 
