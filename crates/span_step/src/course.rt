@@ -154,10 +154,18 @@ impl Watch {
         let excused = tick.late && rules.excuses;
         let from = tick.from.unwrap_or(self.from);
         let to = tick.to.unwrap_or(self.to);
-        let closes = (is_edge(rules.to_rise, self.to, to) && rules.to_edges)
-            || (tick.finishes && rules.to_ends);
-        let opens = (is_edge(rules.from_rise, self.from, from) && rules.from_edges)
-            || (tick.finishes && rules.from_ends);
+        let closes = comes(
+            is_edge(rules.to_rise, self.to, to),
+            rules.to_edges,
+            tick.finishes,
+            rules.to_ends,
+        );
+        let opens = comes(
+            is_edge(rules.from_rise, self.from, from),
+            rules.from_edges,
+            tick.finishes,
+            rules.from_ends,
+        );
         let causes = if excused {
             self.causes
         } else {
@@ -186,6 +194,13 @@ fn tick_causes(rules: &Rules, late: bool, closes: bool, before: Ages, aged: Ages
         u3: late && rules.bounded && !rules.named && before.is_open(),
         u4: false,
     }
+}
+
+/// Whether an event comes: an edge where edges are events, or the end of the instruction where ends are.
+fn comes(edge: bool, edges: bool, finishes: bool, ends: bool) -> bool
+    ensures { result ≡ spec.comes edge edges finishes ends }
+{
+    (edge && edges) || (finishes && ends)
 }
 
 /// Whether the level changes in this direction.
