@@ -1,5 +1,5 @@
 -- What holds of each element that is read holds of all of them.
-use Rattle.std.proofs.Common.{◌≡◌, ℕ, ◌+◌, ◌++◌, length, length-append, cond, Bool, true, false, Option, Some, None, Result, Ok, Err, List, [], ◌∷◌, subst, arith}
+use Rattle.std.proofs.Common.{◌≡◌, ℕ, ◌+◌, ◌++◌, length, length-append, cond, Bool, true, false, Option, Some, None, Result, Ok, Err, List, [], ◌∷◌, ap, subst, arith}
 use Rattle.std.specs.List.{find, AllByRecursion}
 use Rattle.toml.specs.Data.{Data, Items, no_items, item, Members}
 use Rattle.block_config.specs.Answer.{ConfigRefusal}
@@ -24,7 +24,7 @@ gather_keeps P read reads (item d rest) place front all h e =
 -- one thing is gathered of each element
 pub gathered_count : {X E : Type 0} (read : ℕ → List X → Data → Result X E) (items : Items) (place : ℕ) (front all : List X) → gather read place front items ≡ Ok all → length all ≡ length front + count_items items
 unfolding gather
-gathered_count read no_items place front all e = let same : front ≡ all = cc in subst (λ (xs : List X). length xs ≡ length front + 0) same (omega arith)
+gathered_count read no_items place front all e = let same : front ≡ all = cc in omega (arith, ap length same)
 gathered_count read (item d rest) place front all e =
     let next = goes_on (read place front d) (λ x. gather read (place + 1) (front ++ x ∷ []) rest) all e in
     let later = gathered_count read rest (place + 1) (front ++ next.value ∷ []) all next.rest in

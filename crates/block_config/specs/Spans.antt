@@ -7,7 +7,7 @@
 --   events_at   the instructions of the two events, Events by name
 --   span_in     the span of the table at a place
 --   all_spans   the spans of all tables
-use Rattle.std.specs.Prelude.{ℕ, nat_le, nat_lt, ◌&&◌, ◌||◌, not, Float, is_some, Bool, true, false, if◌then◌else◌, slice_index_or, Option, Some, None, List, [], ◌∷◌, Result, Ok, Err, codes}
+use Rattle.std.specs.Prelude.{ℕ, nat_le, nat_lt, ◌==◌, ◌&&◌, ◌||◌, not, Float, is_some, Bool, true, false, if◌then◌else◌, slice_index_or, Option, Some, None, List, [], ◌∷◌, length, Result, Ok, Err, codes}
 use Rattle.std.specs.Float.{float_is_infinite, is_sign_negative}
 use Rattle.std.specs.List.{find}
 use Rattle.std.specs.Str.{bytes_eq}
@@ -251,8 +251,7 @@ enders_at n load t = and_then (labels_at n.done 1 16 load t) (λ enders. if is_b
 
 -- the instructions of an event, of which one list is empty
 abbrev pub named_by : (makers enders : List ℕ) → List ℕ
-named_by makers [] = makers
-named_by makers (e ∷ es) = e ∷ es
+named_by makers enders = if length enders == 0 then makers else enders
 
 -- the instructions that the two events name
 pub record Events : Type 0 where

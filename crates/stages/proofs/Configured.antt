@@ -1,5 +1,5 @@
 -- The machine of each span that a configuration sets up is configured.
-use Rattle.std.proofs.Common.{◌≡◌, ◌∙◌, ℕ, zero, suc, ◌+◌, ◌++◌, cond, Bool, true, false, Option, Some, None, is_some, option_map, Result, Ok, Err, List, [], ◌∷◌, IsSome, map, slice_index, slice_index_or, refl, sym, ap, subst, codes}
+use Rattle.std.proofs.Common.{◌≡◌, ◌∙◌, ℕ, zero, suc, ◌+◌, ◌++◌, cond, Bool, true, false, Option, Some, None, is_some, option_map, Result, Ok, Err, List, [], ◌∷◌, IsSome, map, slice_index_or, refl, sym, ap, subst, codes}
 use Rattle.std.specs.List.{AllByRecursion}
 use Rattle.toml.specs.Data.{Items, no_items, item, Members, as_table}
 use Rattle.answers.specs.Answers.{made}
@@ -12,6 +12,7 @@ use Rattle.block_config.specs.Arrays.{gather}
 use Rattle.setup_keys.specs.Block.{MachineKeys, SpanKeys, BlockKeys, keys_of_machine, keys_of_span, keys_of_block}
 use Rattle.block_config.specs.Config.{document_of, parsed, sections_at, Sections, no_machines, owning_with, block_over, block_of_sections, block_of_table, said_of, config_block, config_setup_of, second_setup_of}
 use Rattle.block_config.specs.Default.{default_block, default_setup_of}
+use Rattle.block_config.specs.declared.edges.Edge.{Edge}
 use Rattle.block_config.specs.Exact.{SaysExactly, OwnsExactly}
 use Rattle.block_config.specs.Loads.{all_loads, memory_of}
 use Rattle.block_config.specs.Machines.{machines_from}
@@ -20,12 +21,12 @@ use Rattle.block_config.specs.Owning.{OwningKeys, keys_of_owning}
 use Rattle.block_config.specs.declared.owning.OwningSetup.{OwningSetup}
 use Rattle.block_config.specs.Pins.{pins_in}
 use Rattle.block_config.specs.Programs.{Loaded}
-use Rattle.block_config.specs.Spans.{span_names, configured, machine_at, span_pins, edge_at, required, SpanEnds, ends_at, bounds_at, exempt_at, load_of_machine, SpanValues, values_at, span_keys_of, name_at, span_of_table, span_in, all_spans}
+use Rattle.block_config.specs.Spans.{span_names, configured, machine_at, from_names, to_names, pin_at, edge_at, required, SpanEnds, ends_at, bounds_at, exempt_at, events_at, load_of_span, SpanValues, values_at, span_keys_of, name_at, span_of_table, span_in, all_spans}
 use Rattle.block_config.specs.declared.pins.BlockNumber.{BlockNumber}
 use Rattle.block_config.specs.declared.pins.BlockNumber.TheVariants.{First, Second}
 use Rattle.block_config.specs.declared.path.Section.{Section}
 use Rattle.block_config.specs.declared.path.Section.TheVariants as section
-use Rattle.block_config.specs.Tables.{and_then, number_at, each_at, are_known, in_section, section_at, element_of}
+use Rattle.block_config.specs.Tables.{and_then, number_at, are_known, in_section, section_at, element_of}
 use Rattle.stages.specs.Configured.{AreConfigured}
 
 -- what a step that came out right was made of
@@ -59,34 +60,36 @@ machine_placed machines t id e =
 -- the ends after a machine
 ends_after : Members → ℕ → Result SpanEnds ConfigRefusal
 ends_after t machine =
-    and_then (each_at (number_at t) span_pins) (λ pins. and_then (edge_at t (codes "from_edge")) (λ from_edge. and_then (edge_at t (codes "to_edge")) (λ to_edge.
-    Ok (record { machine = machine; from_pin = slice_index pins 0; to_pin = slice_index pins 1; from_edge = from_edge; to_edge = to_edge }))))
+    and_then (pin_at from_names t) (λ from_pin. and_then (pin_at to_names t) (λ to_pin.
+    and_then (edge_at from_names t) (λ from_edge. and_then (edge_at to_names t) (λ to_edge.
+    Ok (record { machine = machine; from_pin = from_pin; to_pin = to_pin; from_edge = from_edge; to_edge = to_edge })))))
 
 -- what the rest keeps of the machine
-ends_keep : (t : Members) (machine : ℕ) (ends : SpanEnds) → ends_after t machine ≡ Ok ends → ends.machine ≡ machine
-unfolding ends_after
-ends_keep t machine ends e =
-    let pins = goes_on (each_at (number_at t) span_pins) (λ pins. and_then (edge_at t (codes "from_edge")) (λ from_edge. and_then (edge_at t (codes "to_edge")) (λ to_edge.
-    Ok (record { machine = machine; from_pin = slice_index pins 0; to_pin = slice_index pins 1; from_edge = from_edge; to_edge = to_edge })))) ends e in
-    let from = goes_on (edge_at t (codes "from_edge")) (λ from_edge. and_then (edge_at t (codes "to_edge")) (λ to_edge.
-    Ok (record { machine = machine; from_pin = slice_index pins.value 0; to_pin = slice_index pins.value 1; from_edge = from_edge; to_edge = to_edge }))) ends pins.rest in
-    let to = goes_on (edge_at t (codes "to_edge")) (λ to_edge.
-    Ok (record { machine = machine; from_pin = slice_index pins.value 0; to_pin = slice_index pins.value 1; from_edge = from.value; to_edge = to_edge })) ends from.rest in
-    sym (ap (λ (x : SpanEnds). x.machine) (ok_same _ ends to.rest))
+ends_keep : (machine : ℕ) (ends : SpanEnds) (from_pin to_pin : Result ℕ ConfigRefusal) (from to : Result Edge ConfigRefusal)
+    → and_then from_pin (λ from_pin. and_then to_pin (λ to_pin. and_then from (λ from_edge. and_then to (λ to_edge.
+    Ok (record { machine = machine; from_pin = from_pin; to_pin = to_pin; from_edge = from_edge; to_edge = to_edge }))))) ≡ Ok ends
+    → ends.machine ≡ machine
+ends_keep machine ends (Ok a) (Ok b) (Ok from) (Ok to) e =
+    sym (ap (λ (x : SpanEnds). x.machine) (ok_same (record { machine = machine; from_pin = a; to_pin = b; from_edge = from; to_edge = to }) ends e))
+ends_keep machine ends (Err r) b from to e = cc
+ends_keep machine ends (Ok a) (Err r) from to e = cc
+ends_keep machine ends (Ok a) (Ok b) (Err r) to e = cc
+ends_keep machine ends (Ok a) (Ok b) (Ok from) (Err r) e = cc
 
 ends_placed : (machines : List (Option MachineKeys)) (t : Members) (ends : SpanEnds) → ends_at machines t ≡ Ok ends → IsPlaced machines ends.machine
 unfolding ends_after
 ends_placed machines t ends e =
     let machine = goes_on (machine_at machines t) (ends_after t) ends e in
-    subst (IsPlaced machines) (sym (ends_keep t machine.value ends machine.rest)) (machine_placed machines t machine.value machine.found)
+    subst (IsPlaced machines) (sym (ends_keep machine.value ends (pin_at from_names t) (pin_at to_names t) (edge_at from_names t) (edge_at to_names t) machine.rest)) (machine_placed machines t machine.value machine.found)
 
 values_placed : (machines : List (Option MachineKeys)) (loads : List Loaded) (t : Members) (v : SpanValues) → values_at machines loads t ≡ Ok v → IsPlaced machines v.ends.machine
 values_placed machines loads t v e =
-    let ends = goes_on (ends_at machines t) (λ ends. and_then (bounds_at t) (λ bounds. and_then (exempt_at bounds.unit (load_of_machine loads (slice_index_or machines ends.machine None)) t) (λ exempt. Ok (record { ends = ends; bounds = bounds; exempt = exempt })))) v e in
-    let load = load_of_machine loads (slice_index_or machines ends.value.machine None) in
-    let bounds = goes_on (bounds_at t) (λ bounds. and_then (exempt_at bounds.unit load t) (λ exempt. Ok (record { ends = ends.value; bounds = bounds; exempt = exempt }))) v ends.rest in
-    let exempt = goes_on (exempt_at bounds.value.unit load t) (λ exempt. Ok (record { ends = ends.value; bounds = bounds.value; exempt = exempt })) v bounds.rest in
-    subst (λ (x : SpanValues). IsPlaced machines x.ends.machine) (ok_same _ v exempt.rest) (ends_placed machines t ends.value ends.found)
+    let ends = goes_on (ends_at machines t) (λ ends. and_then (bounds_at t) (λ bounds. and_then (exempt_at bounds.unit (load_of_span machines loads ends.machine) t) (λ exempt. and_then (events_at (load_of_span machines loads ends.machine) t) (λ events. Ok (record { ends = ends; bounds = bounds; exempt = exempt; events = events }))))) v e in
+    let load = load_of_span machines loads ends.value.machine in
+    let bounds = goes_on (bounds_at t) (λ bounds. and_then (exempt_at bounds.unit load t) (λ exempt. and_then (events_at load t) (λ events. Ok (record { ends = ends.value; bounds = bounds; exempt = exempt; events = events })))) v ends.rest in
+    let exempt = goes_on (exempt_at bounds.value.unit load t) (λ exempt. and_then (events_at load t) (λ events. Ok (record { ends = ends.value; bounds = bounds.value; exempt = exempt; events = events }))) v bounds.rest in
+    let events = goes_on (events_at load t) (λ events. Ok (record { ends = ends.value; bounds = bounds.value; exempt = exempt.value; events = events })) v exempt.rest in
+    subst (λ (x : SpanValues). IsPlaced machines x.ends.machine) (ok_same _ v events.rest) (ends_placed machines t ends.value ends.found)
 
 table_placed : (machines : List (Option MachineKeys)) (loads : List Loaded) (t : Members) (s : SpanKeys) → span_of_table machines loads t ≡ Ok s → IsPlaced machines s.machine
 table_placed machines loads t s e =
