@@ -97,7 +97,7 @@ no_change true false = refl
 no_change false true = refl
 no_change false false = refl
 
-no_edge : (signal : PinSignal) (pin : ℕ) (rise : Bool) (b v : ShownPins) → v ≡ b → has_edge pin rise (signal_of signal b) (signal_of signal v) ≡ false
+no_edge : (signal : Option PinSignal) (pin : ℕ) (rise : Bool) (b v : ShownPins) → v ≡ b → has_edge pin rise (signal_of signal b) (signal_of signal v) ≡ false
 no_edge signal pin rise b v h =
     let was : Bool = is_high (signal_of signal b) pin in
     ap (λ (x : ShownPins). changes rise was (is_high (signal_of signal x) pin)) h ∙ no_change rise was
@@ -253,20 +253,25 @@ same_rise false false h = refl
 same_rise true false h = absurd (omega arith)
 same_rise false true h = absurd (omega arith)
 
-same_signal : (a b : PinSignal) → signal_code a ≡ signal_code b → a ≡ b
-same_signal Level Level h = refl
-same_signal Direction Direction h = refl
-same_signal Level Direction h = absurd (omega arith)
-same_signal Direction Level h = absurd (omega arith)
+same_signal : (a b : Option PinSignal) → signal_code a ≡ signal_code b → a ≡ b
+same_signal (Some Level) (Some Level) h = refl
+same_signal (Some Direction) (Some Direction) h = refl
+same_signal None None h = refl
+same_signal (Some Level) (Some Direction) h = absurd (omega arith)
+same_signal (Some Direction) (Some Level) h = absurd (omega arith)
+same_signal (Some Level) None h = absurd (omega arith)
+same_signal (Some Direction) None h = absurd (omega arith)
+same_signal None (Some Level) h = absurd (omega arith)
+same_signal None (Some Direction) h = absurd (omega arith)
 
 same_from : (a b : SpanEdges) → a.from_pin ≡ b.from_pin → a.from_signal ≡ b.from_signal → a.from_rise ≡ b.from_rise → a ≡ record a { from_pin = b.from_pin; from_signal = b.from_signal; from_rise = b.from_rise }
 same_from a b p q r =
-    let mk : ℕ → PinSignal → Bool → SpanEdges = λ x y z. record a { from_pin = x; from_signal = y; from_rise = z } in
+    let mk : ℕ → Option PinSignal → Bool → SpanEdges = λ x y z. record a { from_pin = x; from_signal = y; from_rise = z } in
     ap (λ x. mk x a.from_signal a.from_rise) p ∙ ap (λ x. mk b.from_pin x a.from_rise) q ∙ ap (λ x. mk b.from_pin b.from_signal x) r
 
 same_to : (a b : SpanEdges) → a.to_pin ≡ b.to_pin → a.to_signal ≡ b.to_signal → a.to_rise ≡ b.to_rise → record a { from_pin = b.from_pin; from_signal = b.from_signal; from_rise = b.from_rise } ≡ b
 same_to a b p q r =
-    let mk : ℕ → PinSignal → Bool → SpanEdges = λ x y z. record b { to_pin = x; to_signal = y; to_rise = z } in
+    let mk : ℕ → Option PinSignal → Bool → SpanEdges = λ x y z. record b { to_pin = x; to_signal = y; to_rise = z } in
     ap (λ x. mk x a.to_signal a.to_rise) p ∙ ap (λ x. mk b.to_pin x a.to_rise) q ∙ ap (λ x. mk b.to_pin b.to_signal x) r
 
 code_tells : (xs ys : List SpanEdges) → ends_code xs ≡ ends_code ys → xs ≡ ys

@@ -1,14 +1,14 @@
 -- What the edges of a span measure in samples, in clocks.
 --   SpanEdges      the edges that a span goes between
---   signal_of      the levels or the directions of the pins
+--   signal_of      of the pins, the watched signal
 --   pins_after     the pins after samples
 --   clocks_to      how many clocks pass before the first to-edge
 --   measured       the clocks from each from-edge to the first to-edge after it
 --   seen_of        how many there are, the least and the greatest
 use Rattle.std.specs.Prelude.{ℕ, suc, Bool, Option, Some, None, List, [], ◌∷◌, length, min, max, if◌then◌else◌}
 use Rattle.std.specs.Option.{option_map}
+use Rattle.pin_matrix.specs.Spans.{signal_bits}
 use Rattle.pin_matrix.specs.declared.span.PinSignal.{PinSignal}
-use Rattle.pin_matrix.specs.declared.span.PinSignal.TheVariants.{Level, Direction}
 use Rattle.pin_matrix.specs.declared.span.Span.{Span}
 use Rattle.block_core.specs.declared.sample.Sample.{Sample}
 use Rattle.block_core.specs.Block.{BlockState}
@@ -16,13 +16,14 @@ use Rattle.block_core.specs.Edges.{has_edge}
 use Rattle.span_meter.specs.declared.pins.ShownPins.{ShownPins}
 use Rattle.span_meter.specs.declared.seen.SeenDistances.{SeenDistances}
 
--- the edges that a span goes between: each a rise of a pin, whose level rises or whose direction becomes out, or else a fall
+-- The edges that a span goes between: each a rise of a pin, whose level rises or whose direction becomes out, or else a fall. None comes
+-- where no signal is watched, since the span has the end of an instruction there.
 pub record SpanEdges : Type 0 where
   pub from_pin : ℕ
-  pub from_signal : PinSignal
+  pub from_signal : Option PinSignal
   pub from_rise : Bool
   pub to_pin : ℕ
-  pub to_signal : PinSignal
+  pub to_signal : Option PinSignal
   pub to_rise : Bool
 
 -- those of a span of a configuration
@@ -44,10 +45,9 @@ pins_of s = record { level = s.level; direction = s.direction }
 abbrev pub pins_in : BlockState → ShownPins
 pins_in b = record { level = b.levels; direction = b.directions }
 
--- of all pins, the levels or the directions
-abbrev pub signal_of : PinSignal → ShownPins → ℕ
-signal_of Level p = p.level
-signal_of Direction p = p.direction
+-- of all pins, the watched signal
+abbrev pub signal_of : Option PinSignal → ShownPins → ℕ
+signal_of watched p = signal_bits watched p.level p.direction
 
 -- the pins after samples, with these before them
 unfoldable pub pins_after : ShownPins → List Sample → ShownPins

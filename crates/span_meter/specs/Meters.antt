@@ -38,10 +38,11 @@ abbrev pub rise_code : Bool → ℕ
 rise_code true = 1
 rise_code false = 0
 
--- levels or directions as a number
-abbrev pub signal_code : PinSignal → ℕ
-signal_code Level = 0
-signal_code Direction = 1
+-- what is watched as a number: levels, directions or nothing
+abbrev pub signal_code : Option PinSignal → ℕ
+signal_code (Some Level) = 0
+signal_code (Some Direction) = 1
+signal_code None = 2
 
 -- the edges of spans as numbers, six a span
 abbrev pub ends_code : List SpanEdges → List ℕ

@@ -5,14 +5,15 @@ use crate::levels::has_edge;
 use crate::pins::ShownPins;
 use pin_matrix::{PinSignal, Span};
 
-/// The edges of a span: each a rise of a pin's level or its direction, which becomes out, else a fall.
+/// The edges of a span: each a rise of a pin's level or its direction, which becomes out, else a fall. None comes where no signal is
+/// watched.
 #[derive(Clone, Copy)]
 pub(crate) struct Edges {
     from_pin: u8,
-    from_signal: PinSignal,
+    from_signal: Option<PinSignal>,
     from_rise: bool,
     to_pin: u8,
-    to_signal: PinSignal,
+    to_signal: Option<PinSignal>,
     to_rise: bool,
     ghost from_pin_is_a_pin: { from_pin < 32 },
     ghost to_pin_is_a_pin: { to_pin < 32 },

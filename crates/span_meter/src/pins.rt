@@ -2,7 +2,7 @@
 ghost use Rattle.std.specs.Prelude.{◌≡◌};
 ghost use Rattle.span_meter.specs.Measured as spec;
 
-use pin_matrix::PinSignal;
+use pin_matrix::{PinSignal, signal_bits};
 
 /// The output levels and the directions after a clock, or before the first one; bit i is pin i.
 #[derive(Clone, Copy)]
@@ -13,13 +13,10 @@ pub struct ShownPins {
 }
 
 impl ShownPins {
-    /// Of all pins, the levels or the directions.
-    pub(crate) fn signal(&self, signal: PinSignal) -> u32
-        ensures { result ≡ spec.signal_of signal self.now }
+    /// Of all pins, the watched signal.
+    pub(crate) fn signal(&self, watched: Option<PinSignal>) -> u32
+        ensures { result ≡ spec.signal_of watched self.now }
     {
-        match signal {
-            PinSignal::Level => self.level,
-            PinSignal::Direction => self.direction,
-        }
+        signal_bits(watched, self.level, self.direction)
     }
 }
