@@ -1,4 +1,4 @@
--- Each measured distance goes from a from-edge to the first to-edge after it, as a span asks it.
+-- Each measured distance goes from a from-edge to the first to-edge after it, as a span between edges asks it.
 use Rattle.std.proofs.Common.{◌≡◌, ℕ, zero, suc, ◌+◌, ◌-◌, ◌<◌, ◌≤◌, Bool, true, false, cond, Option, Some, None, List, [], ◌∷◌, ◌++◌, length, min, max, refl, sym, ap, ◌∙◌, subst, arith, ◌⊎◌, inl, inr, ◌≢◌}
 use Rattle.std.proofs.lemmas.Bool.{cases_eq}
 use Rattle.std.specs.Option.{option_map}
@@ -125,17 +125,21 @@ seen_between lo hi [] all = record { least = λ some. absurd (omega arith); most
 seen_between lo hi (x ∷ xs) all = record { least = λ some. least_between lo hi x xs all.0 all.1; most = λ some. most_between lo hi (x ∷ xs) all }
 
 -- an edge is the same by what a state has and by what is shown of its pins
-same_edge : (signal : PinSignal) (pin : ℕ) (rise : Bool) (before after : BlockState) → marks.has_signal_edge signal pin rise before after ≡ has_edge pin rise (signal_of signal (pins_in before)) (signal_of signal (pins_in after))
-same_edge Level pin rise before after = refl
-same_edge Direction pin rise before after = refl
+same_edge : (signal : Option PinSignal) (pin : ℕ) (rise : Bool) (before after : BlockState) → marks.has_signal_edge signal pin rise before after ≡ has_edge pin rise (signal_of signal (pins_in before)) (signal_of signal (pins_in after))
+same_edge None pin rise before after = refl
+same_edge (Some Level) pin rise before after = refl
+same_edge (Some Direction) pin rise before after = refl
 
-from_mark : (sp : Span) (u : Setup) (lines : List Line) (c : ℕ) → (marks_in sp u lines c).from ≡ from_at (ends_in sp) (λ k. pins_in (state_beside u lines k)) c
-unfolding mark_of
-from_mark sp u lines c = same_edge sp.from_signal sp.from_pin sp.from_rise (state_beside u lines c) (state_beside u lines (suc c))
+-- what a law of span_check says of a span between edges: its events are edges
+pub record AreEdges (sp : Span) (u : Setup) (lines : List Line) : Type 0 where
+  pub from : (c : ℕ) → (marks_in sp u lines c).from ≡ marks.has_signal_edge sp.from_signal sp.from_pin sp.from_rise (state_beside u lines c) (state_beside u lines (suc c))
+  pub to : (c : ℕ) → (marks_in sp u lines c).to ≡ marks.has_signal_edge sp.to_signal sp.to_pin sp.to_rise (state_beside u lines c) (state_beside u lines (suc c))
 
-to_mark : (sp : Span) (u : Setup) (lines : List Line) (c : ℕ) → (marks_in sp u lines c).to ≡ to_at (ends_in sp) (λ k. pins_in (state_beside u lines k)) c
-unfolding mark_of
-to_mark sp u lines c = same_edge sp.to_signal sp.to_pin sp.to_rise (state_beside u lines c) (state_beside u lines (suc c))
+from_mark : (sp : Span) (u : Setup) (lines : List Line) (c : ℕ) → AreEdges sp u lines → (marks_in sp u lines c).from ≡ from_at (ends_in sp) (λ k. pins_in (state_beside u lines k)) c
+from_mark sp u lines c edges = edges.from c ∙ same_edge sp.from_signal sp.from_pin sp.from_rise (state_beside u lines c) (state_beside u lines (suc c))
+
+to_mark : (sp : Span) (u : Setup) (lines : List Line) (c : ℕ) → AreEdges sp u lines → (marks_in sp u lines c).to ≡ to_at (ends_in sp) (λ k. pins_in (state_beside u lines k)) c
+to_mark sp u lines c edges = edges.to c ∙ same_edge sp.to_signal sp.to_pin sp.to_rise (state_beside u lines c) (state_beside u lines (suc c))
 
 breaks_mark : (sp : Span) (u : Setup) (lines : List Line) (c : ℕ) → (marks_in sp u lines c).breaks ≡ marks.is_broken (host_of (first_run u) lines c) sp.machine
 unfolding mark_of
@@ -160,13 +164,13 @@ in_clocks Clocks lo hi n m clocks holds free calm s d start some within to first
     let most = h.most (s + d) ends within spoken in
     (omega arith, subst (IsUpTo hi) (let e : suc (s + d) - 1 - s ≡ d = omega arith in e) most)
 
-pub seen_within : (u : Setup) (sp : Span) → sp.unit ≡ Clocks → HoldsInEveryRun u sp → (lines : List Line) (n : ℕ) → ((c : ℕ) → (marks_in sp u lines c).excused ≡ false) → IsUndisturbed u sp lines n → IsWithin sp.min sp.max (measured_in u sp lines n)
-seen_within u sp clocks holds lines n free calm =
+pub seen_within : (u : Setup) (sp : Span) → sp.unit ≡ Clocks → HoldsInEveryRun u sp → (lines : List Line) (n : ℕ) → AreEdges sp u lines → ((c : ℕ) → (marks_in sp u lines c).excused ≡ false) → IsUndisturbed u sp lines n → IsWithin sp.min sp.max (measured_in u sp lines n)
+seen_within u sp clocks holds lines n edges free calm =
     let pins : ℕ → ShownPins = λ k. pins_in (state_beside u lines k) in
     let e = ends_in sp in
     let asked : Asked (from_at e pins) (to_at e pins) n (IsBetween sp.min sp.max) = λ s d start some within to first.
     in_clocks sp.unit sp.min sp.max n (marks_in sp u lines) clocks (holds.beside lines n) free (λ c low. breaks_mark sp u lines c ∙ calm c low)
-    s d (from_mark sp u lines s ∙ start) some within (to_mark sp u lines (s + d) ∙ to) (λ c low high. to_mark sp u lines c ∙ first c low high) in
+    s d (from_mark sp u lines s edges ∙ start) some within (to_mark sp u lines (s + d) edges ∙ to) (λ c low high. to_mark sp u lines c edges ∙ first c low high) in
     let all = all_good e pins (sample_at (first_run u) lines) (shown_pins u lines) n (IsBetween sp.min sp.max) asked 0 n (omega arith) in
     let good = seen_between sp.min sp.max (measured e (pins 0) (samples_from (sample_at (first_run u) lines) 0 n)) all in
     let P : List Sample → Type 0 = λ xs. IsWithin sp.min sp.max (seen_of (measured e (pins 0) xs)) in
