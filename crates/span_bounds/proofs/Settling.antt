@@ -60,9 +60,9 @@ Begun-step u sp l x x0 x' w w' n t b s h = on (open_at (at l n)) refl h where
 
   on : (z : Bool) → open_at (at l n) ≡ z → MatchBool z ((x' ≡ joined_at x n (Between (cap_of u sp) (cap_of u sp))) × MatchBool (is_single (at x' n)) (w' ≡ w) (IsMore n w w')) ((x' ≡ x) × (w' ≡ w)) → Begun u sp t.reach l x' w' (n + 1)
   on true o r = by (is_single (at x' n)) r.1 where
-    by : (y : Bool) → MatchBool y (w' ≡ w) (IsMore n w w') → Begun u sp t.reach l x' w' (n + 1)
-    by true e = let z : length w' ≡ length w = ap length e in joined (λ i k. s.near i (rw e at k)) (omega (arith, z))
-    by false m = joined (λ i k. elim (m.of_these i k) [ inl e ↦ rw e b | inr h ↦ s.near i h ]) (omega (arith, m.size))
+    done : (i : ℕ) (a : Ages) → i < 139392 → open_at (at l i) ≡ false → at (joined_at x n (Between (cap_of u sp) (cap_of u sp))) i ≡ Present a → (i ≡ n) ⊎ (i ≢ n) → AllLie (at (joined_at x n (Between (cap_of u sp) (cap_of u sp)))) (nexts_at u sp i a)
+    done i a m p q (inl e) = absurd (clash o (rw e at p))
+    done i a m p q (inr d) = all_still x n (Between (cap_of u sp) (cap_of u sp)) _ inside_x (s.done i a m p (rw (at_other x n i (Present (join_into (Between (cap_of u sp) (cap_of u sp)) (at x n))) d) at q))
 
     joined : ((i : ℕ) → Among i w' → i < 139392) → length w' ≤ length w + 1 → Begun u sp t.reach l x' w' (n + 1)
     joined near size = rw r.0 (record {
@@ -73,9 +73,9 @@ Begun-step u sp l x x0 x' w w' n t b s h = on (open_at (at l n)) refl h where
       few = omega (arith, s.few, one_more true o, size);
     })
 
-    done : (i : ℕ) (a : Ages) → i < 139392 → open_at (at l i) ≡ false → at (joined_at x n (Between (cap_of u sp) (cap_of u sp))) i ≡ Present a → (i ≡ n) ⊎ (i ≢ n) → AllLie (at (joined_at x n (Between (cap_of u sp) (cap_of u sp)))) (nexts_at u sp i a)
-    done i a m p q (inl e) = absurd (clash o (rw e at p))
-    done i a m p q (inr d) = all_still x n (Between (cap_of u sp) (cap_of u sp)) _ inside_x (s.done i a m p (rw (at_other x n i (Present (join_into (Between (cap_of u sp) (cap_of u sp)) (at x n))) d) at q))
+    by : (y : Bool) → MatchBool y (w' ≡ w) (IsMore n w w') → Begun u sp t.reach l x' w' (n + 1)
+    by true e = let z : length w' ≡ length w = ap length e in joined (λ i k. s.near i (rw e at k)) (omega (arith, z))
+    by false m = joined (λ i k. elim (m.of_these i k) [ inl e ↦ rw e b | inr h ↦ s.near i h ]) (omega (arith, m.size))
   on false o r = rw (r.0, r.1) (record {
     keeps = s.keeps;
     near = s.near;
