@@ -1,5 +1,5 @@
 -- How often the entries of a table may still be widened, and how many rows wait.
-use Rattle.std.proofs.Common.{◌≡◌, ℕ, zero, suc, ◌+◌, ◌-◌, ◌<◌, ◌≤◌, ◌⊎◌, min, max, nat_le, nat_lt, ◌==◌, Bool, true, false, ◌&&◌, List, [], ◌∷◌, length, take, sum_by, refl, inl, inr, arith}
+use Rattle.std.proofs.Common.{◌≡◌, ℕ, zero, suc, ◌+◌, ◌-◌, ◌<◌, ◌≤◌, ◌⊎◌, min, max, nat_le, nat_lt, Bool, true, false, ◌&&◌, List, [], ◌∷◌, length, take, sum_by, refl, inl, inr, arith}
 use Rattle.std.proofs.Math.ListN.{set}
 use Rattle.std.proofs.lemmas.Bool.{cases_lt}
 use Rattle.std.proofs.lemmas.Bool.Decides.{nat_tests}
@@ -56,9 +56,6 @@ table_slack c x p a l u h = less _ _ _ _ (sum_by-set (slack c) x p (Present (joi
   less : (s t o n : ℕ) → s + o ≡ t + n → n + 1 ≤ o → s + 1 ≤ t
   less s t o n e k = omega arith
 
-min_under : (lo low hi high : ℕ) → lo < hi → min lo low < max hi high
-min_under lo low hi high l = omega (arith, l)
-
 -- joined ages leave no fewer entries with several ages
 wide_kept : (a : Ages) (e : Entry) → one_wide e ≤ one_wide (Present (join_into a e))
 wide_kept a Absent = omega arith
@@ -79,12 +76,12 @@ wide_more (Between lo hi) (Present (Between low high)) s h =
     let none : nat_lt low high ≡ false = grind (arith, nat_tests) in
     let some : nat_lt (min lo low) (max hi high) ≡ true = more same (cases_lt lo low) (cases_lt high hi) in
     rw (none, some) (omega arith) where
-  more : low ≡ high → (lo < low) ⊎ (low ≤ lo) → (high < hi) ⊎ (hi ≤ high) → nat_lt (min lo low) (max hi high) ≡ true
-  more e (inl p) q = let l : min lo low < max hi high = omega (arith, p, e) in grind (arith, nat_tests)
-  more e (inr p) (inl q) = let l : min lo low < max hi high = omega (arith, q, e) in grind (arith, nat_tests)
-  more e (inr p) (inr q) = absurd (clash both h) where
-    both : (nat_le low lo && nat_le hi high) ≡ true
-    both = let r : nat_le low lo ≡ true = grind (arith, nat_tests) in let t : nat_le hi high ≡ true = grind (arith, nat_tests) in rw (r, t) refl
+      more : low ≡ high → (lo < low) ⊎ (low ≤ lo) → (high < hi) ⊎ (hi ≤ high) → nat_lt (min lo low) (max hi high) ≡ true
+      more e (inl p) q = let l : min lo low < max hi high = omega (arith, p, e) in grind (arith, nat_tests)
+      more e (inr p) (inl q) = let l : min lo low < max hi high = omega (arith, q, e) in grind (arith, nat_tests)
+      more e (inr p) (inr q) = absurd (clash both h) where
+        both : (nat_le low lo && nat_le hi high) ≡ true
+        both = let r : nat_le low lo ≡ true = grind (arith, nat_tests) in let t : nat_le hi high ≡ true = grind (arith, nat_tests) in rw (r, t) refl
 
 pub table_wide : (x : List Entry) (p : ℕ) (a : Ages) → p < length x → sum_by one_wide x ≤ sum_by one_wide (joined_at x p a)
 table_wide x p a l = more _ _ _ _ (sum_by-set one_wide x p (Present (join_into a (at x p))) Absent l) (wide_kept a (at x p)) where
