@@ -1,5 +1,5 @@
 -- The fourth sweep keeps what it says of its rows.
-use Rattle.std.proofs.Common.{◌≡◌, ◌≢◌, ℕ, ◌+◌, ◌<◌, ◌≤◌, ◌⊎◌, Bool, true, false, MatchBool, List, [], ◌∷◌, length, get_or, take, sum_by, refl, sym, ap, ◌∙◌, subst, inl, inr, arith}
+use Rattle.std.proofs.Common.{◌≡◌, ◌≢◌, ℕ, ◌+◌, ◌<◌, ◌≤◌, ◌⊎◌, Bool, true, false, not, ◌||◌, MatchBool, List, [], ◌∷◌, length, get_or, take, sum_by, refl, sym, ap, ◌∙◌, subst, inl, inr, arith}
 use Rattle.std.proofs.Math.ListN.{set}
 use Rattle.std.proofs.lemmas.List.{length-set, take_more, take_all}
 use Rattle.std.proofs.lemmas.List.Sums.{sum_by_push}
@@ -15,15 +15,15 @@ use Rattle.span_bounds.specs.Tables.{LiesAt}
 use Rattle.span_bounds.specs.Edges.{at, nexts_at, spot, EachNext, AllLie, IsClosedAt, Among}
 use Rattle.span_bounds.specs.Reach.{IsHeldBy, AreHeld}
 use Rattle.span_bounds.specs.Sums.{one_if, open_at, join_into}
-use Rattle.span_bounds.specs.Queues.{IsMore}
+use Rattle.span_bounds.specs.Queues.{IsMore, Queued, ComesNext}
 use Rattle.span_bounds.specs.Take.{IsFresh, IsTaken, IsSettled, ages_or_none}
-use Rattle.span_bounds.specs.Settle.{lies, one_waiting, slack, ease_left, Eased, BegunAt, Settle, SettleRow, Begun, IsBegun, IsSettling, SettlesRow}
+use Rattle.span_bounds.specs.Settle.{lies, is_single, one_wide, one_waiting, slack, ease_left, Eased, BegunAt, Settle, SettleRow, Begun, IsBegun, IsSettling, SettlesRow}
 use Rattle.span_bounds.proofs.Nexts.{EachNext-at, EachNext-more, same_or_not}
 use Rattle.span_bounds.proofs.Reaching.{at_same, at_other}
 use Rattle.span_bounds.proofs.Joins.{joined_at, lies_at_join, lies_still, closed_lies}
 use Rattle.span_bounds.proofs.Takes.{all_still}
 use Rattle.span_bounds.proofs.Filled.{capped}
-use Rattle.span_bounds.proofs.Slack.{lies_from, table_slack, more_wait, fewer_wait, all_wait, length_front}
+use Rattle.span_bounds.proofs.Slack.{lies_from, table_slack, table_wide, table_wider, all_wide, more_wait, still_wait, fewer_wait, all_wait, length_front}
 use Rattle.span_bounds.proofs.Capped.{IsFresh-join, reach_holds, left_capped}
 
 clash : {b : Bool} → b ≡ true → b ≡ false → ⊥
@@ -37,7 +37,7 @@ waiting_more l n i = rw (take_more l n Absent i) (sum_by_push one_waiting (take 
 
 -- before the sweep no row was looked at
 pub Begun-starts : (u : Setup) (sp : Span) (l x : List Entry) (w : List ℕ) (t : IsTaken u sp l x) → w ≡ [] → Begun u sp t.reach l x w 0
-Begun-starts u sp l x w t e = rw e (record { keeps = t.keeps; near = λ i h. absurd h; queued = λ i m o. absurd (omega arith); done = t.done; there = λ i m o. there i m o (at l i) refl; few = omega arith }) where
+Begun-starts u sp l x w t e = rw e (record { keeps = t.keeps; near = λ i h. absurd h; done = t.done; there = λ i m o. there i m o (at l i) refl; few = omega arith }) where
   there : (i : ℕ) → i < 139392 → open_at (at l i) ≡ true → (e : Entry) → at l i ≡ e → LiesAt Empty (at x i)
   there i m o Absent q = absurd (clash o (rw q refl))
   there i m o (Present c) q = t.keeps.rows i c m (sym (t.left.left i m o) ∙ q)
@@ -58,93 +58,116 @@ Begun-step u sp l x x0 x' w w' n t b s h = on (open_at (at l n)) refl h where
   one_more : (z : Bool) → open_at (at l n) ≡ z → sum_by one_waiting (take (n + 1) l) ≡ sum_by one_waiting (take n l) + one_if z
   one_more z q = waiting_more l n inside_l ∙ ap (λ y. sum_by one_waiting (take n l) + one_if y) q
 
-  on : (z : Bool) → open_at (at l n) ≡ z → MatchBool z ((x' ≡ joined_at x n (Between (cap_of u sp) (cap_of u sp))) × IsMore n w w') ((x' ≡ x) × (w' ≡ w)) → Begun u sp t.reach l x' w' (n + 1)
-  on true o r = rw r.0 (record {
-    keeps = IsFresh-join u sp t.reach x n (Between (cap_of u sp) (cap_of u sp)) b s.keeps (λ f c. left_capped u sp l x0 t f c n b o) (held_there (at l n) refl o);
-    near = λ i k. elim (r.1.of_these i k) [ inl e ↦ rw e b | inr m ↦ s.near i m ];
-    queued = λ i m p. elim (below_or i n m) [ inl k ↦ r.1.all i (inr (s.queued i k p)) | inr e ↦ r.1.all i (inl e) ];
-    done = λ i a m p q. done i a m p q (same_or_not i n);
-    there = λ i m p. lies_still x n (Between (cap_of u sp) (cap_of u sp)) Empty i inside_x (s.there i m p);
-    few = omega (arith, s.few, one_more true o, r.1.size);
-  }) where
+  on : (z : Bool) → open_at (at l n) ≡ z → MatchBool z ((x' ≡ joined_at x n (Between (cap_of u sp) (cap_of u sp))) × MatchBool (is_single (at x' n)) (w' ≡ w) (IsMore n w w')) ((x' ≡ x) × (w' ≡ w)) → Begun u sp t.reach l x' w' (n + 1)
+  on true o r = by (is_single (at x' n)) r.1 where
     done : (i : ℕ) (a : Ages) → i < 139392 → open_at (at l i) ≡ false → at (joined_at x n (Between (cap_of u sp) (cap_of u sp))) i ≡ Present a → (i ≡ n) ⊎ (i ≢ n) → AllLie (at (joined_at x n (Between (cap_of u sp) (cap_of u sp)))) (nexts_at u sp i a)
     done i a m p q (inl e) = absurd (clash o (rw e at p))
     done i a m p q (inr d) = all_still x n (Between (cap_of u sp) (cap_of u sp)) _ inside_x (s.done i a m p (rw (at_other x n i (Present (join_into (Between (cap_of u sp) (cap_of u sp)) (at x n))) d) at q))
+
+    joined : ((i : ℕ) → Among i w' → i < 139392) → length w' ≤ length w + 1 → Begun u sp t.reach l x' w' (n + 1)
+    joined near size = rw r.0 (record {
+      keeps = IsFresh-join u sp t.reach x n (Between (cap_of u sp) (cap_of u sp)) b s.keeps (λ f c. left_capped u sp l x0 t f c n b o) (held_there (at l n) refl o);
+      near = near;
+      done = λ i a m p q. done i a m p q (same_or_not i n);
+      there = λ i m p. lies_still x n (Between (cap_of u sp) (cap_of u sp)) Empty i inside_x (s.there i m p);
+      few = omega (arith, s.few, one_more true o, size);
+    })
+
+    by : (y : Bool) → MatchBool y (w' ≡ w) (IsMore n w w') → Begun u sp t.reach l x' w' (n + 1)
+    by true e = let z : length w' ≡ length w = ap length e in joined (λ i k. s.near i (rw e at k)) (omega (arith, z))
+    by false m = joined (λ i k. elim (m.of_these i k) [ inl e ↦ rw e b | inr h ↦ s.near i h ]) (omega (arith, m.size))
   on false o r = rw (r.0, r.1) (record {
     keeps = s.keeps;
     near = s.near;
-    queued = λ i m p. elim (below_or i n m) [ inl k ↦ s.queued i k p | inr e ↦ absurd (clash p (rw (← e) at o)) ];
     done = s.done;
     there = s.there;
     few = omega (arith, s.few, one_more false o);
   })
 
--- each row was looked at: those that are left wait
-pub Begun-ends : (u : Setup) (sp : Span) (l x x0 : List Entry) (w : List ℕ) (t : IsTaken u sp l x0) → Begun u sp t.reach l x w 139392 → IsSettling u sp l x w
-Begun-ends u sp l x x0 w t s = record {
+-- each row was looked at: those that are left wait, in order
+pub Begun-ends : (u : Setup) (sp : Span) (l x x0 : List Entry) (w : List ℕ) (rest : ℕ) (t : IsTaken u sp l x0) → rest ≡ 0 → Begun u sp t.reach l x w 139392 → IsSettling u sp l x w rest
+Begun-ends u sp l x x0 w rest t e s = record {
   reach = t.reach;
   reached = t.reached;
   settle = record {
     keeps = s.keeps;
     size = t.left.size;
     near = s.near;
-    queued = s.queued;
+    queued = λ i m k o. absurd (omega (arith, e, k));
     done = s.done;
     there = s.there;
-    few = let all : take 139392 l ≡ l = take_all 139392 l (rw t.left.size (omega arith)) in rw all at s.few;
+    few = let all : take 139392 l ≡ l = take_all 139392 l (rw t.left.size (omega arith)) in let f : length w ≤ sum_by one_waiting l = rw all at s.few in omega (arith, f);
   };
 }
 
--- fewer wait than there is room for
-pub settle_room : (u : Setup) (sp : Span) (l x : List Entry) (w : List ℕ) → IsSettling u sp l x w → length w ≤ 139392
-settle_room u sp l x w t = omega (arith, t.settle.few, all_wait l, t.settle.size)
-
--- a number is taken from the end
-pub IsSettling-pop : (u : Setup) (sp : Span) (l x : List Entry) (w w' : List ℕ) (i : ℕ) → IsMore i w' w → IsSettling u sp l x w → IsSettling u sp l x (i ∷ w')
-IsSettling-pop u sp l x w w' i e t = record {
+-- a number is next
+pub IsSettling-next : (u : Setup) (sp : Span) (l x : List Entry) (q q' : Queued) (i : ℕ) → ComesNext i q q' → IsSettling u sp l x q.numbers q.rest → IsSettling u sp l x (i ∷ q'.numbers) q'.rest
+IsSettling-next u sp l x q q' i (inl e) t = record {
   reach = t.reach;
   reached = t.reached;
   settle = record {
     keeps = s.keeps;
     size = s.size;
-    near = λ j h. s.near j (e.all j h);
-    queued = λ j c o. e.of_these j (s.queued j c o);
+    near = λ j h. s.near j (e.0.all j h);
+    queued = λ j c k o. e.0.of_these j (s.queued j c (rw e.1 at k) o);
     done = s.done;
     there = s.there;
-    few = omega (arith, s.few, e.size);
+    few = omega (arith, s.few, e.0.size);
   };
 } where
-  s : Settle u sp t.reach l x w
+  s : Settle u sp t.reach l x q.numbers q.rest
+  s = t.settle
+IsSettling-next u sp l x q q' i (inr e) t = record {
+  reach = t.reach;
+  reached = t.reached;
+  settle = record {
+    keeps = s.keeps;
+    size = s.size;
+    near = λ j h. near j h;
+    queued = λ j c k o. elim (below_or j q.rest (rw e.1.1 at k)) [ inl d ↦ absurd (none j (s.queued j c d o)) | inr d ↦ inl (d ∙ sym e.1.0.0) ];
+    done = s.done;
+    there = s.there;
+    few = let z : length q'.numbers ≡ 0 = ap length e.0.1 in omega (arith, z);
+  };
+} where
+  s : Settle u sp t.reach l x q.numbers q.rest
   s = t.settle
 
+  none : (j : ℕ) → Among j q.numbers → ⊥
+  none j h = let k : Among j [] = rw e.0.0 at h in k
+
+  near : (j : ℕ) → Among j (i ∷ q'.numbers) → j < 139392
+  near j (inl d) = rw d e.1.0.1
+  near j (inr h) = let k : Among j [] = rw e.0.1 at h in absurd k
+
 -- a number that doesn't wait is passed by
-pub IsSettling-skip : (u : Setup) (sp : Span) (l x : List Entry) (w : List ℕ) (i : ℕ) → open_at (at l i) ≡ false → IsSettling u sp l x (i ∷ w) → IsSettling u sp l x w
-IsSettling-skip u sp l x w i q t = record {
+pub IsSettling-skip : (u : Setup) (sp : Span) (l x : List Entry) (w : List ℕ) (rest i : ℕ) → open_at (at l i) ≡ false → IsSettling u sp l x (i ∷ w) rest → IsSettling u sp l x w rest
+IsSettling-skip u sp l x w rest i q t = record {
   reach = t.reach;
   reached = t.reached;
   settle = record {
     keeps = s.keeps;
     size = s.size;
     near = λ j h. s.near j (inr h);
-    queued = λ j c o. elim (s.queued j c o) [ inl e ↦ absurd (clash o (rw (← e) at q)) | inr h ↦ h ];
+    queued = λ j c k o. elim (s.queued j c k o) [ inl e ↦ absurd (clash o (rw (← e) at q)) | inr h ↦ h ];
     done = s.done;
     there = s.there;
     few = omega (arith, s.few);
   };
 } where
-  s : Settle u sp t.reach l x (i ∷ w)
+  s : Settle u sp t.reach l x (i ∷ w) rest
   s = t.settle
 
 -- the row of a number begins to be looked at
-pub SettlesRow-begins : (u : Setup) (sp : Span) (l l' x : List Entry) (w : List ℕ) (i : ℕ) (a : Ages) → i < 139392 → open_at (at l i) ≡ true → l' ≡ set l i Absent → at x i ≡ Present a → IsSettling u sp l x (i ∷ w) → SettlesRow u sp l' x w i a []
-SettlesRow-begins u sp l l' x w i a b o e own t = rw e (record {
+pub SettlesRow-begins : (u : Setup) (sp : Span) (l l' x : List Entry) (w : List ℕ) (rest i : ℕ) (a : Ages) → i < 139392 → open_at (at l i) ≡ true → l' ≡ set l i Absent → at x i ≡ Present a → IsSettling u sp l x (i ∷ w) rest → SettlesRow u sp l' x w rest i a []
+SettlesRow-begins u sp l l' x w rest i a b o e own t = rw e (record {
   reach = t.reach;
   reached = t.reached;
   row = record {
     keeps = s.keeps;
     size = length-set l i Absent ∙ s.size;
     near = λ j h. s.near j (inr h);
-    queued = λ j c p. queued j c p (same_or_not j i);
+    queued = λ j c k p. queued j c k p (same_or_not j i);
     finished = λ j c m p d q. s.done j c m (rw (at_other l i j Absent d) at p) q;
     own = inl own;
     held = tt;
@@ -154,7 +177,7 @@ SettlesRow-begins u sp l l' x w i a b o e own t = rw e (record {
     few = omega (arith, s.few, fewer_wait l i inside o);
   };
 }) where
-  s : Settle u sp t.reach l x (i ∷ w)
+  s : Settle u sp t.reach l x (i ∷ w) rest
   s = t.settle
 
   inside : i < length l
@@ -164,13 +187,13 @@ SettlesRow-begins u sp l l' x w i a b o e own t = rw e (record {
   there j c p (inl d) = absurd (clash p (rw (d, at_same l i Absent inside) refl))
   there j c p (inr d) = s.there j c (rw (at_other l i j Absent d) at p)
 
-  queued : (j : ℕ) → j < 139392 → open_at (at (set l i Absent) j) ≡ true → (j ≡ i) ⊎ (j ≢ i) → Among j w
-  queued j c p (inl d) = absurd (clash p (rw (d, at_same l i Absent inside) refl))
-  queued j c p (inr d) = elim (s.queued j c (rw (at_other l i j Absent d) at p)) [ inl k ↦ absurd (d k) | inr h ↦ h ]
+  queued : (j : ℕ) → j < 139392 → j < rest → open_at (at (set l i Absent) j) ≡ true → (j ≡ i) ⊎ (j ≢ i) → Among j w
+  queued j c k p (inl d) = absurd (clash p (rw (d, at_same l i Absent inside) refl))
+  queued j c k p (inr d) = elim (s.queued j c k (rw (at_other l i j Absent d) at p)) [ inl e ↦ absurd (d e) | inr h ↦ h ]
 
 -- a row that waits has these ages
-pub waiting_ages : (u : Setup) (sp : Span) (l x : List Entry) (w : List ℕ) (i : ℕ) (a : Ages) → i < 139392 → IsSettling u sp l x w → open_at (at l i) ≡ true → a ≡ ages_or_none (at x i) → at x i ≡ Present a
-waiting_ages u sp l x w i a b t o e = by (at x i) (t.settle.there i b o) ∙ ap Present (sym e) where
+pub waiting_ages : (u : Setup) (sp : Span) (l x : List Entry) (w : List ℕ) (rest i : ℕ) (a : Ages) → i < 139392 → IsSettling u sp l x w rest → open_at (at l i) ≡ true → a ≡ ages_or_none (at x i) → at x i ≡ Present a
+waiting_ages u sp l x w rest i a b t o e = by (at x i) (t.settle.there i b o) ∙ ap Present (sym e) where
   by : (g : Entry) → LiesAt Empty g → g ≡ Present (ages_or_none g)
   by Absent k = absurd k
   by (Present c) k = refl
@@ -183,13 +206,13 @@ pub begun_room : (u : Setup) (sp : Span) (l x : List Entry) (w : List ℕ) (n : 
 begun_room u sp l x w n t = omega (arith, t.begun.few, all_wait (take n l), length_front n l)
 
 -- one next more, as the code has it
-pub SettlesRow-step : (u : Setup) (sp : Span) (l l' x x' : List Entry) (w w' : List ℕ) (i : ℕ) (a : Ages) (items : List Next) (k : ℕ) (n : Next) → items ≡ nexts_at u sp i a → k < length items → n ≡ get_or items k n → spot n < 139392 → i < 139392 →
-    SettlesRow u sp l x w i a (take k items) → Eased n x x' l l' w w' → SettlesRow u sp l' x' w' i a (take (k + 1) items)
-SettlesRow-step u sp l l' x x' w w' i a items k n ie lk q b bi t r = on (lies n.ages (at x p)) refl r where
+pub SettlesRow-step : (u : Setup) (sp : Span) (l l' x x' : List Entry) (w w' : List ℕ) (rest i : ℕ) (a : Ages) (items : List Next) (k : ℕ) (n : Next) → items ≡ nexts_at u sp i a → k < length items → n ≡ get_or items k n → spot n < 139392 → i < 139392 →
+    SettlesRow u sp l x w rest i a (take k items) → Eased n x x' l l' w w' → SettlesRow u sp l' x' w' rest i a (take (k + 1) items)
+SettlesRow-step u sp l l' x x' w w' rest i a items k n ie lk q b bi t r = on (lies n.ages (at x p)) refl r where
   p : ℕ
   p = spot n
 
-  s : SettleRow u sp t.reach l x w i a (take k items)
+  s : SettleRow u sp t.reach l x w rest i a (take k items)
   s = t.row
 
   inside_x : spot n < length x
@@ -217,7 +240,7 @@ SettlesRow-step u sp l l' x x' w w' i a items k n ie lk q b bi t r = on (lies n.
   other_row j c d e = rw (at_other x (spot n) j (Present (join_into n.ages (at x (spot n)))) d) at e
 
   -- once the row of the next waits
-  joined : (m : List Entry) (v : List ℕ) → length m ≡ 139392 → open_at (at m (spot n)) ≡ true → ((j : ℕ) → j ≢ spot n → at m j ≡ at l j) → ((j : ℕ) → Among j v → j < 139392) → ((j : ℕ) → j < 139392 → open_at (at m j) ≡ true → Among j v) → length v ≤ sum_by one_waiting m → SettlesRow u sp m (joined_at x (spot n) n.ages) v i a (take (k + 1) items)
+  joined : (m : List Entry) (v : List ℕ) → length m ≡ 139392 → open_at (at m (spot n)) ≡ true → ((j : ℕ) → j ≢ spot n → at m j ≡ at l j) → ((j : ℕ) → Among j v → j < 139392) → ((j : ℕ) → j < 139392 → j < rest → open_at (at m j) ≡ true → Among j v) → length v ≤ sum_by one_waiting m + sum_by one_wide (joined_at x (spot n) n.ages) + 1 → SettlesRow u sp m (joined_at x (spot n) n.ages) v rest i a (take (k + 1) items)
   joined m v size o same near queued few = record {
     reach = t.reach;
     reached = t.reached;
@@ -248,7 +271,7 @@ SettlesRow-step u sp l l' x x' w w' i a items k n ie lk q b bi t r = on (lies n.
     own (inr h) (inl y) = inl (at_other x (spot n) i (Present (join_into n.ages (at x (spot n)))) h ∙ y)
     own (inr h) (inr y) = inr (rw (same i h) y)
 
-  on : (z : Bool) → lies n.ages (at x (spot n)) ≡ z → MatchBool z ((x' ≡ x) × ((l' ≡ l) × (w' ≡ w))) ((x' ≡ joined_at x (spot n) n.ages) × MatchBool (open_at (at l (spot n))) ((l' ≡ l) × (w' ≡ w)) ((l' ≡ set l (spot n) (Present (Between 0 0))) × IsMore (spot n) w w')) → SettlesRow u sp l' x' w' i a (take (k + 1) items)
+  on : (z : Bool) → lies n.ages (at x (spot n)) ≡ z → MatchBool z ((x' ≡ x) × ((l' ≡ l) × (w' ≡ w))) ((x' ≡ joined_at x (spot n) n.ages) × MatchBool (is_single (at x (spot n)) || not (open_at (at l (spot n)))) ((l' ≡ set l (spot n) (Present (Between 0 0))) × IsMore (spot n) w w') ((l' ≡ l) × (w' ≡ w))) → SettlesRow u sp l' x' w' rest i a (take (k + 1) items)
   on true z v = rw (v.0, v.1.0, v.1.1) (record {
     reach = t.reach;
     reached = t.reached;
@@ -266,23 +289,36 @@ SettlesRow-step u sp l l' x x' w w' i a items k n ie lk q b bi t r = on (lies n.
       few = s.few;
     };
   })
-  on false z v = by (open_at (at l (spot n))) refl v.1 where
-    by : (y : Bool) → open_at (at l (spot n)) ≡ y → MatchBool y ((l' ≡ l) × (w' ≡ w)) ((l' ≡ set l (spot n) (Present (Between 0 0))) × IsMore (spot n) w w') → SettlesRow u sp l' x' w' i a (take (k + 1) items)
-    by true y c = rw (v.0, c.0, c.1) (joined l w s.size y (λ j d. refl) s.near s.queued s.few)
-    by false y c = rw (v.0, c.0) (joined (set l (spot n) (Present (Between 0 0))) w'
+  on false z v = by (is_single (at x (spot n)) || not (open_at (at l (spot n)))) refl v.1 where
+    kept : sum_by one_wide x ≤ sum_by one_wide (joined_at x (spot n) n.ages)
+    kept = table_wide x (spot n) n.ages inside_x
+
+    one_more : (p o : Bool) → is_single (at x (spot n)) ≡ p → open_at (at l (spot n)) ≡ o → (p || not o) ≡ true → sum_by one_waiting l + sum_by one_wide x + 1 ≤ sum_by one_waiting (set l (spot n) (Present (Between 0 0))) + sum_by one_wide (joined_at x (spot n) n.ages)
+    one_more true o e f h = omega (arith, table_wider x (spot n) n.ages inside_x e z, still_wait l (spot n) inside_l)
+    one_more false true e f h = absurd (clash h refl)
+    one_more false false e f h = omega (arith, kept, more_wait l (spot n) inside_l f)
+
+    waits : (p o : Bool) → (p || not o) ≡ false → o ≡ true
+    waits true o h = absurd (clash refl h)
+    waits false true h = refl
+    waits false false h = absurd (clash refl h)
+
+    by : (y : Bool) → (is_single (at x (spot n)) || not (open_at (at l (spot n)))) ≡ y → MatchBool y ((l' ≡ set l (spot n) (Present (Between 0 0))) × IsMore (spot n) w w') ((l' ≡ l) × (w' ≡ w)) → SettlesRow u sp l' x' w' rest i a (take (k + 1) items)
+    by false y c = rw (v.0, c.0, c.1) (joined l w s.size (waits _ _ y) (λ j d. refl) s.near s.queued (omega (arith, s.few, kept)))
+    by true y c = rw (v.0, c.0) (joined (set l (spot n) (Present (Between 0 0))) w'
         (length-set l (spot n) (Present (Between 0 0)) ∙ s.size)
         (rw (at_same l (spot n) (Present (Between 0 0)) inside_l) refl)
         (λ j d. at_other l (spot n) j (Present (Between 0 0)) d)
         (λ j h. elim (c.1.of_these j h) [ inl e ↦ rw e b | inr m ↦ s.near j m ])
-        (λ j m o. queued j m o (same_or_not j (spot n)))
-        (omega (arith, s.few, more_wait l (spot n) inside_l y, c.1.size))) where
-          queued : (j : ℕ) → j < 139392 → open_at (at (set l (spot n) (Present (Between 0 0))) j) ≡ true → (j ≡ spot n) ⊎ (j ≢ spot n) → Among j w'
-          queued j m o (inl e) = c.1.all j (inl e)
-          queued j m o (inr d) = c.1.all j (inr (s.queued j m (rw (at_other l (spot n) j (Present (Between 0 0)) d) at o)))
+        (λ j m f o. queued j m f o (same_or_not j (spot n)))
+        (omega (arith, s.few, one_more _ _ refl refl y, c.1.size))) where
+          queued : (j : ℕ) → j < 139392 → j < rest → open_at (at (set l (spot n) (Present (Between 0 0))) j) ≡ true → (j ≡ spot n) ⊎ (j ≢ spot n) → Among j w'
+          queued j m f o (inl e) = c.1.all j (inl e)
+          queued j m f o (inr d) = c.1.all j (inr (s.queued j m f (rw (at_other l (spot n) j (Present (Between 0 0)) d) at o)))
 
 -- all nexts are done
-pub SettlesRow-ends : (u : Setup) (sp : Span) (l x : List Entry) (w : List ℕ) (i : ℕ) (a : Ages) → SettlesRow u sp l x w i a (nexts_at u sp i a) → IsSettling u sp l x w
-SettlesRow-ends u sp l x w i a t = record {
+pub SettlesRow-ends : (u : Setup) (sp : Span) (l x : List Entry) (w : List ℕ) (rest i : ℕ) (a : Ages) → SettlesRow u sp l x w rest i a (nexts_at u sp i a) → IsSettling u sp l x w rest
+SettlesRow-ends u sp l x w rest i a t = record {
   reach = t.reach;
   reached = t.reached;
   settle = record {
@@ -295,7 +331,7 @@ SettlesRow-ends u sp l x w i a t = record {
     few = s.few;
   };
 } where
-  s : SettleRow u sp t.reach l x w i a (nexts_at u sp i a)
+  s : SettleRow u sp t.reach l x w rest i a (nexts_at u sp i a)
   s = t.row
 
   done : (j : ℕ) (c : Ages) → j < 139392 → open_at (at l j) ≡ false → at x j ≡ Present c → (j ≡ i) ⊎ (j ≢ i) → (at x i ≡ Present a) ⊎ (open_at (at l i) ≡ true) → AllLie (at x) (nexts_at u sp j c)
@@ -306,8 +342,8 @@ SettlesRow-ends u sp l x w i a t = record {
       let same : a ≡ c = cc in rw (d, ← same) s.held
 
 -- room for one more while a row is looked at
-pub row_room : (u : Setup) (sp : Span) (l x : List Entry) (w : List ℕ) (i : ℕ) (a : Ages) (done : List Next) → SettlesRow u sp l x w i a done → length w ≤ 139392
-row_room u sp l x w i a done t = omega (arith, t.row.few, all_wait l, t.row.size)
+pub row_room : (u : Setup) (sp : Span) (l x : List Entry) (w : List ℕ) (rest i : ℕ) (a : Ages) (done : List Next) → SettlesRow u sp l x w rest i a done → length w ≤ 278785
+row_room u sp l x w rest i a done t = omega (arith, t.row.few, all_wait l, t.row.size, all_wide x, t.row.keeps.under.size)
 
 -- an eased next leaves no more to do
 pub work_eased : (u : Setup) (sp : Span) (i : ℕ) (a : Ages) (items : List Next) (k : ℕ) (n : Next) (x x' l l' : List Entry) (w w' : List ℕ) → items ≡ nexts_at u sp i a → k < length items → n ≡ get_or items k n → spot n < length x → Eased n x x' l l' w w' → ease_left (cap_of u sp) x' w' ≤ ease_left (cap_of u sp) x w
@@ -315,19 +351,19 @@ work_eased u sp i a items k n x x' l l' w w' ie lk q b r = on (lies n.ages (at x
   up : AreUpTo (cap_of u sp) n.ages
   up = subst (λ y. AreUpTo (cap_of u sp) y.ages) (sym q) (EachNext-at (λ y. AreUpTo (cap_of u sp) y.ages) items k n (subst (EachNext (λ m. AreUpTo (cap_of u sp) m.ages)) (sym ie) (capped u sp i a)) lk)
 
-  on : (z : Bool) → lies n.ages (at x (spot n)) ≡ z → MatchBool z ((x' ≡ x) × ((l' ≡ l) × (w' ≡ w))) ((x' ≡ joined_at x (spot n) n.ages) × MatchBool (open_at (at l (spot n))) ((l' ≡ l) × (w' ≡ w)) ((l' ≡ set l (spot n) (Present (Between 0 0))) × IsMore (spot n) w w')) → ease_left (cap_of u sp) x' w' ≤ ease_left (cap_of u sp) x w
+  on : (z : Bool) → lies n.ages (at x (spot n)) ≡ z → MatchBool z ((x' ≡ x) × ((l' ≡ l) × (w' ≡ w))) ((x' ≡ joined_at x (spot n) n.ages) × MatchBool (is_single (at x (spot n)) || not (open_at (at l (spot n)))) ((l' ≡ set l (spot n) (Present (Between 0 0))) × IsMore (spot n) w w') ((l' ≡ l) × (w' ≡ w))) → ease_left (cap_of u sp) x' w' ≤ ease_left (cap_of u sp) x w
   on true z v = rw (v.0, v.1.1) (omega arith)
-  on false z v = by (open_at (at l (spot n))) v.1 where
+  on false z v = by (is_single (at x (spot n)) || not (open_at (at l (spot n)))) v.1 where
     less : sum_by (slack (cap_of u sp)) (joined_at x (spot n) n.ages) + 1 ≤ sum_by (slack (cap_of u sp)) x
     less = table_slack (cap_of u sp) x (spot n) n.ages b up z
 
-    by : (y : Bool) → MatchBool y ((l' ≡ l) × (w' ≡ w)) ((l' ≡ set l (spot n) (Present (Between 0 0))) × IsMore (spot n) w w') → ease_left (cap_of u sp) x' w' ≤ ease_left (cap_of u sp) x w
-    by true c = rw (v.0, c.1) (omega (arith, less))
-    by false c = rw v.0 (omega (arith, less, c.1.size))
+    by : (y : Bool) → MatchBool y ((l' ≡ set l (spot n) (Present (Between 0 0))) × IsMore (spot n) w w') ((l' ≡ l) × (w' ≡ w)) → ease_left (cap_of u sp) x' w' ≤ ease_left (cap_of u sp) x w
+    by true c = rw v.0 (omega (arith, less, c.1.size))
+    by false c = rw (v.0, c.1) (omega (arith, less))
 
 -- nothing waits any more: no row is left
-pub IsSettled-ends : (u : Setup) (sp : Span) (l x : List Entry) (w : List ℕ) → w ≡ [] → IsSettling u sp l x w → IsSettled u sp l x
-IsSettled-ends u sp l x w none t = record {
+pub IsSettled-ends : (u : Setup) (sp : Span) (l x : List Entry) (w : List ℕ) (rest : ℕ) → (w ≡ []) × (139392 ≤ rest) → IsSettling u sp l x w rest → IsSettled u sp l x
+IsSettled-ends u sp l x w rest none t = record {
   taken = record {
     reach = t.reach;
     reached = t.reached;
@@ -339,8 +375,8 @@ IsSettled-ends u sp l x w none t = record {
   };
   bounded = λ i m o. absurd (nobody i m o);
 } where
-  s : Settle u sp t.reach l x w
+  s : Settle u sp t.reach l x w rest
   s = t.settle
 
   nobody : (i : ℕ) → i < 139392 → open_at (at l i) ≡ true → ⊥
-  nobody i m o = let h : Among i [] = rw none at (s.queued i m o) in h
+  nobody i m o = let h : Among i [] = rw none.0 at (s.queued i m (omega (arith, m, none.1)) o) in h

@@ -87,11 +87,12 @@ fn derive_counted<L: Ledger>(
     }
 }
 
-/// How many numbers may wait in the fourth sweep, which a span with a greatest bound doesn't need.
+/// How many numbers may come first in the fourth sweep, each at most twice, with two to spare. A span with a greatest bound
+/// doesn't need it.
 fn queue_room(span: &Span) -> usize
-    ensures { span.now.max ≡ None → result ≡ 278784 }
+    ensures { span.now.max ≡ None → result ≡ 278786 }
 {
-    if span.max.is_none() { 278_784 } else { 0 }
+    if span.max.is_none() { 278_786 } else { 0 }
 }
 
 /// The sweeps, over grids that say nothing yet, and then the first bad row.
@@ -111,7 +112,8 @@ fn swept<L: Ledger>(
     requires missing { missing.old.items ≡ replicate 139392 0 }
     requires stack { stack.old ≡ [] }
     requires queue { queue.old.numbers ≡ [] }
-    requires room { span.now.max ≡ None → queue.old.room ≡ 278784 }
+    requires rest { queue.old.rest ≡ 0 }
+    requires room { span.now.max ≡ None → queue.old.room ≡ 278786 }
     ensures settled { IsSettled setup.now span.now left.new table.new }
     ensures value { MatchOption result (AreGoodBelow setup.now span.now left.new table.new 139392)
         (λ found. IsBadAt setup.now span.now left.new table.new found) }

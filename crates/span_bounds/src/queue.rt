@@ -1,16 +1,18 @@
-//! The numbers that wait in the fourth sweep, the one with the least age first.
-ghost use Rattle.std.specs.Prelude.{◌≡◌, ◌<◌, ◌+◌, [], IfOk, MatchOption, length};
-ghost use Rattle.span_bounds.specs.Queues.{IsMore};
+//! The numbers that wait in the fourth sweep: those that were pushed, the one with the least age first, then the rest in order.
+ghost use Rattle.std.specs.Prelude.{◌≡◌, ◌<◌, ◌≤◌, ◌+◌, [], IfOk, IfSome, MatchOption, length};
+ghost use Rattle.span_bounds.specs.Queues.{IsMore, ComesNext, to_come};
 
 use std::alloc::{AllocError, Global};
 use std::collections::BinaryHeap;
 use std::marker::Model;
 
-/// Numbers with room for so many, each with an age. It takes its memory when it is made, and none afterwards. A contract sees
-/// neither the ages nor the order.
+/// Numbers with room for so many, each with an age, and after them all from a number on. It takes its memory when it is made,
+/// and none afterwards. A contract sees neither the ages nor the order of those that were pushed.
 #[derive(Drop)]
 pub(crate) struct Queue {
     heap: BinaryHeap<(u32, usize)>,
+    /// All numbers from this on come once the heap is empty.
+    rest: usize,
     room: usize,
 }
 
@@ -23,6 +25,7 @@ impl Model for Queue {
 
     ghost view = { λ q. record {
       numbers = map (λ (p : ℕ × ℕ). p.1) (heap_items q.heap);
+      rest = q.rest;
       room = q.room;
     } };
 
@@ -30,18 +33,23 @@ impl Model for Queue {
 }
 
 impl Queue {
-    /// No numbers.
+    /// All numbers in order.
     pub(crate) fn new(alloc: Global, room: usize) -> Result<Queue, AllocError>
-        ensures { IfOk result (λ queue. queue ≡ record { numbers = []; room = room }) }
+        ensures { IfOk result (λ queue. queue ≡ record { numbers = []; rest = 0; room = room }) }
     {
         let heap = BinaryHeap::with_capacity(alloc, room)?;
-        Ok(Queue { heap, room })
+        Ok(Queue {
+            heap,
+            rest: 0,
+            room,
+        })
     }
 
     /// One number more, with this age.
     pub(crate) fn push(&mut self, age: u32, number: usize)
         requires { length self.old.numbers < self.old.room }
         ensures more { IsMore number self.old.numbers self.new.numbers }
+        ensures rest { self.new.rest ≡ self.old.rest }
         ensures room { self.new.room ≡ self.old.room }
     {
         // The heap gives the greatest first.
@@ -51,17 +59,22 @@ impl Queue {
         }
     }
 
-    /// Takes a number whose age is the least, if there is one.
+    /// Takes a number whose age is the least, or the first of the rest, if there is one.
     pub(crate) fn pop(&mut self) -> Option<usize>
-        ensures items { MatchOption result (self.old.numbers ≡ [])
-            (λ number. IsMore number self.new.numbers self.old.numbers) }
-        ensures shorter { MatchOption result (length self.old.numbers ≡ 0)
-            (λ _. length self.new.numbers + 1 ≡ length self.old.numbers) }
+        ensures next { MatchOption result ((self.old.numbers ≡ []) × (139392 ≤ self.old.rest))
+            (λ number. ComesNext number self.old self.new) }
+        ensures fewer { IfSome result (λ _. to_come self.new + 1 ≡ to_come self.old) }
         ensures room { self.new.room ≡ self.old.room }
     {
-        let Some((_, number)) = self.heap.pop() else {
-            return None;
-        };
-        Some(number)
+        if let Some((_, number)) = self.heap.pop() {
+            return Some(number);
+        }
+        let number = self.rest;
+        if number < 139_392 {
+            self.rest = number + 1;
+            Some(number)
+        } else {
+            None
+        }
     }
 }

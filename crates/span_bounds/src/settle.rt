@@ -32,7 +32,8 @@ pub(crate) fn settle<L: Ledger>(
     requires configured { IsSome (slice_index_or setup.now.machines span.now.machine None) }
     requires taken { IsTaken setup.now span.now left.old table.old }
     requires waiting { waiting.old.numbers ≡ [] }
-    requires room { span.now.max ≡ None → waiting.old.room ≡ 278784 }
+    requires rest { waiting.old.rest ≡ 0 }
+    requires room { span.now.max ≡ None → waiting.old.room ≡ 278786 }
     ensures settled { IsSettled setup.now span.now left.new table.new }
     ensures steps { IsSome span.now.max → steps.new ≤ steps.old }
 {
@@ -44,14 +45,15 @@ pub(crate) fn settle<L: Ledger>(
     }
 }
 
-/// Each row that is left waits, with the age at which ages stop.
+/// Each row that is left gets the age at which ages stop. It comes first if it has others.
 fn begin(setup: &Setup, span: &Span, left: &Marks, table: &mut Grid, waiting: &mut Queue)
     requires configured { IsSome (slice_index_or setup.now.machines span.now.machine None) }
     requires taken { IsTaken setup.now span.now left.now table.old }
     requires waiting { waiting.old.numbers ≡ [] }
-    requires room { waiting.old.room ≡ 278784 }
-    ensures settling { IsSettling setup.now span.now left.now table.new waiting.new.numbers }
-    ensures room { waiting.new.room ≡ 278784 }
+    requires rest { waiting.old.rest ≡ 0 }
+    requires room { waiting.old.room ≡ 278786 }
+    ensures settling { IsSettling setup.now span.now left.now table.new waiting.new.numbers waiting.new.rest }
+    ensures room { waiting.new.room ≡ 278786 }
 {
     let cap = age_cap(setup, span);
     for number in 0..139_392 {
@@ -59,16 +61,19 @@ fn begin(setup: &Setup, span: &Span, left: &Marks, table: &mut Grid, waiting: &m
     }
 }
 
-/// If the row of a number is left, it waits, with this age.
+/// If the row of a number is left it gets this age, and comes first if it has others.
 fn begin_number(left: &Marks, table: &mut Grid, waiting: &mut Queue, number: usize, cap: u32)
     requires number { number < 139392 }
     requires room { length waiting.old.numbers < waiting.old.room }
     ensures begun { BegunAt cap number left.now table.old table.new waiting.old.numbers waiting.new.numbers }
+    ensures rest { waiting.new.rest ≡ waiting.old.rest }
     ensures room { waiting.new.room ≡ waiting.old.room }
 {
     if is_open(left.at(number)) {
         join(table, number, Ages::Between(cap, cap));
-        waiting.push(least_at(table, number), number);
+        if !is_single(table.at(number)) {
+            waiting.push(least_at(table, number), number);
+        }
     }
 }
 
@@ -84,9 +89,10 @@ fn settle_number<L: Ledger>(
 )
     requires configured { IsSome (slice_index_or setup.now.machines span.now.machine None) }
     requires number { number < 139392 }
-    requires settling { IsSettling setup.now span.now left.old table.old (number ∷ waiting.old.numbers) }
-    requires room { waiting.old.room ≡ 278784 }
-    ensures settling { IsSettling setup.now span.now left.new table.new waiting.new.numbers }
+    requires settling { IsSettling setup.now span.now left.old table.old (number ∷ waiting.old.numbers) waiting.old.rest }
+    requires room { waiting.old.room ≡ 278786 }
+    ensures settling { IsSettling setup.now span.now left.new table.new waiting.new.numbers waiting.old.rest }
+    ensures rest { waiting.new.rest ≡ waiting.old.rest }
     ensures work { ease_left (cap_of setup.now span.now) table.new waiting.new.numbers
         ≤ ease_left (cap_of setup.now span.now) table.old waiting.old.numbers }
     ensures room { waiting.new.room ≡ waiting.old.room }
@@ -111,9 +117,10 @@ fn settle_row<L: Ledger>(
 )
     requires configured { IsSome (slice_index_or setup.now.machines span.now.machine None) }
     requires number { number < 139392 }
-    requires row { SettlesRow setup.now span.now left.old table.old waiting.old.numbers number ages [] }
-    requires room { waiting.old.room ≡ 278784 }
-    ensures settling { IsSettling setup.now span.now left.new table.new waiting.new.numbers }
+    requires row { SettlesRow setup.now span.now left.old table.old waiting.old.numbers waiting.old.rest number ages [] }
+    requires room { waiting.old.room ≡ 278786 }
+    ensures settling { IsSettling setup.now span.now left.new table.new waiting.new.numbers waiting.old.rest }
+    ensures rest { waiting.new.rest ≡ waiting.old.rest }
     ensures work { ease_left (cap_of setup.now span.now) table.new waiting.new.numbers
         ≤ ease_left (cap_of setup.now span.now) table.old waiting.old.numbers }
     ensures room { waiting.new.room ≡ waiting.old.room }
@@ -124,17 +131,20 @@ fn settle_row<L: Ledger>(
     }
 }
 
-/// Where a next's ages don't lie in the table, they join those of its row, which waits then.
+/// Where a next's ages don't lie in the table, they join those of its row, which waits then. It comes first: it is pushed where
+/// it didn't wait, or had one age alone and so was among the rest.
 fn ease(left: &mut Marks, table: &mut Grid, waiting: &mut Queue, number: usize, next: &Next)
     requires number { number ≡ spot next.now }
     requires below { number < 139392 }
     requires room { length waiting.old.numbers < waiting.old.room }
     ensures eased { Eased next.now table.old table.new left.old left.new waiting.old.numbers waiting.new.numbers }
+    ensures rest { waiting.new.rest ≡ waiting.old.rest }
     ensures room { waiting.new.room ≡ waiting.old.room }
 {
     if !lies(next.ages, table.at(number)) {
+        let single = is_single(table.at(number));
         join(table, number, next.ages);
-        if !is_open(left.at(number)) {
+        if single || !is_open(left.at(number)) {
             left.put(number, ContextMark::Open);
             waiting.push(least_at(table, number), number);
         }
@@ -148,6 +158,16 @@ fn lies(ages: Ages, entry: Entry) -> bool
     match entry {
         Entry::Absent => false,
         Entry::Present(there) => is_inside(ages, there),
+    }
+}
+
+/// Whether an entry has one age alone.
+fn is_single(entry: Entry) -> bool
+    ensures { result ≡ spec.is_single entry }
+{
+    match entry {
+        Entry::Present(Ages::Between(lo, hi)) => lo == hi,
+        _ => false,
     }
 }
 

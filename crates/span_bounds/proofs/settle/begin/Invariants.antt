@@ -5,5 +5,6 @@ use Rattle.span_bounds.proofs.settle.begin.Given as goal
 abbrev pub invariant-loop-number : goal.invariant-loop-number
 invariant-loop-number l = record {
   begun : IsBegun l.setup l.span l.left l.table l.waiting.numbers l.number;
-  room : l.waiting.room ≡ 278784;
+  room : l.waiting.room ≡ 278786;
+  rest : l.waiting.rest ≡ 0;
 }

@@ -8,7 +8,8 @@ use Rattle.span_bounds.proofs.settle.settle_row.Given as goal
 abbrev pub invariant-loop-next : goal.invariant-loop-next
 invariant-loop-next g l = record {
   items : l.next-items ≡ nexts_at l.setup l.span l.number l.fn.ages;
-  row : SettlesRow l.setup l.span l.left l.table l.waiting.numbers l.number l.fn.ages (take l.next-index l.next-items);
+  row : SettlesRow l.setup l.span l.left l.table l.waiting.numbers l.fn.waiting.rest l.number l.fn.ages (take l.next-index l.next-items);
   work : ease_left (cap_of l.setup l.span) l.table l.waiting.numbers ≤ ease_left (cap_of l.setup l.span) l.fn.table l.fn.waiting.numbers;
+  rest : l.waiting.rest ≡ l.fn.waiting.rest;
   room : l.waiting.room ≡ l.fn.waiting.room;
 }
