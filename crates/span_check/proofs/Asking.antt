@@ -1,5 +1,5 @@
 -- What a span asks, with a greatest bound and without one.
-use Rattle.std.proofs.Common.{◌≡◌, ◌↔◌, ℕ, true, false, IsSome, Some, None, refl}
+use Rattle.std.proofs.Common.{◌↔◌, ℕ, IsSome, Some, None, refl}
 use Rattle.pin_matrix.specs.declared.span.SpanUnit.{SpanUnit}
 use Rattle.span_check.specs.Asked.{HoldsBetween, IsNeverEarly}
 use Rattle.span_check.specs.Holding.{Holds}

@@ -15,7 +15,7 @@ use Rattle.block_core.specs.Block.{BlockState}
 use Rattle.block_core.specs.Following.{place_at}
 use Rattle.span_step.specs.declared.ages.Ages.{Ages}
 use Rattle.span_step.specs.Contexts.{Context}
-use Rattle.span_step.specs.Steps.{bounds_of, bounds_in, is_bounded, least_ticks, most_or, most_ticks, period_of}
+use Rattle.span_step.specs.Steps.{bounds_of, bounds_in, least_ticks, most_or, most_ticks, period_of}
 use Rattle.span_ticks.specs.UnderWay.{flow_of, is_excused_in}
 use Rattle.span_check.specs.Marks.{Mark, names, mark_of, excused_at}
 use Rattle.span_check.specs.Holding.{counted, IsQuiet, IsUnbroken, IsUnexcused, IsSpokenOf, Holds, IsUpTo}

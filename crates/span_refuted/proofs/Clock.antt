@@ -1,5 +1,5 @@
 -- One clock of the machine in its block, with a tick or without.
-use Rattle.std.proofs.Common.{◌≡◌, ◌==◌, ℕ, suc, ◌⊎◌, Bool, true, false, ◌&&◌, ◌||◌, cond, Option, Some, List, [], length, unwrap_or, slice_index_or, inl, inr, refl, sym, ap, subst, ◌∙◌, add-one}
+use Rattle.std.proofs.Common.{◌≡◌, ◌==◌, ℕ, suc, ◌⊎◌, Bool, true, false, ◌&&◌, ◌||◌, cond, Option, Some, List, [], unwrap_or, slice_index_or, inl, inr, refl, sym, ap, subst, ◌∙◌, add-one}
 use Rattle.std.specs.Int.{bit_at}
 use Rattle.clock_divider.specs.Timing.{Timing}
 use Rattle.clock_divider.specs.Timing as timing

@@ -1,5 +1,5 @@
 -- What holds of two steps of one context, whose ages alone differ, is shown for one tick, and each course keeps it.
-use Rattle.std.proofs.Common.{◌≡◌, ℕ, Bool, true, false, not, ◌&&◌, ◌||◌, cond, if◌then◌else◌, Option, List, [], ◌∷◌, ◌++◌, refl, fold}
+use Rattle.std.proofs.Common.{◌≡◌, ℕ, Bool, true, false, not, ◌&&◌, cond, if◌then◌else◌, Option, List, [], ◌∷◌, ◌++◌, refl, fold}
 use Rattle.std.proofs.lemmas.List.Folds.{fold_along}
 use Rattle.span_step.specs.declared.ages.Ages.{Ages}
 use Rattle.span_step.specs.declared.ages.Ages.TheVariants.{Empty}
@@ -10,7 +10,7 @@ use Rattle.span_step.specs.declared.levels.Write.{Write}
 use Rattle.span_step.specs.declared.stepped.Next.{Next}
 use Rattle.span_step.specs.declared.stepped.Stepped.{Stepped}
 use Rattle.span_step.specs.Contexts.{Context}
-use Rattle.span_step.specs.Outcomes.{ContextOutcome, outcomes, is_wild}
+use Rattle.span_step.specs.Outcomes.{ContextOutcome, outcomes}
 use Rattle.span_step.specs.Courses.{Rules, watched, start, followed, prompt, delayed, courses, delay_ticks, older, with_fresh, after_events, joined, no_causes, tick_causes}
 use Rattle.span_step.specs.Steps.{Visit, visit_of, rules_of, with_end, end_of, with_outcome, nothing_found, wild_step, step_by, is_lost}
 use Rattle.pin_matrix.specs.declared.machine.MachineSetup.{MachineSetup}

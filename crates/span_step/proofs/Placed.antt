@@ -28,7 +28,7 @@ use Rattle.span_step.specs.declared.course.Watch.{Watch}
 use Rattle.span_step.specs.declared.stepped.Next.{Next}
 use Rattle.span_step.specs.declared.stepped.Stepped.{Stepped}
 use Rattle.span_step.specs.Contexts.{Context, is_small, is_placed}
-use Rattle.span_step.specs.Outcomes.{ContextOutcome, outcomes, is_wild, ways, taken, after_count, counted_down, copied, nothing_done, unknown_levels}
+use Rattle.span_step.specs.Outcomes.{ContextOutcome, outcomes, ways, taken, after_count, counted_down, copied, nothing_done, unknown_levels}
 use Rattle.span_step.specs.Courses.{courses}
 use Rattle.span_step.specs.Steps.{Visit, visit_of, next_address, address_after, with_end, end_of, with_outcome, nothing_found, wild_step, machine_steps, context_steps, step_by, is_lost}
 use Rattle.span_step.specs.Laws.{AllPlaced}

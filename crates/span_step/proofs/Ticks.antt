@@ -1,7 +1,6 @@
 -- A tick without events, and an excused one.
-use Rattle.std.proofs.Common.{◌≡◌, Bool, true, false, not, ◌&&◌, ◌||◌, if◌then◌else◌, None, refl}
+use Rattle.std.proofs.Common.{◌≡◌, Bool, true, false, ◌&&◌, ◌||◌, if◌then◌else◌, None, refl}
 use Rattle.std.proofs.Math.Bool.{or-false, and-false, and-true}
-use Rattle.span_step.specs.declared.ages.Ages.{Ages}
 use Rattle.span_step.specs.declared.ages.Ages.TheVariants.{Empty, Between}
 use Rattle.span_step.specs.declared.course.Tick.{Tick}
 use Rattle.span_step.specs.declared.course.Watch.{Watch}

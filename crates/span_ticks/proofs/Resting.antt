@@ -1,16 +1,15 @@
 -- A delay, tick by tick, and where an instruction that has finished rests.
-use Rattle.std.proofs.Common.{◌≡◌, ℕ, zero, suc, ◌-◌, ◌<◌, ◌==◌, ◌&&◌, ◌||◌, Bool, true, false, Option, None, length, refl, sym, ap, ◌∙◌, inl, subst, arith}
+use Rattle.std.proofs.Common.{◌≡◌, ℕ, zero, suc, ◌-◌, ◌<◌, Bool, true, false, Option, None, refl, sym, ap, ◌∙◌, inl, subst, arith}
 use Rattle.pin_matrix.specs.declared.machine.MachineSetup.{MachineSetup}
 use Rattle.pin_matrix.specs.declared.setup.Setup.{Setup}
 use Rattle.pin_matrix.specs.declared.span.Span.{Span}
-use Rattle.sm_registers.specs.declared.intent.Intent.{Intent}
 use Rattle.sm_registers.specs.declared.registers.Registers.{Registers}
 use Rattle.sm_registers.specs.declared.intent.Kind.TheVariants.{Delay}
 use Rattle.sm_registers.specs.Queues.{Queues}
 use Rattle.sm_registers.specs.Tick.{tick_delay}
 use Rattle.span_step.specs.declared.ages.Ages.{Ages}
 use Rattle.span_step.specs.Contexts.{Context, is_placed}
-use Rattle.span_step.specs.Courses.{Rules, closes, is_edge, watched, followed, delay_tick, delay_ticks}
+use Rattle.span_step.specs.Courses.{Rules, closes, watched, followed, delay_tick, delay_ticks}
 use Rattle.span_step.specs.Laws.{first_cause}
 use Rattle.span_step.specs.Steps.{rules_of}
 use Rattle.span_ticks.specs.Rows.{IsInRow}
