@@ -34,6 +34,11 @@ def event_of(block: SetUp, span: dict[str, Any], end: str) -> tuple[str, tuple[s
     return f"p{span[f'{end}_pin']}", tuple(it + by for it in EDGES[span[f"{end}_edge"]])
 
 
+def ends_in_trace(span: dict[str, Any]) -> list[str]:
+    """The ends of a span that are edges of pins, which a trace has."""
+    return [end for end in ("from", "to") if not span.get(f"{end}_done")]
+
+
 def labels_of(block: SetUp, span: dict[str, Any], addresses: list[int]) -> str:
     """The labels of these addresses as a text."""
     return quoted(place_of(block, span["machine"], (it,)).strip('"') for it in addresses)
@@ -89,5 +94,6 @@ def calls_of(
     run += ["--stimulus", files["stim"]] if shown.lines else []
     first, last = max(0, shown.broken.begin - ROOM), min(shown.clocks, shown.broken.last + 1 + ROOM)
     part = [] if first == 0 else ["--from", str(first)]
-    draw = ["piotool-draw", files["vcd"], *part, "--to", str(last), "--span", f"{config}:{span['name']}"]
+    drawn = ["--span", f"{config}:{span['name']}"] if len(ends_in_trace(span)) == 2 else []
+    draw = ["piotool-draw", files["vcd"], *part, "--to", str(last), *drawn]
     return [([*run, "--clocks", str(shown.clocks)], files["vcd"]), (draw, files["svg"])]
