@@ -8,6 +8,7 @@ from typing import Any, Optional
 from piotool.breaking import Answer, Shown
 from piotool.set_up import SetUp
 from piotool.setups import quoted
+from piotool.span_model import wire_of
 
 ROOM = 30  # clocks that a picture shows before the from-edge and after the end
 # How each edge is written: it does so, it has done so, it may do so.
@@ -82,12 +83,19 @@ def place_of(block: SetUp, machine: int, addresses: tuple[int, ...]) -> str:
 def calls_of(
     source: str, config: str, span: dict[str, Any], stem: str, folder: Path, shown: Shown
 ) -> list[tuple[list[str], str]]:
-    """The calls that write the trace and the picture of a run, each with the file that its output is."""
+    """The calls that write the trace and the picture of a run, each with the file that its output is.
+
+    Of an end that is no edge a trace shows nothing: without an edge there is no picture, and with one that of its pin.
+    """
     files = {ending: os.path.normpath(folder / f"{stem}.{ending}") for ending in ("bare.toml", "stim", "vcd", "svg")}
     files = {ending: f"./{path}" if path.startswith("-") else path for ending, path in files.items()}
     run = ["piotool", "run", "--source", source, "--config", files["bare.toml"]]
     run += ["--stimulus", files["stim"]] if shown.lines else []
     first, last = max(0, shown.broken.begin - ROOM), min(shown.clocks, shown.broken.last + 1 + ROOM)
     part = [] if first == 0 else ["--from", str(first)]
-    draw = ["piotool-draw", files["vcd"], *part, "--to", str(last), "--span", f"{config}:{span['name']}"]
-    return [([*run, "--clocks", str(shown.clocks)], files["vcd"]), (draw, files["svg"])]
+    traced = [*run, "--clocks", str(shown.clocks)], files["vcd"]
+    wires = [wire for end in ("from", "to") if (wire := wire_of(span, end))]
+    if not wires:
+        return [traced]
+    drawn = ["--span", f"{config}:{span['name']}"] if len(wires) == 2 else ["--pins", *wires]
+    return [traced, (["piotool-draw", files["vcd"], *part, "--to", str(last), *drawn], files["svg"])]
