@@ -9,7 +9,8 @@ SOURCE, CONFIG = HERE / "uart.pio", HERE / "uart.toml"
 
 
 def test_spans_are_proved() -> None:
-    assert all(piotool.check(SOURCE, CONFIG))
+    verdicts = piotool.check(SOURCE, CONFIG)
+    assert verdicts and all(verdicts)
 
 
 def test_bytes_come_back() -> None:

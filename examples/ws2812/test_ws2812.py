@@ -9,7 +9,8 @@ SOURCE, CONFIG = HERE / "ws2812.pio", HERE / "ws2812.toml"
 
 
 def test_spans_are_proved() -> None:
-    assert all(piotool.check(SOURCE, CONFIG))
+    verdicts = piotool.check(SOURCE, CONFIG)
+    assert verdicts and all(verdicts)
 
 
 def test_a_colour_goes_out_the_upper_bit_first() -> None:
