@@ -1,5 +1,6 @@
 -- Laws of texts that are written before a place of a room, and of the lines that are kept.
-use Rattle.std.proofs.Common.{◌≡◌, ℕ, ◌+◌, ◌-◌, ◌/◌, ◌%◌, ◌^◌, ◌<◌, ◌≤◌, List, [], ◌∷◌, ◌++◌, zero, suc, length, drop, take, inl, inr, sym, ap, ◌∙◌, arith, append-nil, length-append, length-drop, eq-zero-or-pos, false, bit_xor, w32}
+use Rattle.std.proofs.Common.{◌≡◌, ℕ, ◌+◌, ◌-◌, ◌/◌, ◌%◌, ◌^◌, ◌<◌, ◌≤◌, Bool, true, cond, List, [], ◌∷◌, ◌++◌, zero, suc, length, drop, take, inl, inr, sym, ap, ◌∙◌, arith, append-nil, length-append, length-drop, eq-zero-or-pos, false, bit_xor, w32}
+use Rattle.std.specs.Prelude.{nat_lt}
 use Rattle.std.specs.Fmt.{digits}
 use Rattle.std.specs.Int.{bit_at, trailing_zeros}
 use Rattle.std.specs.Int.Bits.{xor_zero_l}
@@ -23,11 +24,13 @@ drop-copied a k s xs ys low size within =
     ∙ drop-append-le s ys (post_of a k xs) (omega (arith, size, within))
     ∙ ap (λ (l : List ℕ). drop s ys ++ l) (drop-drop k a xs)
 
--- a text at the end of a room of so many bytes, copied before a place
-pub copied-before : (size end start : ℕ) (xs ys : List ℕ) → size ≤ end → end ≤ length xs → length ys ≡ size → start ≤ size → drop (end - size + start) (put_mid (end - size) size xs ys) ≡ drop start ys ++ drop end xs
-copied-before size end start xs ys low high long within =
-    drop-copied (end - size) size start xs ys (omega (arith, high)) long within
-    ∙ ap (λ (n : ℕ). drop start ys ++ drop n xs) (let same : end - size + size ≡ end = omega (arith, low) in same)
+-- a room of so many bytes, copied before an end
+pub copied-before : (size end start : ℕ) (xs ys zs : List ℕ) → size ≤ end → end ≤ length xs → length zs ≡ size → start ≤ size → ys ≡ zs → drop (end - size + start) (put_mid (end - size) (end - (end - size)) xs ys) ≡ drop start zs ++ drop end xs
+copied-before size end start xs ys zs low high long within e =
+    ap (λ (k : ℕ). drop (end - size + start) (put_mid (end - size) k xs ys)) (let same : end - (end - size) ≡ size = omega (arith, low) in same)
+    ∙ ap (λ (l : List ℕ). drop (end - size + start) (put_mid (end - size) size xs l)) e
+    ∙ drop-copied (end - size) size start xs zs (omega (arith, high)) long within
+    ∙ ap (λ (n : ℕ). drop start zs ++ drop n xs) (let same : end - size + size ≡ end = omega (arith, low) in same)
 
 -- ---- how long the lines are
 
@@ -47,8 +50,12 @@ digits-length : (k n : ℕ) → 1 ≤ k → k ≤ 64 → n < 2 ^ k → length (d
 digits-length k n h w f =
     omega (arith, ap length (binary_onto-all n []), length-append (digits 2 false n) [], onto-length 64 k n [] h w f)
 
+one_or_two : (b : Bool) (x y z : ℕ) → length (cond b (x ∷ []) (y ∷ z ∷ [])) ≤ 2
+one_or_two true x y z = omega arith
+one_or_two false x y z = omega arith
+
 identifier-length : (id : ℕ) → length (identifier id) ≤ 2
-identifier-length id = search
+identifier-length id = one_or_two (nat_lt id 128) id 126 (id - 128)
 
 -- the line of a value of so many bits
 pub vector_line-length : (id k n : ℕ) → 1 ≤ k → k ≤ 64 → n < 2 ^ k → length (vector_line id n) ≤ k + 5

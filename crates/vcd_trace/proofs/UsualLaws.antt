@@ -8,7 +8,7 @@ use Rattle.block_core.specs.Sample.{bits_of}
 use Rattle.vcd_trace.specs.VcdText.{bit_line, change_lines, changes_over, clock_line, vector_line}
 use Rattle.vcd_trace.specs.Groups.{bit_changes, vector_changes}
 use Rattle.vcd_trace.specs.InsideText.{bit_of, first_of_machine, inside_changes_text, inside_step_text, machine_changes, machine_values, machine_widths, machines_changes, same_inside}
-use Rattle.vcd_trace.specs.InsideGroups.{counts_of, flags_of, place_of, register_changes, registers_of}
+use Rattle.vcd_trace.specs.InsideGroups.{counts_of, flags_of, register_changes, registers_of}
 use Rattle.vcd_trace.proofs.TextLaws.{bit_changes-same, change_lines-same}
 use Rattle.vcd_trace.proofs.InsideLaws.{flags-bits, inside_changes-parts, machines_changes-turn}
 use Rattle.vcd_trace.proofs.InsideSame.{changes_over-same, inside_step-changed, same_inside-equal}
@@ -24,6 +24,11 @@ machines_changes-four a b d e h k =
     ∙ ap (λ (x : List ℕ). m 1 ++ x) (machines_changes-turn a b 2 d e (omega (arith, h)) (omega (arith, k))
     ∙ ap (λ (x : List ℕ). m 2 ++ x) (machines_changes-turn a b 3 d e (omega (arith, h)) (omega (arith, k))
     ∙ ap (λ (x : List ℕ). m 3 ++ x) end ∙ append-nil (m 3))))
+
+-- four texts that were written each before the next one
+pub chain-four : (a b c d first second third fourth end : List ℕ) → first ≡ a ++ second → second ≡ b ++ third → third ≡ c ++ fourth → fourth ≡ d ++ end → end ≡ [] → first ≡ a ++ (b ++ (c ++ d))
+chain-four a b c d first second third fourth end e f h k last =
+    e ∙ ap (λ (l : List ℕ). a ++ l) (f ∙ ap (λ (l : List ℕ). b ++ l) (h ∙ ap (λ (l : List ℕ). c ++ l) (k ∙ ap (λ (l : List ℕ). d ++ l) last ∙ append-nil d)))
 
 -- machines that stay have no lines
 machine_changes-same : (place : ℕ) (m : Option MachineInside) → machine_changes place m m ≡ []
@@ -118,11 +123,3 @@ registers-eight id a b rest =
     ∙ ap (λ (t : List ℕ). w id a.x b.x ++ (w (id + 1) a.y b.y ++ (w (id + 2) a.isr b.isr ++ (w (id + 3) a.osr b.osr ++ (t ++ (bit_changes (id + 6) 2 (flags_of a) (flags_of b) ++ rest)))))) two
     ∙ eight (w id a.x b.x) (w (id + 1) a.y b.y) (w (id + 2) a.isr b.isr) (w (id + 3) a.osr b.osr) (w (id + 4) a.isr_count b.isr_count) (w (id + 5) a.osr_count b.osr_count) (bit_changes (id + 6) 2 (flags_of a) (flags_of b)) rest
     ∙ ap (λ (t : List ℕ). (t ++ bit_changes (id + 6) 2 (flags_of a) (flags_of b)) ++ rest) (sym words)
-
--- ---- the address and the word
-
-pub place-changes : (id : ℕ) (a b : MachineInside) (rest : List ℕ) → word_change id a.pc b.pc ++ (word_change (id + 1) a.instruction b.instruction ++ rest) ≡ vector_changes id (place_of a) (place_of b) ++ rest
-place-changes id a b rest = pair (word_change id a.pc b.pc) (word_change (id + 1) a.instruction b.instruction) rest
-
-pub counts-onto : (id : ℕ) (a b : MachineInside) (rest : List ℕ) → word_change id a.isr_count b.isr_count ++ (word_change (id + 1) a.osr_count b.osr_count ++ rest) ≡ vector_changes id (counts_of a) (counts_of b) ++ rest
-counts-onto id a b rest = pair (word_change id a.isr_count b.isr_count) (word_change (id + 1) a.osr_count b.osr_count) rest

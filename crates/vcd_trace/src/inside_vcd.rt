@@ -20,8 +20,8 @@ use block_core::Inside;
 use pio_edge::{Sink, SinkFailed};
 use sample_trace::{Trace, TraceFailed};
 
-/// A trace of what is inside a block as value-change text, of one unit a clock. Each line is put as one piece, and its
-/// faults are its sink's.
+/// A trace of what is inside a block as value-change text, of one unit a clock. A piece that is put is a line, or some lines of a
+/// clock, and its faults are its sink's.
 #[derive(Drop)]
 pub struct InsideVcd<'a, S: Sink> {
     sink: &'a mut S,

@@ -1,7 +1,7 @@
 //! What most clocks add to a trace of what is inside a block, gathered in a room and put as one piece: the line of the clock,
 //! those of a level and of a pad, and those of machines.
 ghost use Rattle.std.specs.Prelude.{◌≡◌, ◌+◌, ◌-◌, ◌*◌, ◌^◌, ◌<◌, ◌≤◌, ◌==◌, ◌++◌, [], Some, true, IfSome, drop, if◌then◌else◌, length};
-ghost use Rattle.vcd_trace.specs.VcdText.{bit_line, vector_line};
+ghost use Rattle.vcd_trace.specs.VcdText.{bit_line, changes_over, vector_line};
 ghost use Rattle.vcd_trace.specs.Groups.{bit_changes, same_rest, vector_changes};
 ghost use Rattle.vcd_trace.specs.InsideText.{bit_of, inside_step_text, machine_changes, machines_changes};
 ghost use Rattle.vcd_trace.specs.InsideGroups.{counts_of, place_of, register_changes};
@@ -13,7 +13,7 @@ use crate::inside_changes::has_same_registers;
 use crate::line::{CLOCK_ROOM, LINE_ROOM, write_bit, write_vector};
 use crate::place_lines::Places;
 use crate::variable::{LEVEL, MACHINE, MACHINE_VALUES, PAD};
-use block_core::{Inside, MachineInside};
+use block_core::{Inside, MachineInside, Sample};
 
 /// Room for the lines of a usual clock: its own, one of a level, one of a pad, and those of four machines.
 pub(crate) const ROOM: usize = CLOCK_ROOM + 4 + 4 + 4 * MACHINE_ROOM;
@@ -92,12 +92,24 @@ impl Rooms {
 #[inline(always)]
 fn is_usual(last: &Inside, now: &Inside) -> bool
     ensures rest { result ≡ true → same_rest last.now.sample now.now.sample ≡ true }
+    ensures levels { result ≡ true → changes_over 0 last.now.sample now.now.sample
+        ≡ bit_changes 33 32 last.now.sample.level now.now.sample.level }
     ensures level { result ≡ true → spec.one_changes last.now.sample.level now.now.sample.level }
     ensures pads { result ≡ true → spec.one_changes last.now.pads now.now.pads }
 {
-    has_same_rest(&last.sample, &now.sample)
+    changes_levels_alone(&last.sample, &now.sample)
         && one_changes(last.sample.level, now.sample.level)
         && one_changes(last.pads, now.pads)
+}
+
+// Whether no value of a sample changes but levels.
+#[inline(always)]
+fn changes_levels_alone(before: &Sample, now: &Sample) -> bool
+    ensures rest { result ≡ true → same_rest before.now now.now ≡ true }
+    ensures levels { result ≡ true → changes_over 0 before.now now.now
+        ≡ bit_changes 33 32 before.now.level now.now.level }
+{
+    has_same_rest(before, now)
 }
 
 // Whether at most one bit changes.

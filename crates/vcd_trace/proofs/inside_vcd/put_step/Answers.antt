@@ -7,10 +7,10 @@ use Rattle.vcd_trace.proofs.inside_vcd.put_step.Goals as goal
 
 pub returns-in_err-put-clause-bytes : goal.returns-in_err-put-clause-bytes
 returns-in_err-put-clause-bytes g c =
-    takes_failed _ _ _ _ _ _ [] c.from_residual.result (going_begins _ _) (sym c.in-Some.write.ensures.text ∙ sym (append-nil _)) c.from_residual.ensures.0 c.in_err-put.ensures.bytes
+    takes_failed _ _ _ _ _ _ [] c.from_residual.result (going_begins _ _) (sym c.in-Some.ensures.text ∙ sym (append-nil _)) c.from_residual.ensures.0 c.in_err-put.ensures.bytes
 
 pub returns-clause-bytes : goal.returns-clause-bytes
-returns-clause-bytes g c = c.in_ok-put.ensures.bytes ∙ ap (with_bytes (g.S.Sink.taken c.args.sink.now)) c.in-Some.write.ensures.text
+returns-clause-bytes g c = c.in_ok-put.ensures.bytes ∙ ap (with_bytes (g.S.Sink.taken c.args.sink.now)) c.in-Some.ensures.text
 
 pub returns-clause-kept : goal.returns-clause-kept
-returns-clause-kept g c = further-kept c.args.last.now c.args.now.now _ (same_rest-equal c.args.last.now.sample c.args.now.now.sample c.in-Some.write.ensures.rest)
+returns-clause-kept g c = further-kept c.args.last.now c.args.now.now _ (same_rest-equal c.args.last.now.sample c.args.now.now.sample c.in-Some.ensures.rest)

@@ -2,8 +2,8 @@ use Rattle.std.proofs.Common.{◌-◌, drop, ap, ◌∙◌, arith}
 use Rattle.vcd_trace.proofs.PlaceLaws.{place-room}
 use Rattle.vcd_trace.proofs.place_lines.PlaceLines.new.Goals as goal
 
-pub overflow_sub : goal.overflow_sub
-overflow_sub c =
+pub overflow_sub-result-2 : goal.overflow_sub-result-2
+overflow_sub-result-2 c =
     let w = c.write_vector-start in
     let v = c.write_vector-second in
     (place-room c.args.first c.args.pc c.args.instruction _ _ _ _ _ v.result w.result c.from-2.ensures c.from.ensures (omega arith) (omega arith) (omega arith) (omega arith) (omega (arith, w.ensures.before, v.ensures.before)) v.ensures.text w.ensures.text).0
