@@ -4,8 +4,8 @@ use Rattle.std.specs.Prelude.{nat_lt}
 use Rattle.std.specs.Fmt.{digits}
 use Rattle.std.specs.Int.{bit_at, trailing_zeros}
 use Rattle.std.specs.Int.Bits.{xor_zero_l}
-use Rattle.std.proofs.lemmas.List.{drop-drop, drop_all, drop_at, drop-append-le, length-take}
-use borrow.Rule.Slice.PartMut.{put_mid, post_of}
+use Rattle.std.proofs.lemmas.List.{drop-drop, drop_all, drop_at, drop-append-le, length-take, take_all}
+use borrow.Rule.Slice.PartMut.{mid_of, put_mid, post_of}
 use Rattle.vcd_trace.specs.VcdText.{bit_line, identifier, vector_line}
 use Rattle.vcd_trace.specs.Groups.{bit_changes}
 use Rattle.vcd_trace.specs.PlaceText.{HasPlace, IsPlace, one_changes, place_lines}
@@ -31,6 +31,10 @@ copied-before size end start xs ys zs low high long within e =
     ∙ ap (λ (l : List ℕ). drop (end - size + start) (put_mid (end - size) size xs l)) e
     ∙ drop-copied (end - size) size start xs zs (omega (arith, high)) long within
     ∙ ap (λ (n : ℕ). drop start zs ++ drop n xs) (let same : end - size + size ≡ end = omega (arith, low) in same)
+
+-- a room from a start on
+pub rest-of-room : (size start : ℕ) (room : List ℕ) → length room ≡ size → mid_of start (size - start) room ≡ drop start room
+rest-of-room size start room h = take_all (size - start) (drop start room) (omega (arith, length-drop start room, h))
 
 -- ---- how long the lines are
 
@@ -70,7 +74,7 @@ place_lines-length first pc instruction h k =
 -- written up to the end of a room for any two words, they are in its last 34 bytes
 pub place-room : (first pc word p w : ℕ) (old mid new : List ℕ) (second start : ℕ) → p ≡ pc → w ≡ word → pc < 2 ^ 8 → word < 2 ^ 16 → length old ≡ 74 → length new ≡ 74 → start ≤ 74
     → drop second mid ≡ vector_line (first + 1) w ++ drop 74 old → drop start new ≡ vector_line first p ++ drop second mid
-    → (40 ≤ start) × (drop (start - 40) (drop 40 new) ≡ place_lines first pc word)
+    → (40 ≤ start) × (drop (start - 40) (take 34 (drop 40 new)) ≡ place_lines first pc word)
 place-room first pc word p w old mid new second start e f h k long size within later line =
     let last : drop 74 old ≡ [] = drop_all 74 old (omega (arith, long)) in
     let text : drop start new ≡ place_lines first pc word =
@@ -78,7 +82,7 @@ place-room first pc word p w old mid new second start e f h k long size within l
         ∙ ap (λ (n : ℕ). vector_line first n ++ vector_line (first + 1) w) e
         ∙ ap (λ (n : ℕ). vector_line first pc ++ vector_line (first + 1) n) f in
     let low : 40 ≤ start = omega (arith, ap length text, length-drop start new, size, within, place_lines-length first pc word h k) in
-    (low, drop-drop (start - 40) 40 new ∙ ap (λ (n : ℕ). drop n new) (let same : 40 + (start - 40) ≡ start = omega (arith, low) in same) ∙ text)
+    (low, ap (drop (start - 40)) (take_all 34 (drop 40 new) (omega (arith, length-drop 40 new, size))) ∙ drop-drop (start - 40) 40 new ∙ ap (λ (n : ℕ). drop n new) (let same : 40 + (start - 40) ≡ start = omega (arith, low) in same) ∙ text)
 
 -- the lines that are kept are those of what they are kept for
 pub place-same : (l : PlaceLines) (first pc instruction : ℕ) → l.first ≡ first → l.pc ≡ pc → l.instruction ≡ instruction → IsPlace l → HasPlace l first pc instruction

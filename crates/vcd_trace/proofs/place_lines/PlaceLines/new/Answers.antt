@@ -6,7 +6,8 @@ pub overflow_sub-result-2 : goal.overflow_sub-result-2
 overflow_sub-result-2 c =
     let w = c.write_vector-start in
     let v = c.write_vector-second in
-    (place-room c.args.first c.args.pc c.args.instruction _ _ _ _ _ v.result w.result c.from-2.ensures c.from.ensures (omega arith) (omega arith) (omega arith) (omega arith) (omega (arith, w.ensures.before, v.ensures.before)) v.ensures.text w.ensures.text).0
+    let both = place-room c.args.first c.args.pc c.args.instruction _ _ _ _ _ v.result w.result c.from-2.ensures c.from.ensures (omega arith) (omega arith) (omega arith) (omega arith) (omega (arith, w.ensures.before, v.ensures.before)) v.ensures.text w.ensures.text in
+    both.0
 
 pub returns-clause-lines : goal.returns-clause-lines
 returns-clause-lines c =
