@@ -4,7 +4,7 @@ use Rattle.std.specs.Prelude.{nat_lt}
 use Rattle.std.specs.Fmt.{digits}
 use Rattle.std.specs.Int.{bit_at, trailing_zeros}
 use Rattle.std.specs.Int.Bits.{xor_zero_l}
-use Rattle.std.proofs.lemmas.List.{drop-drop, drop_all, drop_at, drop-append-le, length-take, take_all}
+use Rattle.std.proofs.lemmas.List.{drop-drop, drop_at, drop-append-le, length-take, take_all}
 use borrow.Rule.Slice.PartMut.{mid_of, put_mid, post_of}
 use Rattle.vcd_trace.specs.VcdText.{bit_line, identifier, vector_line}
 use Rattle.vcd_trace.specs.Groups.{bit_changes}
@@ -72,13 +72,12 @@ place_lines-length first pc instruction h k =
     omega (arith, length-append (vector_line first pc) (vector_line (first + 1) instruction), vector_line-length first 8 pc (omega arith) (omega arith) h, vector_line-length (first + 1) 16 instruction (omega arith) (omega arith) k)
 
 -- written up to the end of a room for any two words, they are in its last 34 bytes
-pub place-room : (first pc word p w : ℕ) (old mid new : List ℕ) (second start : ℕ) → p ≡ pc → w ≡ word → pc < 2 ^ 8 → word < 2 ^ 16 → length old ≡ 74 → length new ≡ 74 → start ≤ 74
-    → drop second mid ≡ vector_line (first + 1) w ++ drop 74 old → drop start new ≡ vector_line first p ++ drop second mid
+pub place-room : (first pc word p w : ℕ) (mid new : List ℕ) (second start : ℕ) → p ≡ pc → w ≡ word → pc < 2 ^ 8 → word < 2 ^ 16 → length new ≡ 74 → start ≤ 74
+    → drop second mid ≡ vector_line (first + 1) w ++ [] → drop start new ≡ vector_line first p ++ drop second mid
     → (40 ≤ start) × (drop (start - 40) (take 34 (drop 40 new)) ≡ place_lines first pc word)
-place-room first pc word p w old mid new second start e f h k long size within later line =
-    let last : drop 74 old ≡ [] = drop_all 74 old (omega (arith, long)) in
+place-room first pc word p w mid new second start e f h k size within later line =
     let text : drop start new ≡ place_lines first pc word =
-        line ∙ ap (λ (l : List ℕ). vector_line first p ++ l) (later ∙ ap (λ (l : List ℕ). vector_line (first + 1) w ++ l) last ∙ append-nil (vector_line (first + 1) w))
+        line ∙ ap (λ (l : List ℕ). vector_line first p ++ l) (later ∙ append-nil (vector_line (first + 1) w))
         ∙ ap (λ (n : ℕ). vector_line first n ++ vector_line (first + 1) w) e
         ∙ ap (λ (n : ℕ). vector_line first pc ++ vector_line (first + 1) n) f in
     let low : 40 ≤ start = omega (arith, ap length text, length-drop start new, size, within, place_lines-length first pc word h k) in

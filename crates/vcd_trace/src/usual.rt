@@ -97,19 +97,18 @@ fn is_usual(last: &Inside, now: &Inside) -> bool
     ensures level { result ≡ true → spec.one_changes last.now.sample.level now.now.sample.level }
     ensures pads { result ≡ true → spec.one_changes last.now.pads now.now.pads }
 {
-    changes_levels_alone(&last.sample, &now.sample)
-        && one_changes(last.sample.level, now.sample.level)
-        && one_changes(last.pads, now.pads)
+    changes_a_level(&last.sample, &now.sample) && one_changes(last.pads, now.pads)
 }
 
-// Whether no value of a sample changes but levels.
+// Whether at most one value of a sample changes, a level.
 #[inline(always)]
-fn changes_levels_alone(before: &Sample, now: &Sample) -> bool
+fn changes_a_level(before: &Sample, now: &Sample) -> bool
     ensures rest { result ≡ true → same_rest before.now now.now ≡ true }
     ensures levels { result ≡ true → changes_over 0 before.now now.now
         ≡ bit_changes 33 32 before.now.level now.now.level }
+    ensures level { result ≡ true → spec.one_changes before.now.level now.now.level }
 {
-    has_same_rest(before, now)
+    one_changes(before.level, now.level) && has_same_rest(before, now)
 }
 
 // Whether at most one bit changes.
