@@ -77,9 +77,9 @@ pub place-room : (first pc word p w : ℕ) (mid new : List ℕ) (second start : 
     → (40 ≤ start) × (drop (start - 40) (take 34 (drop 40 new)) ≡ place_lines first pc word)
 place-room first pc word p w mid new second start e f h k size within later line =
     let text : drop start new ≡ place_lines first pc word =
-        line ∙ ap (λ (l : List ℕ). vector_line first p ++ l) (later ∙ append-nil (vector_line (first + 1) w))
-        ∙ ap (λ (n : ℕ). vector_line first n ++ vector_line (first + 1) w) e
-        ∙ ap (λ (n : ℕ). vector_line first pc ++ vector_line (first + 1) n) f in
+    line ∙ ap (λ (l : List ℕ). vector_line first p ++ l) (later ∙ append-nil (vector_line (first + 1) w))
+    ∙ ap (λ (n : ℕ). vector_line first n ++ vector_line (first + 1) w) e
+    ∙ ap (λ (n : ℕ). vector_line first pc ++ vector_line (first + 1) n) f in
     let low : 40 ≤ start = omega (arith, ap length text, length-drop start new, size, within, place_lines-length first pc word h k) in
     (low, ap (drop (start - 40)) (take_all 34 (drop 40 new) (omega (arith, length-drop 40 new, size))) ∙ drop-drop (start - 40) 40 new ∙ ap (λ (n : ℕ). drop n new) (let same : 40 + (start - 40) ≡ start = omega (arith, low) in same) ∙ text)
 

@@ -63,10 +63,10 @@ pub gathered : (size clock : ℕ) (a b : Inside) (room : List ℕ) (end : ℕ)
     → drop end room ≡ usual_changes a b → clock_line clock ++ drop end room ≡ inside_step_text clock a b
 gathered size clock a b room end rest h w some text =
     let whole : drop end room ≡ inside_changes_text a b =
-        text ∙ sym (inside_changes-parts a b ∙ ap (λ (x : List ℕ). x ++ (bit_changes 161 32 a.pads b.pads ++ machines_changes 0 a.machines b.machines)) rest) in
+    text ∙ sym (inside_changes-parts a b ∙ ap (λ (x : List ℕ). x ++ (bit_changes 161 32 a.pads b.pads ++ machines_changes 0 a.machines b.machines)) rest) in
     let lines : inside_changes_text a b ≡ [] → ⊥ = λ none.
-        let e : drop end room ≡ [] = whole ∙ none in
-        absurd (some (omega (arith, ap length e, length-drop end room, h, w))) in
+    let e : drop end room ≡ [] = whole ∙ none in
+    absurd (some (omega (arith, ap length e, length-drop end room, h, w))) in
     ap (λ (x : List ℕ). clock_line clock ++ x) whole ∙ sym (step_by (same_inside a b) clock a b refl lines)
 
 -- ---- the registers
@@ -111,14 +111,14 @@ registers-eight id a b rest =
     let w : ℕ → ℕ → ℕ → List ℕ = λ n v u. word_change n v u in
     let flags : List ℕ = flag_change (id + 6) a.waits b.waits ++ (flag_change (id + 6 + 1) a.enabled b.enabled ++ []) in
     let words : vector_changes id (registers_of a) (registers_of b)
-        ≡ w id a.x b.x ++ (w (id + 1) a.y b.y ++ (w (id + 2) a.isr b.isr ++ (w (id + 3) a.osr b.osr ++ (w (id + 4) a.isr_count b.isr_count ++ (w (id + 5) a.osr_count b.osr_count ++ []))))) =
-        registers-ids id a b in
+    ≡ w id a.x b.x ++ (w (id + 1) a.y b.y ++ (w (id + 2) a.isr b.isr ++ (w (id + 3) a.osr b.osr ++ (w (id + 4) a.isr_count b.isr_count ++ (w (id + 5) a.osr_count b.osr_count ++ []))))) =
+    registers-ids id a b in
     let two : vector_changes (id + 4) (counts_of a) (counts_of b) ≡ w (id + 4) a.isr_count b.isr_count ++ w (id + 5) a.osr_count b.osr_count =
-        counts-two (id + 4) a b ∙ ap (λ (n : ℕ). w (id + 4) a.isr_count b.isr_count ++ w n a.osr_count b.osr_count) (let e : id + 4 + 1 ≡ id + 5 = omega arith in e) in
+    counts-two (id + 4) a b ∙ ap (λ (n : ℕ). w (id + 4) a.isr_count b.isr_count ++ w n a.osr_count b.osr_count) (let e : id + 4 + 1 ≡ id + 5 = omega arith in e) in
     let last : flag_change (id + 6) a.waits b.waits ++ (flag_change (id + 7) a.enabled b.enabled ++ rest) ≡ bit_changes (id + 6) 2 (flags_of a) (flags_of b) ++ rest =
-        ap (λ (n : ℕ). flag_change (id + 6) a.waits b.waits ++ (flag_change n a.enabled b.enabled ++ rest)) (let e : id + 7 ≡ id + 6 + 1 = omega arith in e)
-        ∙ pair (flag_change (id + 6) a.waits b.waits) (flag_change (id + 6 + 1) a.enabled b.enabled) rest
-        ∙ ap (λ (x : List ℕ). x ++ rest) (sym (flags-changes (id + 6) a.waits a.enabled b.waits b.enabled)) in
+    ap (λ (n : ℕ). flag_change (id + 6) a.waits b.waits ++ (flag_change n a.enabled b.enabled ++ rest)) (let e : id + 7 ≡ id + 6 + 1 = omega arith in e)
+    ∙ pair (flag_change (id + 6) a.waits b.waits) (flag_change (id + 6 + 1) a.enabled b.enabled) rest
+    ∙ ap (λ (x : List ℕ). x ++ rest) (sym (flags-changes (id + 6) a.waits a.enabled b.waits b.enabled)) in
     ap (λ (t : List ℕ). w id a.x b.x ++ (w (id + 1) a.y b.y ++ (w (id + 2) a.isr b.isr ++ (w (id + 3) a.osr b.osr ++ (vector_changes (id + 4) (counts_of a) (counts_of b) ++ t))))) last
     ∙ ap (λ (t : List ℕ). w id a.x b.x ++ (w (id + 1) a.y b.y ++ (w (id + 2) a.isr b.isr ++ (w (id + 3) a.osr b.osr ++ (t ++ (bit_changes (id + 6) 2 (flags_of a) (flags_of b) ++ rest)))))) two
     ∙ eight (w id a.x b.x) (w (id + 1) a.y b.y) (w (id + 2) a.isr b.isr) (w (id + 3) a.osr b.osr) (w (id + 4) a.isr_count b.isr_count) (w (id + 5) a.osr_count b.osr_count) (bit_changes (id + 6) 2 (flags_of a) (flags_of b)) rest

@@ -198,13 +198,7 @@ fn write_machine(
     ensures text { drop result room.new
         ≡ machine_changes place (Some before.now) (Some now.now) ++ drop end room.old }
 {
-    let others = write_others(
-        room,
-        end,
-        MACHINE + MACHINE_VALUES * place + 2,
-        before,
-        now,
-    );
+    let others = write_others(room, end, MACHINE + MACHINE_VALUES * place + 2, before, now);
     write_place(room, others, places, place, before, now)
 }
 
@@ -229,13 +223,7 @@ fn write_place(
     if before.pc != now.pc && before.instruction != now.instruction {
         return places.write(room, end, place, now.pc, now.instruction);
     }
-    write_either(
-        room,
-        end,
-        MACHINE + MACHINE_VALUES * place,
-        before,
-        now,
-    )
+    write_either(room, end, MACHINE + MACHINE_VALUES * place, before, now)
 }
 
 // The same where not both change. A call of its own, which keeps the usual way short.
@@ -262,13 +250,7 @@ fn write_either(
         u32::from(before.instruction),
         u32::from(now.instruction),
     );
-    write_changed(
-        room,
-        word,
-        first,
-        u32::from(before.pc),
-        u32::from(now.pc),
-    )
+    write_changed(room, word, first, u32::from(before.pc), u32::from(now.pc))
 }
 
 // All else. In most clocks no register changes, which few comparisons tell.
