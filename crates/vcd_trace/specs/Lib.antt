@@ -11,4 +11,3 @@ pub use Rattle.sample_trace.specs.Edges
 pub mod ClockText
 pub mod InsideGroups
 pub mod InsideTold
-pub mod PlaceText
