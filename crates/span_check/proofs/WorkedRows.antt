@@ -2,7 +2,6 @@
 use Rattle.std.proofs.Common.{◌≡◌, ℕ, zero, suc, ◌<◌, ◌≤◌, Bool, true, false, Option, Some, None, IsSome, [], ◌∷◌, refl, subst, inl, inr, arith}
 use Rattle.std.proofs.lemmas.Bool.{cases_lt}
 use Rattle.pin_matrix.specs.declared.setup.Setup.{Setup}
-use Rattle.pin_matrix.specs.declared.span.PinSignal.{PinSignal}
 use Rattle.pin_matrix.specs.declared.span.Span.{Span}
 use Rattle.pin_matrix.specs.declared.span.SpanUnit.TheVariants.{Ticks, Clocks}
 use Rattle.dreq_pacing.specs.declared.line.LineAct.TheVariants.{Tx, Restart, Disable, Enable}
@@ -22,7 +21,7 @@ use Rattle.span_check.specs.Marks.{Mark, mark_of}
 use Rattle.span_check.specs.Holding.{counted, measured, IsQuiet, IsFirstToEdge, IsSpokenOf, HoldsFrom}
 use Rattle.span_check.specs.Runs.{marks_in}
 use Rattle.span_ticks.specs.UnderWay.{Flow, is_excused_in}
-use Rattle.span_check.specs.Asked.{IsOfEdges, IsPlain}
+use Rattle.span_check.specs.Asked.{IsPlain}
 use Rattle.span_check.proofs.Plain.{plain_spoken}
 use Rattle.span_check.proofs.WorkedSetups.{plain_machine, pulling, side_one, side_one_opt, pin_0, block_of, span_of, span_from, turn_of, prompt_of, without_of}
 
@@ -98,16 +97,6 @@ first_at_7 e ends inside = elim (cases_lt e 7) [
 -- such a span excuses nothing
 plain : {sp : Span} → sp.prompt ≡ false → sp.without ≡ [] → IsPlain sp
 plain h k = record { waits = h; leaves = k }
-
--- both its events are edges that any instruction may make; an event that names one isn't such, nor one that is an end
-of_edges : IsOfEdges (span_of true false 1 1 (omega arith) (omega arith) [])
-of_edges = record { from = refl; to = refl; from_any = refl; to_any = refl }
-
-of_one : IsOfEdges (record (span_of true false 1 1 (omega arith) (omega arith) []) { to_at = 3 ∷ [] }) → ⊥
-of_one e = let h : 3 ∷ [] ≡ [] = e.to_any in cc
-
-of_an_end : IsOfEdges (record (span_of true false 1 1 (omega arith) (omega arith) []) { from_signal = None }) → ⊥
-of_an_end e = let h : IsSome {T = PinSignal} None = e.from in cc
 
 no_bound : IsSome {T = ℕ} None → ⊥
 no_bound e = cc

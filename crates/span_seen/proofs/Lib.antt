@@ -1,1 +1,2 @@
 pub mod Distances
+mod EdgeRows
