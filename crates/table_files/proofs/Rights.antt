@@ -11,7 +11,7 @@ use Rattle.span_step.specs.declared.ages.Ages.TheVariants.{Empty, Between}
 use Rattle.span_step.specs.declared.stepped.Next.{Next}
 use Rattle.span_step.specs.declared.stepped.Stepped.{Stepped}
 use Rattle.span_step.specs.Contexts.{Context}
-use Rattle.span_step.specs.Courses.{Rules, start, delay_tick, older, with_fresh, after_edges, watched, followed, courses}
+use Rattle.span_step.specs.Courses.{Rules, start, delay_tick, older, with_fresh, after_events, watched, followed, courses}
 use Rattle.span_step.specs.Outcomes.{ContextOutcome, outcomes, is_wild}
 use Rattle.span_step.specs.Steps.{Visit, visit_of, with_end, end_of, with_outcome, nothing_found, wild_step, step_by, machine_steps, context_steps, is_lost}
 
@@ -48,7 +48,7 @@ cond_right : (b : Bool) (x y : Ages) → IsRight x → IsRight y → IsRight (co
 cond_right true x y h k = h
 cond_right false x y h k = k
 
-edges_right : (closes opens : Bool) (a : Ages) → IsRight a → IsRight (after_edges closes opens a)
+edges_right : (closes opens : Bool) (a : Ages) → IsRight a → IsRight (after_events closes opens a)
 edges_right closes opens a h =
     let left = cond_right closes Empty a tt h in
     cond_right opens (with_fresh (cond closes Empty a)) (cond closes Empty a) (fresh_right (cond closes Empty a) left) left
