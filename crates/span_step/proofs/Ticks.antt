@@ -1,5 +1,5 @@
 -- A tick without events, and an excused one.
-use Rattle.std.proofs.Common.{◌≡◌, Bool, true, false, ◌&&◌, ◌||◌, if◌then◌else◌, None, refl}
+use Rattle.std.proofs.Common.{◌≡◌, Bool, true, false, ◌&&◌, ◌||◌, if◌then◌else◌, Option, refl}
 use Rattle.std.proofs.Math.Bool.{or-false, and-false, and-true}
 use Rattle.span_step.specs.declared.ages.Ages.TheVariants.{Empty, Between}
 use Rattle.span_step.specs.declared.course.Tick.{Tick}
@@ -17,20 +17,20 @@ pub rested : (r : Rules) (w : Watch) → watched r w delay_tick ≡ record w { a
 unfolding watched
 rested r w = rw (no_edge r.to_rise w.to, no_edge r.from_rise w.from, or-false w.from_edge, or-false w.closes, and-true w.passes) refl
 
--- nor has one that writes nothing where the end of its instruction is no event
-pub eventless : (r : Rules) (w : Watch) (f : Bool) → (f && (r.from_ends || r.to_ends)) ≡ false → watched r w (record { late = false; finishes = f; from = None; to = None }) ≡ watched r w delay_tick
+-- whether the instruction finishes is asked only where its end is an event
+pub asked : (r : Rules) (w : Watch) (f g : Option Bool) → watched r w (record { late = false; finishes = r.from_ends || r.to_ends; from = f; to = g }) ≡ watched r w (record { late = false; finishes = true; from = f; to = g })
 unfolding watched
-eventless r w f e = rw (none f r.from_ends r.to_ends e, none f r.to_ends r.from_ends (either f r.from_ends r.to_ends e)) refl where
-  none : (f a b : Bool) → (f && (a || b)) ≡ false → (f && a) ≡ false
-  none true true b e = cc
-  none true false b e = refl
-  none false a b e = refl
+asked r w f g = rw (first r.from_ends r.to_ends, second r.from_ends r.to_ends) refl where
+  first : (a b : Bool) → ((a || b) && a) ≡ a
+  first true b = refl
+  first false true = refl
+  first false false = refl
 
-  either : (f a b : Bool) → (f && (a || b)) ≡ false → (f && (b || a)) ≡ false
-  either true true b e = cc
-  either true false true e = cc
-  either true false false e = refl
-  either false a b e = refl
+  second : (a b : Bool) → ((a || b) && b) ≡ b
+  second true true = refl
+  second true false = refl
+  second false true = refl
+  second false false = refl
 
 -- an excused tick leaves no age but that of its own from-event
 pub excused_ages : (r : Rules) (w : Watch) (t : Tick) → (t.late && r.excuses) ≡ true → (watched r w t).ages ≡ (if opens r w t then Between 0 0 else Empty)

@@ -1,5 +1,5 @@
 //! One course of an instruction, tick by tick.
-ghost use Rattle.std.specs.Prelude.{◌≡◌, false};
+ghost use Rattle.std.specs.Prelude.{◌≡◌, true, false};
 ghost use Rattle.span_step.specs.Courses as spec;
 
 use crate::ages::Ages;
@@ -71,7 +71,7 @@ impl Watch {
             from: over(side.from, outcome.from),
             to: over(side.to, outcome.to),
         };
-        self.begun(rules, first, true).delayed(rules, delay)
+        self.finished(rules, first).delayed(rules, delay)
     }
 
     /// At the end of the delayed course: side-set in the first tick, the other effects in the last late one.
@@ -96,14 +96,22 @@ impl Watch {
             .delayed(rules, delay)
     }
 
+    /// After a first tick in which the instruction finishes, which is looked at only where its end is an event.
+    #[tactic(auto, using(crate::proofs::Ticks::asked))]
+    fn finished(self, rules: &Rules, write: Write) -> Watch
+        ensures { result
+            ≡ spec.watched rules.now self (record { late = false; finishes = true; from = write.from; to = write.to }) }
+    {
+        self.begun(rules, write, rules.has_ends())
+    }
+
     /// After the first tick of a course, which counts, in which this is written, and in which the instruction may finish.
-    #[tactic(auto, using(crate::proofs::Ticks::eventless))]
     fn begun(self, rules: &Rules, write: Write, finishes: bool) -> Watch
         ensures { result
             ≡ spec.watched rules.now self (record { late = false; finishes = finishes; from = write.from; to = write.to }) }
     {
         match (write.from, write.to) {
-            (None, None) if !(finishes && (rules.from_ends || rules.to_ends)) => self.rested(rules),
+            (None, None) if !finishes => self.rested(rules),
             (from, to) => self.watched(
                 rules,
                 Tick {

@@ -1,5 +1,5 @@
 //! What a span asks of a row.
-ghost use Rattle.std.specs.Prelude.{◌≡◌, ◌+◌, ◌-◌, ◌*◌, ◌/◌, ◌<◌, ◌≤◌, ◌^◌, IfSome};
+ghost use Rattle.std.specs.Prelude.{◌≡◌, ◌+◌, ◌-◌, ◌*◌, ◌/◌, ◌<◌, ◌≤◌, ◌^◌, ◌||◌, IfSome};
 ghost use Rattle.span_step.specs.Steps as spec;
 
 use pin_matrix::{Addresses, MachineSetup, PinSignal, Span, SpanUnit};
@@ -82,6 +82,13 @@ impl Rules {
             named,
             excuses: span.prompt && !named,
         }
+    }
+
+    /// Whether the end of the row's instruction is an event.
+    pub(crate) fn has_ends(&self) -> bool
+        ensures { result ≡ (self.now.from_ends || self.now.to_ends) }
+    {
+        self.from_ends || self.to_ends
     }
 }
 
