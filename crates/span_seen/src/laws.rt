@@ -13,9 +13,9 @@ use span_check::{
     a_plain_span_excuses_nothing, a_provable_span_holds_in_every_run, any_edge_is_an_event,
 };
 
-/// Where a span in clocks with neither `prompt` nor `without`, between edges that any instruction may make, is provable, no other
-/// machine's mapping holds a pin of it, and no line disables or restarts its machine, each distance that it measures is within its bounds, whatever the stimulus and the length. The
-/// span's machine is configured.
+/// Where a span in clocks with neither `prompt` nor `without`, between edges that any instruction may make, is
+/// provable, no other machine's mapping holds a pin of it, and no line disables or restarts its machine, each distance
+/// that it measures is within its bounds, whatever the stimulus and the length. The span's machine is configured.
 pub fn a_proved_span_is_seen_within_its_bounds()
     ensures { (u : Setup) (sp : Span) → IsSome (slice_index_or u.machines sp.machine None)
         → IsProvable u sp → IsUnshared u sp → sp.unit ≡ Clocks → IsPlain sp → IsOfEdges sp
