@@ -18,7 +18,7 @@ use crate::inside::{Inside, MachineInside};
 use crate::leaps::{begins_now, leap, sooner};
 use crate::merging::{Wanted, outside_after};
 use crate::news::News;
-use crate::place::{are_empty, inside, moved, shown, simple_step, slot_of, step};
+use crate::place::{are_empty, inside, moved, shown, slot_of, step};
 use crate::slot::Slot;
 use dreq_pacing::{Due, Requests};
 use fifo_pair::{Fifo, a_quiet_clock_changes_nothing};
@@ -213,10 +213,15 @@ impl<F: Fifo> Running<F> {
         if !self.ready && !self.alone {
             return None;
         }
+        let Some(first) = &mut self.first else {
+            return None;
+        };
         let view = View::new(&self.shared, pad);
-        let outputs = &mut self.wanted.outputs;
-        let ready = simple_step(&mut self.first, &view, outputs, self.ready)?;
-        self.ready = ready;
+        let tried = first.simple_clock(&view, &mut self.wanted.outputs, self.ready);
+        if !tried.is_done() {
+            return None;
+        }
+        self.ready = tried.is_ready();
         self.shared.sync.step(pad);
         self.clock += 1;
         Some(self.sample.show_pins(&self.wanted.outputs))
