@@ -24,11 +24,13 @@ use Rattle.sm_registers.specs.declared.intent.Kind.TheVariants.{Delay, Late}
 use Rattle.sm_registers.specs.Intents.{no_intent, no_wants, wants_of, written_by}
 use Rattle.sm_registers.specs.Plans.{side_level, side_direction, side_of}
 use Rattle.sm_registers.specs.Queues.{Queues}
+use Rattle.sm_registers.specs.Ranges.{IsPlaced}
 use Rattle.sm_registers.specs.Simple.{MakesTick, is_ready}
 use Rattle.sm_registers.specs.State.{MachineState, queues_of}
 use Rattle.sm_registers.specs.Tick.{after_effect, current_word, next_after, pc_after, refills, side_writes, tick_by, tick_of, tick_word, word_at}
 use Rattle.sm_registers.proofs.Calm.{delay_counts, unmet_waits}
 use Rattle.sm_registers.proofs.OwnPins.{OwnEffect, own_effect}
+use Rattle.sm_registers.proofs.Placed.{placed_tick}
 
 -- a tick is made, where it leaves these registers and pins, and wants nothing else
 pub record IsMade (s : MachineSetup) (v : View) (q : Queues) (r after : Registers) (o put : Outputs) : Type 0 where
@@ -50,6 +52,10 @@ makes v m after o put is = record {
   outputs = is.outputs;
   wants = is.wants;
 }
+
+-- and it keeps the ranges
+pub stays_placed : (s : MachineSetup) (v : View) (q : Queues) (r after : Registers) (o put : Outputs) → IsMade s v q r after o put → IsPlaced r → IsPlaced after
+stays_placed s v q r after o put is h = subst IsPlaced (sym is.registers) (placed_tick s v q r h)
 
 -- without autopull nothing is refilled
 no_refill : (s : MachineSetup) (q : Queues) (r : Registers) → s.autopull ≡ false → refills s q r ≡ false
