@@ -19,16 +19,16 @@ use Rattle.block_core.proofs.running.Running.simple_step.Goals as goal
 use Rattle.block_core.proofs.running.Running.simple_step.Goals.{else-not-self-via-then-not-self+else-not-self-2, else-not-self-via-else-not-self}
 
 -- the block knows that the other places are empty
-alone : (g : Over) (c : goal.After-show_pins g) → c.self.inside.alone ≡ true
+alone : (g : Over) (c : goal.After-show_pins g) → c.self.inside.known.alone ≡ true
 alone g c = elim c.else-not-self.branch [
   | else-not-self-via-then-not-self+else-not-self-2 w ↦ w.if-not-self-2.false
-  | else-not-self-via-else-not-self w ↦ (c.self.invariant.3 w.if-not-self.false).0
+  | else-not-self-via-else-not-self w ↦ (c.self.invariant.2.ready w.if-not-self.false).0
 ]
 
 empty : (g : Over) (c : goal.After-show_pins g) → AllEmpty c.self.inside.second c.self.inside.third c.self.inside.fourth
 empty g c =
     let b = c.self.inside in
-    all_empty b.second b.third b.fourth (sym c.self.invariant.2 ∙ alone g c)
+    all_empty b.second b.third b.fourth (sym c.self.invariant.2.alone ∙ alone g c)
 
 -- and the machine's clock is a simple one
 simple : (g : Over) (c : goal.After-show_pins g) → IsSimple c.self.inside.shared.memory c.self.inside.wanted.outputs.levels c.self.inside.wanted.outputs.directions c.self.inside.shared.flags.up c.self.inside.shared.sync c.args.pad (seen_of c.self.inside.shared.sync.bypass c.args.pad c.self.inside.shared.sync.pad_2) c.self.inside.first (Some c.simple_clock.new.self) c.simple_clock.new.outputs
@@ -74,8 +74,7 @@ invariant_of-self-2 g c =
       },
       subst (λ (s : Sample). IsSampleOf (state_of (Some c.simple_clock.new.self) b.second b.third b.fourth o.levels o.directions b.shared.flags.up b.outside) s) (sym c.show_pins.ensures.after)
           (outputs_new (first_new c.self.invariant.1 _ _ shows) o.levels o.directions),
-      c.self.invariant.2,
-      λ h. (alone g c, c.simple_clock.ensures.next (sym c.is_ready.ensures ∙ h)),
+      record { alone = c.self.invariant.2.alone; ready = λ h. (alone g c, c.simple_clock.ensures.next (sym c.is_ready.ensures ∙ h)) },
     )
 
 pub returns-clause-simple : goal.returns-clause-simple
@@ -83,7 +82,7 @@ returns-clause-simple g c =
     let b = c.self.inside in
     let v = view b.shared.memory (seen_of b.shared.sync.bypass c.args.pad b.shared.sync.pad_2) b.shared.flags.up in
     subst (λ (r : Run). true ≡ is_simple_over c.args.pad r) c.self.view_is
-    (ap (λ x. x && true) (sym (sym c.self.invariant.2 ∙ alone g c))
+    (ap (λ x. x && true) (sym (sym c.self.invariant.2.alone ∙ alone g c))
     ∙ ap (λ x. are_empty b.second b.third b.fourth && x) (sym (sym c.is_done.ensures ∙ c.if-not-is_done.false) ∙ c.simple_clock.ensures.simple ∙ ap (λ (w : View). is_simple w (Some c.in_some-first.first)) c.new-view.ensures ∙ ap (is_simple v) (sym c.in_some-first.is)))
 
 pub returns-clause-run : goal.returns-clause-run
