@@ -125,11 +125,10 @@ impl<F: Fifo> Machine<F> {
                 let (place, word) = current_word(view, &self.registers);
                 self.decoded.read(place, word);
                 let waits = is_unmet(&self.decoded.reading(place).op.act, &self.setup, view);
-                return if waits {
-                    Tried::Done
-                } else {
-                    Tried::NotSimple
-                };
+                if waits {
+                    return Tried::Done;
+                }
+                return Tried::NotSimple;
             }
             if self.registers.pending.is_some() {
                 return Tried::NotSimple;
