@@ -18,7 +18,7 @@ use crate::inside::{Inside, MachineInside};
 use crate::leaps::{begins_now, leap, sooner};
 use crate::merging::{Wanted, outside_after};
 use crate::news::News;
-use crate::place::{are_empty, inside, moved, shown, simple_step, slot_of, step};
+use crate::place::{are_empty, inside, moved, shown, slot_of, step};
 use crate::slot::Slot;
 use dreq_pacing::{Due, Requests};
 use fifo_pair::{Fifo, a_quiet_clock_changes_nothing};
@@ -39,12 +39,18 @@ pub(crate) struct Running<F: Fifo> {
     wanted: Wanted,
     outside: u32,
     clock: u64,
-    // Whether the places after the first are empty, as in most blocks, so that a clock asks for none of them.
-    alone: bool,
-    // Whether it is known that the only machine is ready in the present clock, so that a clock asks nothing of it.
-    ready: bool,
+    known: Known,
     // What `view` shows, brought up to date by each clock, since a trace asks after each and little of it changes.
     sample: Sample,
+}
+
+/// What is known of its places (`AreKnown`), so that most clocks don't ask for it.
+#[derive(Clone, Copy)]
+struct Known {
+    /// Whether the places after the first are empty, as in most blocks, so that a clock asks for none of them.
+    alone: bool,
+    /// Whether the only machine is known to be ready in the present clock, so that a clock asks nothing of it.
+    ready: bool,
 }
 
 /// One call wherever a block is dropped, in place of the drops of all that is in it.
@@ -59,8 +65,7 @@ impl<F: Fifo> Drop for Running<F> {
             wanted: _,
             outside: _,
             clock: _,
-            alone: _,
-            ready: _,
+            known: _,
             sample: _,
         } = self;
     }
@@ -69,7 +74,7 @@ impl<F: Fifo> Drop for Running<F> {
 impl<F: Fifo> Model for Running<F> {
     ghost use Rattle.block_core.specs.Block.{Run};
     ghost use Rattle.std.specs.Prelude.{◌≡◌};
-    ghost use Rattle.block_core.specs.Kept.{AreInStep, IsKnownReady, IsSampleOf, are_empty, state_of};
+    ghost use Rattle.block_core.specs.Kept.{AreInStep, AreKnown, IsSampleOf, state_of};
 
     ghost Value = { Run };
 
@@ -82,8 +87,7 @@ impl<F: Fifo> Model for Running<F> {
 
     ghost invariant = { λ b. AreInStep b.shared.memory b.clock b.first b.second b.third b.fourth
         × IsSampleOf (state_of b.first b.second b.third b.fourth b.wanted.outputs.levels b.wanted.outputs.directions b.shared.flags.up b.outside) b.sample
-        × (b.alone ≡ are_empty b.second b.third b.fourth)
-        × IsKnownReady b.ready b.alone b.first };
+        × AreKnown b.known b.first b.second b.third b.fourth };
 }
 
 impl<F: Fifo> Running<F> {
@@ -113,8 +117,10 @@ impl<F: Fifo> Running<F> {
             },
             outside: setup.high,
             clock: 0,
-            alone,
-            ready: false,
+            known: Known {
+                alone,
+                ready: false,
+            },
             sample: Sample {
                 level: setup.level,
                 direction: setup.out,
@@ -210,13 +216,18 @@ impl<F: Fifo> Running<F> {
     {
         a_calm_tick_tells_nothing_new();
         a_quiet_clock_changes_nothing();
-        if !self.ready && !self.alone {
+        if !self.known.ready && !self.known.alone {
             return None;
         }
+        let Some(first) = &mut self.first else {
+            return None;
+        };
         let view = View::new(&self.shared, pad);
-        let outputs = &mut self.wanted.outputs;
-        let ready = simple_step(&mut self.first, &view, outputs, self.ready)?;
-        self.ready = ready;
+        let tried = first.simple_clock(&view, &mut self.wanted.outputs, self.known.ready);
+        if !tried.is_done() {
+            return None;
+        }
+        self.known.ready = tried.is_ready();
         self.shared.sync.step(pad);
         self.clock += 1;
         Some(self.sample.show_pins(&self.wanted.outputs))
@@ -232,7 +243,7 @@ impl<F: Fifo> Running<F> {
         ensures used { result ≡ uses_fifos_over pad (doing due.entry) self.old }
     {
         a_calm_tick_tells_nothing_new();
-        self.ready = false;
+        self.known.ready = false;
         self.outside = outside_after(self.outside, due);
         self.wanted.begin();
         let view = View::new(&self.shared, pad);
@@ -263,7 +274,7 @@ impl<F: Fifo> Running<F> {
     pub fn is_ready(&self) -> bool
         ensures { result ≡ true → list_any spec_stirring.begins_now self.now.state.machines ≡ true }
     {
-        self.ready
+        self.known.ready
     }
 
     /// Whether a machine begins an instruction in the present clock, if no line acts in it.
@@ -307,7 +318,7 @@ impl<F: Fifo> Running<F> {
             machines_stir_over pad quiet (leapt k self.old) ≡ false }
         ensures { self.new ≡ leapt clocks self.old }
     {
-        self.ready = false;
+        self.known.ready = false;
         let view = View::new(&self.shared, pad);
         leap(&mut self.first, &view, clocks);
         leap(&mut self.second, &view, clocks);
@@ -368,7 +379,7 @@ impl<F: Fifo> Running<F> {
     {
         let memory = &self.shared.memory;
         let first = inside(&self.first, memory);
-        if self.alone {
+        if self.known.alone {
             return [first, None, None, None];
         }
         [

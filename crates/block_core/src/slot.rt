@@ -1,7 +1,7 @@
 //! One machine in a run of its block, with its divider.
-ghost use Rattle.std.specs.Prelude.{◌≡◌, ℕ, ◌<◌, ◌≤◌, ◌^◌, ◌+◌, Some, is_some, length, IsTrue, IsSome, IfSome, IfOk, false, true};
+ghost use Rattle.std.specs.Prelude.{◌≡◌, ℕ, ◌<◌, ◌≤◌, ◌^◌, ◌+◌, Some, length, IsTrue, IsSome, IfOk, false, true};
 ghost use Rattle.clock_divider.specs.Timing as timing;
-ghost use Rattle.sm_registers.specs.Intents.{no_wants, wants_of, written_by};
+ghost use Rattle.sm_registers.specs.Simple.{is_done, leaves_ready};
 ghost use Rattle.sm_registers.specs.State as spec_shown;
 ghost use Rattle.dreq_pacing.specs.Due.{quiet};
 ghost use Rattle.dreq_pacing.specs.Ports.{IsFirst};
@@ -16,7 +16,7 @@ use clock_divider::Divider;
 use dreq_pacing::Due;
 use fifo_pair::{Fifo, a_quiet_clock_changes_nothing};
 use pin_matrix::MachineSetup;
-use sm_registers::{Idle, Intent, Machine, Outputs, Shown, View, a_calm_tick_only_counts};
+use sm_registers::{Idle, Intent, Machine, Outputs, Shown, Tried, View, a_calm_tick_only_counts};
 use std::alloc::{AllocError, Global};
 use std::marker::Model;
 
@@ -104,47 +104,32 @@ impl<F: Fifo> Slot<F> {
     }
 
     /// Its clock, where the system does nothing in it and it is a simple one: it has no tick, or a simple tick. Else nothing is
-    /// done. Where it was done, it says whether the machine is known to be ready in the next clock; of one that is known to be,
-    /// nothing more is asked. It wants nothing of its block but pins then, which it writes over those of the machines before it,
-    /// nor of its FIFOs.
+    /// done. Of a machine that is known to be ready in this clock, nothing more is asked. It wants nothing of its block but pins
+    /// then, which it writes over those of the machines before it, nor of its FIFOs.
     #[inline(always)]
-    pub fn simple_clock(&mut self, view: &View, outputs: &mut Outputs, ready: bool) -> Option<bool>
+    pub fn simple_clock(&mut self, view: &View, outputs: &mut Outputs, ready: bool) -> Tried
         requires ready { ready ≡ true → spec.is_ready (Some self.old) ≡ true }
         requires clock { self.old.timing.clock < 2 ^ 40 }
-        ensures simple { is_some result ≡ spec.is_simple view.now (Some self.old) }
-        ensures after { is_some result ≡ true → self.new ≡ slot_after view.now quiet self.old }
-        ensures outputs { is_some result ≡ true → outputs.new ≡ written_by outputs.old (slot_intent view.now quiet self.old) }
-        ensures wants { is_some result ≡ true → wants_of (slot_intent view.now quiet self.old) ≡ no_wants }
-        ensures next { result ≡ Some true → spec.is_ready (Some self.new) ≡ true }
-        ensures kept { is_some result ≡ false → self.new ≡ self.old }
-        ensures kept_outputs { is_some result ≡ false → outputs.new ≡ outputs.old }
+        ensures simple { is_done result ≡ spec.is_simple view.now (Some self.old) }
+        ensures done { is_done result ≡ true → spec.MakesSimpleClock view.now self.old self.new outputs.old outputs.new }
+        ensures next { leaves_ready result ≡ true → spec.is_ready (Some self.new) ≡ true }
+        ensures kept { is_done result ≡ false → (self.new ≡ self.old) × (outputs.new ≡ outputs.old) }
     {
         a_quiet_clock_changes_nothing();
-        if !ready && !self.has_tick() {
+        if !self.has_tick_by(ready) {
             self.divider.step();
-            return Some(false);
+            return Tried::Done;
         }
-        self.simple_tick(view, outputs, ready)
-    }
-
-    /// The same of a clock that is a tick of it.
-    #[inline(always)]
-    fn simple_tick(&mut self, view: &View, outputs: &mut Outputs, ready: bool) -> Option<bool>
-        requires tick { spec.has_tick self.old ≡ true }
-        requires ready { ready ≡ true → spec.is_ready (Some self.old) ≡ true }
-        requires clock { self.old.timing.clock < 2 ^ 40 }
-        ensures simple { is_some result ≡ spec.is_simple view.now (Some self.old) }
-        ensures after { is_some result ≡ true → self.new ≡ slot_after view.now quiet self.old }
-        ensures outputs { is_some result ≡ true → outputs.new ≡ written_by outputs.old (slot_intent view.now quiet self.old) }
-        ensures wants { is_some result ≡ true → wants_of (slot_intent view.now quiet self.old) ≡ no_wants }
-        ensures next { IfSome result (λ next. next ≡ spec.is_ready (Some self.new)) }
-        ensures kept { is_some result ≡ false → self.new ≡ self.old }
-        ensures kept_outputs { is_some result ≡ false → outputs.new ≡ outputs.old }
-    {
-        a_quiet_clock_changes_nothing();
-        let begins = self.machine.simple_tick(view, outputs, ready)?;
+        let tried = self.machine.simple_tick(view, outputs, ready);
+        if !tried.is_done() {
+            return tried;
+        }
         self.divider.step_from_tick();
-        Some(begins & self.divider.ticks_now())
+        if self.divider.ticks_now() {
+            tried
+        } else {
+            Tried::Done
+        }
     }
 
     /// Whether the clock is a tick of it.
@@ -153,6 +138,15 @@ impl<F: Fifo> Slot<F> {
         ensures { result ≡ spec.has_tick self.now }
     {
         self.enabled && self.divider.ticks_now()
+    }
+
+    /// The same, where it may be known to be ready: its clock is a tick then.
+    #[inline(always)]
+    fn has_tick_by(&self, ready: bool) -> bool
+        requires { ready ≡ true → spec.is_ready (Some self.now) ≡ true }
+        ensures { result ≡ spec.has_tick self.now }
+    {
+        ready || self.has_tick()
     }
 
     /// The place of its lines in `Due`.

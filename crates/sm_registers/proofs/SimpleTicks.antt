@@ -24,10 +24,13 @@ use Rattle.sm_registers.specs.declared.intent.Kind.TheVariants.{Delay, Late}
 use Rattle.sm_registers.specs.Intents.{no_intent, no_wants, wants_of, written_by}
 use Rattle.sm_registers.specs.Plans.{side_level, side_direction, side_of}
 use Rattle.sm_registers.specs.Queues.{Queues}
-use Rattle.sm_registers.specs.Simple.{is_ready}
+use Rattle.sm_registers.specs.Ranges.{IsPlaced}
+use Rattle.sm_registers.specs.Simple.{MakesTick, is_ready}
+use Rattle.sm_registers.specs.State.{MachineState, queues_of}
 use Rattle.sm_registers.specs.Tick.{after_effect, current_word, next_after, pc_after, refills, side_writes, tick_by, tick_of, tick_word, word_at}
 use Rattle.sm_registers.proofs.Calm.{delay_counts, unmet_waits}
 use Rattle.sm_registers.proofs.OwnPins.{OwnEffect, own_effect}
+use Rattle.sm_registers.proofs.Placed.{placed_tick}
 
 -- a tick is made, where it leaves these registers and pins, and wants nothing else
 pub record IsMade (s : MachineSetup) (v : View) (q : Queues) (r after : Registers) (o put : Outputs) : Type 0 where
@@ -41,6 +44,18 @@ made_by s v q r after o i h same none = record {
   outputs = same ∙ sym (ap (λ t. written_by o t.1) h);
   wants = ap (λ t. wants_of t.1) h ∙ none;
 }
+
+-- the same of a machine
+pub makes : (v : View) (m : MachineState) (after : Registers) (o put : Outputs) → IsMade m.setup v (queues_of m.ports.fifos) m.registers after o put → MakesTick v m (record m { registers = after }) o put
+makes v m after o put is = record {
+  state = ap (λ (r : Registers). record m { registers = r }) is.registers;
+  outputs = is.outputs;
+  wants = is.wants;
+}
+
+-- and it keeps the ranges
+pub stays_placed : (s : MachineSetup) (v : View) (q : Queues) (r after : Registers) (o put : Outputs) → IsMade s v q r after o put → IsPlaced r → IsPlaced after
+stays_placed s v q r after o put is h = subst IsPlaced (sym is.registers) (placed_tick s v q r h)
 
 -- without autopull nothing is refilled
 no_refill : (s : MachineSetup) (q : Queues) (r : Registers) → s.autopull ≡ false → refills s q r ≡ false
