@@ -1,5 +1,5 @@
 -- That a tick keeps PC, the counts and the delay in their ranges.
-use Rattle.std.proofs.Common.{◌≡◌, ℕ, ◌+◌, ◌-◌, ◌/◌, ◌%◌, ◌^◌, ◌<◌, ◌≤◌, ◌==◌, nat_lt, nat_le, min, Bool, true, false, cond, ◌&&◌, Option, Some, None, IfSome, is_some, rules, refl, subst, sym, arith}
+use Rattle.std.proofs.Common.{ℕ, ◌+◌, ◌-◌, ◌/◌, ◌%◌, ◌^◌, ◌<◌, ◌≤◌, ◌==◌, nat_lt, nat_le, min, Bool, true, false, cond, ◌&&◌, Option, Some, None, IfSome, is_some, rules, arith}
 use Rattle.std.proofs.lemmas.Nat.{mod_below, pow_pos}
 use Rattle.std.proofs.Math.Pow.{pow_mono}
 use Rattle.pio_encode.specs.declared.act.Act.{Act}

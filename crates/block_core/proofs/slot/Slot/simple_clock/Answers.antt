@@ -11,3 +11,6 @@ returns-then-not-has_tick_by-clause-done g c = λ done.
     let off : has_tick s ≡ false = subst (λ (x : Slot). has_tick x ≡ false) (sym c.self.view_is) (sym c.has_tick_by.ensures ∙ c.if-not-has_tick_by.true) in
     subst (λ (x : Slot). MakesSimpleClock c.args.view.now x (record s { timing = c.step.new.self }) c.args.outputs.now c.args.outputs.now) c.self.view_is
     (rests_simply c.a_quiet_clock_changes_nothing.ensures c.args.view.now s c.step.new.self c.args.outputs.now off c.step.ensures)
+
+pub returns-clause-done : goal.returns-clause-done
+returns-clause-done g c = ?

@@ -2,7 +2,6 @@
 use Rattle.std.proofs.Common.{◌≡◌, ◌-◌, ◌∙◌, Bool, true, false, if◌then◌else◌, ap, arith, refl, subst, sym}
 use Rattle.pio_encode.specs.declared.op.Op.{Op}
 use Rattle.pin_matrix.specs.Pins.{IsWrite}
-use Rattle.sm_registers.specs.declared.outputs.Outputs.{Outputs}
 use Rattle.sm_registers.specs.declared.plan.Side.{Side}
 use Rattle.sm_registers.specs.declared.simple.Tried.TheVariants.{Done, DoneReady}
 use Rattle.sm_registers.specs.Ends.{written_side}
