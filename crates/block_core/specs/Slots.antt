@@ -114,8 +114,8 @@ is_ready (Some s) = has_tick s && simple.is_ready s.machine.setup s.machine.regi
 
 -- A machine went through a clock in which the system does nothing, and wants nothing but pins, which are written over those of
 -- the machines before it.
-pub record MakesSimpleClock (v : View) (s after : Slot) (o put : Outputs) : Type 0 where
-  pub after : after ≡ slot_after v quiet s
+pub record MakesSimpleClock (v : View) (s next : Slot) (o put : Outputs) : Type 0 where
+  pub after : next ≡ slot_after v quiet s
   pub outputs : put ≡ written_by o (slot_intent v quiet s)
   pub wants : wants_of (slot_intent v quiet s) ≡ no_wants
 

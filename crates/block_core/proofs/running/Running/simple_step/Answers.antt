@@ -31,16 +31,16 @@ empty g c =
     all_empty b.second b.third b.fourth (sym c.self.invariant.2.alone ∙ alone g c)
 
 -- and the machine's clock is a simple one
-simple : (g : Over) (c : goal.After-show_pins g) → IsSimple c.self.inside.shared.memory c.self.inside.wanted.outputs.levels c.self.inside.wanted.outputs.directions c.self.inside.shared.flags.up c.self.inside.shared.sync c.args.pad (seen_of c.self.inside.shared.sync.bypass c.args.pad c.self.inside.shared.sync.pad_2) c.self.inside.first (Some c.simple_clock.new.self) c.simple_clock.new.outputs
+simple : (g : Over) (c : goal.After-show_pins g) → IsSimple c.self.inside.shared.memory c.self.inside.wanted.outputs.levels c.self.inside.wanted.outputs.directions c.self.inside.shared.flags.up c.self.inside.shared.sync c.args.pad (seen_of c.self.inside.shared.sync.bypass c.args.pad c.self.inside.shared.sync.pad_2) c.self.inside.first (Some c.simple_clock-tried.new.self) c.simple_clock-tried.new.outputs
 simple g c =
     let b = c.self.inside in
     let sees = c.new-view.ensures in
     let v = view b.shared.memory (seen_of b.shared.sync.bypass c.args.pad b.shared.sync.pad_2) b.shared.flags.up in
-    let made = c.simple_clock.ensures.done (sym c.is_done.ensures ∙ c.if-not-is_done.false) in record {
+    let made = c.simple_clock-tried.ensures.done (sym c.is_done.ensures ∙ c.if-not-is_done.false) in record {
   sees = refl;
-  after = ap Some made.after ∙ ap (λ (w : View). place_after w quiet (Some c.in_some-first.first)) sees ∙ ap (place_after v quiet) (sym c.in_some-first.is);
-  outputs = made.outputs ∙ ap (λ (w : View). written_by b.wanted.outputs (place_intent w quiet (Some c.in_some-first.first))) sees ∙ ap (λ s. written_by b.wanted.outputs (place_intent v quiet s)) (sym c.in_some-first.is);
-  wants = subst (λ s. WantsPins (place_intent v quiet s)) (sym c.in_some-first.is) (subst (λ (w : View). WantsPins (place_intent w quiet (Some c.in_some-first.first))) sees made.wants);
+  after = ap Some made.after ∙ ap (λ (w : View). place_after w quiet (Some c.in-Some.first)) sees ∙ ap (place_after v quiet) (sym c.in-Some.is);
+  outputs = made.outputs ∙ ap (λ (w : View). written_by b.wanted.outputs (place_intent w quiet (Some c.in-Some.first))) sees ∙ ap (λ s. written_by b.wanted.outputs (place_intent v quiet s)) (sym c.in-Some.is);
+  wants = subst (λ s. WantsPins (place_intent v quiet s)) (sym c.in-Some.is) (subst (λ (w : View). WantsPins (place_intent w quiet (Some c.in-Some.first))) sees made.wants);
 }
 
 pub invariant_of-self-2 : goal.invariant_of-self-2
@@ -54,8 +54,8 @@ invariant_of-self-2 g c =
     let second = stays_empty v quiet b.second none.second in
     let third = stays_empty v quiet b.third none.third in
     let fourth = stays_empty v quiet b.fourth none.fourth in
-    let shows = simple_shows c.a_quiet_clock_changes_nothing.ensures b.shared.memory b.wanted.outputs.levels b.wanted.outputs.directions b.shared.flags.up b.shared.sync c.args.pad _ b.first (Some c.simple_clock.new.self) c.simple_clock.new.outputs b.sample (simple g c) (shows_first c.self.invariant.1) in
-    let o = c.simple_clock.new.outputs in (
+    let shows = simple_shows c.a_quiet_clock_changes_nothing.ensures b.shared.memory b.wanted.outputs.levels b.wanted.outputs.directions b.shared.flags.up b.shared.sync c.args.pad _ b.first (Some c.simple_clock-tried.new.self) c.simple_clock-tried.new.outputs b.sample (simple g c) (shows_first c.self.invariant.1) in
+    let o = c.simple_clock-tried.new.outputs in (
       record {
         told = (
           place_told law.after law.more _ v _ _ _ refl kept.told.0 after,
@@ -72,9 +72,9 @@ invariant_of-self-2 g c =
         third = in_step_after _ v quiet _ _ kept.third third;
         fourth = in_step_after _ v quiet _ _ kept.fourth fourth;
       },
-      subst (λ (s : Sample). IsSampleOf (state_of (Some c.simple_clock.new.self) b.second b.third b.fourth o.levels o.directions b.shared.flags.up b.outside) s) (sym c.show_pins.ensures.after)
+      subst (λ (s : Sample). IsSampleOf (state_of (Some c.simple_clock-tried.new.self) b.second b.third b.fourth o.levels o.directions b.shared.flags.up b.outside) s) (sym c.show_pins.ensures.after)
           (outputs_new (first_new c.self.invariant.1 _ _ shows) o.levels o.directions),
-      record { alone = c.self.invariant.2.alone; ready = λ h. (alone g c, c.simple_clock.ensures.next (sym c.is_ready.ensures ∙ h)) },
+      record { alone = c.self.invariant.2.alone; ready = λ h. (alone g c, c.simple_clock-tried.ensures.next (sym c.is_ready-self-inside.ensures ∙ h)) },
     )
 
 pub returns-clause-simple : goal.returns-clause-simple
@@ -83,19 +83,19 @@ returns-clause-simple g c =
     let v = view b.shared.memory (seen_of b.shared.sync.bypass c.args.pad b.shared.sync.pad_2) b.shared.flags.up in
     subst (λ (r : Run). true ≡ is_simple_over c.args.pad r) c.self.view_is
     (ap (λ x. x && true) (sym (sym c.self.invariant.2.alone ∙ alone g c))
-    ∙ ap (λ x. are_empty b.second b.third b.fourth && x) (sym (sym c.is_done.ensures ∙ c.if-not-is_done.false) ∙ c.simple_clock.ensures.simple ∙ ap (λ (w : View). is_simple w (Some c.in_some-first.first)) c.new-view.ensures ∙ ap (is_simple v) (sym c.in_some-first.is)))
+    ∙ ap (λ x. are_empty b.second b.third b.fourth && x) (sym (sym c.is_done.ensures ∙ c.if-not-is_done.false) ∙ c.simple_clock-tried.ensures.simple ∙ ap (λ (w : View). is_simple w (Some c.in-Some.first)) c.new-view.ensures ∙ ap (is_simple v) (sym c.in-Some.is)))
 
 pub returns-clause-run : goal.returns-clause-run
 returns-clause-run g c = λ done.
     let b = c.self.inside in
-    simple_run b.shared.memory b.clock b.wanted.outputs.levels b.wanted.outputs.directions b.shared.flags.up b.outside b.shared.sync c.step.new.self c.args.pad _ b.first b.second b.third b.fourth (Some c.simple_clock.new.self) c.simple_clock.new.outputs (empty g c) (simple g c) c.step.ensures
+    simple_run b.shared.memory b.clock b.wanted.outputs.levels b.wanted.outputs.directions b.shared.flags.up b.outside b.shared.sync c.step.new.self c.args.pad _ b.first b.second b.third b.fourth (Some c.simple_clock-tried.new.self) c.simple_clock-tried.new.outputs (empty g c) (simple g c) c.step.ensures
     ∙ ap (next_over c.args.pad quiet) c.self.view_is
 
 pub returns-clause-used : goal.returns-clause-used
 returns-clause-used g c = λ done.
     let b = c.self.inside in
     subst (λ (r : Run). uses_fifos_over c.args.pad quiet r ≡ false) c.self.view_is
-    (simple_uses_none b.shared.memory b.clock b.wanted.outputs.levels b.wanted.outputs.directions b.shared.flags.up b.outside b.shared.sync c.args.pad _ b.first b.second b.third b.fourth (Some c.simple_clock.new.self) c.simple_clock.new.outputs (empty g c) (simple g c))
+    (simple_uses_none b.shared.memory b.clock b.wanted.outputs.levels b.wanted.outputs.directions b.shared.flags.up b.outside b.shared.sync c.args.pad _ b.first b.second b.third b.fourth (Some c.simple_clock-tried.new.self) c.simple_clock-tried.new.outputs (empty g c) (simple g c))
 
 pub returns-clause-sample : goal.returns-clause-sample
 returns-clause-sample g c = λ told.
