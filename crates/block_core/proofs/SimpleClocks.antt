@@ -70,8 +70,8 @@ pub ticks_simply : StaysQuiet → (v : View) (s : Slot) (m : MachineState) (t : 
     → MakesSimpleClock v s (record s { machine = m; timing = t }) o put
 ticks_simply fifos v s m t o put on made moved = record {
   after = ap (λ (m : MachineState). record s { machine = m; timing = t }) made.state
-  ∙ ap (λ (t : Timing). record s { machine = record s.machine { registers = (ticked v s).0 }; timing = t }) moved
-  ∙ after_simple fifos v s (ticked v s) (acts v s on) made.wants;
+      ∙ ap (λ (t : Timing). record s { machine = record s.machine { registers = (ticked v s).0 }; timing = t }) moved
+      ∙ after_simple fifos v s (ticked v s) (acts v s on) made.wants;
   outputs = made.outputs ∙ ap (λ (x : Registers × Intent). written_by o x.1) (sym (acts v s on));
   wants = subst (λ (x : Registers × Intent). WantsPins x.1) (sym (acts v s on)) made.wants;
 }

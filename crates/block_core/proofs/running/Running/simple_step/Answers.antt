@@ -37,11 +37,11 @@ simple g c =
     let sees = c.new-view.ensures in
     let v = view b.shared.memory (seen_of b.shared.sync.bypass c.args.pad b.shared.sync.pad_2) b.shared.flags.up in
     let made = c.simple_clock-tried.ensures.done (sym c.is_done.ensures ∙ c.if-not-is_done.false) in record {
-  sees = refl;
-  after = ap Some made.after ∙ ap (λ (w : View). place_after w quiet (Some c.in-Some.first)) sees ∙ ap (place_after v quiet) (sym c.in-Some.is);
-  outputs = made.outputs ∙ ap (λ (w : View). written_by b.wanted.outputs (place_intent w quiet (Some c.in-Some.first))) sees ∙ ap (λ s. written_by b.wanted.outputs (place_intent v quiet s)) (sym c.in-Some.is);
-  wants = subst (λ s. WantsPins (place_intent v quiet s)) (sym c.in-Some.is) (subst (λ (w : View). WantsPins (place_intent w quiet (Some c.in-Some.first))) sees made.wants);
-}
+      sees = refl;
+      after = ap Some made.after ∙ ap (λ (w : View). place_after w quiet (Some c.in-Some.first)) sees ∙ ap (place_after v quiet) (sym c.in-Some.is);
+      outputs = made.outputs ∙ ap (λ (w : View). written_by b.wanted.outputs (place_intent w quiet (Some c.in-Some.first))) sees ∙ ap (λ s. written_by b.wanted.outputs (place_intent v quiet s)) (sym c.in-Some.is);
+      wants = subst (λ s. WantsPins (place_intent v quiet s)) (sym c.in-Some.is) (subst (λ (w : View). WantsPins (place_intent w quiet (Some c.in-Some.first))) sees made.wants);
+    }
 
 pub invariant_of-self-2 : goal.invariant_of-self-2
 invariant_of-self-2 g c =
