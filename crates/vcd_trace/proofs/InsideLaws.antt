@@ -40,7 +40,7 @@ widths-kinds : machine_widths ≡ word_widths ++ replicate 2 1
 unfolding machine_widths machine_variables word_widths
 widths-kinds = refl
 
-flags-bits : (waits enabled : Bool) → bit_of waits ∷ bit_of enabled ∷ [] ≡ bits_of 2 (bit_of waits + 2 * bit_of enabled)
+pub flags-bits : (waits enabled : Bool) → bit_of waits ∷ bit_of enabled ∷ [] ≡ bits_of 2 (bit_of waits + 2 * bit_of enabled)
 unfolding bits_of
 flags-bits true true = refl
 flags-bits true false = refl

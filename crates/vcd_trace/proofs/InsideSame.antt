@@ -44,7 +44,7 @@ pub inside_repeats_add-nothing : (configured : List Bool) → AddsNothing (insid
 inside_repeats_add-nothing configured clock s = ap (λ (b : Bool). cond b [] (clock_line clock ++ inside_changes_text s s)) (same_inside-self s)
 
 -- a clock in which something else is inside adds its line and the changes
-inside_step-changed : (clock : ℕ) (a b : Inside) → same_inside a b ≡ false → inside_step_text clock a b ≡ clock_line clock ++ inside_changes_text a b
+pub inside_step-changed : (clock : ℕ) (a b : Inside) → same_inside a b ≡ false → inside_step_text clock a b ≡ clock_line clock ++ inside_changes_text a b
 inside_step-changed clock a b h = ap (λ (t : Bool). cond t [] (clock_line clock ++ inside_changes_text a b)) h
 
 -- where the sample is another one, there are its changes, then those of the pads and the machines
@@ -57,7 +57,7 @@ pub inside_step-same : (clock : ℕ) (a b : Inside) → same_sample a.sample b.s
 inside_step-same clock a b h k = ap (λ (t : Bool). cond t [] (clock_line clock ++ inside_changes_text a b)) (and_true _ _ h k)
 
 -- a sample that is shown again has no changes
-changes_over-same : (more : ℕ) (s : Sample) → changes_over more s s ≡ []
+pub changes_over-same : (more : ℕ) (s : Sample) → changes_over more s s ≡ []
 unfolding changes_over
 changes_over-same more s = change_lines-same (33 + more) widths (values_of s)
 
