@@ -1,4 +1,4 @@
-//! The value-change trace of what is inside a block (IEEE 1364-2005, section 18), line by line into a sink that was lent.
+//! The value-change trace of what is inside a block (IEEE 1364-2005, section 18), into a sink that was lent.
 ghost use Rattle.std.specs.Prelude.{◌≡◌, ℕ, Bool, List, Option, true, false, [], Some, OnOk};
 ghost use Rattle.pio_edge.specs.Edge.{Takes, PutCounts, TakesPrefix};
 ghost use Rattle.vcd_trace.specs.TextForm.{HasPut};
@@ -20,8 +20,8 @@ use block_core::Inside;
 use pio_edge::{Sink, SinkFailed};
 use sample_trace::{Trace, TraceFailed};
 
-/// A trace of what is inside a block as value-change text, of one unit a clock. A piece that is put is a line, or some lines of a
-/// clock, and its faults are its sink's.
+/// A trace of what is inside a block as value-change text, of one unit a clock. A piece that is put is a line, or some
+/// lines of a clock, and its faults are its sink's.
 #[derive(Drop)]
 pub struct InsideVcd<'a, S: Sink> {
     sink: &'a mut S,

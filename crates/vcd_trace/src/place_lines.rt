@@ -1,5 +1,5 @@
-//! The lines of the addresses and the words that machines were at, which are kept: a program comes by the same ones again and
-//! again.
+//! The lines of the addresses and the words that machines were at, which are kept: a program comes by the same ones
+//! again and again.
 ghost use Rattle.std.specs.Prelude.{◌≡◌, ◌+◌, ◌*◌, ◌<◌, ◌≤◌, ◌++◌, drop, length};
 ghost use Rattle.vcd_trace.specs.PlaceText.{HasPlace, IsPlace, place_lines};
 

@@ -1,5 +1,5 @@
-//! What most clocks add to a trace of what is inside a block, gathered in a room and put as one piece: the line of the clock,
-//! those of a level and of a pad, and those of machines.
+//! What most clocks add to a trace of what is inside a block, gathered in a room and put as one piece: the line of the
+//! clock, those of a level and of a pad, and those of machines.
 ghost use Rattle.std.specs.Prelude.{◌≡◌, ◌+◌, ◌-◌, ◌*◌, ◌^◌, ◌<◌, ◌≤◌, ◌==◌, ◌++◌, [], Some, true, IfSome, drop, if◌then◌else◌, length};
 ghost use Rattle.vcd_trace.specs.VcdText.{bit_line, changes_over, vector_line};
 ghost use Rattle.vcd_trace.specs.Groups.{bit_changes, same_rest, vector_changes};
@@ -39,8 +39,8 @@ impl Rooms {
         }
     }
 
-    /// Writes what a usual clock adds after the one before it up to the end of the room, and says where it begins. It is none if
-    /// nothing changes, or more than usual.
+    /// Writes what a usual clock adds after the one before it up to the end of the room, and says where it begins. None
+    /// if nothing changes, or more than usual, or the line of the clock has other digits than the last two.
     #[inline(always)]
     pub(crate) fn write(&mut self, clock: u64, last: &Inside, now: &Inside) -> Option<usize>
         ensures within { IfSome result (λ start. start ≤ ROOM) }

@@ -2,7 +2,7 @@ use Rattle.std.proofs.Common.{sym, ◌∙◌, refl}
 use Rattle.vcd_trace.specs.VcdText.{changes_over}
 use Rattle.vcd_trace.specs.InsideGroups.{further_changes}
 use Rattle.pio_edge.proofs.PutLaws.{going_begins, going_on, takes_failed, takes_last}
-use Rattle.vcd_trace.proofs.InsideSame.{further-kept, inside_step-seen}
+use Rattle.vcd_trace.proofs.InsideSame.{inside_step-seen}
 use Rattle.vcd_trace.proofs.inside_vcd.put_others.Goals as goal
 
 pub returns-in_err-put-clause-bytes : goal.returns-in_err-put-clause-bytes

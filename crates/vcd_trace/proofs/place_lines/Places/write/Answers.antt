@@ -1,4 +1,4 @@
-use Rattle.std.proofs.Common.{◌*◌, ◌+◌, ◌++◌, ◌∙◌, List, ℕ, ap, append_assoc, arith, drop}
+use Rattle.std.proofs.Common.{◌++◌, ◌∙◌, List, ℕ, ap, arith, drop}
 use Rattle.vcd_trace.proofs.PlaceLaws.{copied-before}
 use Rattle.vcd_trace.proofs.place_lines.Places.write.Goals as goal
 
