@@ -61,7 +61,9 @@ impl ClockLine {
         ensures before { result ≤ end }
         ensures text { drop result room.new ≡ self.now.text ++ drop end room.old }
     {
-        room[end - CLOCK_ROOM..end].copy_from_slice(&self.room);
+        // A copy of its own, which overlaps nothing, is written at once.
+        let line = self.room;
+        room[end - CLOCK_ROOM..end].copy_from_slice(&line);
         end - CLOCK_ROOM + self.start
     }
 

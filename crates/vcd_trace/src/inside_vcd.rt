@@ -78,8 +78,8 @@ impl<'a, S: Sink> Trace<Inside> for InsideVcd<'a, S> {
         }
     }
 
-    // Called in each clock, as that of a sample.
-    #[inline(never)]
+    // Called in each clock, so it is put in place.
+    #[inline(always)]
     fn sample(&mut self, clock: u64, inside: &Inside) -> Result<(), TraceFailed> {
         match put_inside(self.sink, &mut self.rooms, clock, &mut self.last, inside) {
             Ok(()) => Ok(()),

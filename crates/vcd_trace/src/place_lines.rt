@@ -67,7 +67,9 @@ impl Places {
     {
         let kept = &mut self.lines[usize::from(place * 32 + pc % 32)];
         kept.turn(MACHINE + MACHINE_VALUES * place, pc, instruction);
-        room[end - PLACE_ROOM..end].copy_from_slice(&kept.room);
+        // A copy of its own, which overlaps nothing, is written at once.
+        let lines = kept.room;
+        room[end - PLACE_ROOM..end].copy_from_slice(&lines);
         end - PLACE_ROOM + kept.start
     }
 }
