@@ -67,10 +67,7 @@ impl Places {
     {
         let kept = &mut self.lines[usize::from(place * 32 + pc % 32)];
         kept.turn(MACHINE + MACHINE_VALUES * place, pc, instruction);
-        // A copy of its own, which overlaps nothing, is written at once.
-        let lines = kept.room;
-        room[end - PLACE_ROOM..end].copy_from_slice(&lines);
-        end - PLACE_ROOM + kept.start
+        kept.write(room, end)
     }
 }
 
@@ -117,5 +114,21 @@ impl PlaceLines {
         ensures lines { HasPlace self.new first pc instruction }
     {
         *self = PlaceLines::new(first, pc, instruction);
+    }
+
+    // Writes them up to an end, and says where they begin.
+    #[inline(always)]
+    fn write(&self, room: &mut [u8], end: usize) -> usize
+        requires within { self.now.start ≤ PLACE_ROOM }
+        requires after { PLACE_ROOM ≤ end }
+        requires before { end ≤ length room.now }
+        ensures room { end ≤ result + PLACE_ROOM }
+        ensures before { result ≤ end }
+        ensures text { drop result room.new ≡ drop self.now.start self.now.room ++ drop end room.old }
+    {
+        // A copy of its own, which overlaps nothing, is written at once.
+        let lines = self.room;
+        room[end - PLACE_ROOM..end].copy_from_slice(&lines);
+        end - PLACE_ROOM + self.start
     }
 }
