@@ -21,3 +21,4 @@ pub mod TwinRows
 pub mod InsideRows
 pub mod Insides
 pub mod Showing
+mod Conducting
