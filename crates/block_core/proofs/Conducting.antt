@@ -18,7 +18,9 @@ use Rattle.sm_registers.specs.View.{View}
 use Rattle.dreq_pacing.specs.declared.due.Due.{Due}
 use Rattle.dreq_pacing.specs.Due.{quiet}
 use Rattle.block_core.specs.Block.{BlockState, Run, next, next_over, pads_in, run_from, seen_in, stepped, view_of}
-use Rattle.block_core.specs.Conduct.{are_places_noted, concluded, concluded_places, conduct_by, conduct_in, has_new_pins, is_broken_by, is_machine_noted, is_noted, is_noted_by, is_standing_noted, machine_conduct, standing_in, standings_in}
+use Rattle.block_core.specs.declared.conduct.Conduct.{Conduct}
+use Rattle.block_core.specs.declared.conduct.Standing.{Standing}
+use Rattle.block_core.specs.Conduct.{are_places_noted, concluded, concluded_places, conduct_after, conduct_by, conduct_in, has_new_pins, is_broken_by, is_machine_noted, is_noted, is_noted_by, is_standing_noted, machine_conduct, standing_in, standings_in}
 use Rattle.block_core.specs.Inside.{is_of_an_instruction, machine_inside}
 use Rattle.block_core.specs.Leaps.{leapt}
 use Rattle.block_core.specs.Slots.{Slot, acted, has_tick, lined, place_after, place_intent, settled_slot, slot_after, slot_intent}
@@ -215,3 +217,10 @@ none_noted r clocks calm rests k below =
     calm_noted (run_from r (λ c. quiet) k) (calm k below)
     (ap (λ (x : Run). x.state.levels) then ∙ leapt_levels (suc k) r ∙ sym (ap (λ (x : Run). x.state.levels) now ∙ leapt_levels k r))
     (ap (λ (x : Run). x.state.directions) then ∙ leapt_directions (suc k) r ∙ sym (ap (λ (x : Run). x.state.directions) now ∙ leapt_directions k r))
+
+-- what a block keeps of a clock that it worked out
+pub after-note : (d : Due) (r : Run) (last now : Conduct) (clock level direction : ℕ) (before : List (Option Standing)) (after : BlockState) (noted : Bool) → clock ≡ r.clock → level ≡ r.state.levels → direction ≡ r.state.directions → before ≡ standings_in d r.state → after ≡ (next d r).state → noted ≡ is_noted_by level direction before after → now ≡ cond noted (conduct_by clock before after) last → (noted ≡ is_noted d r) × (now ≡ conduct_after d r last)
+after-note d r last now clock level direction before after noted at levels directions stood is_after is_noted_now is_now =
+    let notes : is_noted_by level direction before after ≡ is_noted d r = rw (levels, directions, stood, is_after) (noted_next d r) in
+    let told : conduct_by clock before after ≡ conduct_in d r = rw (at, stood, is_after) (conduct_next d r) in
+    (is_noted_now ∙ notes, is_now ∙ rw (is_noted_now ∙ notes, told) refl)

@@ -71,7 +71,8 @@ impl<F: Fifo> Model for Conducted<F> {
 }
 
 impl<F: Fifo> Conducted<F> {
-    /// A block in which no clock has gone by.
+    /// A block in which no clock has gone by. The clock is the present one.
+    #[tactic(auto, unfolding(crate::specs::Conduct::no_conduct, crate::specs::Shown::sample_of))]
     pub fn new(block: Block<F>, clock: u64) -> Conducted<F>
         requires { block.now.run.clock ≡ clock }
         ensures { result ≡ record { worked = block.now; last = no_conduct block.now.run } }
@@ -111,9 +112,10 @@ impl<F: Fifo> Conducted<F> {
         ensures last { self.new.last ≡ conduct_after due.now self.old.worked.run self.old.last }
     {
         let before = self.block.standings(due);
-        let (level, direction) = self.pins();
+        let (level, direction) = pins(&self.block);
         self.block.clock(due);
-        self.note(clock, level, direction, &before);
+        let (_noted, last) = told(&self.block, &self.last, clock, level, direction, &before);
+        self.last = last;
     }
 
     /// The same, in which the system does nothing (`Block::quiet_clock`). It tells whether anything was done at a FIFO, and
@@ -128,10 +130,13 @@ impl<F: Fifo> Conducted<F> {
         ensures fifos { result.0 ≡ uses_fifos_in spec_quiet self.old.worked.run }
         ensures noted { result.1 ≡ is_noted spec_quiet self.old.worked.run }
     {
-        let before = self.block.standings(&Due::quiet());
-        let (level, direction) = self.pins();
+        let quiet = Due::quiet();
+        let before = self.block.standings(&quiet);
+        let (level, direction) = pins(&self.block);
         let news = self.block.quiet_clock();
-        (news.fifos, self.note(clock, level, direction, &before))
+        let (noted, last) = told(&self.block, &self.last, clock, level, direction, &before);
+        self.last = last;
+        (news.fifos, noted)
     }
 
     /// So many clocks at once, none of which stirs, and in which the system does nothing (`Block::leap`). None of them is of note.
@@ -149,42 +154,44 @@ impl<F: Fifo> Conducted<F> {
     {
         self.block.leap(clocks);
     }
+}
 
-    /// The levels and the directions.
-    fn pins(&self) -> (u32, u32)
-        ensures { result ≡ (self.now.worked.run.state.levels, self.now.worked.run.state.directions) }
-    {
-        let shown = self.block.view();
-        (shown.level, shown.direction)
-    }
+/// The levels and the directions.
+#[tactic(auto, unfolding(crate::specs::Shown::sample_of))]
+fn pins<F: Fifo>(block: &Block<F>) -> (u32, u32)
+    ensures { result ≡ (block.now.run.state.levels, block.now.run.state.directions) }
+{
+    let shown = block.view();
+    (shown.level, shown.direction)
+}
 
-    /// Keeps what was done in a clock, by the pins and the machines before it and those of now, where that is of note.
-    fn note(
-        &mut self,
-        clock: u64,
-        level: u32,
-        direction: u32,
-        before: &[Option<Standing>; 4],
-    ) -> bool
-        ensures block { self.new.worked ≡ self.old.worked }
-        ensures noted { result ≡ spec.is_noted_by level direction before.now self.old.worked.run.state }
-        ensures last { self.new.last
-            ≡ if result then spec.conduct_by clock before.now self.old.worked.run.state else self.old.last }
-    {
-        let after = self.block.standings(&Due::quiet());
-        let (new_level, new_direction) = self.pins();
-        let same = (level == new_level) & (direction == new_direction);
-        let noted = are_noted(before, &after) | !same;
-        if noted {
-            self.last = Conduct {
-                clock,
-                level: new_level,
-                direction: new_direction,
-                machines: concluded(before, &after),
-            };
-        }
-        noted
+/// Whether the clock before was of note, and what is told after it, by the pins and the machines before it and the block after it.
+fn told<F: Fifo>(
+    block: &Block<F>,
+    last: &Conduct,
+    clock: u64,
+    level: u32,
+    direction: u32,
+    before: &[Option<Standing>; 4],
+) -> (bool, Conduct)
+    ensures noted { result.0 ≡ spec.is_noted_by level direction before.now block.now.run.state }
+    ensures last { result.1
+        ≡ if result.0 then spec.conduct_by clock before.now block.now.run.state else last.now }
+{
+    let quiet = Due::quiet();
+    let after = block.standings(&quiet);
+    let (new_level, new_direction) = pins(block);
+    let same = (level == new_level) & (direction == new_direction);
+    if !(are_noted(before, &after) | !same) {
+        return (false, *last);
     }
+    let conduct = Conduct {
+        clock,
+        level: new_level,
+        direction: new_direction,
+        machines: concluded(before, &after),
+    };
+    (true, conduct)
 }
 
 /// How the machine of a place stands before a clock with these lines.

@@ -4,3 +4,4 @@ pub mod Counting
 pub mod Telling
 pub mod Pieces
 mod WorkedRows
+mod SpokenRows
