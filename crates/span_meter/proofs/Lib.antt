@@ -5,3 +5,5 @@ pub mod Telling
 pub mod Pieces
 mod WorkedRows
 mod SpokenRows
+mod EventRows
+mod SpokenTelling

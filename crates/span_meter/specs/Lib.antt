@@ -3,3 +3,4 @@ pub mod Kept
 pub mod Meters
 pub mod SeenText
 pub mod Spoken
+pub mod Events
