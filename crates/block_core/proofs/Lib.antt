@@ -22,3 +22,4 @@ pub mod InsideRows
 pub mod Insides
 pub mod Showing
 mod Conducting
+mod ConductRows

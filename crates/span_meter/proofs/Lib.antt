@@ -7,3 +7,4 @@ mod WorkedRows
 mod SpokenRows
 mod EventRows
 mod SpokenTelling
+mod SpokenPairs

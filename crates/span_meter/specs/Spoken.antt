@@ -5,7 +5,9 @@
 --   spoken             the clocks from each from-event to it
 --   dropped, after_mark   what a meter keeps of a clock
 --   MeasuresMarks      what a meter has measured
-use Rattle.std.specs.Prelude.{◌≡◌, ℕ, suc, ◌++◌, Bool, Option, Some, None, List, [], ◌∷◌, length, if◌then◌else◌}
+--   IsPair             a from-event and its to-event, of which the span speaks
+--   IsOfPair           a distance is that of some pair
+use Rattle.std.specs.Prelude.{◌≡◌, ℕ, suc, ◌+◌, ◌<◌, ◌≤◌, ◌++◌, Bool, true, false, Option, Some, None, List, [], ◌∷◌, length, if◌then◌else◌}
 use Rattle.std.specs.Option.{option_map}
 use Rattle.span_meter.specs.declared.meter.Meter.{Meter}
 use Rattle.span_meter.specs.Measured.{with_distance}
@@ -45,3 +47,25 @@ pub record MeasuresMarks (told : List Mark) (m : Meter) : Type 0 where
   pub counts : IsCountOf (spoken told) starts (length told) m
   pub going : (rest : List Mark) → spoken (told ++ rest)
       ≡ spoken told ++ (ended (length told) starts (clocks_to_spoken rest) ++ spoken rest)
+
+-- these are the marks of the clocks from this one on
+abbrev pub AreMarksFrom : (at : ℕ → Mark) → (clock : ℕ) → List Mark → Type 0
+AreMarksFrom at clock [] = Unit {0}
+AreMarksFrom at clock (k ∷ ks) = (k ≡ at clock) × AreMarksFrom at (suc clock) ks
+
+-- In clocks with these marks a from-event comes in clock s, and the first to-event after it in clock e, before the end. No clock
+-- after s and up to e drops it.
+pub record IsPair (at : ℕ → Mark) (end s e : ℕ) : Type 0 where
+  pub from : (at s).from ≡ true
+  pub after : s < e
+  pub within : e < end
+  pub to : (at e).to ≡ true
+  pub first : (c : ℕ) → s < c → c < e → (at c).to ≡ false
+  pub free : (c : ℕ) → s < c → c ≤ e → (at c).drops ≡ false
+
+-- the distance is that of some pair
+pub record IsOfPair (at : ℕ → Mark) (end distance : ℕ) : Type 0 where
+  pub s : ℕ
+  pub e : ℕ
+  pub long : e ≡ s + distance
+  pub pair : IsPair at end s e
