@@ -4,3 +4,7 @@ pub mod Counting
 pub mod Telling
 pub mod Pieces
 mod WorkedRows
+mod SpokenRows
+mod EventRows
+mod SpokenTelling
+mod SpokenPairs

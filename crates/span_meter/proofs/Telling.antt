@@ -30,14 +30,14 @@ same_edges true false n m = kept _ m (closing n m) refl
 same_edges false true n m = refl
 same_edges false false n m = refl
 
-counts_after : (to from : Bool) (n : ℕ) (ds starts : List ℕ) (m : Meter) → IsCountOf ds starts n m → length (ds ++ ended n starts (cond to (Some 0) None)) ≤ most
+pub counts_after : (to from : Bool) (n : ℕ) (ds starts : List ℕ) (m : Meter) → IsCountOf ds starts n m → length (ds ++ ended n starts (cond to (Some 0) None)) ≤ most
     → IsCountOf (ds ++ ended n starts (cond to (Some 0) None)) (starts_after to from n starts) (suc n) (moved to from n m)
 counts_after true true n ds starts m h few = opens _ [] n (closed_at n m) (closes ds starts n m h few)
 counts_after true false n ds starts m h few = later _ [] n (closed_at n m) (closes ds starts n m h few)
 counts_after false true n ds starts m h few = subst (λ (xs : List ℕ). IsCountOf xs (starts ++ n ∷ []) (suc n) (opened_at n m)) (sym (append-nil ds)) (opens ds starts n m h)
 counts_after false false n ds starts m h few = subst (λ (xs : List ℕ). IsCountOf xs starts (suc n) m) (sym (append-nil ds)) (later ds starts n m h)
 
-no_rest : (from : Bool) (c : Option ℕ) → cond from (with_distance None []) [] ≡ []
+pub no_rest : (from : Bool) (c : Option ℕ) → cond from (with_distance None []) [] ≡ []
 no_rest true c = refl
 no_rest false c = refl
 

@@ -2,6 +2,7 @@
 #![tactic(auto)]
 
 mod edges;
+mod laws;
 mod levels;
 mod line;
 mod meter;
@@ -9,6 +10,7 @@ mod pins;
 mod seen;
 mod trace;
 
+pub use laws::a_distance_is_that_of_a_pair;
 pub use line::put_seen;
 pub use pins::ShownPins;
 pub use seen::SeenDistances;
