@@ -1,10 +1,11 @@
 -- What a span that speaks not of every pair of its events looks at in a clock, by what the machines did in the last clock of note.
 --   SpanEvent, SpanEvents   its events, and what it doesn't speak of
 --   events_in               those of a span of a configuration
+--   is_selective            whether it speaks not of every pair of edges
 --   comes                   an event comes
 --   is_dropped              the span doesn't speak of the from-events before
 --   mark_of, marks          the marks of clocks
-use Rattle.std.specs.Prelude.{ℕ, suc, ◌==◌, Bool, true, false, not, ◌&&◌, ◌||◌, Option, Some, None, List, [], ◌∷◌, length, if◌then◌else◌, slice_index_or}
+use Rattle.std.specs.Prelude.{ℕ, suc, ◌==◌, Bool, true, false, not, ◌&&◌, ◌||◌, Option, Some, None, is_some, List, [], ◌∷◌, length, if◌then◌else◌, slice_index_or}
 use Rattle.std.specs.List.{list_any}
 use Rattle.pin_matrix.specs.declared.span.PinSignal.{PinSignal}
 use Rattle.pin_matrix.specs.declared.span.Span.{Span}
@@ -45,21 +46,29 @@ is_cut Clocks = true
 abbrev pub is_one_of : List ℕ → ℕ → Bool
 is_one_of addresses address = list_any (λ a. a == address) addresses
 
--- a span with a key by which it speaks not of every pair
+-- no address is named
+abbrev pub is_none : List ℕ → Bool
+is_none addresses = length addresses == 0
+
+-- a span with a key by which it speaks not of every pair of edges
 abbrev pub is_selective : Span → Bool
-is_selective sp = sp.prompt || not (length sp.without == 0)
+is_selective sp = (sp.prompt || not (is_none sp.without)) || (not (is_none sp.from_at) || not (is_none sp.to_at))
+
+-- some of these is such a span
+abbrev pub is_any_selective : List Span → Bool
+is_any_selective spans = list_any is_selective spans
 
 -- The events of a span of a configuration. One that speaks of every pair is not cut: it measures every pair, as it does without the
 -- others.
 abbrev pub events_in : Span → SpanEvents
 events_in sp = record {
   machine = sp.machine;
-  from = record { pin = sp.from_pin; signal = Some sp.from_signal; rise = sp.from_rise; at = [] };
-  to = record { pin = sp.to_pin; signal = Some sp.to_signal; rise = sp.to_rise; at = [] };
+  from = record { pin = sp.from_pin; signal = sp.from_signal; rise = sp.from_rise; at = sp.from_at };
+  to = record { pin = sp.to_pin; signal = sp.to_signal; rise = sp.to_rise; at = sp.to_at };
   prompt = sp.prompt;
   stalls = sp.stalls;
   without = sp.without;
-  cut = is_selective sp && is_cut sp.unit;
+  cut = is_cut sp.unit && is_selective sp;
 }
 
 -- the instruction in memory at one of these addresses has a tick in the clock
@@ -74,15 +83,14 @@ finishes_at addresses (Some m) = m.finishes && is_one_of addresses m.pc
 
 -- one of these instructions makes the edges of the clock, or any where none is named
 abbrev pub is_made_at : List ℕ → Option MachineConduct → Bool
-is_made_at [] m = true
-is_made_at (a ∷ addresses) m = works_at (a ∷ addresses) m
+is_made_at addresses m = is_none addresses || works_at addresses m
 
 -- the event comes, by the pins before and after the clock and what the machine did in it
 abbrev pub comes : SpanEvent → (before after : ShownPins) → Option MachineConduct → Bool
-comes e before after m = comes_of e.signal where
-  comes_of : Option PinSignal → Bool
-  comes_of None = finishes_at e.at m
-  comes_of (Some s) = has_edge e.pin e.rise (signal_of s before) (signal_of s after) && is_made_at e.at m
+comes e before after m =
+    if is_some e.signal
+    then has_edge e.pin e.rise (signal_of e.signal before) (signal_of e.signal after) && is_made_at e.at m
+    else finishes_at e.at m
 
 -- At the clock's start the machine waits at an address that isn't named, where the span is prompt, or comes to one of `without`
 -- next; or a line cuts the span.

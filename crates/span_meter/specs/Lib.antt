@@ -4,3 +4,4 @@ pub mod Meters
 pub mod SeenText
 pub mod Spoken
 pub mod Events
+pub mod SpokenMeters
