@@ -14,7 +14,7 @@ mod spoken;
 mod trace;
 mod watch;
 
-pub use laws::a_distance_is_that_of_a_pair;
+pub use laws::{a_distance_is_that_of_a_pair, a_plain_span_measures_every_pair};
 pub use line::put_seen;
 pub use pins::ShownPins;
 pub use seen::SeenDistances;
