@@ -8,3 +8,7 @@ mod SpokenRows
 mod EventRows
 mod SpokenTelling
 mod SpokenPairs
+pub mod SpokenNames
+pub mod SpokenTrace
+pub mod ConductLists
+pub mod PlainSpans

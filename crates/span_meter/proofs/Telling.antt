@@ -91,13 +91,13 @@ told_one e pins told m s few h =
     }
 
 -- a signal that stays has no edge
-no_change : (rise b : Bool) → changes rise b b ≡ false
+pub no_change : (rise b : Bool) → changes rise b b ≡ false
 no_change true true = refl
 no_change true false = refl
 no_change false true = refl
 no_change false false = refl
 
-no_edge : (signal : Option PinSignal) (pin : ℕ) (rise : Bool) (b v : ShownPins) → v ≡ b → has_edge pin rise (signal_of signal b) (signal_of signal v) ≡ false
+pub no_edge : (signal : Option PinSignal) (pin : ℕ) (rise : Bool) (b v : ShownPins) → v ≡ b → has_edge pin rise (signal_of signal b) (signal_of signal v) ≡ false
 no_edge signal pin rise b v h =
     let was : Bool = is_high (signal_of signal b) pin in
     ap (λ (x : ShownPins). changes rise was (is_high (signal_of signal x) pin)) h ∙ no_change rise was
@@ -247,13 +247,13 @@ told_measured pins ends told t u s clock few next h first last meters =
     (held_measured pins ends told t clock (omega arith) next h) first last meters
 
 -- spans and pins are known from what is told for them
-same_rise : (a b : Bool) → rise_code a ≡ rise_code b → a ≡ b
+pub same_rise : (a b : Bool) → rise_code a ≡ rise_code b → a ≡ b
 same_rise true true h = refl
 same_rise false false h = refl
 same_rise true false h = absurd (omega arith)
 same_rise false true h = absurd (omega arith)
 
-same_signal : (a b : Option PinSignal) → signal_code a ≡ signal_code b → a ≡ b
+pub same_signal : (a b : Option PinSignal) → signal_code a ≡ signal_code b → a ≡ b
 same_signal (Some Level) (Some Level) h = refl
 same_signal (Some Direction) (Some Direction) h = refl
 same_signal None None h = refl
@@ -290,7 +290,7 @@ code_tells (x ∷ xs) (y ∷ ys) h =
     let more = code_tells xs ys rest in
     ap (λ (e : SpanEdges). e ∷ xs) one ∙ ap (λ (es : List SpanEdges). y ∷ es) more
 
-same_pins : (a b : ShownPins) → a.level ≡ b.level → a.direction ≡ b.direction → a ≡ b
+pub same_pins : (a b : ShownPins) → a.level ≡ b.level → a.direction ≡ b.direction → a ≡ b
 same_pins a b p q =
     let mk : ℕ → ℕ → ShownPins = λ x y. record { level = x; direction = y } in
     ap (λ x. mk x a.direction) p ∙ ap (λ x. mk b.level x) q
