@@ -107,8 +107,8 @@ fn metered<'a, L: Ledger>(
         direction: shown.direction,
     };
     if is_any_selective(setup.spans.as_slice()) {
-        let meter = spoken(alloc, block, setup, pins, schedule, clocks, steps)?;
-        return Ok(Metered::Spoken(meter));
+        let pairs = spoken(alloc, block, setup, pins, schedule, clocks, steps)?;
+        return Ok(Metered::Spoken(pairs));
     }
     let meter = plain(alloc, block, setup, pins, schedule, clocks, steps)?;
     Ok(Metered::Plain(meter))
