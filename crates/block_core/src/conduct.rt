@@ -74,8 +74,8 @@ impl<F: Fifo> Conducted<F> {
     /// A block in which no clock has gone by. The clock is the present one.
     #[tactic(auto, unfolding(crate::specs::Conduct::no_conduct, crate::specs::Shown::sample_of))]
     pub fn new(block: Block<F>, clock: u64) -> Conducted<F>
-        requires { block.now.run.clock ≡ clock }
-        ensures { result ≡ record { worked = block.now; last = no_conduct block.now.run } }
+        requires { block.run.clock ≡ clock }
+        ensures { result ≡ record { worked = block; last = no_conduct block.run } }
     {
         let shown = block.view();
         let last = Conduct {

@@ -1,4 +1,4 @@
--- The run of one block beside a stimulus, which shows what its machines did in the last clock of note.
+-- The run of one block with a stimulus, which shows what its machines did in the last clock of note.
 --   Conducting        the states of such a run
 --   conducting_next   one clock on
 --   conducting_from   some clocks on, if the system does nothing

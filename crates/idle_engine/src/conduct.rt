@@ -1,4 +1,4 @@
-//! A run of one block beside a stimulus, which shows what the machines did in the last clock of note: it goes as the one that shows
+//! A run of one block with a stimulus, which shows what the machines did in the last clock of note: it goes as the one that shows
 //! its sample.
 ghost use Rattle.std.specs.Prelude.{◌≡◌, ◌≤◌, List};
 ghost use Rattle.idle_engine.specs.OneConduct.{Conducting, one_conduct};

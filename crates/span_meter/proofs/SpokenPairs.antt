@@ -6,7 +6,7 @@ use Rattle.std.specs.List.{AllByRecursion}
 use Rattle.span_meter.specs.Measured.{with_distance}
 use Rattle.span_meter.specs.Spoken.{AreMarksFrom, IsOfPair, IsPair, Mark, clocks_to_spoken, spoken}
 
--- the first to-event from a clock on, where it comes in so many clocks and none of them drops
+-- the first to-event from a clock on, where it comes within these clocks and none of them drops
 abbrev FirstTo : (at : ℕ → Mark) → (end k : ℕ) → Option ℕ → Type 0
 FirstTo at end k None = Unit {0}
 FirstTo at end k (Some j) =
