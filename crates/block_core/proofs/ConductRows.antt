@@ -42,7 +42,7 @@ stalls pc = record (at_once pc) { finishes = false }
 abbrev late : (pc : ℕ) → MachineConduct
 late pc = record (at_once pc) { waits = true; comes = false }
 
--- `pull block` and `set y, 5`, beside a word for TX in clock 3
+-- `pull block` and `set y, 5`, with a word for TX in clock 3
 abbrev pull_run : Run
 pull_run = run plain (32928 ∷ 57413 ∷ []) 0
 
@@ -69,7 +69,7 @@ set_at_once : conduct_at pull_run word_in_3 5 ≡ told 5 0 (at_once 1)
 unfolding is_tick settled merged wait_at in_at push_or_pull_at mov_at irq_at set_at act_of side_of delay_of reading_of jmp_effect wait_effect in_effect out_effect push_effect pull_effect mov_effect irq_effect set_effect effect_of settled_ports after_effect tick_delay tick_by tick_word tick_of due_in transfers_after acts_in stepped next hosted_next hosted_at requests_of sample_of acted settled_slot is_noted conduct_in machine_conduct conduct_before no_conduct
 set_at_once = refl
 
--- `set x, 0 [31]` and `out pins, 1` with autopull, beside a word for TX in clock 10
+-- `set x, 0 [31]` and `out pins, 1` with autopull, with a word for TX in clock 10
 abbrev delay_run : Run
 delay_run = run pulling (65312 ∷ 24577 ∷ []) 0
 

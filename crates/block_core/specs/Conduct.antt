@@ -5,7 +5,7 @@
 --   conduct_in        what is told of a clock
 --   conduct_after     what is told after a clock: of it where it is of note, else what was told before
 --   no_conduct        before any clock
---   conduct_at        after a clock of a run beside a stimulus
+--   conduct_at        after a clock of a run with a stimulus
 --   conducts          after each of the first clocks
 --   Told              a block with what is told of it
 --   Standing          what a machine's state and a clock's lines say before the clock: what its own words are made of
@@ -83,7 +83,7 @@ no_conduct r = record {
   machines = None ∷ None ∷ None ∷ None ∷ [];
 }
 
--- what is told before a clock of a run beside a stimulus
+-- what is told before a clock of a run with a stimulus
 unfoldable pub conduct_before : Run → List Line → ℕ → Conduct
 conduct_before start lines zero = no_conduct start
 conduct_before start lines (suc n) = conduct_after (host_of start lines n) (hosted_at start lines n).run (conduct_before start lines n)

@@ -1,5 +1,5 @@
 -- A run that shows what its machines did in the last clock of note is of its kind.
-use Rattle.std.proofs.Common.{◌≡◌, ℕ, zero, suc, ◌+◌, ◌<◌, ◌≤◌, Bool, true, false, List, cond, refl, ap, ◌∙◌, sym, arith}
+use Rattle.std.proofs.Common.{◌≡◌, ℕ, zero, suc, ◌<◌, ◌≤◌, Bool, false, List, cond, refl, ap, ◌∙◌, sym, arith}
 use Rattle.dreq_pacing.specs.declared.line.Line.{Line}
 use Rattle.dreq_pacing.specs.declared.due.Requests.{Requests}
 use Rattle.dreq_pacing.specs.Due.{quiet}
@@ -8,13 +8,13 @@ use Rattle.dreq_pacing.specs.Transfers.{Transfers}
 use Rattle.block_core.specs.declared.conduct.Conduct.{Conduct}
 use Rattle.block_core.specs.Block.{Run, next, run_from}
 use Rattle.block_core.specs.Conduct.{conduct_after, conduct_at, conduct_before, conduct_in, conducts, is_noted, no_conduct}
-use Rattle.block_core.specs.Hosted.{Hosted, due_of, hosted_at, hosted_next}
+use Rattle.block_core.specs.Hosted.{Hosted, due_of, hosted_at}
 use Rattle.block_core.specs.Leaps.{leapt}
 use Rattle.block_core.specs.Shown.{requests_of}
 use Rattle.block_core.specs.Stirring.{moves_on}
 use Rattle.idle_engine.specs.Kinds.{AreFirsts, IsCalm, IsCourse, IsKind, IsUntil}
 use Rattle.idle_engine.specs.One.{one}
-use Rattle.idle_engine.specs.OneConduct.{Conducting, conducting_from, conducting_next, conducting_quiet, one_conduct}
+use Rattle.idle_engine.specs.OneConduct.{Conducting, conducting_from, conducting_next, one_conduct}
 use Rattle.idle_engine.proofs.OneBlock.{QuietDue, QuietTransfers, asked-next, does_nothing, one-kind}
 
 pub conduct-kind : QuietDue → QuietTransfers → IsKind one_conduct

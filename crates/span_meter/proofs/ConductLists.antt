@@ -1,13 +1,12 @@
 -- What is told in a run: of no clock before it is over, and the pins of each sample.
-use Rattle.std.proofs.Common.{◌≡◌, ℕ, zero, suc, ◌+◌, ◌≤◌, Bool, true, false, not, ◌&&◌, ◌||◌, cond, eqb, List, [], ◌∷◌, ◌++◌, length, refl, sym, ap, ap₂, ◌∙◌, map, arith, length-append, subst}
+use Rattle.std.proofs.Common.{◌≡◌, ℕ, zero, suc, ◌+◌, ◌≤◌, Bool, true, false, not, ◌&&◌, ◌||◌, cond, eqb, List, [], ◌∷◌, ◌++◌, length, refl, sym, ap₂, ◌∙◌, map, arith, length-append}
 use Rattle.std.proofs.lemmas.List.{map-append}
 use Rattle.std.proofs.lemmas.Bool.Decides.{nat_tests}
 use Rattle.dreq_pacing.specs.declared.line.Line.{Line}
 use Rattle.dreq_pacing.specs.declared.due.Due.{Due}
 use Rattle.block_core.specs.declared.conduct.Conduct.{Conduct}
-use Rattle.block_core.specs.declared.sample.Sample.{Sample}
 use Rattle.block_core.specs.Block.{Run, next}
-use Rattle.block_core.specs.Conduct.{conduct_after, conduct_at, conduct_before, conduct_in, conducts, has_new_pins, is_noted, is_machine_noted, no_conduct}
+use Rattle.block_core.specs.Conduct.{conduct_after, conduct_at, conduct_before, conduct_in, conducts, has_new_pins, is_noted, no_conduct}
 use Rattle.block_core.specs.Hosted.{host_of, hosted_at, hosted_next, sample_at, samples}
 use Rattle.block_core.specs.Shown.{sample_of}
 use Rattle.block_core.proofs.Runs.{clock-hosted_at}
@@ -17,16 +16,17 @@ use Rattle.span_meter.specs.Measured.{pins_in, pins_of}
 use Rattle.span_meter.specs.SpokenMeters.{AreTimely}
 
 -- after a clock it is that clock, or what was told before
+clock_by : (b : Bool) (now last : Conduct) (most : ℕ) → now.clock ≤ most → last.clock ≤ most → (cond b now last).clock ≤ most
+clock_by true now last most h k = h
+clock_by false now last most h k = k
+
 clock_after : (start : Run) (lines : List Line) (n : ℕ) (last : Conduct) → last.clock ≤ start.clock + n → (conduct_after (host_of start lines n) (hosted_at start lines n).run last).clock ≤ start.clock + n
 unfolding conduct_in
-clock_after start lines n last le = on (is_noted d r) where
-  abbrev d : Due
-  d = host_of start lines n
-  abbrev r : Run
-  r = (hosted_at start lines n).run
-  on : (b : Bool) → (cond b (conduct_in d r) last).clock ≤ start.clock + n
-  on true = let at = clock-hosted_at start lines n in omega (arith, at)
-  on false = le
+clock_after start lines n last le =
+    let d = host_of start lines n in
+    let r = (hosted_at start lines n).run in
+    let at = clock-hosted_at start lines n in
+    clock_by (is_noted d r) (conduct_in d r) last (start.clock + n) (omega (arith, at)) le
 
 clock_at : (start : Run) (lines : List Line) (n : ℕ) → (conduct_at start lines n).clock ≤ start.clock + n
 unfolding conduct_before no_conduct

@@ -1,5 +1,5 @@
 -- A span that speaks of every pair measures the same by what the machines did as by the samples.
-use Rattle.std.proofs.Common.{◌≡◌, ℕ, suc, Bool, true, false, not, ◌&&◌, ◌||◌, cond, Option, Some, None, List, [], ◌∷◌, length, refl, sym, ap, ◌∙◌, map}
+use Rattle.std.proofs.Common.{◌≡◌, ℕ, suc, Bool, true, false, not, ◌&&◌, ◌||◌, cond, Option, Some, None, List, [], ◌∷◌, refl, sym, ap, ◌∙◌, map}
 use Rattle.std.specs.Option.{option_map}
 use Rattle.pin_matrix.specs.Pins.{is_high}
 use Rattle.pin_matrix.specs.declared.span.PinSignal.{PinSignal}
@@ -13,8 +13,8 @@ use Rattle.block_core.specs.Conduct.{conducts}
 use Rattle.block_core.specs.Edges.{has_edge}
 use Rattle.block_core.specs.Hosted.{samples}
 use Rattle.span_meter.specs.declared.pins.ShownPins.{ShownPins}
-use Rattle.span_meter.specs.Events.{SpanEvent, SpanEvents, comes, conduct_of, events_in, is_cut, is_dropped, is_none, is_one_of, is_selective, mark_of, marks, pins_told}
-use Rattle.span_meter.specs.Measured.{SpanEdges, clocks_to, ends_in, is_from, is_to, measured, pins_in, pins_of, signal_of, with_distance}
+use Rattle.span_meter.specs.Events.{SpanEvent, comes, conduct_of, events_in, is_cut, is_dropped, is_none, is_one_of, is_selective, mark_of, marks, pins_told}
+use Rattle.span_meter.specs.Measured.{clocks_to, ends_in, is_from, is_to, measured, pins_in, pins_of, signal_of, with_distance}
 use Rattle.span_meter.specs.Spoken.{clocks_to_spoken, spoken}
 use Rattle.span_meter.proofs.ConductLists.{same_pins}
 use Rattle.span_meter.proofs.Telling.{no_change}

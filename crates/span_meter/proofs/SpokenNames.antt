@@ -1,5 +1,5 @@
 -- Spans and pins are known from what a meter names for them.
-use Rattle.std.proofs.Common.{◌≡◌, ℕ, suc, Bool, List, [], ◌∷◌, refl, ap, ap₂, ◌∙◌, arith}
+use Rattle.std.proofs.Common.{◌≡◌, ℕ, suc, Bool, List, [], ◌∷◌, refl, ap, ◌∙◌, arith}
 use Rattle.pin_matrix.specs.declared.span.PinSignal.{PinSignal}
 use Rattle.std.specs.Prelude.{Option}
 use Rattle.span_meter.specs.declared.pins.ShownPins.{ShownPins}

@@ -1,10 +1,10 @@
 -- Each distance that is spoken of is that of a pair.
-use Rattle.std.proofs.Common.{◌≡◌, ℕ, zero, suc, ◌+◌, ◌<◌, ◌≤◌, Bool, true, false, cond, Option, Some, None, List, [], ◌∷◌, length, refl, sym, ap, ◌∙◌, subst, arith, ◌⊎◌, inl, inr, ◌≢◌}
+use Rattle.std.proofs.Common.{◌≡◌, ℕ, suc, ◌+◌, ◌<◌, ◌≤◌, Bool, true, false, cond, Option, Some, None, List, [], ◌∷◌, length, refl, sym, ap, ◌∙◌, subst, arith, ◌⊎◌, inl, inr, ◌≢◌}
 use Rattle.std.proofs.lemmas.Bool.{cases_eq}
 use Rattle.std.specs.Option.{option_map}
 use Rattle.std.specs.List.{AllByRecursion}
 use Rattle.span_meter.specs.Measured.{with_distance}
-use Rattle.span_meter.specs.Spoken.{AreMarksFrom, IsOfPair, IsPair, Mark, clocks_to_spoken, spoken}
+use Rattle.span_meter.specs.Spoken.{AreMarksFrom, IsOfPair, Mark, clocks_to_spoken, spoken}
 
 -- the first to-event from a clock on, where it comes within these clocks and none of them drops
 abbrev FirstTo : (at : ℕ → Mark) → (end k : ℕ) → Option ℕ → Type 0

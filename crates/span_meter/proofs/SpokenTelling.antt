@@ -3,7 +3,7 @@ use Rattle.std.proofs.Common.{◌≡◌, ℕ, suc, ◌+◌, ◌^◌, ◌<◌, �
 use Rattle.std.specs.Option.{option_map}
 use Rattle.span_meter.specs.declared.meter.Meter.{Meter}
 use Rattle.span_meter.specs.Measured.{with_distance}
-use Rattle.span_meter.specs.Meters.{IsCountOf, ended, most, moved}
+use Rattle.span_meter.specs.Meters.{IsCountOf, ended, most}
 use Rattle.span_meter.specs.Spoken.{Mark, MeasuresMarks, after_mark, clocks_to_spoken, dropped, spoken}
 use Rattle.span_meter.proofs.Counting.{ended-none, starts_after, step}
 use Rattle.span_meter.proofs.Distances.{none_more, some_more}

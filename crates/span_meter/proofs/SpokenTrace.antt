@@ -1,20 +1,21 @@
 -- What a meter has measured after the clocks that it was told of: of spans that speak not of every pair.
-use Rattle.std.proofs.Common.{◌≡◌, ℕ, zero, suc, ◌+◌, ◌-◌, ◌^◌, ◌<◌, ◌≤◌, Bool, true, false, ◌&&◌, cond, eqb, List, [], ◌∷◌, ◌++◌, Option, Some, None, is_some, length, refl, sym, ap, ◌∙◌, map, subst, arith, append-nil, append_assoc, length-append, replicate, take, drop, get_or, slice_index_or}
-use Rattle.std.proofs.lemmas.List.{drop_all, length-replicate, map-append, map_more, take_all}
+use Rattle.std.proofs.Common.{◌≡◌, ℕ, zero, suc, ◌+◌, ◌-◌, ◌^◌, ◌<◌, ◌≤◌, Bool, true, false, ◌&&◌, cond, eqb, List, [], ◌∷◌, ◌++◌, Option, Some, None, is_some, length, refl, sym, ap, ◌∙◌, map, subst, arith, append-nil, append_assoc, length-append, replicate, take, get_or, min, slice_index_or}
+use Rattle.std.proofs.lemmas.List.{length-map, length-replicate}
 use Rattle.std.proofs.lemmas.Bool.Decides.{nat_tests}
-use Rattle.std.specs.List.{AllByRecursion}
+use Rattle.std.specs.Prelude.{slice_set}
 use Rattle.sample_trace.specs.Told.{held_to, last_of, IsNext}
 use Rattle.pin_matrix.specs.declared.span.Span.{Span}
 use Rattle.block_core.specs.declared.conduct.Conduct.{Conduct}
 use Rattle.block_core.specs.declared.conduct.MachineConduct.{MachineConduct}
 use Rattle.span_meter.specs.declared.meter.Meter.{Meter}
 use Rattle.span_meter.specs.declared.pins.ShownPins.{ShownPins}
-use Rattle.span_meter.specs.declared.watch.Watch.{Watch}
+use Rattle.span_meter.specs.declared.edges.Edges.{Edges}
 use Rattle.span_meter.specs.Events.{SpanEvent, SpanEvents, comes, conduct_of, events_in, is_dropped, is_made_at, mark_of, marks, pins_told}
-use Rattle.span_meter.specs.Measured.{seen_of}
-use Rattle.span_meter.specs.Meters.{IsCountOf, ended, fresh, seen_by}
+use Rattle.span_meter.specs.Measured.{ends_in, seen_of}
+use Rattle.span_meter.specs.Meters.{ended, fresh, seen_by, watched}
 use Rattle.span_meter.specs.Spoken.{Mark, MeasuresMarks, after_mark, clocks_to_spoken, spoken}
-use Rattle.span_meter.specs.SpokenMeters.{AreTimely, HasSpoken, SpokenMeters, after_told, fresh_watch, pins_after_told, spoken_so_far, watched_events}
+use Rattle.span_meter.specs.Kept.{ends_of}
+use Rattle.span_meter.specs.SpokenMeters.{AreTimely, EachMeasures, HasSpoken, SpokenMeters, after_told, pins_after_told, tell_each}
 use Rattle.span_meter.proofs.SpokenTelling.{marks_one}
 use Rattle.span_meter.proofs.Telling.{no_edge}
 
@@ -151,28 +152,30 @@ length-held clock (c ∷ rest) next =
     omega (arith, length-append rest (replicate n (last_of c rest)), length-replicate n (last_of c rest))
 
 -- what all meters say, where each has measured
-seen_by_all : (pins : ShownPins) (told : List Conduct) (ws : List Watch) → AllByRecursion (λ w. MeasuresMarks (marks (events_in w.span.now) 0 pins told) w.meter) ws
-    → map (λ w. seen_by w.meter) ws ≡ map (λ e. seen_of (spoken (marks e 0 pins told))) (watched_events ws)
-seen_by_all pins told [] h = refl
-seen_by_all pins told (w ∷ ws) h =
-    ap (λ x. x ∷ map (λ w. seen_by w.meter) ws) h.0.counts.seen
-    ∙ ap (λ xs. seen_of (spoken (marks (events_in w.span.now) 0 pins told)) ∷ xs) (seen_by_all pins told ws h.1)
+seen_by_all : (pins : ShownPins) (told : List Conduct) (sps : List Span) (ms : List Meter) → EachMeasures pins told sps ms
+    → map seen_by ms ≡ map (λ e. seen_of (spoken (marks e 0 pins told))) (map events_in sps)
+seen_by_all pins told [] [] h = refl
+seen_by_all pins told [] (m ∷ ms) h = absurd h
+seen_by_all pins told (sp ∷ sps) [] h = absurd h
+seen_by_all pins told (sp ∷ sps) (m ∷ ms) h =
+    ap (λ x. x ∷ map seen_by ms) h.0.counts.seen
+    ∙ ap (λ xs. seen_of (spoken (marks (events_in sp) 0 pins told)) ∷ xs) (seen_by_all pins told sps ms h.1)
 
 spoken_by : (pins : ShownPins) (events : List SpanEvents) (told : List Conduct) (t : SpokenMeters) → t.first ≡ pins → t.last ≡ pins_after_told pins told → length told ≤ 2 ^ 64
-    → watched_events t.watches ≡ events → AllByRecursion (λ w. MeasuresMarks (marks (events_in w.span.now) 0 pins told) w.meter) t.watches → HasSpoken pins events told t
+    → map events_in t.spans ≡ events → EachMeasures pins told t.spans t.meters → HasSpoken pins events told t
 spoken_by pins events told t first last few w each = record {
   first = first;
   last = last;
   few = few;
   watches = w;
   each = each;
-  seen = seen_by_all pins told t.watches each ∙ ap (map (λ e. seen_of (spoken (marks e 0 pins told)))) w;
+  seen = seen_by_all pins told t.spans t.meters each ∙ ap (map (λ e. seen_of (spoken (marks e 0 pins told)))) w;
 }
 
 -- a meter before the first clock
-spoken_none : (e : SpanEvents) (pins : ShownPins) (w : Watch) → MeasuresMarks (marks e 0 pins []) (fresh_watch w).meter
+spoken_none : (e : SpanEvents) (pins : ShownPins) (edges : Edges) → MeasuresMarks (marks e 0 pins []) (fresh edges)
 unfolding marks spoken clocks_to_spoken
-spoken_none e pins w = record {
+spoken_none e pins edges = record {
   starts = [];
   counts = record {
     seen = refl;
@@ -188,28 +191,37 @@ spoken_none e pins w = record {
   on None ds = refl
   on (Some k) ds = refl
 
-all_fresh : (pins : ShownPins) (ws : List Watch) → AllByRecursion (λ w. MeasuresMarks (marks (events_in w.span.now) 0 pins []) w.meter) (map fresh_watch ws)
-all_fresh pins [] = tt
-all_fresh pins (w ∷ ws) = (spoken_none (events_in w.span.now) pins w, all_fresh pins ws)
+all_fresh : (pins : ShownPins) (sps : List Span) (ms : List Meter) → length ms ≡ length sps → EachMeasures pins [] sps (map (λ m. fresh m.edges) ms)
+all_fresh pins [] [] h = tt
+all_fresh pins [] (m ∷ ms) h = absurd (omega arith)
+all_fresh pins (sp ∷ sps) [] h = absurd (omega arith)
+all_fresh pins (sp ∷ sps) (m ∷ ms) h = (spoken_none (events_in sp) pins m.edges, all_fresh pins sps ms (omega arith))
 
-watched-fresh : (ws : List Watch) → watched_events (map fresh_watch ws) ≡ watched_events ws
-watched-fresh [] = refl
-watched-fresh (w ∷ ws) = ap (λ xs. events_in w.span.now ∷ xs) (watched-fresh ws)
-
-pub begin_spoken : (pins : ShownPins) (events : List SpanEvents) (ws : List Watch) (t : SpokenMeters) → watched_events ws ≡ events → t.first ≡ pins → t.last ≡ pins
-    → t.watches ≡ map fresh_watch ws → HasSpoken pins events [] t
+pub begin_spoken : (pins : ShownPins) (events : List SpanEvents) (ms : List Meter) (t : SpokenMeters) → map events_in t.spans ≡ events → t.first ≡ pins → t.last ≡ pins → length ms ≡ length t.spans
+    → t.meters ≡ map (λ m. fresh m.edges) ms → HasSpoken pins events [] t
 unfolding pins_after_told
-begin_spoken pins events ws t w first last fresh_ones =
-    spoken_by pins events [] t first last (omega arith) (ap watched_events fresh_ones ∙ watched-fresh ws ∙ w)
-    (subst (AllByRecursion (λ w. MeasuresMarks (marks (events_in w.span.now) 0 pins []) w.meter)) (sym fresh_ones) (all_fresh pins ws))
+begin_spoken pins events ms t w first last many fresh_ones =
+    spoken_by pins events [] t first last (omega arith) w
+    (subst (EachMeasures pins [] t.spans) (sym fresh_ones) (all_fresh pins t.spans ms many))
 
-all_held : (pins : ShownPins) (told : List Conduct) (clock : ℕ) → clock ≤ 2 ^ 64 → IsNext told clock → AreTimely 0 told → (ws : List Watch)
-    → AllByRecursion (λ w. MeasuresMarks (marks (events_in w.span.now) 0 pins told) w.meter) ws
-    → AllByRecursion (λ w. MeasuresMarks (marks (events_in w.span.now) 0 pins (held_to clock told)) w.meter) ws
-all_held pins told clock few next timely [] h = tt
-all_held pins told clock few next timely (w ∷ ws) h = (
-  spoken_held (events_in w.span.now) pins told w.meter clock few next timely h.0,
-  all_held pins told clock few next timely ws h.1,
+-- there is a meter for each span
+pub as_many_spans : (ms : List Meter) (sps : List Span) → watched ms ≡ map ends_in sps → length ms ≡ length sps
+as_many_spans ms sps h = sym (length-map ms (λ m. ends_of m.edges)) ∙ ap length h ∙ length-map sps ends_in
+
+as_many : (pins : ShownPins) (told : List Conduct) (sps : List Span) (ms : List Meter) → EachMeasures pins told sps ms → length ms ≡ length sps
+as_many pins told [] [] h = refl
+as_many pins told [] (m ∷ ms) h = absurd h
+as_many pins told (sp ∷ sps) [] h = absurd h
+as_many pins told (sp ∷ sps) (m ∷ ms) h = ap suc (as_many pins told sps ms h.1)
+
+all_held : (pins : ShownPins) (told : List Conduct) (clock : ℕ) → clock ≤ 2 ^ 64 → IsNext told clock → AreTimely 0 told → (sps : List Span) (ms : List Meter)
+    → EachMeasures pins told sps ms → EachMeasures pins (held_to clock told) sps ms
+all_held pins told clock few next timely [] [] h = tt
+all_held pins told clock few next timely [] (m ∷ ms) h = absurd h
+all_held pins told clock few next timely (sp ∷ sps) [] h = absurd h
+all_held pins told clock few next timely (sp ∷ sps) (m ∷ ms) h = (
+  spoken_held (events_in sp) pins told m clock few next timely h.0,
+  all_held pins told clock few next timely sps ms h.1,
 )
 
 -- the clocks held to one
@@ -220,55 +232,56 @@ held_spoken pins events told t clock few next timely had =
     let h = had left in
     let long = length-held clock told next in
     spoken_by pins events (held_to clock told) t h.first (h.last ∙ sym (held-pins pins clock told)) (omega arith) h.watches
-    (all_held pins told clock few next left t.watches h.each)
+    (all_held pins told clock few next left t.spans t.meters h.each)
 
-all_told : (pins : ShownPins) (told : List Conduct) (c : Conduct) → length told < 2 ^ 64 → (ws : List Watch)
-    → AllByRecursion (λ w. MeasuresMarks (marks (events_in w.span.now) 0 pins told) w.meter) ws
-    → AllByRecursion (λ w. MeasuresMarks (marks (events_in w.span.now) 0 pins (told ++ c ∷ [])) w.meter) (map (after_told (length told) (pins_after_told pins told) c) ws)
-all_told pins told c few [] h = tt
-all_told pins told c few (w ∷ ws) h = (spoken_one (events_in w.span.now) pins told w.meter c few h.0, all_told pins told c few ws h.1)
-
-watched-told : (clock : ℕ) (before : ShownPins) (c : Conduct) (ws : List Watch) → watched_events (map (after_told clock before c) ws) ≡ watched_events ws
-watched-told clock before c [] = refl
-watched-told clock before c (w ∷ ws) = ap (λ xs. events_in w.span.now ∷ xs) (watched-told clock before c ws)
+all_told : (pins : ShownPins) (told : List Conduct) (c : Conduct) → length told < 2 ^ 64 → (sps : List Span) (ms : List Meter)
+    → EachMeasures pins told sps ms → EachMeasures pins (told ++ c ∷ []) sps (tell_each (length told) (pins_after_told pins told) c sps ms)
+all_told pins told c few [] [] h = tt
+all_told pins told c few [] (m ∷ ms) h = absurd h
+all_told pins told c few (sp ∷ sps) [] h = absurd h
+all_told pins told c few (sp ∷ sps) (m ∷ ms) h = (spoken_one (events_in sp) pins told m c few h.0, all_told pins told c few sps ms h.1)
 
 one_spoken : (pins : ShownPins) (events : List SpanEvents) (told : List Conduct) (t u : SpokenMeters) (c : Conduct) (clock : ℕ) → length told ≡ clock → clock < 2 ^ 64
-    → HasSpoken pins events told t → u.first ≡ t.first → u.last ≡ pins_told c → u.watches ≡ map (after_told clock t.last c) t.watches
+    → HasSpoken pins events told t → u.first ≡ t.first → u.last ≡ pins_told c → u.spans ≡ t.spans → u.meters ≡ tell_each clock t.last c t.spans t.meters
     → HasSpoken pins events (told ++ c ∷ []) u
-one_spoken pins events told t u c clock long few h first last watches =
+one_spoken pins events told t u c clock long few h first last spans meters =
     let more = length-more told c in
-    let same : u.watches ≡ map (after_told (length told) (pins_after_told pins told) c) t.watches =
-    watches ∙ ap (λ k. map (after_told k t.last c) t.watches) (sym long) ∙ ap (λ b. map (after_told (length told) b c) t.watches) h.last in
+    let same : u.meters ≡ tell_each (length told) (pins_after_told pins told) c t.spans t.meters =
+    meters ∙ ap (λ k. tell_each k t.last c t.spans t.meters) (sym long) ∙ ap (λ b. tell_each (length told) b c t.spans t.meters) h.last in
     spoken_by pins events (told ++ c ∷ []) u (first ∙ h.first) (last ∙ sym (pins-more pins told c)) (omega arith)
-    (ap watched_events same ∙ watched-told (length told) (pins_after_told pins told) c t.watches ∙ h.watches)
-    (subst (AllByRecursion (λ w. MeasuresMarks (marks (events_in w.span.now) 0 pins (told ++ c ∷ [])) w.meter)) (sym same) (all_told pins told c (omega arith) t.watches h.each))
+    (ap (map events_in) spans ∙ h.watches)
+    (subst (λ (sps : List Span). EachMeasures pins (told ++ c ∷ []) sps u.meters) (sym spans)
+    (subst (EachMeasures pins (told ++ c ∷ []) t.spans) (sym same) (all_told pins told c (omega arith) t.spans t.meters h.each)))
 
 -- a clock after those that were told
 pub told_spoken : (pins : ShownPins) (events : List SpanEvents) (told : List Conduct) (t u : SpokenMeters) (c : Conduct) (clock : ℕ) → clock < 2 ^ 64 → IsNext told clock → AreTimely 0 (held_to clock told ++ c ∷ [])
-    → (AreTimely 0 told → HasSpoken pins events told t) → u.first ≡ t.first → u.last ≡ pins_told c → u.watches ≡ map (after_told clock t.last c) t.watches
+    → (AreTimely 0 told → HasSpoken pins events told t) → u.first ≡ t.first → u.last ≡ pins_told c → u.spans ≡ t.spans → u.meters ≡ tell_each clock t.last c t.spans t.meters
     → HasSpoken pins events (held_to clock told ++ c ∷ []) u
-told_spoken pins events told t u c clock few next timely had first last watches =
+told_spoken pins events told t u c clock few next timely had first last spans meters =
     one_spoken pins events (held_to clock told) t u c clock (length-held clock told next) few
-    (held_spoken pins events told t clock (omega arith) next (timely_left 0 (held_to clock told) (c ∷ []) timely) had) first last watches
+    (held_spoken pins events told t clock (omega arith) next (timely_left 0 (held_to clock told) (c ∷ []) timely) had) first last spans meters
 
--- the list of the spans grows
-map_push : {X Y : Type 0} (f : X → Y) (xs : List X) (x : X) → map f (xs ++ x ∷ []) ≡ map f xs ++ f x ∷ []
-map_push f xs x = map-append f xs (x ∷ [])
+-- the meters of the spans up to one are told
+pub tell_step : (clock : ℕ) (before : ShownPins) (c : Conduct) (sps : List Span) (ms : List Meter) (i : ℕ) (sp : Span) (m : Meter) → i < length sps → i < length ms → sp ≡ get_or sps i sp
+    → m ≡ get_or (tell_each clock before c (take i sps) ms) i m → slice_set (tell_each clock before c (take i sps) ms) i (after_told clock before c sp m) ≡ tell_each clock before c (take (i + 1) sps) ms
+tell_step clock before c [] ms i sp m low small is has = absurd (omega arith)
+tell_step clock before c (s ∷ sps) [] i sp m low small is has = absurd (omega arith)
+tell_step clock before c (s ∷ sps) (x ∷ ms) zero sp m low small is has =
+    ap (λ (y : Span). after_told clock before c y m ∷ ms) is ∙ ap (λ (y : Meter). after_told clock before c s y ∷ ms) has
+tell_step clock before c (s ∷ sps) (x ∷ ms) (suc i) sp m low small is has =
+    ap (λ (rest : List Meter). after_told clock before c s x ∷ rest) (tell_step clock before c sps ms i sp m (omega arith) (omega arith) is has)
+    ∙ ap (λ (n : ℕ). tell_each clock before c (take n (s ∷ sps)) (x ∷ ms)) (let e : suc (i + 1) ≡ suc i + 1 = omega arith in e)
 
-pub more_fresh : (ws next : List Watch) (w : Watch) → next ≡ ws ++ w ∷ [] → w ≡ fresh_watch w → ws ≡ map fresh_watch ws → next ≡ map fresh_watch next
-more_fresh ws next w h k all =
-    h ∙ ap (λ x. x ++ w ∷ []) all ∙ ap (λ x. map fresh_watch ws ++ x ∷ []) k ∙ sym (map_push fresh_watch ws w) ∙ ap (map fresh_watch) (sym h)
+-- the others stay
+pub tell_done : (clock : ℕ) (before : ShownPins) (c : Conduct) (sps : List Span) (ms : List Meter) (i : ℕ) → min (length sps) (length ms) ≤ i → tell_each clock before c (take i sps) ms ≡ tell_each clock before c sps ms
+tell_done clock before c [] ms zero h = refl
+tell_done clock before c [] ms (suc i) h = refl
+tell_done clock before c (s ∷ sps) [] zero h = refl
+tell_done clock before c (s ∷ sps) [] (suc i) h = refl
+tell_done clock before c (s ∷ sps) (x ∷ ms) zero h = absurd (omega arith)
+tell_done clock before c (s ∷ sps) (x ∷ ms) (suc i) h = ap (λ (rest : List Meter). after_told clock before c s x ∷ rest) (tell_done clock before c sps ms i (omega arith))
 
-pub more_watched : (ws next : List Watch) (w : Watch) (spans : List Span) (i : ℕ) (sp : Span) → next ≡ ws ++ w ∷ [] → w.span.now ≡ sp → sp ≡ get_or spans i sp → i < length spans
-    → watched_events ws ≡ map events_in (take i spans) → watched_events next ≡ map events_in (take (i + 1) spans)
-more_watched ws next w spans i sp h same at low all =
-    let g : Watch → SpanEvents = λ x. events_in x.span.now in
-    ap watched_events h ∙ map_push g ws w ∙ ap (λ x. x ++ g w ∷ []) all
-    ∙ ap (λ x. map events_in (take i spans) ++ x ∷ []) (ap events_in same ∙ ap events_in at) ∙ sym (map_more events_in spans i sp low)
-
-pub all_watched : (spans : List Span) (i : ℕ) → length spans ≤ i → map events_in (take i spans) ≡ map events_in spans
-all_watched spans i h = ap (map events_in) (take_all i spans h)
-
--- a map in place, at its end
-pub map_done : (f : Watch → Watch) (xs ys : List Watch) (i : ℕ) → length xs ≤ i → ys ≡ map f (take i xs) ++ drop i xs → ys ≡ map f xs
-map_done f xs ys i h e = e ∙ ap (λ t. map f t ++ drop i xs) (take_all i xs h) ∙ ap (λ t. map f xs ++ t) (drop_all i xs h) ∙ append-nil (map f xs)
+pub tell_length : (clock : ℕ) (before : ShownPins) (c : Conduct) (sps : List Span) (ms : List Meter) → length (tell_each clock before c sps ms) ≡ length ms
+tell_length clock before c [] ms = refl
+tell_length clock before c (s ∷ sps) [] = refl
+tell_length clock before c (s ∷ sps) (x ∷ ms) = ap suc (tell_length clock before c sps ms)

@@ -3,30 +3,27 @@
 --   spoken_told     how it names to its callers which spans and pins it measures
 --   AreTimely       what it is told of is done
 --   HasSpoken       what it has measured
-use Rattle.std.specs.Prelude.{◌≡◌, ℕ, suc, ◌^◌, ◌≤◌, Bool, Option, Some, List, [], ◌∷◌, length, map}
-use Rattle.std.specs.List.{AllByRecursion}
+use Rattle.std.specs.Prelude.{◌≡◌, ℕ, suc, ◌^◌, ◌≤◌, Option, Some, List, [], ◌∷◌, length, map}
 use Rattle.block_core.specs.declared.conduct.Conduct.{Conduct}
+use Rattle.pin_matrix.specs.declared.span.Span.{Span}
+use Rattle.span_meter.specs.declared.meter.Meter.{Meter}
 use Rattle.span_meter.specs.declared.pins.ShownPins.{ShownPins}
 use Rattle.span_meter.specs.declared.seen.SeenDistances.{SeenDistances}
-use Rattle.span_meter.specs.declared.watch.Watch.{Watch}
 use Rattle.span_meter.specs.Events.{SpanEvent, SpanEvents, events_in, mark_of, marks, pins_told}
 use Rattle.span_meter.specs.Measured.{seen_of}
-use Rattle.span_meter.specs.Meters.{fresh, rise_code, seen_by, signal_code}
+use Rattle.span_meter.specs.Meters.{rise_code, seen_by, signal_code}
 use Rattle.span_meter.specs.Spoken.{MeasuresMarks, after_mark, spoken}
 
--- the pins before the first clock and after the last, and each span with its meter
+-- the pins before the first clock and after the last, the spans, and a meter for each
 pub record SpokenMeters : Type 0 where
   pub first : ShownPins
   pub last : ShownPins
-  pub watches : List Watch
-
--- what its meters look for
-abbrev pub watched_events : List Watch → List SpanEvents
-watched_events watches = map (λ w. events_in w.span.now) watches
+  pub spans : List Span
+  pub meters : List Meter
 
 -- what all say
 abbrev pub spoken_so_far : SpokenMeters → List SeenDistances
-spoken_so_far t = map (λ w. seen_by w.meter) t.watches
+spoken_so_far t = map seen_by t.meters
 
 -- addresses as numbers, with an end, and more numbers after them
 abbrev pub addresses_code : List ℕ → (more : List ℕ) → List ℕ
@@ -48,13 +45,15 @@ events_code (e ∷ es) =
 abbrev pub spoken_told : ShownPins → List SpanEvents → Option (List ℕ)
 spoken_told pins events = Some (pins.level ∷ pins.direction ∷ events_code events)
 
--- a span before the first clock
-abbrev pub fresh_watch : Watch → Watch
-fresh_watch w = record w { meter = fresh w.meter.edges }
+-- the meter of a span after a clock, by the pins before it and what is told after it
+abbrev pub after_told : (clock : ℕ) → (before : ShownPins) → Conduct → Span → Meter → Meter
+after_told clock before c sp m = after_mark clock (mark_of (events_in sp) clock before c) m
 
--- a span after a clock, by the pins before it and what is told after it
-abbrev pub after_told : (clock : ℕ) → (before : ShownPins) → Conduct → Watch → Watch
-after_told clock before c w = record w { meter = after_mark clock (mark_of (events_in w.span.now) clock before c) w.meter }
+-- the meters of these spans after it
+abbrev pub tell_each : (clock : ℕ) → (before : ShownPins) → Conduct → List Span → List Meter → List Meter
+tell_each clock before c [] meters = meters
+tell_each clock before c (sp ∷ spans) [] = []
+tell_each clock before c (sp ∷ spans) (m ∷ meters) = after_told clock before c sp m ∷ tell_each clock before c spans meters
 
 -- the pins after clocks, with these before them
 unfoldable pub pins_after_told : ShownPins → List Conduct → ShownPins
@@ -66,11 +65,18 @@ abbrev pub AreTimely : (clock : ℕ) → List Conduct → Type 0
 AreTimely clock [] = Unit {0}
 AreTimely clock (c ∷ rest) = (c.clock ≤ clock) × AreTimely (suc clock) rest
 
+-- each span has a meter, which has measured the clocks that were told, with these pins before them
+abbrev pub EachMeasures : ShownPins → (told : List Conduct) → List Span → List Meter → Type 0
+EachMeasures pins told [] [] = Unit {0}
+EachMeasures pins told [] (m ∷ meters) = ⊥
+EachMeasures pins told (sp ∷ spans) [] = ⊥
+EachMeasures pins told (sp ∷ spans) (m ∷ meters) = MeasuresMarks (marks (events_in sp) 0 pins told) m × EachMeasures pins told spans meters
+
 -- What a meter says of the clocks that it was told of, with these pins before them: of each span exactly what it measures in them.
 pub record HasSpoken (pins : ShownPins) (events : List SpanEvents) (told : List Conduct) (t : SpokenMeters) : Type 0 where
   pub first : t.first ≡ pins
   pub last : t.last ≡ pins_after_told pins told
   pub few : length told ≤ 2 ^ 64
-  pub watches : watched_events t.watches ≡ events
-  pub each : AllByRecursion (λ w. MeasuresMarks (marks (events_in w.span.now) 0 pins told) w.meter) t.watches
+  pub watches : map events_in t.spans ≡ events
+  pub each : EachMeasures pins told t.spans t.meters
   pub seen : spoken_so_far t ≡ map (λ e. seen_of (spoken (marks e 0 pins told))) events

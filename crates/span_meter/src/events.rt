@@ -1,16 +1,38 @@
 //! The events of a span in a clock, and what it doesn't speak of, by what its machine did.
 ghost use Rattle.std.specs.Prelude.{◌≡◌, ◌<◌};
 ghost use Rattle.span_meter.specs.Events as spec;
-ghost use Rattle.span_meter.specs.Events.{events_in, is_cut};
+ghost use Rattle.span_meter.specs.Events.{events_in};
+ghost use Rattle.span_meter.specs.SpokenMeters as spec_meters;
 
 use crate::levels::has_edge;
+use crate::meter::Meter;
 use crate::pins::ShownPins;
 use crate::selective::is_selective;
 use block_core::{Conduct, MachineConduct};
 use pin_matrix::{Span, SpanUnit};
 
+/// The meter of a span after a clock, by the pins before it and what is told after it.
+pub(crate) fn after_told(
+    span: &Span,
+    clock: u64,
+    before: ShownPins,
+    told: &Conduct,
+    meter: Meter,
+) -> Meter
+    ensures { result ≡ spec_meters.after_told clock before told.now span.now meter }
+{
+    let did = conduct_of(clock, span.machine, told);
+    let pins = ShownPins {
+        level: told.level,
+        direction: told.direction,
+    };
+    let from = from_comes(span, before, pins, &did);
+    let to = to_comes(span, before, pins, &did);
+    meter.after_mark(clock, from, to, is_dropped(span, &did))
+}
+
 /// What the machine with this number did in the clock, where that is the clock of note that is told of.
-pub(crate) fn conduct_of(clock: u64, machine: u8, told: &Conduct) -> Option<MachineConduct>
+fn conduct_of(clock: u64, machine: u8, told: &Conduct) -> Option<MachineConduct>
     requires { machine < 4 }
     ensures { result ≡ spec.conduct_of clock machine told.now }
 {
@@ -22,7 +44,7 @@ pub(crate) fn conduct_of(clock: u64, machine: u8, told: &Conduct) -> Option<Mach
 }
 
 /// Whether the from-event comes, by the pins before and after a clock and what the span's machine did in it.
-pub(crate) fn from_comes(
+fn from_comes(
     span: &Span,
     before: ShownPins,
     after: ShownPins,
@@ -42,7 +64,7 @@ pub(crate) fn from_comes(
 }
 
 /// Whether the to-event comes.
-pub(crate) fn to_comes(
+fn to_comes(
     span: &Span,
     before: ShownPins,
     after: ShownPins,
@@ -59,7 +81,7 @@ pub(crate) fn to_comes(
 }
 
 /// Whether the span doesn't speak of the from-events before a clock any more.
-pub(crate) fn is_dropped(span: &Span, did: &Option<MachineConduct>) -> bool
+fn is_dropped(span: &Span, did: &Option<MachineConduct>) -> bool
     ensures { result ≡ spec.is_dropped (events_in span.now) did.now }
 {
     match did {

@@ -12,7 +12,6 @@ mod seen;
 mod selective;
 mod spoken;
 mod trace;
-mod watch;
 
 pub use laws::{a_distance_is_that_of_a_pair, a_plain_span_measures_every_pair};
 pub use line::put_seen;

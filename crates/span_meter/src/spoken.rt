@@ -2,11 +2,14 @@
 ghost use Rattle.std.specs.Prelude.{◌≡◌, ◌<◌, Some, List, [], false, IfOk, length, map, slice_get};
 ghost use Rattle.span_meter.specs.declared.pins.ShownPins.{ShownPins};
 ghost use Rattle.span_meter.specs.Events.{SpanEvents, events_in};
-ghost use Rattle.span_meter.specs.SpokenMeters.{AreTimely, HasSpoken, after_told, fresh_watch, spoken_so_far, spoken_told, watched_events};
+ghost use Rattle.span_meter.specs.SpokenMeters as spec;
+ghost use Rattle.span_meter.specs.SpokenMeters.{AreTimely, HasSpoken, spoken_so_far, spoken_told};
 
+use crate::events::after_told;
+use crate::meter::Meter;
 use crate::pins::ShownPins;
 use crate::seen::SeenDistances;
-use crate::watch::Watch;
+use crate::trace::{begin_all, meters_of};
 use block_core::Conduct;
 use pin_matrix::Span;
 use sample_trace::{Trace, TraceFailed};
@@ -18,15 +21,19 @@ use std::marker::Model;
 pub struct SpokenMeter<'a> {
     first: ShownPins,
     last: ShownPins,
-    watches: Vec<Watch<'a>>,
+    spans: &'a [Span],
+    meters: Vec<Meter>,
 }
 
 impl<'a> Model for SpokenMeter<'a> {
+    ghost use Rattle.std.specs.Prelude.{length, ◌≡◌};
     ghost use Rattle.span_meter.specs.SpokenMeters.{SpokenMeters};
 
     ghost Value = { SpokenMeters };
 
-    ghost view = { λ t. record { first = t.first; last = t.last; watches = t.watches.items } };
+    ghost view = { λ t. record { first = t.first; last = t.last; spans = t.spans.now; meters = t.meters.items } };
+
+    ghost invariant = { λ t. length t.meters.items ≡ length t.spans.now };
 }
 
 impl<'a> SpokenMeter<'a> {
@@ -39,11 +46,12 @@ impl<'a> SpokenMeter<'a> {
     ) -> Result<SpokenMeter<'a>, AllocError>
         ensures { IfOk result (λ t. HasSpoken pins (map events_in spans.now) [] t) }
     {
-        let watches = watches_of(alloc, spans)?;
+        let meters = meters_of(alloc, spans)?;
         Ok(SpokenMeter {
             first: pins,
             last: pins,
-            watches,
+            spans,
+            meters,
         })
     }
 
@@ -52,7 +60,7 @@ impl<'a> SpokenMeter<'a> {
         requires { span < length (spoken_so_far self.now) }
         ensures { slice_get (spoken_so_far self.now) span ≡ Some result }
     {
-        self.watches[span].meter.seen()
+        self.meters[span].seen()
     }
 }
 
@@ -63,7 +71,7 @@ impl<'a> Trace<Conduct> for SpokenMeter<'a> {
 
     ghost has_failed = { λ _. false };
 
-    ghost ready = { λ t b. b ≡ spoken_told t.first (watched_events t.watches) };
+    ghost ready = { λ t b. b ≡ spoken_told t.first (map events_in t.spans) };
 
     ghost holds = { λ t b l _. (pins : ShownPins) (events : List SpanEvents) → b ≡ spoken_told pins events
         → AreTimely 0 l → HasSpoken pins events l t };
@@ -72,12 +80,12 @@ impl<'a> Trace<Conduct> for SpokenMeter<'a> {
 
     fn begin(&mut self) -> Result<(), TraceFailed> {
         self.last = self.first;
-        begin_all(&mut self.watches);
+        begin_all(&mut self.meters);
         Ok(())
     }
 
     fn sample(&mut self, clock: u64, shown: &Conduct) -> Result<(), TraceFailed> {
-        tell_all(&mut self.watches, clock, self.last, shown);
+        tell_each(self.spans, &mut self.meters, clock, self.last, shown);
         self.last = ShownPins {
             level: shown.level,
             direction: shown.direction,
@@ -94,32 +102,18 @@ impl<'a> Trace<Conduct> for SpokenMeter<'a> {
     }
 }
 
-/// A meter for each span.
-fn watches_of<'a>(alloc: Global, spans: &'a [Span]) -> Result<Vec<Watch<'a>>, AllocError>
-    ensures { IfOk result (λ watches. watches.items ≡ map fresh_watch watches.items
-        × watched_events watches.items ≡ map events_in spans.now) }
+/// Tells the meter of each span of a clock, by the pins before it and what is told after it.
+fn tell_each(
+    spans: &[Span],
+    meters: &mut [Meter],
+    clock: u64,
+    before: ShownPins,
+    told: &Conduct,
+)
+    ensures { meters.new ≡ spec.tell_each clock before told.now spans.now meters.old }
 {
-    let mut watches = Vec::with_capacity(alloc, spans.len())?;
-    for span in spans {
-        watches.push(Watch::new(span))?;
-    }
-    Ok(watches)
-}
-
-/// Each meter begins anew.
-fn begin_all(watches: &mut [Watch])
-    ensures { watches.new ≡ map fresh_watch watches.old }
-{
-    for watch in watches {
-        *watch = watch.anew();
-    }
-}
-
-/// Tells each meter of a clock, by the pins before it and what is told after it.
-fn tell_all(watches: &mut [Watch], clock: u64, before: ShownPins, told: &Conduct)
-    ensures { watches.new ≡ map (after_told clock before told.now) watches.old }
-{
-    for watch in watches {
-        *watch = watch.after(clock, before, told);
+    let many = spans.len().min(meters.len());
+    for place in 0..many {
+        meters[place] = after_told(&spans[place], clock, before, told, meters[place]);
     }
 }

@@ -1,8 +1,7 @@
-use Rattle.std.proofs.Common.{◌≡◌, ap}
-use Rattle.block_core.specs.Block.{Run, first_run}
+use Rattle.std.proofs.Common.{ap}
+use Rattle.block_core.specs.Block.{first_run}
 use Rattle.block_core.specs.Shown.{sample_of}
-use Rattle.span_meter.specs.declared.pins.ShownPins.{ShownPins}
-use Rattle.span_meter.specs.Measured.{pins_in, pins_of}
+use Rattle.span_meter.specs.Measured.{pins_of}
 use Rattle.commands.proofs.Seen.{plain_in_run, spoken_in_run}
 use Rattle.commands.proofs.measure.metered.Goals as goal
 

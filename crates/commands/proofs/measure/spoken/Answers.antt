@@ -1,4 +1,4 @@
-use Rattle.std.proofs.Common.{List, map, subst, ap}
+use Rattle.std.proofs.Common.{List, map, subst}
 use Rattle.pin_matrix.specs.declared.span.Span.{Span}
 use Rattle.block_core.specs.Conduct.{conducts}
 use Rattle.span_meter.specs.Events.{events_in}

@@ -1,7 +1,0 @@
-use Rattle.std.proofs.Common.{◌≡◌, ◌++◌, map, take, drop}
-use Rattle.span_meter.specs.SpokenMeters.{after_told}
-use Rattle.span_meter.proofs.spoken.tell_all.Given as goal
-
--- the spans before this one are done, and the others are as they were
-abbrev pub invariant-loop-watch : goal.invariant-loop-watch
-invariant-loop-watch l = l.watch-items ≡ map (after_told l.clock l.before l.told) (take l.watch-index l.initial.watch-items) ++ drop l.watch-index l.initial.watch-items
