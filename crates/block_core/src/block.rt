@@ -3,12 +3,14 @@ ghost use Rattle.std.specs.Prelude.{◌≡◌, ℕ, ◌<◌, ◌≤◌, ◌^◌,
 ghost use Rattle.dreq_pacing.specs.Due.{quiet};
 ghost use Rattle.dreq_pacing.specs.Ports.{IsFirst};
 ghost use Rattle.block_core.specs.Block.{first_run, next, pads_in, run_from, wanted_in, uses_fifos_in, level_writes, direction_writes, TakesLastWrites};
+ghost use Rattle.block_core.specs.Conduct.{standings_in};
 ghost use Rattle.block_core.specs.Inside.{inside_of};
 ghost use Rattle.block_core.specs.Leaps.{leapt};
 ghost use Rattle.block_core.specs.Shown.{sample_of, requests_of, moved_of};
 ghost use Rattle.block_core.specs.Stirring.{moves_on, begins_or_changes};
 
 use crate::Sample;
+use crate::conduct::Standing;
 use crate::inside::Inside;
 use crate::news::News;
 use crate::running::Running;
@@ -162,6 +164,13 @@ impl<F: Fifo> Block<F> {
         ensures { result ≡ inside_of self.now.run }
     {
         self.running.inside()
+    }
+
+    /// How its machines stand before the present clock, and which tick they have in it, if these lines act in it.
+    pub(crate) fn standings(&self, due: &Due) -> [Option<Standing>; 4]
+        ensures { result ≡ standings_in due.now self.now.run.state }
+    {
+        self.running.standings(due)
     }
 
     /// How many words paced transfers have moved into a machine's TX and out of its RX; none of a machine that isn't

@@ -5,6 +5,7 @@ ghost use Rattle.dreq_pacing.specs.Due.{quiet};
 ghost use Rattle.dreq_pacing.specs.Ports.{IsFirst};
 ghost use Rattle.block_core.specs.Block.{first_run_over, next_over, pads_in, wanted_over, uses_fifos_over, level_writes, direction_writes, TakesLastWrites};
 ghost use Rattle.block_core.specs.Block as spec;
+ghost use Rattle.block_core.specs.Conduct.{standings_in};
 ghost use Rattle.block_core.specs.Inside.{inside_of};
 ghost use Rattle.block_core.specs.Kept.{AreTold, is_simple_over};
 ghost use Rattle.block_core.specs.Leaps.{leapt};
@@ -14,6 +15,7 @@ ghost use Rattle.block_core.specs.Stirring.{machines_stir_over, pads_change_over
 ghost use Rattle.block_core.specs.Stirring as spec_stirring;
 
 use crate::Sample;
+use crate::conduct::{Standing, stands};
 use crate::inside::{Inside, MachineInside};
 use crate::leaps::{begins_now, leap, sooner};
 use crate::merging::{Wanted, outside_after};
@@ -387,6 +389,18 @@ impl<F: Fifo> Running<F> {
             inside(&self.second, memory),
             inside(&self.third, memory),
             inside(&self.fourth, memory),
+        ]
+    }
+
+    /// How its machines stand before the present clock, and which tick they have in it, if these lines act in it.
+    pub fn standings(&self, due: &Due) -> [Option<Standing>; 4]
+        ensures { result ≡ standings_in due.now self.now.state }
+    {
+        [
+            stands(&self.first, due),
+            stands(&self.second, due),
+            stands(&self.third, due),
+            stands(&self.fourth, due),
         ]
     }
 

@@ -5,12 +5,14 @@ ghost use Rattle.sm_registers.specs.Simple.{is_done, leaves_ready};
 ghost use Rattle.sm_registers.specs.State as spec_shown;
 ghost use Rattle.dreq_pacing.specs.Due.{quiet};
 ghost use Rattle.dreq_pacing.specs.Ports.{IsFirst};
+ghost use Rattle.block_core.specs.Conduct.{standing_in};
 ghost use Rattle.block_core.specs.Inside.{machine_inside};
 ghost use Rattle.block_core.specs.Leaps.{leapt_slot, stirs_after};
 ghost use Rattle.block_core.specs.Stirring.{begins_now};
 ghost use Rattle.block_core.specs.Slots as spec;
 ghost use Rattle.block_core.specs.Slots.{lined, acted, settled_slot, slot_after, slot_intent, slot_uses_fifos, used_by};
 
+use crate::conduct::Standing;
 use crate::inside::{MachineInside, word_at};
 use clock_divider::Divider;
 use dreq_pacing::Due;
@@ -273,6 +275,35 @@ impl<F: Fifo> Slot<F> {
             waits: registers.begun,
             enabled: self.enabled,
         }
+    }
+
+    /// How it stands before the present clock, and which tick it has in it, if these lines act in it.
+    #[tactic(auto, unfolding(crate::specs::Conduct::standing_in))]
+    pub fn stands(&self, due: &Due) -> Standing
+        ensures { result ≡ standing_in due.now self.now }
+    {
+        let place = self.place();
+        let ticks = self.ticks_after(due);
+        let registers = self.machine.registers();
+        let begun = registers.begun;
+        let pending = registers.pending.is_some();
+        Standing {
+            pc: registers.pc,
+            waits: begun,
+            comes: (registers.delay == 0) & (!pending & !begun),
+            pending,
+            acts: ticks & (registers.delay == 0),
+            breaks: due.disable[place] | due.restart[place],
+        }
+    }
+
+    /// Whether the present clock is a tick of it, if these lines act in it.
+    fn ticks_after(&self, due: &Due) -> bool
+        ensures { result ≡ spec.has_tick (lined due.now self.now) }
+    {
+        let place = self.place();
+        let now = self.divider.ticks_now();
+        (due.enable[place] | (!due.disable[place] & self.enabled)) & (due.restart[place] | now)
     }
 
     /// How many words transfers moved into its TX and out of its RX.

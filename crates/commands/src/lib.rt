@@ -10,6 +10,7 @@ mod inspect;
 mod laws;
 mod measure;
 mod measured_lines;
+mod metered;
 mod pair;
 mod passed;
 mod receive;
