@@ -1,4 +1,5 @@
-//! What the machines of a block did in the last clock of note, and how they stood at its start: what spans are measured by.
+//! What the machines of a block did in the last clock of note, and how they stood at its start: what spans are measured
+//! by.
 ghost use Rattle.std.specs.Prelude.{◌≡◌, ℕ, ◌<◌, ◌≤◌, ◌^◌, ◌+◌, ◌==◌, ◌&&◌, ◌||◌, not, false, option_map, if◌then◌else◌};
 ghost use Rattle.dreq_pacing.specs.Due.{quiet as spec_quiet};
 ghost use Rattle.block_core.specs.Block.{next, run_from, uses_fifos_in};
@@ -20,7 +21,8 @@ pub struct MachineConduct {
     pub pc: u8,
     /// Whether it had begun the instruction there and not finished it: it waited.
     pub waits: bool,
-    /// Whether it came to the instruction in memory there next: no delay was left, no word was pending, and it had not begun.
+    /// Whether it came to the instruction in memory there next: no delay was left, no word was pending, and it had not
+    /// begun.
     pub comes: bool,
     /// Whether the clock was a tick of the instruction in memory there, and not of a delay or a pending word.
     pub works: bool,
@@ -30,8 +32,8 @@ pub struct MachineConduct {
     pub breaks: bool,
 }
 
-/// What was done in the last clock of note: one in which a machine began or finished an instruction, or was disabled or its divider
-/// restarted, or the level or the direction of a pin changed.
+/// What was done in the last clock of note: one in which a machine began or finished an instruction, or was disabled or
+/// its divider restarted, or the level or the direction of a pin changed.
 #[derive(Clone, Copy)]
 pub struct Conduct {
     /// The number of that clock.
@@ -118,8 +120,8 @@ impl<F: Fifo> Conducted<F> {
         self.last = last;
     }
 
-    /// The same, in which the system does nothing (`Block::quiet_clock`). It tells whether anything was done at a FIFO, and
-    /// whether the clock was of note.
+    /// The same, in which the system does nothing (`Block::quiet_clock`). It tells whether anything was done at a FIFO,
+    /// and whether the clock was of note.
     #[inline(always)]
     pub fn quiet_clock(&mut self, clock: u64) -> (bool, bool)
         requires clock { self.old.worked.run.clock ≡ clock }
@@ -139,7 +141,8 @@ impl<F: Fifo> Conducted<F> {
         (news.fifos, noted)
     }
 
-    /// So many clocks at once, none of which stirs, and in which the system does nothing (`Block::leap`). None of them is of note.
+    /// So many clocks at once, none of which stirs, and in which the system does nothing (`Block::leap`). None of them
+    /// is of note.
     pub fn leap(&mut self, clocks: u64)
         requires clock { self.old.worked.run.clock + clocks ≤ 2 ^ 40 }
         requires calm { (k : ℕ) → k < clocks →
@@ -165,7 +168,8 @@ fn pins<F: Fifo>(block: &Block<F>) -> (u32, u32)
     (shown.level, shown.direction)
 }
 
-/// Whether the clock before was of note, and what is told after it, by the pins and the machines before it and the block after it.
+/// Whether the clock before was of note, and what is told after it, by the pins and the machines before it and the
+/// block after it.
 fn told<F: Fifo>(
     block: &Block<F>,
     last: &Conduct,

@@ -42,8 +42,8 @@ pub(crate) fn are_empty(
     second.is_none() && third.is_none() && fourth.is_none()
 }
 
-/// A clock of a place, whose machine adds what it wants of the block. The sample, which has what was seen of the place, gets
-/// what is seen of it now. True where anything was done at its FIFOs, or at those of the machines before it.
+/// A clock of a place, whose machine adds what it wants of the block. The sample, which has what was seen of the place,
+/// gets what is seen of it now. True where anything was done at its FIFOs, or at those of the machines before it.
 #[inline(always)]
 #[tactic(auto, using(crate::proofs::Wanting::nothing_added))]
 pub(crate) fn step<F: Fifo>(
@@ -126,7 +126,8 @@ fn due_step<F: Fifo>(
     used
 }
 
-/// Adds what a machine wanted of the block in a clock. The sample gets what is seen of the machine, where that may be new.
+/// Adds what a machine wanted of the block in a clock. The sample gets what is seen of the machine, where that may be
+/// new.
 #[inline(always)]
 fn tell<F: Fifo>(
     intent: &Intent,

@@ -167,8 +167,8 @@ impl<F: Fifo> Running<F> {
         pad_of(self.levels(), self.directions(), self.outside(due))
     }
 
-    /// One clock with these pads, in which the system does this. Every machine with a tick acts from what was there at the
-    /// clock's start. True where a machine or the system did anything at a FIFO.
+    /// One clock with these pads, in which the system does this. Every machine with a tick acts from what was there at
+    /// the clock's start. True where a machine or the system did anything at a FIFO.
     #[inline(always)]
     pub fn step(&mut self, pad: u32, due: &Due) -> bool
         requires { self.old.clock < 2 ^ 40 }
@@ -205,8 +205,8 @@ impl<F: Fifo> Running<F> {
         }
     }
 
-    /// The same where the clock is a simple one of the only machine (`Slot::simple_clock`); else nothing is done. It tells whether
-    /// the sample is another one, where it was done, and then nobody did anything at a FIFO.
+    /// The same where the clock is a simple one of the only machine (`Slot::simple_clock`); else nothing is done. It
+    /// tells whether the sample is another one, where it was done, and then nobody did anything at a FIFO.
     #[inline(always)]
     fn simple_step(&mut self, pad: u32) -> Option<bool>
         requires { self.old.clock < 2 ^ 40 }
@@ -235,8 +235,8 @@ impl<F: Fifo> Running<F> {
         Some(self.sample.show_pins(&self.wanted.outputs))
     }
 
-    /// The same of any machines, whatever they do, where the system does this, if anything. It is code of its own, which keeps
-    /// that of most clocks short.
+    /// The same of any machines, whatever they do, where the system does this, if anything. It is code of its own,
+    /// which keeps that of most clocks short.
     #[cold]
     #[inline(never)]
     fn step_all(&mut self, pad: u32, due: Option<&Due>) -> bool
@@ -297,9 +297,9 @@ impl<F: Fifo> Running<F> {
         let _clock = self.clock;
     }
 
-    /// The least number of clocks after which a test passes or a machine stirs, where the pads stay these and the system does
-    /// nothing, from that of the test alone. No machine is asked after a test that passes at once, or a machine that stirs at
-    /// once.
+    /// The least number of clocks after which a test passes or a machine stirs, where the pads stay these and the
+    /// system does nothing, from that of the test alone. No machine is asked after a test that passes at once, or a
+    /// machine that stirs at once.
     #[inline(always)]
     pub fn sooner(&self, tested: Option<u64>, pad: u32) -> Option<u64>
         ensures { (test : ℕ → Bool) → IsFirst test 0 tested →

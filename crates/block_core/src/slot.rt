@@ -72,8 +72,8 @@ impl<F: Fifo> Slot<F> {
         })
     }
 
-    /// One clock, in which the system does this. It returns what the machine wants of its block, and whether it or the system did
-    /// anything at its FIFOs.
+    /// One clock, in which the system does this. It returns what the machine wants of its block, and whether it or the
+    /// system did anything at its FIFOs.
     #[inline(always)]
     pub fn clock(&mut self, view: &View, due: &Due) -> (Intent, bool)
         requires clock { self.old.timing.clock < 2 ^ 40 }
@@ -105,9 +105,9 @@ impl<F: Fifo> Slot<F> {
         (intent, used)
     }
 
-    /// Its clock, where the system does nothing in it and it is a simple one: it has no tick, or a simple tick. Else nothing is
-    /// done. Of a machine that is known to be ready in this clock, nothing more is asked. It wants nothing of its block but pins
-    /// then, which it writes over those of the machines before it, nor of its FIFOs.
+    /// Its clock, where the system does nothing in it and it is a simple one: it has no tick, or a simple tick. Else
+    /// nothing is done. Of a machine that is known to be ready in this clock, nothing more is asked. It wants nothing
+    /// of its block but pins then, which it writes over those of the machines before it, nor of its FIFOs.
     #[inline(always)]
     pub fn simple_clock(&mut self, view: &View, outputs: &mut Outputs, ready: bool) -> Tried
         requires ready { ready ≡ true → spec.is_ready (Some self.old) ≡ true }

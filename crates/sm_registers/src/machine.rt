@@ -102,8 +102,9 @@ impl<F: Fifo> Machine<F> {
         )
     }
 
-    /// Makes its next tick where that is simple, and else does nothing. Of a tick that is known to be ready, nothing more is
-    /// asked. Outside the registers a simple tick does nothing but write pins, over those of the machines before it.
+    /// Makes its next tick where that is simple, and else does nothing. Of a tick that is known to be ready, nothing
+    /// more is asked. Outside the registers a simple tick does nothing but write pins, over those of the machines
+    /// before it.
     #[inline(always)]
     #[tactic(auto, unfolding(crate::specs::Tick::tick_of))]
     pub fn simple_tick(&mut self, view: &View, outputs: &mut Outputs, ready: bool) -> Tried
@@ -155,9 +156,9 @@ impl<F: Fifo> Machine<F> {
         self.registers.delay == 0 && !self.registers.begun
     }
 
-    /// When it next has a tick that stirs, if nothing outside it changes: in each tick it sees the same view, and its FIFOs
-    /// hold the same. A refill is at once; a stall lasts; a delay of 0 to 31 ticks ends with the tick after it. It costs the
-    /// same however far this is.
+    /// When it next has a tick that stirs, if nothing outside it changes: in each tick it sees the same view, and its
+    /// FIFOs hold the same. A refill is at once; a stall lasts; a delay of 0 to 31 ticks ends with the tick after it.
+    /// It costs the same however far this is.
     #[tactic(auto, using(crate::proofs::Stirs::is_idle, crate::proofs::Stirs::is_soon))]
     pub fn idle_until(&self, view: &View) -> Idle
         ensures value { result ≡ idle_of self.now.setup view.now (queues_of self.now.ports.fifos) self.now.registers }
@@ -173,8 +174,8 @@ impl<F: Fifo> Machine<F> {
         )
     }
 
-    /// So many ticks at once, none of which stirs while it sees the same view. Only the delay counts. Their sticky flags are
-    /// not raised again, and all else that they want is nothing.
+    /// So many ticks at once, none of which stirs while it sees the same view. Only the delay counts. Their sticky
+    /// flags are not raised again, and all else that they want is nothing.
     #[tactic(auto, using(crate::proofs::Stirs::passes))]
     pub fn leap(&mut self, view: &View, ticks: u64)
         requires { (k : ℕ) → k < ticks → stirs_at self.old.setup view.now (queues_of self.old.ports.fifos) self.old.registers k ≡ false }
