@@ -45,13 +45,13 @@ made_by s v q r after o i h same none = record {
   wants = ap (λ t. wants_of t.1) h ∙ none;
 }
 
--- the same of a machine
-pub makes : (v : View) (m : MachineState) (after : Registers) (o put : Outputs) → IsMade m.setup v (queues_of m.ports.fifos) m.registers after o put → MakesTick v m (record m { registers = after }) o put
-makes v m after o put is = record {
+-- the same of a machine, which was this
+pub makes : (v : View) (m was : MachineState) (after : Registers) (o put : Outputs) → m ≡ was → IsMade m.setup v (queues_of m.ports.fifos) m.registers after o put → MakesTick v was (record m { registers = after }) o put
+makes v m was after o put same is = subst (λ (x : MachineState). MakesTick v x (record m { registers = after }) o put) same (record {
   state = ap (λ (r : Registers). record m { registers = r }) is.registers;
   outputs = is.outputs;
   wants = is.wants;
-}
+})
 
 -- and it keeps the ranges
 pub stays_placed : (s : MachineSetup) (v : View) (q : Queues) (r after : Registers) (o put : Outputs) → IsMade s v q r after o put → IsPlaced r → IsPlaced after
