@@ -29,27 +29,21 @@ returns-then-waits-clause-done g c = λ done.
     (waited b.setup c.args.view.now (queues_of b.fifos) b.registers c.args.outputs.now c.if-self.false (omega (arith, c.if-self-gt0.false)) c.if-self-2.true
     (sym (ap (λ (o : Op). is_unmet o.act b.setup c.args.view.now) read.1) ∙ sym c.is_unmet-waits.ensures ∙ c.if-waits.true))
 
-pub write_end-requires-clause-level : goal.write_end-requires-clause-level
-write_end-requires-clause-level g c =
+pub write_end-requires : goal.write_end-requires
+write_end-requires g c =
     let b = c.self.inside in
-    (end_writes _ c.in-Some.end _ b.setup c.args.view.now (queues_of b.fifos) b.registers c.in-Some.ensures.effect).0
+    let writes = end_writes _ c.in-Some.end _ b.setup c.args.view.now (queues_of b.fifos) b.registers c.in-Some.ensures.effect in
+    record { level = writes.0; direction = writes.1 }
 
-pub write_end-requires-clause-direction : goal.write_end-requires-clause-direction
-write_end-requires-clause-direction g c =
-    let b = c.self.inside in
-    (end_writes _ c.in-Some.end _ b.setup c.args.view.now (queues_of b.fifos) b.registers c.in-Some.ensures.effect).1
-
-pub write_side-requires-clause-level : goal.write_side-requires-clause-level
-write_side-requires-clause-level g c =
+pub write_side-requires : goal.write_side-requires
+write_side-requires g c =
     let s = c.self.inside.setup in
     let read = read_as s _ _ _ c.reading-reading.result.now (c.read-2.ensures.setup ∙ c.self.invariant.1) c.reading-reading.ensures.reading (c.reading-reading.ensures.word ∙ c.read-2.ensures.word ∙ c.word.ensures) in
-    subst (λ (it : Side). IsWrite (side_level it)) (sym read.0.side) (is_side s c.reading-reading.result.now.op.side).writes_level
-
-pub write_side-requires-clause-direction : goal.write_side-requires-clause-direction
-write_side-requires-clause-direction g c =
-    let s = c.self.inside.setup in
-    let read = read_as s _ _ _ c.reading-reading.result.now (c.read-2.ensures.setup ∙ c.self.invariant.1) c.reading-reading.ensures.reading (c.reading-reading.ensures.word ∙ c.read-2.ensures.word ∙ c.word.ensures) in
-    subst (λ (it : Side). IsWrite (side_direction it)) (sym read.0.side) (is_side s c.reading-reading.result.now.op.side).writes_direction
+    let side = is_side s c.reading-reading.result.now.op.side in
+    record {
+      level = subst (λ (it : Side). IsWrite (side_level it)) (sym read.0.side) side.writes_level;
+      direction = subst (λ (it : Side). IsWrite (side_direction it)) (sym read.0.side) side.writes_direction;
+    }
 
 -- the tick that begins an instruction is of a ready machine
 ready_here : (g : Over) (c : goal.After-done-2 g) → is_ready c.self.inside.setup c.self.inside.registers ≡ true
