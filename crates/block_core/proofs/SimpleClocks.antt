@@ -65,24 +65,29 @@ writes_none : (o : Outputs) → o ≡ written_by o no_intent
 unfolding merged
 writes_none o = refl
 
--- a clock in which its tick is simple
-pub ticks_simply : StaysQuiet → (v : View) (s : Slot) (m : MachineState) (t : Timing) (o put : Outputs) → has_tick s ≡ true → MakesTick v s.machine m o put → t ≡ stepped s.timing
-    → MakesSimpleClock v s (record s { machine = m; timing = t }) o put
-ticks_simply fifos v s m t o put on made moved = record {
-  after = ap (λ (m : MachineState). record s { machine = m; timing = t }) made.state
-      ∙ ap (λ (t : Timing). record s { machine = record s.machine { registers = (ticked v s).0 }; timing = t }) moved
-      ∙ after_simple fifos v s (ticked v s) (acts v s on) made.wants;
-  outputs = made.outputs ∙ ap (λ (x : Registers × Intent). written_by o x.1) (sym (acts v s on));
-  wants = subst (λ (x : Registers × Intent). WantsPins x.1) (sym (acts v s on)) made.wants;
-}
+-- a clock in which the tick of a slot, which was this, is simple
+pub ticks_simply :
+    StaysQuiet → (v : View) (s was : Slot) (m : MachineState) (t : Timing) (o put : Outputs) → s ≡ was → has_tick was ≡ true → MakesTick v s.machine m o put → t ≡ stepped s.timing
+    → MakesSimpleClock v was (record s { machine = m; timing = t }) o put
+ticks_simply fifos v s was m t o put same on made moved =
+    let acts_so = acts v s (subst (λ (x : Slot). has_tick x ≡ true) (sym same) on) in
+    subst (λ (x : Slot). MakesSimpleClock v x (record s { machine = m; timing = t }) o put) same (record {
+      after = ap (λ (m : MachineState). record s { machine = m; timing = t }) made.state
+          ∙ ap (λ (t : Timing). record s { machine = record s.machine { registers = (ticked v s).0 }; timing = t }) moved
+          ∙ after_simple fifos v s (ticked v s) acts_so made.wants;
+      outputs = made.outputs ∙ ap (λ (x : Registers × Intent). written_by o x.1) (sym acts_so);
+      wants = subst (λ (x : Registers × Intent). WantsPins x.1) (sym acts_so) made.wants;
+    })
 
 -- a clock without a tick
-pub rests_simply : StaysQuiet → (v : View) (s : Slot) (t : Timing) (o : Outputs) → has_tick s ≡ false → t ≡ stepped s.timing → MakesSimpleClock v s (record s { timing = t }) o o
-rests_simply fifos v s t o off moved = record {
-  after = ap (λ (t : Timing). record s { timing = t }) moved ∙ after_simple fifos v s (s.machine.registers, no_intent) (acts_off v s off) refl;
-  outputs = writes_none o ∙ ap (λ (x : Registers × Intent). written_by o x.1) (sym (acts_off v s off));
-  wants = subst (λ (x : Registers × Intent). WantsPins x.1) (sym (acts_off v s off)) refl;
-}
+pub rests_simply : StaysQuiet → (v : View) (s was : Slot) (t : Timing) (o : Outputs) → s ≡ was → has_tick was ≡ false → t ≡ stepped s.timing → MakesSimpleClock v was (record s { timing = t }) o o
+rests_simply fifos v s was t o same off moved =
+    let rests = acts_off v s (subst (λ (x : Slot). has_tick x ≡ false) (sym same) off) in
+    subst (λ (x : Slot). MakesSimpleClock v x (record s { timing = t }) o o) same (record {
+      after = ap (λ (t : Timing). record s { timing = t }) moved ∙ after_simple fifos v s (s.machine.registers, no_intent) rests refl;
+      outputs = writes_none o ∙ ap (λ (x : Registers × Intent). written_by o x.1) (sym rests);
+      wants = subst (λ (x : Registers × Intent). WantsPins x.1) (sym rests) refl;
+    })
 
 -- its block gets its pins, and no more
 pub adds_pins : (w : Wanted) (o : Outputs) (i : Intent) → o ≡ written_by w.outputs i → WantsPins i → record w { outputs = o } ≡ with_intent w i

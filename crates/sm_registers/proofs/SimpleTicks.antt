@@ -45,13 +45,13 @@ made_by s v q r after o i h same none = record {
   wants = ap (λ t. wants_of t.1) h ∙ none;
 }
 
--- the same of a machine
-pub makes : (v : View) (m : MachineState) (after : Registers) (o put : Outputs) → IsMade m.setup v (queues_of m.ports.fifos) m.registers after o put → MakesTick v m (record m { registers = after }) o put
-makes v m after o put is = record {
+-- the same of a machine, which was this
+pub makes : (v : View) (m was : MachineState) (after : Registers) (o put : Outputs) → m ≡ was → IsMade m.setup v (queues_of m.ports.fifos) m.registers after o put → MakesTick v was (record m { registers = after }) o put
+makes v m was after o put same is = subst (λ (x : MachineState). MakesTick v x (record m { registers = after }) o put) same (record {
   state = ap (λ (r : Registers). record m { registers = r }) is.registers;
   outputs = is.outputs;
   wants = is.wants;
-}
+})
 
 -- and it keeps the ranges
 pub stays_placed : (s : MachineSetup) (v : View) (q : Queues) (r after : Registers) (o put : Outputs) → IsMade s v q r after o put → IsPlaced r → IsPlaced after
@@ -108,15 +108,9 @@ ready s r h = let parts = ready_by s.autopull (r.delay == 0) r.begun (is_some r.
   pending = none_some r.pending parts.1.1.1;
 }
 
-anew_by : (off zero begun some : Bool) → off ≡ false → zero ≡ true → begun ≡ false → some ≡ false → (not off && (zero && (not begun && not some))) ≡ true
-anew_by off zero begun some h i j k = rw (h, i, j, k) refl
-
 -- a machine of which that was asked is ready
 pub anew : (s : MachineSetup) (r : Registers) → s.autopull ≡ false → r.delay ≡ 0 → r.begun ≡ false → is_some r.pending ≡ false → is_ready s r ≡ true
-anew s r off none begun pending = anew_by s.autopull (r.delay == 0) r.begun (is_some r.pending) off (ap (λ n. n == 0) none) begun pending
-
-never_by : (some never : Bool) → some ≡ false → never ≡ true → (not some && never) ≡ true
-never_by some never h k = rw (h, k) refl
+anew s r off none begun pending = rw (off, none, begun, pending) refl
 
 -- and its tick is simple, where its instruction never waits
 pub begins_simply : (op : Op) (s : MachineSetup) (v : View) (r : Registers) → is_ready s r ≡ true → op ≡ reading_of (slice_index v.memory r.pc) s.side_rule → never_waits op.act ≡ true → is_simple s v r ≡ true
@@ -124,7 +118,7 @@ begins_simply op s v r h is never =
     let parts = ready s r h in
     let here : current_word v r ≡ slice_index v.memory r.pc = ap (λ p. word_at p v r.pc) parts.pending in
     let same : never_waits (reading_of (current_word v r) s.side_rule).act ≡ true = ap (λ w. never_waits (reading_of w s.side_rule).act) here ∙ sym (ap (λ (o : Op). never_waits o.act) is) ∙ never in
-    rw (parts.autopull, parts.delay, parts.begun) (never_by (is_some r.pending) (never_waits (reading_of (current_word v r) s.side_rule).act) (ap is_some parts.pending) same)
+    rw (parts.autopull, parts.delay, parts.begun, ap is_some parts.pending, same) refl
 
 -- what the end of an instruction says of its effect
 pub record IsEnd (e : Effect) (end : End) : Type 0 where

@@ -5,6 +5,8 @@
 --   begins_anew    the next tick begins an instruction from memory
 --   is_ready       the same on a machine without autopull
 --   is_simple      the next tick is simple
+--   MakesTick      a machine made it, and wants nothing but pins
+--   is_done, leaves_ready   what came of one that was tried
 use Rattle.std.specs.Prelude.{◌≡◌, ◌==◌, nat_lt, Bool, true, false, not, ◌&&◌, is_some, if◌then◌else◌}
 use Rattle.pio_encode.specs.declared.act.Act.{Act}
 use Rattle.pio_encode.specs.declared.act.Act.TheVariants.{Jmp, Out, Mov, Set, Nothing}

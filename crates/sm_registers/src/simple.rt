@@ -32,7 +32,7 @@ pub enum Tried {
 }
 
 impl Tried {
-    /// That of one that was done, by whether the next one is ready.
+    /// It was done, by whether the next one is ready.
     #[inline(always)]
     pub(crate) fn done(ready: bool) -> Tried
         ensures { result ≡ if ready then DoneReady else Done }

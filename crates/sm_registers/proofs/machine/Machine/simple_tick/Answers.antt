@@ -1,5 +1,5 @@
 -- A simple tick: it counts a delay, or only waits once more, or is the only one of an instruction.
-use Rattle.std.proofs.Common.{◌≡◌, ◌-◌, ◌∙◌, Bool, true, false, if◌then◌else◌, ap, arith, refl, subst, sym}
+use Rattle.std.proofs.Common.{◌≡◌, ◌∙◌, Bool, true, false, if◌then◌else◌, ap, arith, refl, subst, sym}
 use Rattle.pio_encode.specs.declared.op.Op.{Op}
 use Rattle.pin_matrix.specs.Pins.{IsWrite}
 use Rattle.sm_registers.specs.declared.plan.Side.{Side}
@@ -8,7 +8,7 @@ use Rattle.sm_registers.specs.Ends.{written_side}
 use Rattle.sm_registers.specs.Idling.{is_unmet}
 use Rattle.sm_registers.specs.Intents.{no_intent}
 use Rattle.sm_registers.specs.Plans.{side_level, side_direction, side_of}
-use Rattle.sm_registers.specs.Simple.{MakesTick, is_done, is_ready, is_simple}
+use Rattle.sm_registers.specs.Simple.{is_done, is_ready, is_simple}
 use Rattle.sm_registers.specs.State.{MachineState, queues_of}
 use Rattle.sm_registers.proofs.SimpleTicks.{IsMade, anew, begins_simply, counted, end_writes, goes_on, is_side, makes, only_tick, read_as, stays_placed, waited}
 use Rattle.sm_registers.proofs.machine.Machine.simple_tick.Given.{Over}
@@ -18,42 +18,32 @@ use Rattle.sm_registers.proofs.machine.Machine.simple_tick.Goals.{then-not-ready
 pub returns-then-self-gt0-clause-done : goal.returns-then-self-gt0-clause-done
 returns-then-self-gt0-clause-done g c = λ done.
     let b = c.self.inside in
-    let m : MachineState = record { setup = b.setup; registers = b.registers; ports = record { fifos = b.fifos; got = b.got; sticky = b.sticky } } in
-    subst (λ (was : MachineState). MakesTick c.args.view.now was (record m { registers = record b.registers { delay = b.registers.delay - 1 } }) c.args.outputs.now c.args.outputs.now) c.self.view_is
-    (makes c.args.view.now m _ c.args.outputs.now _
-    (counted b.setup c.args.view.now (queues_of b.fifos) b.registers c.args.outputs.now c.if-self.false c.if-self-gt0.true))
+    makes c.args.view.now _ _ _ c.args.outputs.now _ c.self.view_is
+    (counted b.setup c.args.view.now (queues_of b.fifos) b.registers c.args.outputs.now c.if-self.false c.if-self-gt0.true)
 
 pub returns-then-waits-clause-done : goal.returns-then-waits-clause-done
 returns-then-waits-clause-done g c = λ done.
     let b = c.self.inside in
-    let m : MachineState = record { setup = b.setup; registers = b.registers; ports = record { fifos = b.fifos; got = b.got; sticky = b.sticky } } in
     let read = read_as b.setup _ _ _ c.reading.result.now (c.read.ensures.setup ∙ c.self.invariant.1) c.reading.ensures.reading (c.reading.ensures.word ∙ c.read.ensures.word ∙ c.current_word-place.ensures.word) in
-    subst (λ (was : MachineState). MakesTick c.args.view.now was m c.args.outputs.now c.args.outputs.now) c.self.view_is
-    (makes c.args.view.now m _ c.args.outputs.now _
+    makes c.args.view.now _ _ _ c.args.outputs.now _ c.self.view_is
     (waited b.setup c.args.view.now (queues_of b.fifos) b.registers c.args.outputs.now c.if-self.false (omega (arith, c.if-self-gt0.false)) c.if-self-2.true
-    (sym (ap (λ (o : Op). is_unmet o.act b.setup c.args.view.now) read.1) ∙ sym c.is_unmet-waits.ensures ∙ c.if-waits.true)))
+    (sym (ap (λ (o : Op). is_unmet o.act b.setup c.args.view.now) read.1) ∙ sym c.is_unmet-waits.ensures ∙ c.if-waits.true))
 
-pub write_end-requires-clause-level : goal.write_end-requires-clause-level
-write_end-requires-clause-level g c =
+pub write_end-requires : goal.write_end-requires
+write_end-requires g c =
     let b = c.self.inside in
-    (end_writes _ c.in-Some.end _ b.setup c.args.view.now (queues_of b.fifos) b.registers c.in-Some.ensures.effect).0
+    let writes = end_writes _ c.in-Some.end _ b.setup c.args.view.now (queues_of b.fifos) b.registers c.in-Some.ensures.effect in
+    record { level = writes.0; direction = writes.1 }
 
-pub write_end-requires-clause-direction : goal.write_end-requires-clause-direction
-write_end-requires-clause-direction g c =
-    let b = c.self.inside in
-    (end_writes _ c.in-Some.end _ b.setup c.args.view.now (queues_of b.fifos) b.registers c.in-Some.ensures.effect).1
-
-pub write_side-requires-clause-level : goal.write_side-requires-clause-level
-write_side-requires-clause-level g c =
+pub write_side-requires : goal.write_side-requires
+write_side-requires g c =
     let s = c.self.inside.setup in
     let read = read_as s _ _ _ c.reading-reading.result.now (c.read-2.ensures.setup ∙ c.self.invariant.1) c.reading-reading.ensures.reading (c.reading-reading.ensures.word ∙ c.read-2.ensures.word ∙ c.word.ensures) in
-    subst (λ (it : Side). IsWrite (side_level it)) (sym read.0.side) (is_side s c.reading-reading.result.now.op.side).writes_level
-
-pub write_side-requires-clause-direction : goal.write_side-requires-clause-direction
-write_side-requires-clause-direction g c =
-    let s = c.self.inside.setup in
-    let read = read_as s _ _ _ c.reading-reading.result.now (c.read-2.ensures.setup ∙ c.self.invariant.1) c.reading-reading.ensures.reading (c.reading-reading.ensures.word ∙ c.read-2.ensures.word ∙ c.word.ensures) in
-    subst (λ (it : Side). IsWrite (side_direction it)) (sym read.0.side) (is_side s c.reading-reading.result.now.op.side).writes_direction
+    let side = is_side s c.reading-reading.result.now.op.side in
+    record {
+      level = subst (λ (it : Side). IsWrite (side_level it)) (sym read.0.side) side.writes_level;
+      direction = subst (λ (it : Side). IsWrite (side_direction it)) (sym read.0.side) side.writes_direction;
+    }
 
 -- the tick that begins an instruction is of a ready machine
 ready_here : (g : Over) (c : goal.After-done-2 g) → is_ready c.self.inside.setup c.self.inside.registers ≡ true
@@ -89,10 +79,7 @@ invariant_of-self-2 g c =
 
 pub returns-clause-done : goal.returns-clause-done
 returns-clause-done g c = λ done.
-    let b = c.self.inside in
-    let m : MachineState = record { setup = b.setup; registers = b.registers; ports = record { fifos = b.fifos; got = b.got; sticky = b.sticky } } in
-    subst (λ (was : MachineState). MakesTick c.args.view.now was (record m { registers = c.conclude-begins.new.registers }) c.args.outputs.now c.write_side.new.self) c.self.view_is
-    (makes c.args.view.now m c.conclude-begins.new.registers c.args.outputs.now c.write_side.new.self (made_here g c))
+    makes c.args.view.now _ _ _ c.args.outputs.now _ c.self.view_is (made_here g c)
 
 done_either : (ready : Bool) → is_done (if ready then DoneReady else Done) ≡ true
 done_either true = refl
