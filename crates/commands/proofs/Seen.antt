@@ -8,7 +8,7 @@ use Rattle.span_meter.specs.Measured.{SpanEdges, ends_in, measured, pins_in, see
 use Rattle.span_meter.specs.Events.{SpanEvents, events_in, is_any_selective, is_selective, marks}
 use Rattle.span_meter.specs.Meters.{HasMeasured, Meters, first_told, seen_so_far, watched}
 use Rattle.span_meter.specs.Spoken.{spoken}
-use Rattle.span_meter.specs.SpokenMeters.{HasSpoken, SpokenMeters, spoken_so_far, spoken_told, watched_events}
+use Rattle.span_meter.specs.SpokenMeters.{HasSpoken, SpokenMeters, spoken_so_far, spoken_told}
 use Rattle.dreq_pacing.specs.declared.line.Line.{Line}
 use Rattle.block_core.specs.Block.{Run}
 use Rattle.block_core.specs.Conduct.{conducts}
@@ -24,7 +24,7 @@ pub names : (pins : ShownPins) (ends : List SpanEdges) (t : Meters) → HasMeasu
 names pins ends t h = ap₂ first_told h.first h.watches
 
 -- a fresh meter of pairs spoken of names its pins and its events
-pub spoken_names : (pins : ShownPins) (events : List SpanEvents) (t : SpokenMeters) → HasSpoken pins events [] t → spoken_told t.first (watched_events t.watches) ≡ spoken_told pins events
+pub spoken_names : (pins : ShownPins) (events : List SpanEvents) (t : SpokenMeters) → HasSpoken pins events [] t → spoken_told t.first (map events_in t.spans) ≡ spoken_told pins events
 spoken_names pins events t h = ap₂ spoken_told h.first h.watches
 
 -- what such a meter and the other say of a span

@@ -58,7 +58,9 @@ last_from h (suc n) none =
     ∙ last_from h n (λ k lt. none k (omega (arith, lt)))
 
 pub conduct-from : (h : Conducting) (n : ℕ) → ((k : ℕ) → k < n → is_noted quiet (run_from h.hosted.run (λ c. quiet) k) ≡ false) → record { hosted = record h.hosted { run = run_from h.hosted.run (λ c. quiet) n }; last = h.last } ≡ conducting_from h n
-conduct-from h n none = rw (sym (hosted_from h n), sym (last_from h n none)) refl
+conduct-from h n none =
+    let mk : Hosted → Conduct → Conducting = λ b c. record { hosted = b; last = c } in
+    ap (λ (b : Hosted). mk b h.last) (sym (hosted_from h n)) ∙ ap (mk (conducting_from h n).hosted) (sym (last_from h n none))
 
 pub conduct-calm : (h : Conducting) (n : ℕ) → ((r : Run) (k : ℕ) → requests_of (leapt k r).state ≡ requests_of r.state) → ((k : ℕ) → k ≤ n → run_from h.hosted.run (λ c. quiet) k ≡ leapt k h.hosted.run) → ((k : ℕ) → k < n → moves_on quiet (run_from h.hosted.run (λ c. quiet) k) ≡ false) → ((k : ℕ) → k < n → is_noted quiet (run_from h.hosted.run (λ c. quiet) k) ≡ false) → IsCalm one_conduct h n
 conduct-calm h n asks rests calm none = record {

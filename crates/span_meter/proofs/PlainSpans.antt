@@ -1,5 +1,6 @@
 -- A span that speaks of every pair measures the same by what the machines did as by the samples.
-use Rattle.std.proofs.Common.{◌≡◌, ℕ, suc, Bool, true, false, not, ◌&&◌, ◌||◌, cond, Option, Some, None, List, [], ◌∷◌, refl, sym, ap, ◌∙◌, map}
+use Rattle.std.proofs.Common.{◌≡◌, ℕ, suc, Bool, true, false, not, ◌&&◌, ◌||◌, cond, eqb, Option, Some, None, List, [], ◌∷◌, length, refl, sym, ap, ◌∙◌, map, arith}
+use Rattle.std.proofs.lemmas.Bool.Decides.{nat_tests}
 use Rattle.std.specs.Option.{option_map}
 use Rattle.pin_matrix.specs.Pins.{is_high}
 use Rattle.pin_matrix.specs.declared.span.PinSignal.{PinSignal}
@@ -35,9 +36,12 @@ not_not : (b : Bool) → not b ≡ false → b ≡ true
 not_not true h = refl
 not_not false h = cc
 
+is_zero : (n : ℕ) → eqb n 0 ≡ true → n ≡ 0
+is_zero n h = grind (arith, nat_tests)
+
 none_named : (xs : List ℕ) → is_none xs ≡ true → xs ≡ []
 none_named [] h = refl
-none_named (x ∷ xs) h = cc
+none_named (x ∷ xs) h = let z = is_zero (length (x ∷ xs)) h in absurd (omega arith)
 
 and_false : (a b : Bool) → b ≡ false → (a && b) ≡ false
 and_false true b h = h

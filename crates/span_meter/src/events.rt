@@ -64,12 +64,7 @@ fn from_comes(
 }
 
 /// Whether the to-event comes.
-fn to_comes(
-    span: &Span,
-    before: ShownPins,
-    after: ShownPins,
-    did: &Option<MachineConduct>,
-) -> bool
+fn to_comes(span: &Span, before: ShownPins, after: ShownPins, did: &Option<MachineConduct>) -> bool
     ensures { result ≡ spec.comes (events_in span.now).to before after did.now }
 {
     let at = span.to_at.as_slice();

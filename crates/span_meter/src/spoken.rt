@@ -103,13 +103,7 @@ impl<'a> Trace<Conduct> for SpokenMeter<'a> {
 }
 
 /// Tells the meter of each span of a clock, by the pins before it and what is told after it.
-fn tell_each(
-    spans: &[Span],
-    meters: &mut [Meter],
-    clock: u64,
-    before: ShownPins,
-    told: &Conduct,
-)
+fn tell_each(spans: &[Span], meters: &mut [Meter], clock: u64, before: ShownPins, told: &Conduct)
     ensures { meters.new ≡ spec.tell_each clock before told.now spans.now meters.old }
 {
     let many = spans.len().min(meters.len());
