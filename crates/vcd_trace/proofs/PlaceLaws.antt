@@ -24,7 +24,7 @@ drop-copied a k s xs ys low size within =
     ∙ drop-append-le s ys (post_of a k xs) (omega (arith, size, within))
     ∙ ap (λ (l : List ℕ). drop s ys ++ l) (drop-drop k a xs)
 
--- a room of so many bytes, copied before an end
+-- a room of a size, copied before an end
 pub copied-before : (size end start : ℕ) (xs ys zs : List ℕ) → size ≤ end → end ≤ length xs → length zs ≡ size → start ≤ size → ys ≡ zs → drop (end - size + start) (put_mid (end - size) (end - (end - size)) xs ys) ≡ drop start zs ++ drop end xs
 copied-before size end start xs ys zs low high long within e =
     ap (λ (k : ℕ). drop (end - size + start) (put_mid (end - size) k xs ys)) (let same : end - (end - size) ≡ size = omega (arith, low) in same)
@@ -61,12 +61,12 @@ one_or_two false x y z = omega arith
 identifier-length : (id : ℕ) → length (identifier id) ≤ 2
 identifier-length id = one_or_two (nat_lt id 128) id 126 (id - 128)
 
--- the line of a value of so many bits
+-- the line of a value, by how many bits it has
 pub vector_line-length : (id k n : ℕ) → 1 ≤ k → k ≤ 64 → n < 2 ^ k → length (vector_line id n) ≤ k + 5
 vector_line-length id k n h w f =
     omega (arith, digits-length k n h w f, identifier-length id, length-append (digits 2 false n) (32 ∷ (identifier id ++ 10 ∷ [])), length-append (identifier id) (10 ∷ []))
 
--- those of an address and a word
+-- the lines of an address and a word
 pub place_lines-length : (first pc instruction : ℕ) → pc < 2 ^ 8 → instruction < 2 ^ 16 → length (place_lines first pc instruction) ≤ 34
 place_lines-length first pc instruction h k =
     omega (arith, length-append (vector_line first pc) (vector_line (first + 1) instruction), vector_line-length first 8 pc (omega arith) (omega arith) h, vector_line-length (first + 1) 16 instruction (omega arith) (omega arith) k)
@@ -83,7 +83,7 @@ place-room first pc word p w mid new second start e f h k size within later line
     let low : 40 ≤ start = omega (arith, ap length text, length-drop start new, size, within, place_lines-length first pc word h k) in
     (low, ap (drop (start - 40)) (take_all 34 (drop 40 new) (omega (arith, length-drop 40 new, size))) ∙ drop-drop (start - 40) 40 new ∙ ap (λ (n : ℕ). drop n new) (let same : 40 + (start - 40) ≡ start = omega (arith, low) in same) ∙ text)
 
--- the lines that are kept are those of what they are kept for
+-- the lines that are kept are the lines of what they are kept for
 pub place-same : (l : PlaceLines) (first pc instruction : ℕ) → l.first ≡ first → l.pc ≡ pc → l.instruction ≡ instruction → IsPlace l → HasPlace l first pc instruction
 place-same l first pc instruction e f h own = record {
   within = own.within;

@@ -1,4 +1,4 @@
--- What a usual clock adds: its line, then those of a level, of a pad and of the machines.
+-- What a usual clock adds: its line, then the lines of a level, of a pad and of the machines.
 use Rattle.std.proofs.Common.{◌≡◌, ℕ, ◌+◌, ◌*◌, ◌≤◌, Bool, true, false, Option, Some, None, List, [], ◌∷◌, ◌++◌, length, drop, get_or, cond, eqb, refl, sym, ap, ◌∙◌, arith, append_assoc, append-nil, length-drop}
 use Rattle.std.specs.Prelude.{replicate}
 use Rattle.std.proofs.lemmas.List.{drop_all}
@@ -84,7 +84,7 @@ word_change id before now = cond (eqb before now) [] (vector_line id now)
 abbrev pub flag_change : (id : ℕ) (before now : Bool) → List ℕ
 flag_change id before now = cond (eqb (bit_of before) (bit_of now)) [] (bit_line id (bit_of now))
 
--- those of two bits
+-- the lines of two bits
 flags-changes : (id : ℕ) (a b c d : Bool) → bit_changes id 2 (bit_of a + 2 * bit_of b) (bit_of c + 2 * bit_of d) ≡ flag_change id a c ++ (flag_change (id + 1) b d ++ [])
 unfolding bit_changes
 flags-changes id a b c d =

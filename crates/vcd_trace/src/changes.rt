@@ -29,9 +29,9 @@ pub(crate) fn put_next<S: Sink>(
     put_others(sink, last, now)
 }
 
-/// Whether two samples agree in all but the levels.
+// Whether two samples agree in all but the levels.
 #[inline(always)]
-pub(crate) fn has_same_rest(before: &Sample, now: &Sample) -> bool
+fn has_same_rest(before: &Sample, now: &Sample) -> bool
     ensures { result ≡ same_rest before.now now.now }
 {
     before.direction == now.direction && before.flags == now.flags && has_same_words(before, now)

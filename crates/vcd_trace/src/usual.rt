@@ -1,5 +1,5 @@
-//! What most clocks add to a trace of what is inside a block, gathered in a room and put as one piece: the line of the
-//! clock, those of a level and of a pad, and those of machines.
+//! What most clocks add to a trace of what is inside a block, gathered in a room and put as one piece: the
+//! clock's line, and the lines of a level, of a pad and of machines.
 ghost use Rattle.std.specs.Prelude.{◌≡◌, ◌+◌, ◌-◌, ◌*◌, ◌^◌, ◌<◌, ◌≤◌, ◌==◌, ◌++◌, [], Some, true, IfSome, drop, if◌then◌else◌, length};
 ghost use Rattle.vcd_trace.specs.VcdText.{bit_line, changes_over, vector_line};
 ghost use Rattle.vcd_trace.specs.Groups.{bit_changes, same_rest, vector_changes};
@@ -14,7 +14,7 @@ use crate::place_lines::Places;
 use crate::variable::{LEVEL, MACHINE, MACHINE_VALUES, PAD};
 use block_core::{Inside, MachineInside, Sample};
 
-/// Room for the lines of a usual clock: its own, one of a level, one of a pad, and those of four machines.
+/// Room for the lines of a usual clock: its own, one of a level, one of a pad, and the lines of four machines.
 pub(crate) const ROOM: usize = CLOCK_ROOM + 4 + 4 + 4 * MACHINE_ROOM;
 
 /// Room for the lines of a machine: of its address and its word, of six other words, and of two bits.
@@ -167,7 +167,7 @@ fn write_machines(
     write_where(room, second, places, 0, &before[0], &now[0])
 }
 
-// Those of the machine at a place, where one is configured.
+// The lines of the machine at a place, where one is configured.
 #[inline(always)]
 fn write_where(
     room: &mut [u8],
@@ -190,7 +190,7 @@ fn write_where(
     }
 }
 
-// Those of a machine.
+// The lines of a machine.
 #[inline(always)]
 fn write_machine(
     room: &mut [u8],
@@ -263,7 +263,7 @@ fn write_either(
     write_changed(room, word, first, u32::from(before.pc), u32::from(now.pc))
 }
 
-// All else. In most clocks no register changes, which few comparisons tell.
+// All else. In most clocks no register changes, which few comparisons show.
 #[inline(always)]
 fn write_others(
     room: &mut [u8],
@@ -358,7 +358,7 @@ fn write_changed(room: &mut [u8], end: usize, id: u8, before: u32, now: u32) -> 
     write_vector(room, end, id, now)
 }
 
-// That of a value of one bit.
+// The line of a value of one bit, if it changes.
 #[inline(always)]
 fn write_flag(room: &mut [u8], end: usize, id: u8, before: bool, now: bool) -> usize
     requires after { 4 ≤ end }
