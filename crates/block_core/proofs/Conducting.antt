@@ -1,15 +1,13 @@
 -- What the machines did in a clock, by how they stood before it and stand after it.
-use Rattle.std.proofs.Common.{◌≡◌, ℕ, zero, suc, ◌+◌, ◌-◌, ◌*◌, ◌/◌, ◌<◌, ◌≤◌, ◌==◌, Bool, true, false, not, ◌&&◌, ◌||◌, Option, Some, None, is_some, option_map, List, [], ◌∷◌, map, cond, nat_lt, slice_index_or, refl, sym, ap, ◌∙◌, arith}
+use Rattle.std.proofs.Common.{◌≡◌, ℕ, zero, suc, ◌+◌, ◌-◌, ◌*◌, ◌/◌, ◌<◌, ◌≤◌, ◌==◌, Bool, true, false, not, ◌&&◌, ◌||◌, Option, Some, None, option_map, List, [], ◌∷◌, map, cond, nat_lt, slice_index_or, refl, sym, ap, ◌∙◌, arith}
 use Rattle.std.proofs.lemmas.Bool.{or_parts}
 use Rattle.std.proofs.lemmas.Bool.Decides.{nat_tests}
 use Rattle.std.proofs.lemmas.Nat.{div_below}
 use Rattle.std.specs.List.{list_any}
 use Rattle.clock_divider.specs.Ticks.{is_tick}
 use Rattle.pio_encode.specs.Word.{reading_of}
-use Rattle.sm_registers.specs.declared.intent.Intent.{Intent}
 use Rattle.sm_registers.specs.declared.intent.Kind.{Kind}
 use Rattle.sm_registers.specs.declared.intent.Kind.TheVariants.{Off, First, Late, Delay}
-use Rattle.sm_registers.specs.declared.registers.Registers.{Registers}
 use Rattle.sm_registers.specs.Idling.{begins, finishes, stirs}
 use Rattle.sm_registers.specs.Intents.{no_intent}
 use Rattle.sm_registers.specs.State.{queues_of}
@@ -17,13 +15,13 @@ use Rattle.sm_registers.specs.Tick.{current_word, tick_by, tick_delay, tick_of, 
 use Rattle.sm_registers.specs.View.{View}
 use Rattle.dreq_pacing.specs.declared.due.Due.{Due}
 use Rattle.dreq_pacing.specs.Due.{quiet}
-use Rattle.block_core.specs.Block.{BlockState, Run, next, next_over, pads_in, run_from, seen_in, stepped, view_of}
+use Rattle.block_core.specs.Block.{BlockState, Run, next, pads_in, run_from, seen_in, stepped, view_of}
 use Rattle.block_core.specs.declared.conduct.Conduct.{Conduct}
 use Rattle.block_core.specs.declared.conduct.Standing.{Standing}
 use Rattle.block_core.specs.Conduct.{are_places_noted, concluded, concluded_places, conduct_after, conduct_by, conduct_in, has_new_pins, is_broken_by, is_machine_noted, is_noted, is_noted_by, is_standing_noted, machine_conduct, standing_in, standings_in}
 use Rattle.block_core.specs.Inside.{is_of_an_instruction, machine_inside}
 use Rattle.block_core.specs.Leaps.{leapt}
-use Rattle.block_core.specs.Slots.{Slot, acted, has_tick, lined, place_after, place_intent, settled_slot, slot_after, slot_intent}
+use Rattle.block_core.specs.Slots.{Slot, acted, has_tick, lined, place_after, place_intent, slot_after, slot_intent}
 use Rattle.block_core.specs.Stirring.{machines_stir_over, moves_on, pads_change_over}
 use Rattle.block_core.proofs.Insides.{waits_after}
 use Rattle.block_core.proofs.LeaptRun.{no_line}
