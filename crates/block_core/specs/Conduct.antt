@@ -133,6 +133,7 @@ abbrev pub concluded_place : (before after : Option Standing) → Option Machine
 concluded_place (Some t) (Some u) = Some (concluded t u.waits)
 concluded_place before after = None
 
+-- whether a place makes the clock one of note
 abbrev pub is_place_noted : (before after : Option Standing) → Bool
 is_place_noted (Some t) (Some u) = is_standing_noted t u.waits
 is_place_noted before after = false
@@ -142,6 +143,7 @@ abbrev pub concluded_places : (before after : List (Option Standing)) → List (
 concluded_places (t ∷ before) (u ∷ after) = concluded_place t u ∷ concluded_places before after
 concluded_places before after = []
 
+-- whether any of these does
 abbrev pub are_places_noted : (before after : List (Option Standing)) → Bool
 are_places_noted (t ∷ before) (u ∷ after) = is_place_noted t u || are_places_noted before after
 are_places_noted before after = false
