@@ -135,6 +135,8 @@ fn plain<F: Fifo, L: Ledger>(
 }
 
 /// A meter of any spans, after the first clocks of a block whose pins are these.
+#[cold]
+#[inline(never)]
 fn spoken<'a, F: Fifo, L: Ledger>(
     alloc: Global,
     block: Block<F>,
