@@ -115,6 +115,8 @@ fn metered<'a, L: Ledger>(
 }
 
 /// A meter of spans that all speak of every pair, after the first clocks of a block whose pins are these.
+// A call of its own: within a greater function its loop costs more a clock.
+#[inline(never)]
 fn plain<F: Fifo, L: Ledger>(
     alloc: Global,
     mut block: Block<F>,
@@ -135,6 +137,8 @@ fn plain<F: Fifo, L: Ledger>(
 }
 
 /// A meter of any spans, after the first clocks of a block whose pins are these.
+#[cold]
+#[inline(never)]
 fn spoken<'a, F: Fifo, L: Ledger>(
     alloc: Global,
     block: Block<F>,
