@@ -1,4 +1,5 @@
-//! The whole program as one call over its words, a shelf of files, an output and an error output, with a module for each command.
+//! The whole program as one call over its words, a shelf of files, an output and an error output, with a module for
+//! each command.
 #![tactic(auto)]
 
 mod asm;

@@ -36,9 +36,9 @@ use std::alloc::{AllocError, Global};
 use std::sync::ledger::Ledger;
 use step_count::Steps;
 
-/// Writes a line for each span of the block that a source sets up, by a configuration or by default: what it measures in so
-/// many clocks, with a stimulus where one is named. It doesn't ask whether a span is provable. All memory is taken before the
-/// first piece is put.
+/// Writes a line for each span of the block that a source sets up, by a configuration or by default: what it measures
+/// in so many clocks, with a stimulus where one is named. It doesn't ask whether a span is provable. All memory is
+/// taken before the first piece is put.
 ///
 /// With status 0: `MeasurePassed` (`specs/Passed.antt`).
 #[tactic(auto, unfolding(crate::specs::Tasks::judge), using(crate::proofs::Working::worked_by))]

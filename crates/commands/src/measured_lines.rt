@@ -13,7 +13,8 @@ use pin_matrix::Span;
 use pio_edge::{Sink, SinkFailed};
 use span_meter::{SeenDistances, put_seen};
 
-/// Writes the lines of what a meter of these spans has measured, and hands on what the output still keeps. It takes no memory.
+/// Writes the lines of what a meter of these spans has measured, and hands on what the output still keeps. It takes no
+/// memory.
 pub(crate) fn write_lines<O: Sink>(
     out: &mut O,
     spans: &[Span],
