@@ -1,113 +1,103 @@
--- Each measured distance goes from a from-edge to the first to-edge after it, as a span between edges asks it.
-use Rattle.std.proofs.Common.{◌≡◌, ℕ, zero, suc, ◌+◌, ◌-◌, ◌<◌, ◌≤◌, Bool, true, false, cond, Option, Some, None, List, [], ◌∷◌, ◌++◌, length, min, max, refl, sym, ap, ◌∙◌, subst, arith, ◌⊎◌, inl, inr, ◌≢◌}
-use Rattle.std.proofs.lemmas.Bool.{cases_eq}
-use Rattle.std.specs.Option.{option_map}
+-- Each distance that a proved span measures is that of a pair of which it speaks, and so within its bounds.
+use Rattle.std.proofs.Common.{◌≡◌, ℕ, zero, suc, ◌+◌, ◌-◌, ◌<◌, ◌≤◌, ◌&&◌, Bool, true, false, cond, ◌⊎◌, inl, inr, Option, Some, None, IsSome, List, [], ◌∷◌, ◌++◌, length, min, max, slice_index_or, refl, sym, ap, ◌∙◌, subst, arith}
 use Rattle.std.specs.List.{AllByRecursion}
+use Rattle.pin_matrix.specs.declared.machine.MachineSetup.{MachineSetup}
 use Rattle.pin_matrix.specs.declared.setup.Setup.{Setup}
-use Rattle.pin_matrix.specs.declared.span.PinSignal.{PinSignal}
-use Rattle.pin_matrix.specs.declared.span.PinSignal.TheVariants.{Level, Direction}
 use Rattle.pin_matrix.specs.declared.span.Span.{Span}
 use Rattle.pin_matrix.specs.declared.span.SpanUnit.{SpanUnit}
 use Rattle.pin_matrix.specs.declared.span.SpanUnit.TheVariants.{Ticks, Clocks}
 use Rattle.dreq_pacing.specs.declared.line.Line.{Line}
-use Rattle.block_core.specs.declared.sample.Sample.{Sample}
-use Rattle.block_core.specs.Block.{BlockState, Run, first_run}
-use Rattle.block_core.specs.Edges.{has_edge}
-use Rattle.block_core.specs.Hosted.{host_of, hosted_at, sample_at, samples}
-use Rattle.block_core.specs.Shown.{sample_of}
-use Rattle.span_check.specs.Marks as marks
-use Rattle.span_check.specs.Marks.{Mark, mark_of}
-use Rattle.span_check.specs.Holding.{IsFirstToEdge, Holds, HoldsFrom, IsQuiet, IsSpokenOf, IsUpTo}
-use Rattle.span_check.specs.Runs.{marks_in, state_beside}
+use Rattle.block_core.specs.declared.conduct.Conduct.{Conduct}
+use Rattle.block_core.specs.Block.{Run, first_run}
+use Rattle.block_core.specs.Conduct.{conduct_at, conducts}
+use Rattle.block_core.specs.Hosted.{host_of, hosted_at, samples}
+use Rattle.span_check.specs.Holding.{Holds, IsFirstToEdge, IsSpokenOf, IsUpTo}
+use Rattle.span_check.specs.Marks.{Mark, is_broken, mark_of}
 use Rattle.span_check.specs.Proved.{HoldsInEveryRun}
+use Rattle.span_check.specs.Runs.{marks_in, state_beside}
 use Rattle.span_meter.specs.declared.pins.ShownPins.{ShownPins}
-use Rattle.span_meter.specs.Measured as meter
-use Rattle.span_meter.specs.Measured.{clocks_to, pins_of, pins_in, signal_of, ends_in, greatest_of, least_of, least_with, measured, seen_of, with_distance}
+use Rattle.span_meter.specs.declared.seen.SeenDistances.{SeenDistances}
+use Rattle.span_meter.specs.Events.{SpanEvents, events_in, is_cut, is_selective, marks, pins_told}
+use Rattle.span_meter.specs.Measured.{ends_in, greatest_of, least_with, measured, pins_in, seen_of}
+use Rattle.span_meter.specs.Spoken as spoken
+use Rattle.span_meter.specs.Spoken.{AreMarksFrom, IsOfPair, IsPair, spoken}
 use Rattle.span_seen.specs.Within.{IsUndisturbed, IsWithin, measured_in}
+use Rattle.span_seen.proofs.Going.{pins_before, run_told, told_mark}
+use Rattle.span_seen.proofs.Telling.{IsTold}
 
--- the samples from a clock on
-unfoldable samples_from : (ℕ → Sample) → (k count : ℕ) → List Sample
-samples_from shown k zero = []
-samples_from shown k (suc count) = shown k ∷ samples_from shown (suc k) count
+-- what is told from a clock on
+unfoldable told_from : (told : ℕ → Conduct) → (k count : ℕ) → List Conduct
+told_from told k zero = []
+told_from told k (suc count) = told k ∷ told_from told (suc k) count
 
-from-push : (shown : ℕ → Sample) (k count : ℕ) → samples_from shown k (suc count) ≡ samples_from shown k count ++ shown (k + count) ∷ []
-unfolding samples_from
-from-push shown k zero = ap (λ c. shown c ∷ []) (let e : k ≡ k + 0 = omega arith in e)
-from-push shown k (suc count) =
-    ap (λ xs. shown k ∷ xs) (from-push shown (suc k) count ∙ ap (λ c. samples_from shown (suc k) count ++ shown c ∷ []) (let e : suc k + count ≡ k + suc count = omega arith in e))
+from-push : (told : ℕ → Conduct) (k count : ℕ) → told_from told k (suc count) ≡ told_from told k count ++ told (k + count) ∷ []
+unfolding told_from
+from-push told k zero = ap (λ c. told c ∷ []) (let e : k ≡ k + 0 = omega arith in e)
+from-push told k (suc count) =
+    ap (λ xs. told k ∷ xs) (from-push told (suc k) count ∙ ap (λ c. told_from told (suc k) count ++ told c ∷ []) (let e : suc k + count ≡ k + suc count = omega arith in e))
 
-samples-from : (start : Run) (lines : List Line) (n : ℕ) → samples start lines n ≡ samples_from (sample_at start lines) 0 n
-unfolding samples samples_from
-samples-from start lines zero = refl
-samples-from start lines (suc n) =
-    ap (λ xs. xs ++ sample_at start lines n ∷ []) (samples-from start lines n)
-    ∙ ap (λ c. samples_from (sample_at start lines) 0 n ++ sample_at start lines c ∷ []) (let e : n ≡ 0 + n = omega arith in e)
-    ∙ sym (from-push (sample_at start lines) 0 n)
+conducts-from : (u : Setup) (lines : List Line) (n : ℕ) → conducts (first_run u) lines n ≡ told_from (conduct_at (first_run u) lines) 0 n
+unfolding conducts told_from
+conducts-from u lines zero = refl
+conducts-from u lines (suc n) =
+    let told = conduct_at (first_run u) lines in
+    ap (λ xs. xs ++ told n ∷ []) (conducts-from u lines n) ∙ ap (λ c. told_from told 0 n ++ told c ∷ []) (let e : n ≡ 0 + n = omega arith in e) ∙ sym (from-push told 0 n)
 
--- the first to-edge from a clock on, where one comes in so many clocks
-abbrev FirstTo : (to : ℕ → Bool) → (k count : ℕ) → Option ℕ → Type 0
-FirstTo to k count None = Unit {0}
-FirstTo to k count (Some j) = (j < count) × (to (k + j) ≡ true) × ((c : ℕ) → k ≤ c → c < k + j → to c ≡ false)
+-- its marks are those of the clocks
+marks_from : (u : Setup) (sp : Span) (lines : List Line) (k count : ℕ)
+    → AreMarksFrom (told_mark u sp lines) k (marks (events_in sp) k (pins_in (state_beside u lines k)) (told_from (conduct_at (first_run u) lines) k count))
+unfolding marks told_from
+marks_from u sp lines k zero = tt
+marks_from u sp lines k (suc count) =
+    let rest = told_from (conduct_at (first_run u) lines) (suc k) count in
+    (refl, subst (λ (pins : ShownPins). AreMarksFrom (told_mark u sp lines) (suc k) (marks (events_in sp) (suc k) pins rest)) (sym (pins_before u lines (suc k))) (marks_from u sp lines (suc k) count))
 
--- one edge of a run with these pins before each clock
-abbrev to_at : meter.SpanEdges → (pins : ℕ → ShownPins) → ℕ → Bool
-to_at e pins c = meter.is_to e (pins c) (pins (suc c))
+length-marks : (e : SpanEvents) (told : ℕ → Conduct) (clock k count : ℕ) (pins : ShownPins) → length (marks e clock pins (told_from told k count)) ≡ count
+unfolding marks told_from
+length-marks e told clock k zero pins = refl
+length-marks e told clock k (suc count) pins = ap suc (length-marks e told (suc clock) (suc k) count (pins_told (told k)))
 
-abbrev from_at : meter.SpanEdges → (pins : ℕ → ShownPins) → ℕ → Bool
-from_at e pins c = meter.is_from e (pins c) (pins (suc c))
-
-or_first : (to : ℕ → Bool) (k c : ℕ) → to k ≡ false → (suc k ≤ c → to c ≡ false) → k ≤ c → to c ≡ false
-or_first to k c first rest low = on (cases_eq c k) where
-  on : (c ≡ k) ⊎ (c ≢ k) → to c ≡ false
-  on (inl e) = ap to e ∙ first
-  on (inr n) = rest (omega arith)
-
-next_first : (to : ℕ → Bool) (k count : ℕ) (b : Bool) (o : Option ℕ) → to k ≡ b → FirstTo to (suc k) count o → FirstTo to k (suc count) (cond b (Some 0) (option_map suc o))
-next_first to k count true o h f = (omega arith, ap to (let e : k + 0 ≡ k = omega arith in e) ∙ h, λ c low high. absurd (omega arith))
-next_first to k count false None h f = tt
-next_first to k count false (Some j) h f =
-    let a = f.0 in
-    (omega arith, ap to (let e : k + suc j ≡ suc k + j = omega arith in e) ∙ f.1, λ c low high. or_first to k c h (λ after. f.2 c after (omega arith)) low)
-
-first_to : (e : meter.SpanEdges) (pins : ℕ → ShownPins) (shown : ℕ → Sample) → ((c : ℕ) → pins_of (shown c) ≡ pins (suc c)) → (k count : ℕ)
-    → FirstTo (to_at e pins) k count (clocks_to e (pins k) (samples_from shown k count))
-unfolding clocks_to samples_from
-first_to e pins shown same k zero = tt
-first_to e pins shown same k (suc count) =
-    let to = to_at e pins in
-    let P : ShownPins → Type 0 = λ v. FirstTo to k (suc count) (cond (meter.is_to e (pins k) v) (Some 0) (option_map suc (clocks_to e v (samples_from shown (suc k) count)))) in
-    subst P (sym (same k)) (next_first to k count (to k) (clocks_to e (pins (suc k)) (samples_from shown (suc k) count)) refl (first_to e pins shown same (suc k) count))
-
--- what is asked of each distance: from a from-edge to the first to-edge after it, before clock n
-abbrev Asked : (from to : ℕ → Bool) → (n : ℕ) → (ℕ → Type 0) → Type 0
-Asked from to n Good = (s d : ℕ) → from s ≡ true → 0 < d → s + d < n → to (s + d) ≡ true → ((c : ℕ) → s < c → c < s + d → to c ≡ false) → Good d
-
-one_good : (from to : ℕ → Bool) (n : ℕ) (Good : ℕ → Type 0) → Asked from to n Good → (k count : ℕ) → k + suc count ≤ n → from k ≡ true → (o : Option ℕ) → FirstTo to (suc k) count o
-    → (ds : List ℕ) → AllByRecursion Good ds → AllByRecursion Good (with_distance o ds)
-one_good from to n Good asked k count within start None f ds all = all
-one_good from to n Good asked k count within start (Some j) f ds all =
-    let a = f.0 in
-    (asked k (suc j) start (omega arith) (omega arith) (ap to (let e : k + suc j ≡ suc k + j = omega arith in e) ∙ f.1) (λ c low high. f.2 c low (omega arith)), all)
-
-where_from : (from to : ℕ → Bool) (n : ℕ) (Good : ℕ → Type 0) → Asked from to n Good → (k count : ℕ) → k + suc count ≤ n → (b : Bool) → from k ≡ b → (o : Option ℕ) → FirstTo to (suc k) count o
-    → (ds : List ℕ) → AllByRecursion Good ds → AllByRecursion Good (cond b (with_distance o ds) ds)
-where_from from to n Good asked k count within true start o f ds all = one_good from to n Good asked k count within start o f ds all
-where_from from to n Good asked k count within false start o f ds all = all
-
--- so each measured distance is
-all_good : (e : meter.SpanEdges) (pins : ℕ → ShownPins) (shown : ℕ → Sample) → ((c : ℕ) → pins_of (shown c) ≡ pins (suc c)) → (n : ℕ) (Good : ℕ → Type 0) → Asked (from_at e pins) (to_at e pins) n Good
-    → (k count : ℕ) → k + count ≤ n → AllByRecursion Good (measured e (pins k) (samples_from shown k count))
-unfolding measured samples_from
-all_good e pins shown same n Good asked k zero within = tt
-all_good e pins shown same n Good asked k (suc count) within =
-    let rest : List Sample = samples_from shown (suc k) count in
-    let P : ShownPins → Type 0 = λ v. AllByRecursion Good (cond (meter.is_from e (pins k) v) (with_distance (clocks_to e v rest) (measured e v rest)) (measured e v rest)) in
-    subst P (sym (same k)) (where_from (from_at e pins) (to_at e pins) n Good asked k count within (from_at e pins k) refl (clocks_to e (pins (suc k)) rest) (first_to e pins shown same (suc k) count)
-    (measured e (pins (suc k)) rest) (all_good e pins shown same n Good asked (suc k) count (omega arith)))
+-- no clock of a pair excuses its from-event
+unexcused : (cut : Bool) (m : ℕ → Mark) (t : ℕ → spoken.Mark) → ((c : ℕ) → IsTold cut (m c) (m (suc c)).excused (t c)) → (end s e : ℕ) → IsPair t end s e
+    → (j c : ℕ) → c + j ≡ e → s < c → (m c).excused ≡ false
+unexcused cut m t told end s e pair zero c at low =
+    let here : c ≡ e = omega arith in
+    (told c).free (pair.free c low (omega arith)) (inl (ap (λ k. (t k).to) here ∙ pair.to))
+unexcused cut m t told end s e pair (suc j) c at low =
+    (told c).free (pair.free c low (omega arith)) (inr (unexcused cut m t told end s e pair j (suc c) (omega arith) (omega arith)))
 
 -- within some bounds
 abbrev IsBetween : (min : ℕ) (max : Option ℕ) (d : ℕ) → Type 0
 IsBetween min max d = (min ≤ d) × IsUpTo max d
+
+-- nor does a line break it, where the span is cut or no line disturbs it
+pair_between : (unit : SpanUnit) (lo : ℕ) (hi : Option ℕ) (end : ℕ) (cut : Bool) (m : ℕ → Mark) (t : ℕ → spoken.Mark) → unit ≡ Clocks → Holds unit lo hi m end
+    → ((c : ℕ) → IsTold cut (m c) (m (suc c)).excused (t c)) → (cut ≡ true) ⊎ ((c : ℕ) → c < end → (m c).breaks ≡ false)
+    → (d : ℕ) → IsOfPair t end d → IsBetween lo hi d
+pair_between Ticks lo hi end cut m t clocks holds told calm d p = cc
+pair_between Clocks lo hi end cut m t clocks holds told calm d p =
+    let s = p.s in
+    let e = p.e in
+    let pair = p.pair in
+    let long = p.long in
+    let after = pair.after in
+    let within = pair.within in
+    let from : (m s).from ≡ true = sym (told s).from ∙ pair.from in
+    let h = holds s (omega arith) from in
+    let ends : IsFirstToEdge m s e = record { after = after; first = λ c low high. sym (told c).to ∙ pair.first c low high; edge = sym (told e).to ∙ pair.to } in
+    let unbroken : (c : ℕ) → s < c → c < suc e → (m c).breaks ≡ false = λ c low high. by_either c low high calm in
+    let speaks : IsSpokenOf Clocks m s (suc e) = record { free = λ c low high. unexcused cut m t told end s e pair (e - c) c (omega arith) low; unbroken = unbroken } in
+    let least = h.least e ends within speaks in
+    let most = h.most e ends within speaks in
+    (omega arith, subst (IsUpTo hi) (let z : suc e - 1 - s ≡ d = omega arith in z) most)
+  where
+    by_either : (c : ℕ) → p.s < c → c < suc p.e → (cut ≡ true) ⊎ ((c : ℕ) → c < end → (m c).breaks ≡ false) → (m c).breaks ≡ false
+    by_either c low high (inl cuts) = (told c).calm cuts (p.pair.free c low (omega arith))
+    by_either c low high (inr undisturbed) = let within = p.pair.within in undisturbed c (omega arith)
+
+all_between : (P Q : ℕ → Type 0) → ((d : ℕ) → P d → Q d) → (ds : List ℕ) → AllByRecursion P ds → AllByRecursion Q ds
+all_between P Q f [] h = tt
+all_between P Q f (d ∷ ds) h = (f d h.0, all_between P Q f ds h.1)
 
 least_between : (lo : ℕ) (hi : Option ℕ) (d : ℕ) (ds : List ℕ) → IsBetween lo hi d → AllByRecursion (IsBetween lo hi) ds → lo ≤ least_with d ds
 least_between lo hi d [] h all = h.0
@@ -124,55 +114,53 @@ seen_between : (lo : ℕ) (hi : Option ℕ) (ds : List ℕ) → AllByRecursion (
 seen_between lo hi [] all = record { least = λ some. absurd (omega arith); most = λ some. absurd (omega arith) }
 seen_between lo hi (x ∷ xs) all = record { least = λ some. least_between lo hi x xs all.0 all.1; most = λ some. most_between lo hi (x ∷ xs) all }
 
--- an edge is the same by what a state has and by what is shown of its pins
-same_edge : (signal : Option PinSignal) (pin : ℕ) (rise : Bool) (before after : BlockState) → marks.has_signal_edge signal pin rise before after ≡ has_edge pin rise (signal_of signal (pins_in before)) (signal_of signal (pins_in after))
-same_edge None pin rise before after = refl
-same_edge (Some Level) pin rise before after = refl
-same_edge (Some Direction) pin rise before after = refl
-
--- what a law of span_check says of a span between edges: its events are edges
-pub record AreEdges (sp : Span) (u : Setup) (lines : List Line) : Type 0 where
-  pub from : (c : ℕ) → (marks_in sp u lines c).from ≡ marks.has_signal_edge sp.from_signal sp.from_pin sp.from_rise (state_beside u lines c) (state_beside u lines (suc c))
-  pub to : (c : ℕ) → (marks_in sp u lines c).to ≡ marks.has_signal_edge sp.to_signal sp.to_pin sp.to_rise (state_beside u lines c) (state_beside u lines (suc c))
-
-from_mark : (sp : Span) (u : Setup) (lines : List Line) (c : ℕ) → AreEdges sp u lines → (marks_in sp u lines c).from ≡ from_at (ends_in sp) (λ k. pins_in (state_beside u lines k)) c
-from_mark sp u lines c edges = edges.from c ∙ same_edge sp.from_signal sp.from_pin sp.from_rise (state_beside u lines c) (state_beside u lines (suc c))
-
-to_mark : (sp : Span) (u : Setup) (lines : List Line) (c : ℕ) → AreEdges sp u lines → (marks_in sp u lines c).to ≡ to_at (ends_in sp) (λ k. pins_in (state_beside u lines k)) c
-to_mark sp u lines c edges = edges.to c ∙ same_edge sp.to_signal sp.to_pin sp.to_rise (state_beside u lines c) (state_beside u lines (suc c))
-
-breaks_mark : (sp : Span) (u : Setup) (lines : List Line) (c : ℕ) → (marks_in sp u lines c).breaks ≡ marks.is_broken (host_of (first_run u) lines c) sp.machine
+breaks_mark : (sp : Span) (u : Setup) (lines : List Line) (c : ℕ) → (marks_in sp u lines c).breaks ≡ is_broken (host_of (first_run u) lines c) sp.machine
 unfolding mark_of
 breaks_mark sp u lines c = refl
 
-shown_pins : (u : Setup) (lines : List Line) (c : ℕ) → pins_of (sample_at (first_run u) lines c) ≡ pins_in (state_beside u lines (suc c))
-unfolding sample_of
-shown_pins u lines c = refl
+-- what a law of span_meter says: a distance is that of a pair
+abbrev pub AreOfPairs : Type 0
+AreOfPairs = (at : ℕ → spoken.Mark) (ks : List spoken.Mark) → AreMarksFrom at 0 ks → AllByRecursion (IsOfPair at (length ks)) (spoken ks)
 
-first_pins : (u : Setup) (lines : List Line) → pins_in (state_beside u lines 0) ≡ pins_in (first_run u).state
+-- a span in clocks is cut, if it speaks not of every pair; else its machine is undisturbed
+calm_or_cut : (u : Setup) (sp : Span) (lines : List Line) (n : ℕ) (selects : Bool) (unit : SpanUnit) → unit ≡ Clocks → (selects ≡ false → IsUndisturbed u sp lines n)
+    → ((is_cut unit && selects) ≡ true) ⊎ ((c : ℕ) → c < n → (marks_in sp u lines c).breaks ≡ false)
+calm_or_cut u sp lines n selects Ticks clocks calm = cc
+calm_or_cut u sp lines n true Clocks clocks calm = inl refl
+calm_or_cut u sp lines n false Clocks clocks calm = inr (λ c low. breaks_mark sp u lines c ∙ calm refl c low)
+
+pub all_within : AreOfPairs → (u : Setup) (sp : Span) (s : MachineSetup) → slice_index_or u.machines sp.machine None ≡ Some s → HoldsInEveryRun u sp → sp.unit ≡ Clocks → (lines : List Line) (n : ℕ)
+    → (is_selective sp ≡ false → IsUndisturbed u sp lines n)
+    → IsWithin sp.min sp.max (seen_of (spoken (marks (events_in sp) 0 (pins_in (first_run u).state) (conducts (first_run u) lines n))))
 unfolding hosted_at
-first_pins u lines = refl
+all_within pairs u sp s configured holds clocks lines n calm =
+    let e = events_in sp in
+    let start = pins_in (first_run u).state in
+    let told = told_from (conduct_at (first_run u) lines) 0 n in
+    let ks = marks e 0 start told in
+    let t = told_mark u sp lines in
+    let long : length ks ≡ n = length-marks e (conduct_at (first_run u) lines) 0 0 n start in
+    let of : AllByRecursion (IsOfPair t n) (spoken ks) = subst (λ (end : ℕ). AllByRecursion (IsOfPair t end) (spoken ks)) long (pairs t ks (marks_from u sp lines 0 n)) in
+    let between = pair_between sp.unit sp.min sp.max n e.cut (marks_in sp u lines) t clocks (holds.beside lines n) (run_told u sp lines s configured) (calm_or_cut u sp lines n (is_selective sp) sp.unit clocks calm) in
+    let good = seen_between sp.min sp.max (spoken ks) (all_between (IsOfPair t n) (IsBetween sp.min sp.max) between (spoken ks) of) in
+    subst (λ (cs : List Conduct). IsWithin sp.min sp.max (seen_of (spoken (marks e 0 start cs)))) (sym (conducts-from u lines n)) good
 
-in_clocks : (unit : SpanUnit) (lo : ℕ) (hi : Option ℕ) (n : ℕ) (m : ℕ → Mark) → unit ≡ Clocks → Holds unit lo hi m n → ((c : ℕ) → (m c).excused ≡ false) → ((c : ℕ) → c < n → (m c).breaks ≡ false)
-    → (s d : ℕ) → (m s).from ≡ true → 0 < d → s + d < n → (m (s + d)).to ≡ true → ((c : ℕ) → s < c → c < s + d → (m c).to ≡ false) → IsBetween lo hi d
-in_clocks Ticks lo hi n m clocks holds free calm s d start some within to first = cc
-in_clocks Clocks lo hi n m clocks holds free calm s d start some within to first =
-    let h = holds s (omega arith) start in
-    let ends : IsFirstToEdge m s (s + d) = record { after = omega arith; first = first; edge = to } in
-    let spoken : IsSpokenOf Clocks m s (suc (s + d)) = record { free = λ c low high. free c; unbroken = λ c low high. calm c (omega arith) } in
-    let least = h.least (s + d) ends within spoken in
-    let most = h.most (s + d) ends within spoken in
-    (omega arith, subst (IsUpTo hi) (let e : suc (s + d) - 1 - s ≡ d = omega arith in e) most)
+-- and: a span that speaks of every pair measures them all
+abbrev pub MeasuresEveryPair : Type 0
+MeasuresEveryPair =
+    (start : Run) (sp : Span) (lines : List Line) (n : ℕ) → is_selective sp ≡ false
+    → spoken (marks (events_in sp) 0 (pins_in start.state) (conducts start lines n)) ≡ measured (ends_in sp) (pins_in start.state) (samples start lines n)
 
-pub seen_within : (u : Setup) (sp : Span) → sp.unit ≡ Clocks → HoldsInEveryRun u sp → (lines : List Line) (n : ℕ) → AreEdges sp u lines → ((c : ℕ) → (marks_in sp u lines c).excused ≡ false) → IsUndisturbed u sp lines n → IsWithin sp.min sp.max (measured_in u sp lines n)
-seen_within u sp clocks holds lines n edges free calm =
-    let pins : ℕ → ShownPins = λ k. pins_in (state_beside u lines k) in
-    let e = ends_in sp in
-    let asked : Asked (from_at e pins) (to_at e pins) n (IsBetween sp.min sp.max) = λ s d start some within to first.
-    in_clocks sp.unit sp.min sp.max n (marks_in sp u lines) clocks (holds.beside lines n) free (λ c low. breaks_mark sp u lines c ∙ calm c low)
-    s d (from_mark sp u lines s edges ∙ start) some within (to_mark sp u lines (s + d) edges ∙ to) (λ c low high. to_mark sp u lines c edges ∙ first c low high) in
-    let all = all_good e pins (sample_at (first_run u) lines) (shown_pins u lines) n (IsBetween sp.min sp.max) asked 0 n (omega arith) in
-    let good = seen_between sp.min sp.max (measured e (pins 0) (samples_from (sample_at (first_run u) lines) 0 n)) all in
-    let P : List Sample → Type 0 = λ xs. IsWithin sp.min sp.max (seen_of (measured e (pins 0) xs)) in
-    let Q : ShownPins → Type 0 = λ v. IsWithin sp.min sp.max (seen_of (measured e v (samples (first_run u) lines n))) in
-    subst Q (first_pins u lines) (subst P (sym (samples-from (first_run u) lines n)) good)
+by_kind : (selects : Bool) (P : SeenDistances → Type 0) (chosen every : List ℕ) → P (seen_of chosen) → (selects ≡ false → chosen ≡ every) → P (cond selects (seen_of chosen) (seen_of every))
+by_kind true P chosen every h same = h
+by_kind false P chosen every h same = subst (λ (ds : List ℕ). P (seen_of ds)) (same refl) h
+
+pub seen_within : AreOfPairs → MeasuresEveryPair → (u : Setup) (sp : Span) → IsSome (slice_index_or u.machines sp.machine None) → HoldsInEveryRun u sp → sp.unit ≡ Clocks → (lines : List Line) (n : ℕ)
+    → (is_selective sp ≡ false → IsUndisturbed u sp lines n) → IsWithin sp.min sp.max (measured_in u sp lines n)
+seen_within pairs every u sp some holds clocks lines n calm = on (slice_index_or u.machines sp.machine None) refl some where
+  on : (o : Option MachineSetup) → slice_index_or u.machines sp.machine None ≡ o → IsSome o → IsWithin sp.min sp.max (measured_in u sp lines n)
+  on None e h = cc
+  on (Some s) e h =
+      let start = first_run u in
+      by_kind (is_selective sp) (IsWithin sp.min sp.max) (spoken (marks (events_in sp) 0 (pins_in start.state) (conducts start lines n))) (measured (ends_in sp) (pins_in start.state) (samples start lines n))
+      (all_within pairs u sp s e holds clocks lines n calm) (every start sp lines n)

@@ -1,3 +1,5 @@
 pub mod Staying
+pub mod Telling
+pub mod Going
 pub mod Distances
 mod EdgeRows

@@ -2,24 +2,31 @@
 --   IsUndisturbed   no line disables or restarts the span's machine
 --   measured_in     what the span measures in a run
 --   IsWithin        the least and the greatest distance are within the bounds
-use Rattle.std.specs.Prelude.{◌≡◌, ℕ, ◌<◌, ◌≤◌, false, Option, List}
+use Rattle.std.specs.Prelude.{◌≡◌, ℕ, ◌<◌, ◌≤◌, false, if◌then◌else◌, Option, List}
 use Rattle.pin_matrix.specs.declared.setup.Setup.{Setup}
 use Rattle.pin_matrix.specs.declared.span.Span.{Span}
 use Rattle.dreq_pacing.specs.declared.line.Line.{Line}
 use Rattle.block_core.specs.Block.{first_run}
+use Rattle.block_core.specs.Conduct.{conducts}
 use Rattle.block_core.specs.Hosted.{host_of, samples}
 use Rattle.span_check.specs.Holding.{IsUpTo}
 use Rattle.span_check.specs.Marks.{is_broken}
 use Rattle.span_meter.specs.declared.seen.SeenDistances.{SeenDistances}
+use Rattle.span_meter.specs.Events.{events_in, is_selective, marks}
 use Rattle.span_meter.specs.Measured.{ends_in, measured, pins_in, seen_of}
+use Rattle.span_meter.specs.Spoken.{spoken}
 
 -- no line of the first n clocks disables the span's machine, or restarts its divider
 abbrev pub IsUndisturbed : Setup → Span → List Line → (n : ℕ) → Type 0
 IsUndisturbed u sp lines n = (c : ℕ) → c < n → is_broken (host_of (first_run u) lines c) sp.machine ≡ false
 
--- what the span measures in the first n clocks of the setup's run with a stimulus
+-- What the span measures in the first n clocks of the setup's run with a stimulus: every pair of its edges, or those of which it
+-- speaks where it speaks not of every one.
 abbrev pub measured_in : Setup → Span → List Line → (n : ℕ) → SeenDistances
-measured_in u sp lines n = seen_of (measured (ends_in sp) (pins_in (first_run u).state) (samples (first_run u) lines n))
+measured_in u sp lines n =
+    if is_selective sp
+    then seen_of (spoken (marks (events_in sp) 0 (pins_in (first_run u).state) (conducts (first_run u) lines n)))
+    else seen_of (measured (ends_in sp) (pins_in (first_run u).state) (samples (first_run u) lines n))
 
 -- Where there are distances, the least and the greatest are within the bounds, of which there may be no greatest.
 pub record IsWithin (min : ℕ) (max : Option ℕ) (s : SeenDistances) : Type 0 where
