@@ -22,7 +22,7 @@ use Rattle.span_meter.specs.Measured.{ends_in, greatest_of, least_with, measured
 use Rattle.span_meter.specs.Spoken as spoken
 use Rattle.span_meter.specs.Spoken.{AreMarksFrom, IsOfPair, IsPair, spoken}
 use Rattle.span_seen.specs.Within.{IsUndisturbed, IsWithin, measured_in}
-use Rattle.span_seen.proofs.Going.{pins_before, run_told, told_mark}
+use Rattle.span_seen.proofs.Runs.{pins_before, run_told, told_mark}
 use Rattle.span_seen.proofs.Telling.{IsTold}
 
 -- what is told from a clock on

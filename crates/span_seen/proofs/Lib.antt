@@ -1,5 +1,5 @@
 pub mod Staying
 pub mod Telling
-pub mod Going
+pub mod Runs
 pub mod Distances
 mod EdgeRows

@@ -1,6 +1,6 @@
 -- A machine that stands so that its span doesn't speak of the from-events before stands so after a clock in which it neither begins
 -- nor finishes an instruction.
-use Rattle.std.proofs.Common.{◌≡◌, ℕ, ◌-◌, ◌<◌, ◌≤◌, ◌==◌, inl, inr, Bool, true, false, not, ◌&&◌, ◌||◌, cond, Some, [], is_some, refl, sym, ap, ◌∙◌, arith}
+use Rattle.std.proofs.Common.{◌≡◌, ◌<◌, ◌==◌, inl, inr, Bool, true, false, not, ◌&&◌, ◌||◌, cond, Some, [], is_some, refl, sym, ap, ◌∙◌, arith}
 use Rattle.std.proofs.lemmas.Bool.{cases_lt}
 use Rattle.std.proofs.lemmas.Bool.Decides.{nat_tests}
 use Rattle.pin_matrix.specs.declared.machine.MachineSetup.{MachineSetup}
@@ -11,7 +11,6 @@ use Rattle.sm_registers.specs.declared.intent.Kind.TheVariants.{First, Late, Del
 use Rattle.sm_registers.specs.declared.registers.Registers.{Registers}
 use Rattle.sm_registers.specs.Effects.{Effect}
 use Rattle.sm_registers.specs.Idling.{begins, finishes}
-use Rattle.sm_registers.specs.Intents.{no_intent}
 use Rattle.sm_registers.specs.Queues.{Queues}
 use Rattle.sm_registers.specs.Rules.{current_act}
 use Rattle.sm_registers.specs.State.{queues_of}

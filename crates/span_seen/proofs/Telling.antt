@@ -1,10 +1,9 @@
 -- What is told of a clock is what a span looks at in it: its events, and whether it speaks of the from-events before.
-use Rattle.std.proofs.Common.{◌≡◌, ℕ, zero, suc, ◌+◌, ◌<◌, ◌≤◌, ◌==◌, ◌⊎◌, inl, inr, Bool, true, false, not, ◌&&◌, ◌||◌, cond, eqb, Option, Some, None, option_map, is_some, List, [], ◌∷◌, length, map, slice_index_or, refl, sym, ap, ap₂, ◌∙◌, arith}
+use Rattle.std.proofs.Common.{◌≡◌, ℕ, zero, suc, ◌==◌, ◌⊎◌, inl, inr, Bool, true, false, not, ◌&&◌, ◌||◌, cond, eqb, Option, Some, None, option_map, is_some, List, [], ◌∷◌, length, map, slice_index_or, refl, sym, ap, ap₂, ◌∙◌, arith}
 use Rattle.std.proofs.lemmas.Bool.{or_parts}
 use Rattle.std.proofs.lemmas.Bool.Decides.{nat_tests}
 use Rattle.std.proofs.Math.ListN.{get_or-map}
 use Rattle.std.specs.List.{list_any}
-use Rattle.pin_matrix.specs.Pins.{is_high}
 use Rattle.pin_matrix.specs.declared.span.PinSignal.{PinSignal}
 use Rattle.pin_matrix.specs.declared.span.Span.{Span}
 use Rattle.sm_registers.specs.declared.intent.Kind.{Kind}
@@ -14,21 +13,19 @@ use Rattle.sm_registers.specs.Idling.{begins}
 use Rattle.sm_registers.specs.View.{View}
 use Rattle.dreq_pacing.specs.declared.due.Due.{Due}
 use Rattle.block_core.specs.declared.conduct.Conduct.{Conduct}
-use Rattle.block_core.specs.declared.conduct.MachineConduct.{MachineConduct}
 use Rattle.block_core.specs.Block.{BlockState, Run, next, seen_in, stepped, view_of}
-use Rattle.block_core.specs.Conduct.{comes_next, conduct_after, conduct_in, has_new_pins, is_broken_by, is_machine_noted, is_noted, machine_conduct}
-use Rattle.block_core.specs.Edges.{has_edge}
-use Rattle.block_core.specs.Following.{intent_in, place_at}
+use Rattle.block_core.specs.Conduct.{conduct_after, conduct_in, has_new_pins, is_broken_by, is_machine_noted, is_noted, machine_conduct}
+use Rattle.block_core.specs.Following.{place_at}
 use Rattle.block_core.specs.Inside.{is_of_an_instruction}
 use Rattle.block_core.specs.Slots.{Slot, place_after, slot_after, slot_intent}
 use Rattle.span_step.specs.Steps.{is_among, is_event, is_excusing, is_left_out}
 use Rattle.span_ticks.specs.Following.{finishes, works}
 use Rattle.span_ticks.specs.UnderWay.{flow_of, stands_before}
-use Rattle.span_check.specs.Marks.{Mark, excused_at, has_signal_edge, is_broken, mark_of, pc_at, pending_at}
+use Rattle.span_check.specs.Marks.{Mark, excused_at, has_signal_edge, is_broken, mark_of}
 use Rattle.span_meter.specs.declared.pins.ShownPins.{ShownPins}
 use Rattle.span_meter.specs.Events as events
 use Rattle.span_meter.specs.Events.{SpanEvent, comes, conduct_of, events_in, is_dropped, pins_told}
-use Rattle.span_meter.specs.Measured.{pins_in, signal_of}
+use Rattle.span_meter.specs.Measured.{pins_in}
 use Rattle.span_meter.specs.Spoken as spoken
 use Rattle.span_meter.proofs.Telling.{no_edge}
 use Rattle.span_seen.proofs.Staying.{stays_excused}
@@ -98,7 +95,7 @@ record IsQuiet (v : View) (d : Due) (s : Slot) (b a : BlockState) : Type 0 where
   begins : begins (slot_intent v d s).kind ≡ false
   ends : idling.finishes (slot_intent v d s).kind (slot_intent v d s).stalled ≡ false
 
-same_if : (a b : ℕ) → eqb a b ≡ true → a ≡ b
+pub same_if : (a b : ℕ) → eqb a b ≡ true → a ≡ b
 same_if a b h = grind (arith, nat_tests)
 
 not_and : (a b : Bool) → not (a && b) ≡ false → (a ≡ true) × (b ≡ true)

@@ -1,5 +1,5 @@
 -- A run with what is told of it: the span's machine at its place, and the mark of each clock.
-use Rattle.std.proofs.Common.{◌≡◌, ℕ, zero, suc, ◌+◌, ◌≤◌, ◌<◌, ◌==◌, Bool, true, false, ◌&&◌, cond, eqb, Option, Some, None, option_map, IsSome, List, [], ◌∷◌, slice_index_or, unwrap_or, refl, sym, ap, subst, ◌∙◌, arith}
+use Rattle.std.proofs.Common.{◌≡◌, ℕ, zero, suc, ◌+◌, ◌≤◌, ◌<◌, Bool, true, false, cond, eqb, Option, Some, None, option_map, List, [], ◌∷◌, slice_index_or, unwrap_or, refl, sym, ap, subst, ◌∙◌, arith}
 use Rattle.std.proofs.lemmas.Bool.{and_parts}
 use Rattle.std.proofs.lemmas.Bool.Decides.{nat_tests}
 use Rattle.pin_matrix.specs.Setups.{ids_are_places}
@@ -10,7 +10,7 @@ use Rattle.dreq_pacing.specs.declared.due.Due.{Due}
 use Rattle.dreq_pacing.specs.declared.line.Line.{Line}
 use Rattle.block_core.specs.declared.conduct.Conduct.{Conduct}
 use Rattle.block_core.specs.declared.conduct.MachineConduct.{MachineConduct}
-use Rattle.block_core.specs.Block.{BlockState, Run, first_run, next, seen_in, view_of}
+use Rattle.block_core.specs.Block.{Run, first_run, next, seen_in, view_of}
 use Rattle.block_core.specs.Conduct.{conduct_after, conduct_at, conduct_before, conduct_in, is_noted, no_conduct}
 use Rattle.block_core.specs.Following.{place_at}
 use Rattle.block_core.specs.Hosted.{host_of, hosted_at, hosted_next}
@@ -23,12 +23,9 @@ use Rattle.span_meter.specs.Events as events
 use Rattle.span_meter.specs.Events.{conduct_of, events_in, pins_told}
 use Rattle.span_meter.specs.Measured.{pins_in}
 use Rattle.span_meter.specs.Spoken as spoken
-use Rattle.span_seen.proofs.Telling.{IsOwn, IsTold, clock_told, kept_pins, place_next}
+use Rattle.span_seen.proofs.Telling.{IsOwn, IsTold, clock_told, kept_pins, place_next, same_if}
 
 -- machines are at the places of their numbers
-same_if : (a b : ℕ) → eqb a b ≡ true → a ≡ b
-same_if a b h = grind (arith, nat_tests)
-
 place_id : (place i : ℕ) (machines : List (Option MachineSetup)) (s : MachineSetup) → ids_are_places place machines ≡ true → slice_index_or machines i None ≡ Some s → s.id ≡ place + i
 place_id place i [] s h e = cc
 place_id place zero (None ∷ machines) s h e = cc
