@@ -30,9 +30,9 @@ use Rattle.span_meter.specs.Spoken as spoken
 use Rattle.span_meter.proofs.Telling.{no_edge}
 use Rattle.span_seen.proofs.Staying.{stays_excused}
 
--- What is told of a clock is so of the span's mark of it, where the machine is excused or not at the next clock's start. Where no
--- from-event is dropped it excuses none, if a to-event comes or the next clock excuses none; and of a span that lines cut no line
--- breaks it.
+-- What a mark of what is told says of the span's own mark of the clock. The events are the same. If it drops no from-event, the clock
+-- excuses none, where a to-event comes in it or `next` says that the clock after it excuses none; and no line breaks a span that is
+-- cut.
 pub record IsTold (cut : Bool) (m : Mark) (next : Bool) (t : spoken.Mark) : Type 0 where
   pub from : t.from ≡ m.from
   pub to : t.to ≡ m.to
@@ -45,7 +45,7 @@ pub record IsOwn (b : BlockState) (id : ℕ) : Type 0 where
   pub place : place_at b id ≡ Some slot
   pub number : slot.machine.setup.id ≡ id
 
--- a machine works at its instruction, and finishes it, by both
+-- by both a machine works at its instruction, and finishes it
 works_same : (kind : Kind) (pending : Option ℕ) → (is_of_an_instruction kind && not (is_some pending)) ≡ works kind pending
 works_same Off pending = refl
 works_same First pending = refl
@@ -195,7 +195,7 @@ noted_calm sp v d s cut h =
     let r = s.machine.registers in
     no_break (r.begun && is_excusing sp r.pc) (stands_before (flow_of r) && is_left_out sp r.pc) (events_in sp).cut (is_broken_by d s.machine.setup.id) h cut
 
--- which of both is told
+-- the span's own mark of the clock
 abbrev clock_mark : Span → Due → Run → Mark
 clock_mark sp d r = mark_of sp r.memory (seen_in d r) d r.state (next d r).state
 
