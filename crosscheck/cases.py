@@ -157,19 +157,29 @@ def observed_spans(random, setups):
         {
             "name": f"s{number}",
             "machine": random.choice(list(setups)),
-            "from_pin": random.choice([0, 1, 2, random.randrange(32)]),
-            "to_pin": random.choice([0, 1, 2, random.randrange(32)]),
-            "from_edge": random.choice(["rise", "fall", "rise", "fall", "out", "in"]),
-            "to_edge": random.choice(["rise", "fall", "rise", "fall", "out", "in"]),
+            **observed_end(random, "from"),
+            **observed_end(random, "to"),
             "unit": random.choice(["ticks", "clocks"]),
             "prompt": random.random() < 0.2,
             "without": random.choice([[], [], [], ["go"]]),
-            **{key: ["go"] for key in ("from_at", "to_at") if random.random() < 0.15},
             "min": 1,
             "max": random.randrange(1, 20),
         }
         for number in range(random.randrange(6))
     ]
+
+
+def observed_end(random, end):
+    """The keys of an end of a span: an edge of a pin, perhaps of the instruction at the start alone, or the end of that one."""
+    if random.random() < 0.15:
+        return {f"{end}_done": ["go"]}
+    pin, edge = random.choice([0, 1, 2, random.randrange(32)]), random.choice(["rise", "fall", "rise", "fall", "out", "in"])
+    return {f"{end}_pin": pin, f"{end}_edge": edge} | ({f"{end}_at": ["go"]} if random.random() < 0.15 else {})
+
+
+def placed(spans, setups):
+    """The spans with addresses in the place of labels: all are that of the start."""
+    return [{key: [setups[it["machine"]]["start"]] if value == ["go"] else value for key, value in it.items()} for it in spans]
 
 
 def lines_of(keys):

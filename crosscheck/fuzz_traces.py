@@ -8,7 +8,6 @@ import observers_model
 from fuzz_calls import Violation
 from fuzz_checks import block_words, changes, check, need, pair_words, run_words, same, without_spans
 from fuzz_files import CONFIG, SECOND, SENT, SOURCE, STIMULUS
-from piotool.span_model import EVENTS
 from piotool.span_runs import broken_at, run_of
 
 
@@ -51,10 +50,11 @@ def look_at_prefix(long, short, clocks, fewer):
 
 @check(SOURCE)
 def observed(program, files, asked):
-    """What spans measure, and the frames of a pin, are those of the trace; proved spans in clocks measure within their bounds.
+    """What spans measure that speak of all pairs, and the frames of a pin, are those of the trace; proved spans in clocks measure within
+    their bounds.
 
     Why: both are told of the samples that the trace shows; a provable span in clocks is seen within its bounds where no line disables
-    or restarts its machine, and it speaks of each pair ("What spans measure", "What a serial line carries", "The promises").
+    or restarts its machine, or it speaks of some pairs alone ("What spans measure", "What a serial line carries", "The promises").
     """
     block, bare = models.Block(files[SOURCE], files.get(CONFIG)), without_spans(files)
     clocks, pin = min(asked["clocks"], 1000), asked["pin"]
@@ -73,8 +73,11 @@ def observed(program, files, asked):
         shown.append({it: now[it] for it in places})
     asks = block_words(files, STIMULUS) + ["--clocks", str(clocks)]
     measured = program.call("measure", *asks)
-    wanted = observers_model.seen(block.spans, shown, block.pins)
-    need(measured.out.decode() == wanted, f"measure isn't what the trace shows, {wanted!r}", measured, ran)
+    plain = [place for place, it in enumerate(block.spans) if observers_model.speaks_of_all(it)]
+    told = measured.out.decode().splitlines(keepends=True)
+    wanted = observers_model.seen([block.spans[it] for it in plain], observers_model.Shown(shown, block.pins))
+    need(len(told) == len(block.spans), "measure hasn't a line for each span", measured)
+    need("".join(told[it] for it in plain) == wanted, f"measure isn't what the trace shows, {wanted!r}", measured, ran)
     heard = program.call("receive", *asks, "--pin", str(pin), "--bit", str(asked["bit"]))
     wanted = observers_model.received(shown, block.pins["level"], pin, asked["bit"])
     need(heard.out.decode() == wanted, f"the frames aren't those of the trace, {wanted!r}", heard, ran)
@@ -82,8 +85,7 @@ def observed(program, files, asked):
     lines = models.lines_of(files.get(STIMULUS, b""))
     disturbed = {numbers[0] for _, word, numbers in lines if word in ("disable", "restart")}
     for span, verdict, seen in zip(block.spans, told.out.splitlines(), measured.out.split(b"\n")):
-        leaves_out = span["prompt"] or any(span[key] for key in ("without", *EVENTS))
-        is_asked = span["unit"] == "clocks" and not leaves_out and span["machine"] not in disturbed
+        is_asked = span["unit"] == "clocks" and (span["machine"] not in disturbed or not observers_model.speaks_of_all(span))
         if b" proved " in verdict and is_asked and b" least " in seen:
             least, most = int(seen.split()[-3]), int(seen.split()[-1])
             need(span["min"] <= least and most <= span["max"], f"{verdict!r}, but {seen!r}", told, measured)
@@ -106,6 +108,9 @@ def stepped(program, files, asked):
     stepped = run_of(block, lines, clocks, spans=block.spans)
     wanted = stepped.trace().encode()
     same(ran, ran._replace(out=wanted), "the trace isn't the model's")
+    measured = program.call("measure", *block_words(files, STIMULUS), "--clocks", str(clocks))
+    wanted = observers_model.seen(block.spans, observers_model.Run(block.memory, block.setups, block.pins, lines, clocks))
+    same(measured, measured._replace(status=0, out=wanted.encode(), err=b""), "what spans measure isn't the model's")
     told = program.call("check", *block_words(files))
     for span, verdict in zip(block.spans, told.out.split(b"\n")):
         if b" proved " in verdict and (how := broken_at(block, span, stepped, lines)):

@@ -78,7 +78,8 @@ def is_contested(said, run, spans, clocks):
     if name == "set-count":
         return True  # each machine of a case has its own
     if name == "span-not-seen":
-        lines = observers_model.seen(spans, run.samples[:clocks], case.pins).splitlines()
+        seen = observers_model.Run(case.memory, case.setups, case.pins, case.lines, clocks)
+        lines = observers_model.seen(cases.placed(spans, case.setups), seen).splitlines()
         return not any(line == f"span {text.partition(': ')[0].removeprefix('span ')} seen 0" for line in lines)
     if name == "bound-not-tight":
         return is_seen_outside(text, run, spans)
@@ -114,9 +115,9 @@ def is_seen_outside(text, run, spans):
     name, key = re.match(r"span (\S+): (min|max) ", text).groups()
     tight = numbers_in(text)[-1]
     span = next(it for it in spans if it["name"] == name)
-    if span["unit"] != "clocks" or any(word in ("disable", "restart") for _, word, _ in run.case.lines):
+    if span["unit"] != "clocks" or not observers_model.speaks_of_all(span) or any(word in ("disable", "restart") for _, word, _ in run.case.lines):
         return False
-    seen = numbers_in(observers_model.seen([span], run.samples, run.case.pins).partition(" seen ")[2])
+    seen = numbers_in(observers_model.seen([span], observers_model.Shown(run.samples, run.case.pins)).partition(" seen ")[2])
     return len(seen) == 3 and (seen[1] < tight if key == "min" else seen[2] > tight)
 
 

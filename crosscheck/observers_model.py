@@ -1,7 +1,68 @@
-"""What spans measure in samples, and the bytes that a serial line carries, from the written rules (docs/SPECIFICATION.md).
+"""What spans measure in a run, and the bytes that a serial line carries, from the written rules (docs/SPECIFICATION.md).
 
-It shares no code and no form with the crates: edges are lists of clocks, and a frame is read from the whole list of levels.
+It shares no code and no form with the crates: events are lists of clocks, and a frame is read from the whole list of levels.
 """
+
+from dataclasses import dataclass
+
+from piotool.block_model import Block, System
+from piotool.span_model import EVENTS
+
+
+@dataclass(frozen=True)
+class Did:
+    """What a machine did in a clock, and how it stood at its start: PC, whether it waited, whether it came to the instruction there next."""
+
+    address: int
+    waits: bool
+    comes: bool
+    works: bool  # a tick of the instruction in memory there, its first one or a late one
+    finishes: bool
+    breaks: bool  # a line disabled it, or restarted its divider
+
+
+class Run:
+    """A run: its samples, and what each machine did in each clock."""
+
+    def __init__(self, memory, setups, pins, lines, clocks):
+        self.pins, self.shown, self.did = pins, [], {number: [] for number in setups}
+        block = Block(memory, setups, pins, System(lines))
+        broken = {(clock, numbers[0]) for clock, word, numbers in lines if word in ("disable", "restart")}
+
+        def pads():
+            return block.levels & block.directions | block.outside & ~block.directions
+
+        earlier = last = pads()
+        for clock in range(clocks):
+            block.begin(clock)
+            now = pads()
+            before = {number: (it.pc, it.begun, it.delay, it.pending is None) for number, it in block.machines.items()}
+            self.shown.append(block.step(clock, earlier, now))
+            earlier, last = last, now
+            for number, (pc, begun, delay, has_none) in before.items():
+                has_tick = block.ticks[number].lasts[-1:] == [clock]
+                works = has_tick and not delay and has_none
+                comes = not delay and has_none and not begun
+                finishes = works and not block.machines[number].begun
+                self.did[number].append(Did(pc, begun, comes, works, finishes, (clock, number) in broken))
+
+    def excuses(self, span, clock):
+        """Whether a span says nothing any more, in a clock, of the from-edges before it."""
+        did = self.did[span["machine"]][clock]
+        waits = span.get("prompt") and did.waits and did.address not in span.get("stalls", [])
+        return waits or did.comes and did.address in span.get("without", []) or did.breaks and span["unit"] == "clocks"
+
+
+class Shown:
+    """The samples of a run alone: enough for spans that speak of all pairs of their edges."""
+
+    def __init__(self, shown, pins):
+        self.shown, self.pins, self.did = shown, pins, {}
+
+
+def speaks_of_all(span):
+    """Whether a span speaks of each pair of its edges, by what its keys say."""
+    return not span.get("prompt") and not any(span.get(key) for key in ("without", *EVENTS))
 
 
 def levels_of(shown, pin, before, first=0):
@@ -16,9 +77,13 @@ def ends_of(shown, pin, edge, pins):
     return edges(levels_of(shown, pin, pins["out"], 32), edge == "out")
 
 
-def events(span, end, shown, pins):
-    """The clocks of a span's from-edges, or of its to-edges; samples don't show the ends of instructions, nor which one makes an edge."""
-    return [] if span.get(f"{end}_done") else ends_of(shown, span[f"{end}_pin"], span[f"{end}_edge"], pins)
+def events(span, end, run):
+    """The clocks of a span's from-edges, or of its to-edges."""
+    did, done, at = run.did.get(span["machine"], []), span.get(f"{end}_done"), span.get(f"{end}_at")
+    if done:
+        return [clock for clock, it in enumerate(did) if it.finishes and it.address in done]
+    clocks = ends_of(run.shown, span[f"{end}_pin"], span[f"{end}_edge"], run.pins)
+    return [it for it in clocks if did[it].works and did[it].address in at] if at else clocks
 
 
 def edges(levels, after):
@@ -26,12 +91,15 @@ def edges(levels, after):
     return [clock for clock in range(len(levels) - 1) if levels[clock] == after != levels[clock - 1]]
 
 
-def seen(spans, shown, pins):
-    """The line of each span. A span has its name, its pins and its edges, as a configuration says them. `pins` is before clock 0."""
+def seen(spans, run):
+    """The line of each span, which has the keys of a configuration with addresses for labels: the pairs that it speaks of."""
     text = ""
     for span in spans:
-        starts, ends = (events(span, it, shown, pins) for it in ("from", "to"))
-        times = [min(end for end in ends if end > start) - start for start in starts if ends and ends[-1] > start]
+        starts, ends = (events(span, it, run) for it in ("from", "to"))
+        pairs = [(start, min(end for end in ends if end > start)) for start in starts if ends and ends[-1] > start]
+        if not speaks_of_all(span):
+            pairs = [it for it in pairs if not any(run.excuses(span, clock) for clock in range(it[0] + 1, it[1] + 1))]
+        times = [end - start for start, end in pairs]
         text += f"span {span['name']} seen {len(times)}"
         text += f" least {min(times)} most {max(times)}\n" if times else "\n"
     return text

@@ -72,8 +72,6 @@ class RunLint:
         disturbed = {numbers[0] for _, word, numbers in self.lines if word in ("disable", "restart")}
         for place, (table, (seen, least, most)) in enumerate(zip(self.lint.block.tables["span"], self.measured())):
             at, name = self.files.key_place(f"span[{place}]"), table["name"]
-            if "from_done" in table or "to_done" in table:
-                continue  # samples don't show where an instruction ends
             if not seen:
                 text = f"span {name}: this run of {self.clocks} clocks never sees it"
                 yield Said(at, "warning", text, "span-not-seen")

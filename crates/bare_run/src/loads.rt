@@ -64,8 +64,8 @@ const I2C: [u16; 8] = [
     0x90a0, 0xe028, 0x6701, 0xba42, 0x24a1, 0x4701, 0x1742, 0x8020,
 ];
 
-/// The bytes of an I2C controller on pins 0 and 1, of 400,000 bits a second at 125 MHz: 32 ticks a bit. The lines are the pins 2
-/// and 3, which stay high.
+/// The bytes of an I2C controller on pins 0 and 1, of 400,000 bits a second at 125 MHz: 32 ticks a bit. The lines are
+/// the pins 2 and 3, which stay high.
 pub(crate) fn i2c(spans: Spans) -> Setup {
     let mut setup = Setup::of(memory_of(&I2C), spans);
     setup.level = 0b01;
@@ -112,8 +112,8 @@ const FOUR: [u16; 10] = [
     0xfe01, 0xc000, 0xff00, 0x6101, 0x20a0, 0x4008, 0x2020, 0x20c0, 0xe101, 0xe000,
 ];
 
-/// Four machines at work, as `bench/four_machines` writes them from the seed 7: a pulse that raises a flag, a shifted row
-/// of bits, a reader of pins, and one that answers the flag.
+/// Four machines at work, as `bench/four_machines` writes them from the seed 7: a pulse that raises a flag, a shifted
+/// row of bits, a reader of pins, and one that answers the flag.
 pub(crate) fn four_machines(spans: Spans) -> Setup {
     let mut setup = Setup::of(memory_of(&FOUR), spans);
     setup.out = 0b1011;

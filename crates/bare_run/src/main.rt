@@ -1,5 +1,5 @@
-//! Runs a block whose trace is thrown away, so that the stepping alone can be timed, and prints what it shows at the end.
-//! Words: the name of a load, how many clocks, and the path of a stimulus, if any.
+//! Runs a block whose trace is thrown away, so that the stepping alone can be timed, and prints what it shows at the
+//! end. Words: the name of a load, how many clocks, and the path of a stimulus, if any.
 #![tactic(auto)]
 
 mod loads;

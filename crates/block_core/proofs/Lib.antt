@@ -21,3 +21,5 @@ pub mod TwinRows
 pub mod InsideRows
 pub mod Insides
 pub mod Showing
+mod Conducting
+mod ConductRows

@@ -1,6 +1,7 @@
 -- A simple clock of a machine, in which the system does nothing: it wants no more than pins.
-use Rattle.std.proofs.Common.{◌≡◌, true, false, None, cond, refl, ap, sym, ◌∙◌}
+use Rattle.std.proofs.Common.{◌≡◌, true, false, None, cond, refl, ap, subst, sym, ◌∙◌}
 use Rattle.std.specs.Int.Bits.{or_zero_l, or_zero_r}
+use Rattle.clock_divider.specs.Timing.{Timing, stepped}
 use Rattle.pin_matrix.specs.Pins.{merged}
 use Rattle.sm_registers.specs.declared.outputs.Outputs.{Outputs}
 use Rattle.sm_registers.specs.declared.registers.Registers.{Registers}
@@ -8,12 +9,13 @@ use Rattle.sm_registers.specs.View.{View}
 use Rattle.sm_registers.specs.declared.intent.Intent.{Intent}
 use Rattle.sm_registers.specs.Intents.{Wants, no_intent, no_wants, wants_of, written_by}
 use Rattle.fifo_pair.specs.Fifos.{Fifos, settled}
-use Rattle.sm_registers.specs.State.{queues_of, settled_ports}
+use Rattle.sm_registers.specs.Simple.{MakesTick}
+use Rattle.sm_registers.specs.State.{MachineState, queues_of, settled_ports}
 use Rattle.sm_registers.specs.Tick.{tick_of}
 use Rattle.dreq_pacing.specs.Due.{quiet}
 use Rattle.block_core.specs.declared.merging.Wanted.{Wanted}
 use Rattle.block_core.specs.Merging.{with_intent}
-use Rattle.block_core.specs.Slots.{Slot, lined, has_tick, acted, settled_slot, slot_after, slot_intent, slot_uses_fifos}
+use Rattle.block_core.specs.Slots.{MakesSimpleClock, Slot, lined, has_tick, acted, settled_slot, slot_after, slot_intent, slot_uses_fifos}
 use Rattle.block_core.proofs.LeaptRun.{no_line, no_word, lined_quiet, clock_on}
 
 -- what the law of quiet FIFOs says
@@ -58,6 +60,35 @@ after_simple fifos v s x is none =
     ∙ ap (λ y. settled_slot quiet y s) is
     ∙ settled_pins fifos s x none)
 
+-- where nothing is wanted, no pin is written
+writes_none : (o : Outputs) → o ≡ written_by o no_intent
+unfolding merged
+writes_none o = refl
+
+-- a clock in which the tick of a slot, which was this, is simple
+pub ticks_simply :
+    StaysQuiet → (v : View) (s was : Slot) (m : MachineState) (t : Timing) (o put : Outputs) → s ≡ was → has_tick was ≡ true → MakesTick v s.machine m o put → t ≡ stepped s.timing
+    → MakesSimpleClock v was (record s { machine = m; timing = t }) o put
+ticks_simply fifos v s was m t o put same on made moved =
+    let acts_so = acts v s (subst (λ (x : Slot). has_tick x ≡ true) (sym same) on) in
+    subst (λ (x : Slot). MakesSimpleClock v x (record s { machine = m; timing = t }) o put) same (record {
+      after = ap (λ (m : MachineState). record s { machine = m; timing = t }) made.state
+          ∙ ap (λ (t : Timing). record s { machine = record s.machine { registers = (ticked v s).0 }; timing = t }) moved
+          ∙ after_simple fifos v s (ticked v s) acts_so made.wants;
+      outputs = made.outputs ∙ ap (λ (x : Registers × Intent). written_by o x.1) (sym acts_so);
+      wants = subst (λ (x : Registers × Intent). WantsPins x.1) (sym acts_so) made.wants;
+    })
+
+-- a clock without a tick
+pub rests_simply : StaysQuiet → (v : View) (s was : Slot) (t : Timing) (o : Outputs) → s ≡ was → has_tick was ≡ false → t ≡ stepped s.timing → MakesSimpleClock v was (record s { timing = t }) o o
+rests_simply fifos v s was t o same off moved =
+    let rests = acts_off v s (subst (λ (x : Slot). has_tick x ≡ false) (sym same) off) in
+    subst (λ (x : Slot). MakesSimpleClock v x (record s { timing = t }) o o) same (record {
+      after = ap (λ (t : Timing). record s { timing = t }) moved ∙ after_simple fifos v s (s.machine.registers, no_intent) rests refl;
+      outputs = writes_none o ∙ ap (λ (x : Registers × Intent). written_by o x.1) (sym rests);
+      wants = subst (λ (x : Registers × Intent). WantsPins x.1) (sym rests) refl;
+    })
+
 -- its block gets its pins, and no more
 pub adds_pins : (w : Wanted) (o : Outputs) (i : Intent) → o ≡ written_by w.outputs i → WantsPins i → record w { outputs = o } ≡ with_intent w i
 unfolding with_intent
@@ -78,8 +109,3 @@ uses_none v s none =
       no_word s.machine.setup.id,
       no_line s.machine.setup.id,
     ) refl
-
--- where nothing is wanted, no pin is written
-pub writes_none : (o : Outputs) → o ≡ written_by o no_intent
-unfolding merged
-writes_none o = refl

@@ -3,6 +3,7 @@ use Rattle.std.specs.Prelude.{◌≡◌, ℕ, ◌+◌, ◌^◌, ◌<◌, ◌≤�
 use Rattle.std.specs.List.{AllByRecursion}
 use Rattle.sm_registers.specs.Told.{IsKnown}
 use Rattle.sm_registers.specs.View.{View}
+use Rattle.block_core.specs.declared.running.Known.{Known}
 use Rattle.block_core.specs.declared.sample.Sample.{Sample}
 use Rattle.block_core.specs.Block.{BlockState, Run, seen_over, view_of}
 use Rattle.block_core.specs.Shown.{sample_of}
@@ -58,9 +59,10 @@ state_of a b c d levels directions flags outside = record {
 abbrev pub are_empty : {A : Type 0} → (b c d : Option A) → Bool
 are_empty b c d = is_none b && (is_none c && is_none d)
 
--- where the block knows that a machine is ready, that is the only one
-abbrev pub IsKnownReady : (ready alone : Bool) → (first : Option Slot) → Type 0
-IsKnownReady ready alone first = ready ≡ true → (alone ≡ true) × (is_ready first ≡ true)
+-- What a block knows of its places is so: the others are empty; and a machine that is known to be ready is the only one.
+pub record AreKnown (known : Known) (a b c d : Option Slot) : Type 0 where
+  pub alone : known.alone ≡ are_empty b c d
+  pub ready : known.ready ≡ true → (known.alone ≡ true) × (is_ready a ≡ true)
 
 -- the clock, with these pads and without the system, is a simple one of the only machine
 abbrev pub is_simple_over : (pad : ℕ) → Run → Bool

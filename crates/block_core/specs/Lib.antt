@@ -13,3 +13,4 @@ pub mod Leaps
 pub mod Twin
 pub mod HostedTwin
 pub mod Inside
+pub mod Conduct

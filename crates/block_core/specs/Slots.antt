@@ -7,8 +7,9 @@
 --   slot_after      after the clock
 --   is_simple       that it has no tick in a clock, or a simple one
 --   is_ready        that it begins an instruction from memory, on a machine without autopull
+--   MakesSimpleClock   what it does in a clock that is simple: it writes pins, and wants nothing else
 --   doing           what the system does, where it does anything
-use Rattle.std.specs.Prelude.{ℕ, ◌+◌, Bool, true, false, not, ◌&&◌, ◌||◌, Option, Some, None, if◌then◌else◌, slice_index_or}
+use Rattle.std.specs.Prelude.{◌≡◌, ℕ, ◌+◌, Bool, true, false, not, ◌&&◌, ◌||◌, Option, Some, None, if◌then◌else◌, slice_index_or}
 use Rattle.std.specs.Borrow.{Bor}
 use Rattle.clock_divider.specs.Timing.{Timing, period_of, first, stepped, resumed}
 use Rattle.clock_divider.specs.Ticks.{is_tick}
@@ -16,7 +17,8 @@ use Rattle.pin_matrix.specs.declared.machine.MachineSetup.{MachineSetup}
 use Rattle.sm_registers.specs.declared.registers.Registers.{Registers}
 use Rattle.sm_registers.specs.View.{View}
 use Rattle.sm_registers.specs.declared.intent.Intent.{Intent}
-use Rattle.sm_registers.specs.Intents.{no_intent}
+use Rattle.sm_registers.specs.declared.outputs.Outputs.{Outputs}
+use Rattle.sm_registers.specs.Intents.{no_intent, no_wants, wants_of, written_by}
 use Rattle.sm_registers.specs.Simple as simple
 use Rattle.sm_registers.specs.Tick.{tick_of}
 use Rattle.sm_registers.specs.State.{MachineState, first_machine, queues_of, settled_ports, uses_fifos}
@@ -110,7 +112,14 @@ abbrev pub is_ready : Option Slot → Bool
 is_ready None = false
 is_ready (Some s) = has_tick s && simple.is_ready s.machine.setup s.machine.registers
 
--- the same of a place in the block, where a machine is configured or not
+-- A machine went through a clock in which the system does nothing, and wants nothing but pins, which are written over those of
+-- the machines before it.
+pub record MakesSimpleClock (v : View) (s next : Slot) (o put : Outputs) : Type 0 where
+  pub after : next ≡ slot_after v quiet s
+  pub outputs : put ≡ written_by o (slot_intent v quiet s)
+  pub wants : wants_of (slot_intent v quiet s) ≡ no_wants
+
+-- a place of the block after the clock, where a machine is configured or not
 abbrev pub place_after : View → Due → Option Slot → Option Slot
 place_after v d None = None
 place_after v d (Some s) = Some (slot_after v d s)

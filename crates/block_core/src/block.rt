@@ -3,12 +3,14 @@ ghost use Rattle.std.specs.Prelude.{◌≡◌, ℕ, ◌<◌, ◌≤◌, ◌^◌,
 ghost use Rattle.dreq_pacing.specs.Due.{quiet};
 ghost use Rattle.dreq_pacing.specs.Ports.{IsFirst};
 ghost use Rattle.block_core.specs.Block.{first_run, next, pads_in, run_from, wanted_in, uses_fifos_in, level_writes, direction_writes, TakesLastWrites};
+ghost use Rattle.block_core.specs.Conduct.{standings_in};
 ghost use Rattle.block_core.specs.Inside.{inside_of};
 ghost use Rattle.block_core.specs.Leaps.{leapt};
 ghost use Rattle.block_core.specs.Shown.{sample_of, requests_of, moved_of};
 ghost use Rattle.block_core.specs.Stirring.{moves_on, begins_or_changes};
 
 use crate::Sample;
+use crate::conduct::Standing;
 use crate::inside::Inside;
 use crate::news::News;
 use crate::running::Running;
@@ -54,8 +56,9 @@ impl<F: Fifo> Block<F> {
         })
     }
 
-    /// One clock, in which the system does this. Every machine with a tick acts from what was there at the clock's start.
-    /// True where a machine or the system did anything at a FIFO; else the machines ask for what they asked before.
+    /// One clock, in which the system does this. Every machine with a tick acts from what was there at the clock's
+    /// start. True where a machine or the system did anything at a FIFO; else the machines ask for what they asked
+    /// before.
     pub fn clock(&mut self, due: &Due) -> bool
         requires { self.old.run.clock < 2 ^ 40 }
         ensures run { self.new.run ≡ next due.now self.old.run }
@@ -89,8 +92,8 @@ impl<F: Fifo> Block<F> {
         news
     }
 
-    /// Whether the present clock stirs, if the system does nothing in it, by what is known without asking a machine what it
-    /// sees: the pads change, or a machine begins an instruction. Such a clock moves the block on
+    /// Whether the present clock stirs, if the system does nothing in it, by what is known without asking a machine
+    /// what it sees: the pads change, or a machine begins an instruction. Such a clock moves the block on
     /// (`what_begins_moves_on`); whether others do, `next_stir` says.
     #[inline(always)]
     pub fn begins_or_changes(&self) -> bool
@@ -105,9 +108,10 @@ impl<F: Fifo> Block<F> {
         self.running.begins_now()
     }
 
-    /// How many clocks go by before the next one that stirs, if the system does nothing; none where no clock ever does. In a
-    /// clock that stirs some machine begins or finishes an instruction or refills its OSR, or the pads aren't those of both
-    /// clocks before. It takes no longer for many clocks, and no machine is asked after one that stirs at once.
+    /// How many clocks go by before the next one that stirs, if the system does nothing; none where no clock ever does.
+    /// In a clock that stirs some machine begins or finishes an instruction or refills its OSR, or the pads aren't
+    /// those of both clocks before. It takes no longer for many clocks, and no machine is asked after one that stirs at
+    /// once.
     pub fn next_stir(&self) -> Option<u64>
         ensures first { IsFirst (λ n. moves_on quiet (run_from self.now.run (λ c. quiet) n)) 0 result }
     {
@@ -121,8 +125,8 @@ impl<F: Fifo> Block<F> {
         self.running.sooner(None, self.pad)
     }
 
-    /// So many clocks at once, none of which stirs, and in which the system does nothing. After each of them the block is what
-    /// it was, but for its clock and what is left of delays (`rests`). It takes no longer for many clocks.
+    /// So many clocks at once, none of which stirs, and in which the system does nothing. After each of them the block
+    /// is what it was, but for its clock and what is left of delays (`rests`). It takes no longer for many clocks.
     pub fn leap(&mut self, clocks: u64)
         requires clock { self.old.run.clock + clocks ≤ 2 ^ 40 }
         requires calm { (k : ℕ) → k < clocks →
@@ -162,6 +166,13 @@ impl<F: Fifo> Block<F> {
         ensures { result ≡ inside_of self.now.run }
     {
         self.running.inside()
+    }
+
+    /// How its machines stand before the present clock, and which tick they have in it, if these lines act in it.
+    pub(crate) fn standings(&self, due: &Due) -> [Option<Standing>; 4]
+        ensures { result ≡ standings_in due.now self.now.run.state }
+    {
+        self.running.standings(due)
     }
 
     /// How many words paced transfers have moved into a machine's TX and out of its RX; none of a machine that isn't

@@ -18,8 +18,8 @@ use clock_divider::tick_test;
 use pin_matrix::{no_write_changes_nothing, the_last_write_counts};
 use sm_registers::{a_tick_writes_its_own_pins, writes_are_of_pins};
 
-/// The run of a setup is the one in which the machines see the block's own pads, two clocks late where they don't bypass the
-/// synchroniser; with a stimulus too.
+/// The run of a setup is the one in which the machines see the block's own pads, two clocks late where they don't
+/// bypass the synchroniser; with a stimulus too.
 pub fn a_block_sees_its_own_pads()
     ensures run { (s : Setup) (host : ℕ → Due) →
         Follows s.memory (λ c. seen_of s.bypass (pad_at s host c) (pad_before s host c)) host
@@ -29,8 +29,8 @@ pub fn a_block_sees_its_own_pads()
         (λ c. (hosted_at (first_run s) lines c).run.state) }
 {}
 
-/// Whatever the machines see, one has a tick in a clock exactly where it is enabled and, for some k, k periods of its divider
-/// after the last restart fall into the clock; and setups never change.
+/// Whatever the machines see, one has a tick in a clock exactly where it is enabled and, for some k, k periods of its
+/// divider after the last restart fall into the clock; and setups never change.
 pub fn ticks_follow_the_divider_over_any_pads()
     ensures ticks { (s : Setup) (memory : List ℕ) (seen : ℕ → ℕ) (host : ℕ → Due) (states : ℕ → BlockState) →
         states 0 ≡ first_state s → Follows memory seen host states → (clock : ℕ) →
@@ -52,8 +52,8 @@ pub fn each_place_goes_its_own_way()
         ≡ place_after (view_of memory (seen clock) (states clock)) (host clock) (place_at (states clock) id) }
 {}
 
-/// The level of a pin to which no other machine is mapped changes only by what this machine writes: its instruction, and then
-/// side-set; and so does a direction.
+/// The level of a pin to which no other machine is mapped changes only by what this machine writes: its instruction,
+/// and then side-set; and so does a direction.
 pub fn a_pin_of_one_machine()
     ensures level { (s : Setup) (memory : List ℕ) (seen : ℕ → ℕ) (host : ℕ → Due) (states : ℕ → BlockState) →
         states 0 ≡ first_state s → Follows memory seen host states → (id p : ℕ) → p < 32 →

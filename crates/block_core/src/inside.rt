@@ -6,11 +6,12 @@ ghost use Rattle.block_core.specs.Kept.{memory_alone};
 use crate::sample::Sample;
 use sm_registers::Registers;
 
-/// What is inside one machine after one clock (RP2040 Datasheet, section 3.2; which values are shown is a choice of this profile).
+/// What is inside one machine after one clock (RP2040 Datasheet, section 3.2; which values are shown is a choice of
+/// this profile).
 #[derive(Clone, Copy, Debug, PartialEq, Eq)]
 pub struct MachineInside {
-    /// The address of the instruction that it is at, 0 to 31: that which its next tick begins or goes on with, or which it begins
-    /// once its delay is over.
+    /// The address of the instruction that it is at, 0 to 31: that which its next tick begins or goes on with, or which
+    /// it begins once its delay is over.
     pub pc: u8,
     /// The word that it is at: the pending one, else that of the memory at its PC.
     pub instruction: u16,
@@ -33,8 +34,8 @@ pub struct MachineInside {
 #[derive(Clone, Copy, Debug, PartialEq, Eq)]
 pub struct Inside {
     pub sample: Sample,
-    /// What was at each pad in the clock, before the input synchronisers: the block's level at the clock's start where its direction
-    /// was out, else the outside's.
+    /// What was at each pad in the clock, before the input synchronisers: the block's level at the clock's start where
+    /// its direction was out, else the outside's.
     pub pads: u32,
     /// Each configured machine at its place.
     pub machines: [Option<MachineInside>; 4],

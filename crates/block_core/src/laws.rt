@@ -25,8 +25,8 @@ use fifo_pair::{a_quiet_clock_changes_nothing, rx_loses_nothing, tx_loses_only_o
 use pin_matrix::the_last_write_counts;
 use sm_registers::a_first_tick_stirs;
 
-/// A machine sees of each pin the pad of two clocks ago, or of now where the pin bypasses its synchroniser: the state after
-/// each clock follows from the state before it and from the history of the pads.
+/// A machine sees of each pin the pad of two clocks ago, or of now where the pin bypasses its synchroniser: the state
+/// after each clock follows from the state before it and from the history of the pads.
 pub fn pads_are_seen_two_clocks_late()
     ensures { (s : Setup) (host : ℕ → Due) (clock : ℕ) →
         (run_at s host (suc clock)).state
@@ -71,8 +71,8 @@ pub fn ticks_follow_the_divider()
     tick_test();
 }
 
-/// After a clock each pin has the level, and the direction, that the last of the clock's writes to it gives, in order of the
-/// machines' numbers, side-set's after the instruction's; one that nothing writes stays.
+/// After a clock each pin has the level, and the direction, that the last of the clock's writes to it gives, in order
+/// of the machines' numbers, side-set's after the instruction's; one that nothing writes stays.
 pub fn each_pin_gets_the_last_write()
     ensures levels { (memory : List ℕ) (seen : ℕ) (d : Due) (b : BlockState) (p : ℕ) → p < 32 →
         let writes = level_writes (intents_of (view_of memory seen b) d b.machines) in
@@ -120,8 +120,8 @@ pub fn what_begins_moves_on()
     a_first_tick_stirs();
 }
 
-/// After clocks in which nothing stirs and the system does nothing, a run shows what it showed, and the machines ask for the
-/// same.
+/// After clocks in which nothing stirs and the system does nothing, a run shows what it showed, and the machines ask
+/// for the same.
 pub fn a_leap_shows_nothing_new()
     ensures requests { (r : Run) (n : ℕ) → requests_of (leapt n r).state ≡ requests_of r.state }
     ensures sample { (r : Run) (n : ℕ) → sample_of (leapt n r).state ≡ sample_of r.state }
@@ -132,15 +132,15 @@ pub fn a_leap_changes_nothing_inside()
     ensures { (r : Run) (n : ℕ) → inside_of (leapt n r) ≡ inside_of r }
 {}
 
-/// The pads that are inside after a clock are those of the clock, by its history: a machine that bypasses the synchroniser of a pin
-/// saw them in it, and the others see them two clocks later.
+/// The pads that are inside after a clock are those of the clock, by its history: a machine that bypasses the
+/// synchroniser of a pin saw them in it, and the others see them two clocks later.
 pub fn pads_inside_are_the_clocks_own()
     ensures { (s : Setup) (host : ℕ → Due) (clock : ℕ) →
         (inside_of (run_at s host (suc clock))).pads ≡ pad_at s host clock }
 {}
 
-/// Where a machine has a tick of an instruction, it waits after the clock exactly where the instruction stalls in it; without a tick,
-/// and in a delay, it waits where it waited before.
+/// Where a machine has a tick of an instruction, it waits after the clock exactly where the instruction stalls in it;
+/// without a tick, and in a delay, it waits where it waited before.
 pub fn a_machine_waits_where_it_stalls()
     ensures { (memory : List ℕ) (v : View) (d : Due) (s : Slot) →
         (machine_inside memory (slot_after v d s)).waits

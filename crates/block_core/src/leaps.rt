@@ -20,8 +20,8 @@ pub(crate) fn begins_now<F: Fifo>(place: &Option<Slot<F>>) -> bool
     }
 }
 
-/// The least number of clocks after which a test passes or the machine of a place stirs, from that of the test alone. The
-/// machine isn't asked where the test passes at once.
+/// The least number of clocks after which a test passes or the machine of a place stirs, from that of the test alone.
+/// The machine isn't asked where the test passes at once.
 pub(crate) fn sooner<F: Fifo>(
     tested: Option<u64>,
     place: &Option<Slot<F>>,

@@ -2,6 +2,7 @@
 #![tactic(auto)]
 
 mod block;
+mod conduct;
 mod following;
 mod inside;
 mod laws;
@@ -16,6 +17,7 @@ mod twin;
 mod twin_laws;
 
 pub use block::Block;
+pub use conduct::{Conduct, Conducted, MachineConduct};
 pub use following::{
     a_block_sees_its_own_pads, a_pin_of_one_machine, each_place_goes_its_own_way,
     ticks_follow_the_divider_over_any_pads,

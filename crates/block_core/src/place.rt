@@ -1,14 +1,12 @@
 //! A place of a block: its machine, where one is configured.
-ghost use Rattle.std.specs.Prelude.{◌≡◌, ◌<◌, ◌||◌, true, false, Some, is_some, option_map, IfOk};
-ghost use Rattle.sm_registers.specs.Intents.{no_wants, wants_of, written_by};
+ghost use Rattle.std.specs.Prelude.{◌≡◌, ◌<◌, ◌||◌, true, false, Some, option_map, IfOk};
 ghost use Rattle.block_core.specs.Inside.{machine_inside};
 ghost use Rattle.block_core.specs.Kept.{IsInTime};
 ghost use Rattle.block_core.specs.Kept as kept;
 ghost use Rattle.block_core.specs.Merging.{with_intent};
 ghost use Rattle.block_core.specs.Shown.{Shows, shown_in, moved_in, with_shown};
 ghost use Rattle.dreq_pacing.specs.Due.{quiet};
-ghost use Rattle.block_core.specs.Slots as spec;
-ghost use Rattle.block_core.specs.Slots.{doing, first_slot, has_tick, is_simple, place_after, place_intent, place_uses_fifos, slot_after, slot_intent, slot_uses_fifos};
+ghost use Rattle.block_core.specs.Slots.{doing, first_slot, has_tick, place_after, place_intent, place_uses_fifos, slot_after, slot_intent, slot_uses_fifos};
 
 use crate::Sample;
 use crate::inside::MachineInside;
@@ -17,7 +15,7 @@ use crate::slot::Slot;
 use dreq_pacing::Due;
 use fifo_pair::{Fifo, a_quiet_clock_changes_nothing};
 use pin_matrix::MachineSetup;
-use sm_registers::{Intent, Outputs, Shown, View};
+use sm_registers::{Intent, Shown, View};
 use std::alloc::{AllocError, Global};
 
 /// The place of a setup's machine.
@@ -44,33 +42,8 @@ pub(crate) fn are_empty(
     second.is_none() && third.is_none() && fourth.is_none()
 }
 
-/// A clock of a place in which the system does nothing, where it is a simple one of its machine; else nothing is done, as in an
-/// empty place (`Slot::simple_clock`).
-#[inline(always)]
-pub(crate) fn simple_step<F: Fifo>(
-    slot: &mut Option<Slot<F>>,
-    view: &View,
-    outputs: &mut Outputs,
-    ready: bool,
-) -> Option<bool>
-    requires time { IsInTime slot.old }
-    requires ready { ready ≡ true → spec.is_ready slot.old ≡ true }
-    ensures simple { is_some result ≡ is_simple view.now slot.old }
-    ensures after { is_some result ≡ true → slot.new ≡ place_after view.now quiet slot.old }
-    ensures outputs { is_some result ≡ true → outputs.new ≡ written_by outputs.old (place_intent view.now quiet slot.old) }
-    ensures wants { is_some result ≡ true → wants_of (place_intent view.now quiet slot.old) ≡ no_wants }
-    ensures next { result ≡ Some true → spec.is_ready slot.new ≡ true }
-    ensures kept { is_some result ≡ false → slot.new ≡ slot.old }
-    ensures kept_outputs { is_some result ≡ false → outputs.new ≡ outputs.old }
-{
-    match slot {
-        Some(slot) => slot.simple_clock(view, outputs, ready),
-        None => None,
-    }
-}
-
-/// A clock of a place, whose machine adds what it wants of the block. The sample, which has what was seen of the place, gets
-/// what is seen of it now. True where anything was done at its FIFOs, or at those of the machines before it.
+/// A clock of a place, whose machine adds what it wants of the block. The sample, which has what was seen of the place,
+/// gets what is seen of it now. True where anything was done at its FIFOs, or at those of the machines before it.
 #[inline(always)]
 #[tactic(auto, using(crate::proofs::Wanting::nothing_added))]
 pub(crate) fn step<F: Fifo>(
@@ -99,7 +72,7 @@ pub(crate) fn step<F: Fifo>(
         None
             if slot
                 .simple_clock(view, &mut wanted.outputs, false)
-                .is_some() => used,
+                .is_done() => used,
         None => used | quiet_step(slot, view, wanted, place, sample),
         Some(due) => used | due_step(slot, view, due, wanted, place, sample),
     }
@@ -153,7 +126,8 @@ fn due_step<F: Fifo>(
     used
 }
 
-/// Adds what a machine wanted of the block in a clock. The sample gets what is seen of the machine, where that may be new.
+/// Adds what a machine wanted of the block in a clock. The sample gets what is seen of the machine, where that may be
+/// new.
 #[inline(always)]
 fn tell<F: Fifo>(
     intent: &Intent,

@@ -5,6 +5,7 @@ ghost use Rattle.dreq_pacing.specs.Due.{quiet};
 ghost use Rattle.dreq_pacing.specs.Ports.{IsFirst};
 ghost use Rattle.block_core.specs.Block.{first_run_over, next_over, pads_in, wanted_over, uses_fifos_over, level_writes, direction_writes, TakesLastWrites};
 ghost use Rattle.block_core.specs.Block as spec;
+ghost use Rattle.block_core.specs.Conduct.{standings_in};
 ghost use Rattle.block_core.specs.Inside.{inside_of};
 ghost use Rattle.block_core.specs.Kept.{AreTold, is_simple_over};
 ghost use Rattle.block_core.specs.Leaps.{leapt};
@@ -14,11 +15,12 @@ ghost use Rattle.block_core.specs.Stirring.{machines_stir_over, pads_change_over
 ghost use Rattle.block_core.specs.Stirring as spec_stirring;
 
 use crate::Sample;
+use crate::conduct::{Standing, stands};
 use crate::inside::{Inside, MachineInside};
 use crate::leaps::{begins_now, leap, sooner};
 use crate::merging::{Wanted, outside_after};
 use crate::news::News;
-use crate::place::{are_empty, inside, moved, shown, simple_step, slot_of, step};
+use crate::place::{are_empty, inside, moved, shown, slot_of, step};
 use crate::slot::Slot;
 use dreq_pacing::{Due, Requests};
 use fifo_pair::{Fifo, a_quiet_clock_changes_nothing};
@@ -39,12 +41,18 @@ pub(crate) struct Running<F: Fifo> {
     wanted: Wanted,
     outside: u32,
     clock: u64,
-    // Whether the places after the first are empty, as in most blocks, so that a clock asks for none of them.
-    alone: bool,
-    // Whether it is known that the only machine is ready in the present clock, so that a clock asks nothing of it.
-    ready: bool,
+    known: Known,
     // What `view` shows, brought up to date by each clock, since a trace asks after each and little of it changes.
     sample: Sample,
+}
+
+/// What is known of its places (`AreKnown`), so that most clocks don't ask for it.
+#[derive(Clone, Copy)]
+struct Known {
+    /// Whether the places after the first are empty, as in most blocks, so that a clock asks for none of them.
+    alone: bool,
+    /// Whether the only machine is known to be ready in the present clock, so that a clock asks nothing of it.
+    ready: bool,
 }
 
 /// One call wherever a block is dropped, in place of the drops of all that is in it.
@@ -59,8 +67,7 @@ impl<F: Fifo> Drop for Running<F> {
             wanted: _,
             outside: _,
             clock: _,
-            alone: _,
-            ready: _,
+            known: _,
             sample: _,
         } = self;
     }
@@ -69,7 +76,7 @@ impl<F: Fifo> Drop for Running<F> {
 impl<F: Fifo> Model for Running<F> {
     ghost use Rattle.block_core.specs.Block.{Run};
     ghost use Rattle.std.specs.Prelude.{◌≡◌};
-    ghost use Rattle.block_core.specs.Kept.{AreInStep, IsKnownReady, IsSampleOf, are_empty, state_of};
+    ghost use Rattle.block_core.specs.Kept.{AreInStep, AreKnown, IsSampleOf, state_of};
 
     ghost Value = { Run };
 
@@ -82,8 +89,7 @@ impl<F: Fifo> Model for Running<F> {
 
     ghost invariant = { λ b. AreInStep b.shared.memory b.clock b.first b.second b.third b.fourth
         × IsSampleOf (state_of b.first b.second b.third b.fourth b.wanted.outputs.levels b.wanted.outputs.directions b.shared.flags.up b.outside) b.sample
-        × (b.alone ≡ are_empty b.second b.third b.fourth)
-        × IsKnownReady b.ready b.alone b.first };
+        × AreKnown b.known b.first b.second b.third b.fourth };
 }
 
 impl<F: Fifo> Running<F> {
@@ -113,8 +119,10 @@ impl<F: Fifo> Running<F> {
             },
             outside: setup.high,
             clock: 0,
-            alone,
-            ready: false,
+            known: Known {
+                alone,
+                ready: false,
+            },
             sample: Sample {
                 level: setup.level,
                 direction: setup.out,
@@ -159,8 +167,8 @@ impl<F: Fifo> Running<F> {
         pad_of(self.levels(), self.directions(), self.outside(due))
     }
 
-    /// One clock with these pads, in which the system does this. Every machine with a tick acts from what was there at the
-    /// clock's start. True where a machine or the system did anything at a FIFO.
+    /// One clock with these pads, in which the system does this. Every machine with a tick acts from what was there at
+    /// the clock's start. True where a machine or the system did anything at a FIFO.
     #[inline(always)]
     pub fn step(&mut self, pad: u32, due: &Due) -> bool
         requires { self.old.clock < 2 ^ 40 }
@@ -197,8 +205,8 @@ impl<F: Fifo> Running<F> {
         }
     }
 
-    /// The same where the clock is a simple one of the only machine (`Slot::simple_clock`); else nothing is done. It tells whether
-    /// the sample is another one, where it was done, and then nobody did anything at a FIFO.
+    /// The same where the clock is a simple one of the only machine (`Slot::simple_clock`); else nothing is done. It
+    /// tells whether the sample is another one, where it was done, and then nobody did anything at a FIFO.
     #[inline(always)]
     fn simple_step(&mut self, pad: u32) -> Option<bool>
         requires { self.old.clock < 2 ^ 40 }
@@ -210,20 +218,25 @@ impl<F: Fifo> Running<F> {
     {
         a_calm_tick_tells_nothing_new();
         a_quiet_clock_changes_nothing();
-        if !self.ready && !self.alone {
+        if !self.known.ready && !self.known.alone {
             return None;
         }
+        let Some(first) = &mut self.first else {
+            return None;
+        };
         let view = View::new(&self.shared, pad);
-        let outputs = &mut self.wanted.outputs;
-        let ready = simple_step(&mut self.first, &view, outputs, self.ready)?;
-        self.ready = ready;
+        let tried = first.simple_clock(&view, &mut self.wanted.outputs, self.known.ready);
+        if !tried.is_done() {
+            return None;
+        }
+        self.known.ready = tried.is_ready();
         self.shared.sync.step(pad);
         self.clock += 1;
         Some(self.sample.show_pins(&self.wanted.outputs))
     }
 
-    /// The same of any machines, whatever they do, where the system does this, if anything. It is code of its own, which keeps
-    /// that of most clocks short.
+    /// The same of any machines, whatever they do, where the system does this, if anything. It is code of its own,
+    /// which keeps that of most clocks short.
     #[cold]
     #[inline(never)]
     fn step_all(&mut self, pad: u32, due: Option<&Due>) -> bool
@@ -232,7 +245,7 @@ impl<F: Fifo> Running<F> {
         ensures used { result ≡ uses_fifos_over pad (doing due.entry) self.old }
     {
         a_calm_tick_tells_nothing_new();
-        self.ready = false;
+        self.known.ready = false;
         self.outside = outside_after(self.outside, due);
         self.wanted.begin();
         let view = View::new(&self.shared, pad);
@@ -263,7 +276,7 @@ impl<F: Fifo> Running<F> {
     pub fn is_ready(&self) -> bool
         ensures { result ≡ true → list_any spec_stirring.begins_now self.now.state.machines ≡ true }
     {
-        self.ready
+        self.known.ready
     }
 
     /// Whether a machine begins an instruction in the present clock, if no line acts in it.
@@ -284,9 +297,9 @@ impl<F: Fifo> Running<F> {
         let _clock = self.clock;
     }
 
-    /// The least number of clocks after which a test passes or a machine stirs, where the pads stay these and the system does
-    /// nothing, from that of the test alone. No machine is asked after a test that passes at once, or a machine that stirs at
-    /// once.
+    /// The least number of clocks after which a test passes or a machine stirs, where the pads stay these and the
+    /// system does nothing, from that of the test alone. No machine is asked after a test that passes at once, or a
+    /// machine that stirs at once.
     #[inline(always)]
     pub fn sooner(&self, tested: Option<u64>, pad: u32) -> Option<u64>
         ensures { (test : ℕ → Bool) → IsFirst test 0 tested →
@@ -307,7 +320,7 @@ impl<F: Fifo> Running<F> {
             machines_stir_over pad quiet (leapt k self.old) ≡ false }
         ensures { self.new ≡ leapt clocks self.old }
     {
-        self.ready = false;
+        self.known.ready = false;
         let view = View::new(&self.shared, pad);
         leap(&mut self.first, &view, clocks);
         leap(&mut self.second, &view, clocks);
@@ -368,7 +381,7 @@ impl<F: Fifo> Running<F> {
     {
         let memory = &self.shared.memory;
         let first = inside(&self.first, memory);
-        if self.alone {
+        if self.known.alone {
             return [first, None, None, None];
         }
         [
@@ -376,6 +389,18 @@ impl<F: Fifo> Running<F> {
             inside(&self.second, memory),
             inside(&self.third, memory),
             inside(&self.fourth, memory),
+        ]
+    }
+
+    /// How its machines stand before the present clock, and which tick they have in it, if these lines act in it.
+    pub fn standings(&self, due: &Due) -> [Option<Standing>; 4]
+        ensures { result ≡ standings_in due.now self.now.state }
+    {
+        [
+            stands(&self.first, due),
+            stands(&self.second, due),
+            stands(&self.third, due),
+            stands(&self.fourth, due),
         ]
     }
 

@@ -1,22 +1,24 @@
 //! One machine in a run of its block, with its divider.
-ghost use Rattle.std.specs.Prelude.{◌≡◌, ℕ, ◌<◌, ◌≤◌, ◌^◌, ◌+◌, Some, is_some, length, IsTrue, IsSome, IfSome, IfOk, false, true};
+ghost use Rattle.std.specs.Prelude.{◌≡◌, ℕ, ◌<◌, ◌≤◌, ◌^◌, ◌+◌, Some, length, IsTrue, IsSome, IfOk, false, true};
 ghost use Rattle.clock_divider.specs.Timing as timing;
-ghost use Rattle.sm_registers.specs.Intents.{no_wants, wants_of, written_by};
+ghost use Rattle.sm_registers.specs.Simple.{is_done, leaves_ready};
 ghost use Rattle.sm_registers.specs.State as spec_shown;
 ghost use Rattle.dreq_pacing.specs.Due.{quiet};
 ghost use Rattle.dreq_pacing.specs.Ports.{IsFirst};
+ghost use Rattle.block_core.specs.Conduct.{standing_in};
 ghost use Rattle.block_core.specs.Inside.{machine_inside};
 ghost use Rattle.block_core.specs.Leaps.{leapt_slot, stirs_after};
 ghost use Rattle.block_core.specs.Stirring.{begins_now};
 ghost use Rattle.block_core.specs.Slots as spec;
 ghost use Rattle.block_core.specs.Slots.{lined, acted, settled_slot, slot_after, slot_intent, slot_uses_fifos, used_by};
 
+use crate::conduct::Standing;
 use crate::inside::{MachineInside, word_at};
 use clock_divider::Divider;
 use dreq_pacing::Due;
 use fifo_pair::{Fifo, a_quiet_clock_changes_nothing};
 use pin_matrix::MachineSetup;
-use sm_registers::{Idle, Intent, Machine, Outputs, Shown, View, a_calm_tick_only_counts};
+use sm_registers::{Idle, Intent, Machine, Outputs, Shown, Tried, View, a_calm_tick_only_counts};
 use std::alloc::{AllocError, Global};
 use std::marker::Model;
 
@@ -70,8 +72,8 @@ impl<F: Fifo> Slot<F> {
         })
     }
 
-    /// One clock, in which the system does this. It returns what the machine wants of its block, and whether it or the system did
-    /// anything at its FIFOs.
+    /// One clock, in which the system does this. It returns what the machine wants of its block, and whether it or the
+    /// system did anything at its FIFOs.
     #[inline(always)]
     pub fn clock(&mut self, view: &View, due: &Due) -> (Intent, bool)
         requires clock { self.old.timing.clock < 2 ^ 40 }
@@ -103,48 +105,33 @@ impl<F: Fifo> Slot<F> {
         (intent, used)
     }
 
-    /// Its clock, where the system does nothing in it and it is a simple one: it has no tick, or a simple tick. Else nothing is
-    /// done. Where it was done, it says whether the machine is known to be ready in the next clock; of one that is known to be,
-    /// nothing more is asked. It wants nothing of its block but pins then, which it writes over those of the machines before it,
-    /// nor of its FIFOs.
+    /// Its clock, where the system does nothing in it and it is a simple one: it has no tick, or a simple tick. Else
+    /// nothing is done. Of a machine that is known to be ready in this clock, nothing more is asked. It wants nothing
+    /// of its block but pins then, which it writes over those of the machines before it, nor of its FIFOs.
     #[inline(always)]
-    pub fn simple_clock(&mut self, view: &View, outputs: &mut Outputs, ready: bool) -> Option<bool>
+    pub fn simple_clock(&mut self, view: &View, outputs: &mut Outputs, ready: bool) -> Tried
         requires ready { ready ≡ true → spec.is_ready (Some self.old) ≡ true }
         requires clock { self.old.timing.clock < 2 ^ 40 }
-        ensures simple { is_some result ≡ spec.is_simple view.now (Some self.old) }
-        ensures after { is_some result ≡ true → self.new ≡ slot_after view.now quiet self.old }
-        ensures outputs { is_some result ≡ true → outputs.new ≡ written_by outputs.old (slot_intent view.now quiet self.old) }
-        ensures wants { is_some result ≡ true → wants_of (slot_intent view.now quiet self.old) ≡ no_wants }
-        ensures next { result ≡ Some true → spec.is_ready (Some self.new) ≡ true }
-        ensures kept { is_some result ≡ false → self.new ≡ self.old }
-        ensures kept_outputs { is_some result ≡ false → outputs.new ≡ outputs.old }
+        ensures simple { is_done result ≡ spec.is_simple view.now (Some self.old) }
+        ensures done { is_done result ≡ true → spec.MakesSimpleClock view.now self.old self.new outputs.old outputs.new }
+        ensures next { leaves_ready result ≡ true → spec.is_ready (Some self.new) ≡ true }
+        ensures kept { is_done result ≡ false → (self.new ≡ self.old) × (outputs.new ≡ outputs.old) }
     {
         a_quiet_clock_changes_nothing();
-        if !ready && !self.has_tick() {
+        if !self.has_tick_by(ready) {
             self.divider.step();
-            return Some(false);
+            return Tried::Done;
         }
-        self.simple_tick(view, outputs, ready)
-    }
-
-    /// The same of a clock that is a tick of it.
-    #[inline(always)]
-    fn simple_tick(&mut self, view: &View, outputs: &mut Outputs, ready: bool) -> Option<bool>
-        requires tick { spec.has_tick self.old ≡ true }
-        requires ready { ready ≡ true → spec.is_ready (Some self.old) ≡ true }
-        requires clock { self.old.timing.clock < 2 ^ 40 }
-        ensures simple { is_some result ≡ spec.is_simple view.now (Some self.old) }
-        ensures after { is_some result ≡ true → self.new ≡ slot_after view.now quiet self.old }
-        ensures outputs { is_some result ≡ true → outputs.new ≡ written_by outputs.old (slot_intent view.now quiet self.old) }
-        ensures wants { is_some result ≡ true → wants_of (slot_intent view.now quiet self.old) ≡ no_wants }
-        ensures next { IfSome result (λ next. next ≡ spec.is_ready (Some self.new)) }
-        ensures kept { is_some result ≡ false → self.new ≡ self.old }
-        ensures kept_outputs { is_some result ≡ false → outputs.new ≡ outputs.old }
-    {
-        a_quiet_clock_changes_nothing();
-        let begins = self.machine.simple_tick(view, outputs, ready)?;
+        let tried = self.machine.simple_tick(view, outputs, ready);
+        if !tried.is_done() {
+            return tried;
+        }
         self.divider.step_from_tick();
-        Some(begins & self.divider.ticks_now())
+        if self.divider.ticks_now() {
+            tried
+        } else {
+            Tried::Done
+        }
     }
 
     /// Whether the clock is a tick of it.
@@ -153,6 +140,15 @@ impl<F: Fifo> Slot<F> {
         ensures { result ≡ spec.has_tick self.now }
     {
         self.enabled && self.divider.ticks_now()
+    }
+
+    /// The same, where it may be known to be ready: its clock is a tick then.
+    #[inline(always)]
+    fn has_tick_by(&self, ready: bool) -> bool
+        requires { ready ≡ true → spec.is_ready (Some self.now) ≡ true }
+        ensures { result ≡ spec.has_tick self.now }
+    {
+        ready || self.has_tick()
     }
 
     /// The place of its lines in `Due`.
@@ -279,6 +275,35 @@ impl<F: Fifo> Slot<F> {
             waits: registers.begun,
             enabled: self.enabled,
         }
+    }
+
+    /// How it stands before the present clock, and which tick it has in it, if these lines act in it.
+    #[tactic(auto, unfolding(crate::specs::Conduct::standing_in))]
+    pub fn stands(&self, due: &Due) -> Standing
+        ensures { result ≡ standing_in due.now self.now }
+    {
+        let place = self.place();
+        let ticks = self.ticks_after(due);
+        let registers = self.machine.registers();
+        let begun = registers.begun;
+        let pending = registers.pending.is_some();
+        Standing {
+            pc: registers.pc,
+            waits: begun,
+            comes: (registers.delay == 0) & (!pending & !begun),
+            pending,
+            acts: ticks & (registers.delay == 0),
+            breaks: due.disable[place] | due.restart[place],
+        }
+    }
+
+    /// Whether the present clock is a tick of it, if these lines act in it.
+    fn ticks_after(&self, due: &Due) -> bool
+        ensures { result ≡ spec.has_tick (lined due.now self.now) }
+    {
+        let place = self.place();
+        let now = self.divider.ticks_now();
+        (due.enable[place] | (!due.disable[place] & self.enabled)) & (due.restart[place] | now)
     }
 
     /// How many words transfers moved into its TX and out of its RX.

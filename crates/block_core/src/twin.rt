@@ -41,8 +41,8 @@ impl<F: Fifo> Model for Twin<F> {
 }
 
 impl<F: Fifo> Twin<F> {
-    /// The blocks of two setups in clock 0. In `own` bit p says that the second owns pin p; the first owns the others. The
-    /// error is want of memory; no other call takes any.
+    /// The blocks of two setups in clock 0. In `own` bit p says that the second owns pin p; the first owns the others.
+    /// The error is want of memory; no other call takes any.
     pub fn new(
         alloc: Global,
         first: &Setup,
@@ -60,9 +60,9 @@ impl<F: Fifo> Twin<F> {
         })
     }
 
-    /// One clock, in which the system does this at the first block and that at the second. Both act from what was there at
-    /// the clock's start. Of each block, true where a machine or the system did anything at a FIFO; else its machines ask for
-    /// what they asked before.
+    /// One clock, in which the system does this at the first block and that at the second. Both act from what was there
+    /// at the clock's start. Of each block, true where a machine or the system did anything at a FIFO; else its
+    /// machines ask for what they asked before.
     pub fn clock(&mut self, first: &Due, second: &Due) -> (bool, bool)
         requires { self.old.twin.first.clock < 2 ^ 40 }
         ensures twin { self.new.twin ≡ twin_next first.now second.now self.old.twin }
@@ -112,8 +112,8 @@ impl<F: Fifo> Twin<F> {
         first | self.second.pads_change(pad)
     }
 
-    /// Whether the present clock stirs, if the system does nothing in it, by what is known without asking a machine what it
-    /// sees: the pads change, or a machine begins an instruction. Such a clock moves one of the two on
+    /// Whether the present clock stirs, if the system does nothing in it, by what is known without asking a machine
+    /// what it sees: the pads change, or a machine begins an instruction. Such a clock moves one of the two on
     /// (`what_begins_moves_two_on`); whether others do, `next_stir` says.
     #[inline(always)]
     pub fn begins_or_changes(&self) -> bool
@@ -127,8 +127,8 @@ impl<F: Fifo> Twin<F> {
         first | self.second.begins_now()
     }
 
-    /// How many clocks go by before the next one in which either block stirs, if the system does nothing; none where no clock
-    /// ever does. It takes no longer for many clocks, and no machine is asked after one that stirs at once.
+    /// How many clocks go by before the next one in which either block stirs, if the system does nothing; none where no
+    /// clock ever does. It takes no longer for many clocks, and no machine is asked after one that stirs at once.
     pub fn next_stir(&self) -> Option<u64>
         ensures first { IsFirst (λ n. twin_moves_on quiet quiet (twin_from self.now.twin (λ c. quiet) (λ c. quiet) n)) 0 result }
     {
@@ -145,8 +145,9 @@ impl<F: Fifo> Twin<F> {
         self.second.sooner(first, pad)
     }
 
-    /// So many clocks at once, in none of which either block stirs, and in which the system does nothing. After each of them
-    /// both are what they were, but for their clock and what is left of delays (`rests`). It takes no longer for many clocks.
+    /// So many clocks at once, in none of which either block stirs, and in which the system does nothing. After each of
+    /// them both are what they were, but for their clock and what is left of delays (`rests`). It takes no longer for
+    /// many clocks.
     pub fn leap(&mut self, clocks: u64)
         requires clock { self.old.twin.first.clock + clocks ≤ 2 ^ 40 }
         requires calm { (k : ℕ) → k < clocks →

@@ -16,7 +16,8 @@ use fifo_pair::a_quiet_clock_changes_nothing;
 use pin_matrix::each_pad;
 use sm_registers::a_first_tick_stirs;
 
-/// Each pad is the level of the block that owns the pin where the direction of this block is out, else the outside level.
+/// Each pad is the level of the block that owns the pin where the direction of this block is out, else the outside
+/// level.
 pub fn each_pad_is_its_owners()
     ensures { (own : ℕ) (first second : BlockState) (outside p : ℕ) → own < 2 ^ 32 →
         first.directions < 2 ^ 32 → second.directions < 2 ^ 32 → p < 32 →
@@ -27,8 +28,8 @@ pub fn each_pad_is_its_owners()
     each_pad();
 }
 
-/// The pads of two blocks change in a clock exactly where they aren't the same in it, in the clock before and in the one before
-/// that.
+/// The pads of two blocks change in a clock exactly where they aren't the same in it, in the clock before and in the
+/// one before that.
 pub fn pads_of_two_change_until_seen()
     ensures { (own : ℕ) (s t : Setup) (first second : ℕ → Due) (clock : ℕ) →
         let pad = twin_pad_at own s t first second clock in
@@ -36,8 +37,8 @@ pub fn pads_of_two_change_until_seen()
         ≡ not ((pad == last_twin_pad own s t first second clock) && (pad == twin_pad_before own s t first second clock)) }
 {}
 
-/// Each of two blocks is in a run in which its machines see the pads that both share, two clocks late where its own setup
-/// doesn't bypass the synchroniser. So a law of runs over any pads holds of each of them.
+/// Each of two blocks is in a run in which its machines see the pads that both share, two clocks late where its own
+/// setup doesn't bypass the synchroniser. So a law of runs over any pads holds of each of them.
 pub fn two_blocks_see_the_same_pads()
     ensures first { (own : ℕ) (s t : Setup) (first second : ℕ → Due) →
         Follows s.memory (λ c. seen_of s.bypass (twin_pad_at own s t first second c) (twin_pad_before own s t first second c))
@@ -71,8 +72,8 @@ pub fn unused_fifos_ask_as_before_over_any_pads()
     a_quiet_clock_changes_nothing();
 }
 
-/// A clock in which the pads change, or a machine of either begins an instruction, moves one of the two on, whatever the
-/// machines see.
+/// A clock in which the pads change, or a machine of either begins an instruction, moves one of the two on, whatever
+/// the machines see.
 pub fn what_begins_moves_two_on()
     ensures { (t : TwinRun) → twin_begins_or_changes t ≡ true → twin_moves_on quiet quiet t ≡ true }
 {

@@ -18,10 +18,11 @@ use sm_registers::{
     a_tick_sees_what_it_reads, a_tick_writes_its_own_pins, ranges_are_kept, writes_are_of_pins,
 };
 
-/// A machine that is alone goes its own way, whatever the other machines are and do. Take two setups in each of which it is
-/// alone and which agree on what is its own (`AreAlikeTo`), and two schedules with the same lines that name it or a pin that it
-/// reads. Then in each clock all of the machine, the levels and directions of its pins and its flags are the same in both runs.
-/// What it touches is the same in both setups (`touches`), so it doesn't matter by which of them that is asked.
+/// A machine that is alone goes its own way, whatever the other machines are and do. Take two setups in each of which
+/// it is alone and which agree on what is its own (`AreAlikeTo`), and two schedules with the same lines that name it or
+/// a pin that it reads. Then in each clock all of the machine, the levels and directions of its pins and its flags are
+/// the same in both runs. What it touches is the same in both setups (`touches`), so it doesn't matter by which of them
+/// that is asked.
 pub fn a_machine_alone_is_isolated()
     ensures touches { (m : ℕ) (own : machine_setup.MachineSetup) (s t : Setup)
         → AreAlikeTo m own (touches_of s m) s t → touches_of s m ≡ touches_of t m }

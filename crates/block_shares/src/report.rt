@@ -9,8 +9,8 @@ use itoa::Buffer;
 use pin_matrix::Setup;
 use pio_edge::{Sink, SinkFailed, put_all};
 
-/// Puts the report on what the machines of a setup share: for each that is configured a line for each other machine that it can
-/// feel something of, or one line that it is alone. It takes no memory.
+/// Puts the report on what the machines of a setup share: for each that is configured a line for each other machine
+/// that it can feel something of, or one line that it is alone. It takes no memory.
 #[tactic(auto, unfolding(crate::specs::Report::shares_text))]
 pub fn put_shares<S: Sink>(sink: &mut S, setup: &Setup) -> Result<(), SinkFailed>
     ensures bytes { Takes (S.taken sink.old) (spec.shares_text setup.now) (S.taken sink.new) result }

@@ -8,8 +8,8 @@ use crate::touched::Touches;
 use crate::touching::touches;
 use pin_matrix::Setup;
 
-/// What machine `m` can feel of machine `k`: the pins that `k` may write and `m` reads or may write, and the flags that `k`
-/// changes and `m` waits for or changes. Machines are 0 to 3. It takes no memory.
+/// What machine `m` can feel of machine `k`: the pins that `k` may write and `m` reads or may write, and the flags that
+/// `k` changes and `m` waits for or changes. Machines are 0 to 3. It takes no memory.
 pub fn shares(setup: &Setup, m: u8, k: u8) -> (u32, u8)
     requires one { m < 4 }
     requires other { k < 4 }

@@ -2,8 +2,9 @@
 
 /// What a machine touches. In a number bit i is for address, pin or flag i.
 ///
-/// What is said of a reached instruction is so of the word too that the machine executes first. A machine of which one of them sets PC,
-/// or the next instruction, from data is taken to reach all words, to read all pins, and to see and change all flags.
+/// What is said of a reached instruction is so of the word too that the machine executes first. A machine of which one
+/// of them sets PC, or the next instruction, from data is taken to reach all words, to read all pins, and to see and
+/// change all flags.
 #[derive(Clone, Copy)]
 pub struct Touches {
     /// The addresses of the instruction memory that its program can come to.

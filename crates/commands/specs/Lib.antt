@@ -12,4 +12,5 @@ pub mod Passed
 pub mod Verdicts
 pub mod Tables
 pub mod Lines
+pub mod Metered
 pub mod Whole

@@ -4,7 +4,7 @@
 --   HasText     the text of a task is such; ComesTo: the known files give a task that is such
 --   need_of     what a task needs of spans, besides its text
 --   inputs_of   what a command reads: its files in order, and when it comes to each; file_in: which one in a role
-use Rattle.std.specs.Prelude.{ℕ, Bool, true, Option, Some, None, is_some, IfSome, List, [], ◌++◌, map}
+use Rattle.std.specs.Prelude.{ℕ, Bool, true, Option, Some, None, is_some, IfSome, List, [], ◌++◌, map, if◌then◌else◌}
 use Rattle.std.specs.FinMap.{get}
 use Rattle.std.specs.List.{flat_map}
 use Rattle.pio_edge.specs.Edge.{Files}
@@ -13,6 +13,8 @@ use Rattle.fault_lines.specs.declared.fault.File.TheVariants.{Source, Words, Tab
 use Rattle.vcd_trace.specs.InsideText.{inside_text}
 use Rattle.vcd_trace.specs.TwinText.{twin_text}
 use Rattle.vcd_trace.specs.VcdText.{vcd_text}
+use Rattle.span_meter.specs.Events.{events_in, is_selective, marks}
+use Rattle.span_meter.specs.Spoken.{spoken}
 use Rattle.span_meter.specs.Measured.{ends_in, measured, pins_in, seen_of}
 use Rattle.span_meter.specs.SeenText.{seen_line}
 use Rattle.span_meter.specs.declared.seen.SeenDistances.{SeenDistances}
@@ -22,6 +24,7 @@ use Rattle.pio_uart.specs.Feeding.{frames_fed}
 use Rattle.pin_matrix.specs.Pins.{is_high}
 use Rattle.dreq_pacing.specs.declared.line.Line.{Line}
 use Rattle.block_core.specs.Block.{Run, first_run}
+use Rattle.block_core.specs.Conduct.{conducts}
 use Rattle.block_core.specs.Hosted.{samples}
 use Rattle.block_core.specs.HostedTwin.{twin_samples}
 use Rattle.block_core.specs.Inside.{insides}
@@ -72,9 +75,13 @@ twin_trace_text start first second clocks = twin_text (twin_samples start first 
 unfoldable pub inspected_text : Setup → List Line → ℕ → List ℕ
 inspected_text s lines clocks = inside_text (map is_some s.machines) (insides (first_run s) lines clocks)
 
--- what a span measures in so many clocks from a start, with the lines of a stimulus: before clock 0 the pins are the start's
+-- What a span measures in so many clocks from a start, with the lines of a stimulus: every pair of its edges, or those that it speaks
+-- of where it speaks not of every one. Before clock 0 the pins are the start's.
 abbrev pub seen_in : Run → Span → List Line → ℕ → SeenDistances
-seen_in start sp lines clocks = seen_of (measured (ends_in sp) (pins_in start.state) (samples start lines clocks))
+seen_in start sp lines clocks =
+    if is_selective sp
+    then seen_of (spoken (marks (events_in sp) 0 (pins_in start.state) (conducts start lines clocks)))
+    else seen_of (measured (ends_in sp) (pins_in start.state) (samples start lines clocks))
 
 -- the line of what each span measures, in order
 unfoldable pub measured_text : Run → List Span → List Line → ℕ → List ℕ

@@ -18,8 +18,8 @@ use stages::{Verdicts, judge_spans, prepare_setup, refuse};
 use std::alloc::Global;
 use verdict_lines::{Finding, Refusal, put_verdict};
 
-/// Writes the line of the verdict on each span of a setup, and then ends with the fault of the first one that isn't provable,
-/// if there is one. All memory is taken before the first piece is put.
+/// Writes the line of the verdict on each span of a setup, and then ends with the fault of the first one that isn't
+/// provable, if there is one. All memory is taken before the first piece is put.
 ///
 /// With status 0: `CheckPassed` (`specs/Passed.antt`).
 #[tactic(auto, unfolding(crate::specs::Tasks::judge))]

@@ -15,8 +15,8 @@ use std::alloc::Global;
 use std::sync::ledger::Ledger;
 use step_count::Steps;
 
-/// Writes the summary of the load of a seed, whatever the seed is, over so many clocks, up to 10^12. It fetches nothing. All
-/// memory is taken before the first piece is put.
+/// Writes the summary of the load of a seed, whatever the seed is, over so many clocks, up to 10^12. It fetches
+/// nothing. All memory is taken before the first piece is put.
 ///
 /// With status 0: `GenPassed` (`specs/Passed.antt`).
 #[tactic(auto, unfolding(crate::specs::Tasks::judge))]

@@ -8,8 +8,8 @@ ghost use Rattle.pio_edge.specs.Edge.{PutCounts, Takes, with_bytes};
 use fault_lines::Fault;
 use pio_edge::{Sink, SinkFailed};
 
-/// Hands on what the output still keeps of a text that was put; where the put failed, in whatever way, or handing on fails, ends
-/// with that.
+/// Hands on what the output still keeps of a text that was put; where the put failed, in whatever way, or handing on
+/// fails, ends with that.
 pub fn hand_on<O: Sink, E: Drop>(out: &mut O, put: Result<(), E>) -> Result<(), Fault>
     ensures { (before : Output) (text : List ℕ) → Takes before.taken text (O.taken out.old) put
         → PutCounts before.faults (O.faults out.old) put

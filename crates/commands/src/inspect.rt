@@ -1,4 +1,5 @@
-//! The command `inspect`: the trace of what is inside a block in the first clocks of a run, with the pads and the registers of each machine.
+//! The command `inspect`: the trace of what is inside a block in the first clocks of a run, with the pads and the
+//! registers of each machine.
 ghost use Rattle.std.specs.Prelude.{◌≡◌, ◌+◌, ◌≤◌, ◌^◌, is_some, map, option_map};
 ghost use Rattle.block_core.specs.Block.{first_run};
 ghost use Rattle.command_line.specs.Words.{inspect as inspect_asked};
@@ -26,8 +27,8 @@ use std::sync::ledger::Ledger;
 use step_count::Steps;
 use vcd_trace::{InsideVcd, failing_early_leaves_a_first_part_of_what_is_inside};
 
-/// Writes the trace of what is inside the block that a source sets up, by a configuration or by default, in so many clocks, beside
-/// a stimulus where one is named. No span is asked. All memory is taken before the first piece is put.
+/// Writes the trace of what is inside the block that a source sets up, by a configuration or by default, in so many
+/// clocks, beside a stimulus where one is named. No span is asked. All memory is taken before the first piece is put.
 ///
 /// With status 0: `InspectPassed` (`specs/Passed.antt`).
 #[tactic(auto, unfolding(crate::specs::Tasks::judge), using(crate::proofs::Working::worked_by))]

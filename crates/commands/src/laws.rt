@@ -30,8 +30,8 @@ pub fn a_written_table_is_a_proof()
     a_table_is_read_back();
 }
 
-/// The text that is written of some bytes is that of the frames that a serial receiver hears on pin 0 of every transmitter with
-/// this divider that is fed them.
+/// The text that is written of some bytes is that of the frames that a serial receiver hears on pin 0 of every
+/// transmitter with this divider that is fed them.
 #[tactic(auto, unfolding(crate::specs::Tasks::received_text, crate::specs::Tasks::sent_text))]
 pub fn a_transmitter_sends_this_text()
     ensures { (divider clocks : ℕ) (u : Setup) (bytes : List ℕ) → 1 ≤ divider → IsTransmitter divider u

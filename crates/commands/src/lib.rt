@@ -1,4 +1,5 @@
-//! The whole program as one call over its words, a shelf of files, an output and an error output, with a module for each command.
+//! The whole program as one call over its words, a shelf of files, an output and an error output, with a module for
+//! each command.
 #![tactic(auto)]
 
 mod asm;
@@ -10,6 +11,7 @@ mod inspect;
 mod laws;
 mod measure;
 mod measured_lines;
+mod metered;
 mod pair;
 mod passed;
 mod receive;

@@ -2,34 +2,36 @@
 ghost use Rattle.std.specs.Prelude.{◌≡◌, length};
 ghost use Rattle.commands.specs.Written.{SinkWrites};
 ghost use Rattle.commands.specs.Lines.{seen_lines};
+ghost use Rattle.commands.specs.Metered.{seen_of_each};
 ghost use Rattle.pio_edge.specs.Edge.{PutCounts, Takes};
-ghost use Rattle.span_meter.specs.Meters.{seen_so_far};
 ghost use Rattle.span_meter.specs.SeenText.{seen_line};
 
 use crate::handing::hand_on;
+use crate::metered::Metered;
 use fault_lines::Fault;
 use pin_matrix::Span;
 use pio_edge::{Sink, SinkFailed};
-use span_meter::{SeenDistances, SpanMeter, put_seen};
+use span_meter::{SeenDistances, put_seen};
 
-/// Writes the lines of what a meter of these spans has measured, and hands on what the output still keeps. It takes no memory.
+/// Writes the lines of what a meter of these spans has measured, and hands on what the output still keeps. It takes no
+/// memory.
 pub(crate) fn write_lines<O: Sink>(
     out: &mut O,
     spans: &[Span],
-    meter: &SpanMeter,
+    meter: &Metered,
 ) -> Result<(), Fault>
-    requires { length (seen_so_far meter.now) ≡ length spans.now }
+    requires { length (seen_of_each meter.now) ≡ length spans.now }
     ensures { SinkWrites O.taken O.waiting O.faults out.old out.new
-        (seen_lines spans.now (seen_so_far meter.now)) result }
+        (seen_lines spans.now (seen_of_each meter.now)) result }
 {
     let put = put_lines(out, spans, meter);
     hand_on(out, put)
 }
 
 /// Puts the lines of what a meter of these spans has measured.
-fn put_lines<O: Sink>(out: &mut O, spans: &[Span], meter: &SpanMeter) -> Result<(), SinkFailed>
-    requires { length (seen_so_far meter.now) ≡ length spans.now }
-    ensures bytes { Takes (O.taken out.old) (seen_lines spans.now (seen_so_far meter.now)) (O.taken out.new) result }
+fn put_lines<O: Sink>(out: &mut O, spans: &[Span], meter: &Metered) -> Result<(), SinkFailed>
+    requires { length (seen_of_each meter.now) ≡ length spans.now }
+    ensures bytes { Takes (O.taken out.old) (seen_lines spans.now (seen_of_each meter.now)) (O.taken out.new) result }
     ensures cause { PutCounts (O.faults out.old) (O.faults out.new) result }
 {
     for place in 0..spans.len() {

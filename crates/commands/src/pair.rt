@@ -21,9 +21,9 @@ use std::sync::ledger::Ledger;
 use step_count::Steps;
 use vcd_trace::{TwinVcd, failing_early_leaves_a_first_part_of_two};
 
-/// Writes the trace of so many clocks of two blocks that a source sets up by two configurations, with a stimulus where one is named.
-/// Each span of both has to be provable; the first one that isn't ends the run, and nothing is written. The first block's spans come
-/// before the second's. All memory is taken before the first piece is put.
+/// Writes the trace of so many clocks of two blocks that a source sets up by two configurations, with a stimulus where
+/// one is named. Each span of both has to be provable; the first one that isn't ends the run, and nothing is written.
+/// The first block's spans come before the second's. All memory is taken before the first piece is put.
 ///
 /// With status 0: `PairPassed` (`specs/Passed.antt`).
 #[tactic(auto, unfolding(crate::specs::Tasks::judge), using(crate::proofs::Working::worked_by_both))]

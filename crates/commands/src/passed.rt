@@ -1,4 +1,5 @@
-//! What each command has done where its call ends with status 0, as laws from the end of the call, on functions that do nothing.
+//! What each command has done where its call ends with status 0, as laws from the end of the call, on functions that do
+//! nothing.
 ghost use Rattle.std.specs.Prelude.{ℕ, Bool, List, Option};
 ghost use Rattle.clap.specs.Walk.{Text};
 ghost use Rattle.command_line.specs.Words as asked;

@@ -24,8 +24,9 @@ use std::alloc::Global;
 use std::sync::ledger::Ledger;
 use step_count::Steps;
 
-/// Writes a line for each frame that a pin sends in so many clocks of the block that a source sets up, by a configuration or by
-/// default, with a stimulus where one is named. No span is asked. All memory is taken before the first piece is put.
+/// Writes a line for each frame that a pin sends in so many clocks of the block that a source sets up, by a
+/// configuration or by default, with a stimulus where one is named. No span is asked. All memory is taken before the
+/// first piece is put.
 ///
 /// With status 0: `ReceivePassed` (`specs/Passed.antt`).
 #[tactic(auto, unfolding(crate::specs::Tasks::judge), using(crate::proofs::Working::worked_by))]
@@ -59,8 +60,8 @@ pub fn receive<F: Shelf, O: Sink, L: Ledger>(
     write_received(alloc, &setup, &schedule, clocks, line, out, steps)
 }
 
-/// Writes the lines of the frames in so many clocks of a setup, and hands on what the output still keeps; or answers want
-/// of memory before it has put anything.
+/// Writes the lines of the frames in so many clocks of a setup, and hands on what the output still keeps; or answers
+/// want of memory before it has put anything.
 pub fn write_received<O: Sink, L: Ledger>(
     alloc: Global,
     setup: &Setup,

@@ -28,8 +28,8 @@ use std::alloc::Global;
 use table_files::put_rechecked;
 use verdict_lines::Refusal;
 
-/// Writes that the table of a file proves the first span of this name, where it does; else nothing. All memory is taken before
-/// the first piece is put.
+/// Writes that the table of a file proves the first span of this name, where it does; else nothing. All memory is taken
+/// before the first piece is put.
 ///
 /// With status 0: `RecheckPassed` (`specs/Passed.antt`).
 pub fn recheck_file<F: Shelf, O: Sink>(

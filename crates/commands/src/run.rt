@@ -1,4 +1,5 @@
-//! The command `run`: the trace of the first clocks of a block that a source and a configuration set up, with a stimulus.
+//! The command `run`: the trace of the first clocks of a block that a source and a configuration set up, with a
+//! stimulus.
 ghost use Rattle.std.specs.Prelude.{◌≡◌, ◌+◌, ◌≤◌, ◌^◌, option_map};
 ghost use Rattle.block_core.specs.Block.{first_run};
 ghost use Rattle.command_line.specs.Words.{run as run_asked};
@@ -25,8 +26,8 @@ use step_count::Steps;
 use vcd_trace::{VcdTrace, failing_early_leaves_a_first_part};
 
 /// Writes the trace of so many clocks of the block that a source sets up, by a configuration or by default, with a
-/// stimulus where one is named. Each span of the block has to be provable; the first one that isn't ends the run, and nothing
-/// is written. All memory is taken before the first piece is put.
+/// stimulus where one is named. Each span of the block has to be provable; the first one that isn't ends the run, and
+/// nothing is written. All memory is taken before the first piece is put.
 ///
 /// With status 0: `RunPassed` (`specs/Passed.antt`).
 #[tactic(auto, unfolding(crate::specs::Tasks::judge), using(crate::proofs::Working::worked_by))]

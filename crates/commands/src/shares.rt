@@ -14,8 +14,8 @@ use pio_edge::{Shelf, Sink};
 use stages::prepare_setup;
 use std::alloc::Global;
 
-/// Writes the report on what the machines of a setup share, by a configuration or by default. No span is asked. All memory is
-/// taken before the first piece is put.
+/// Writes the report on what the machines of a setup share, by a configuration or by default. No span is asked. All
+/// memory is taken before the first piece is put.
 ///
 /// With status 0: `SharesPassed` (`specs/Passed.antt`).
 #[tactic(auto, unfolding(crate::specs::Tasks::judge))]

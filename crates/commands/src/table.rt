@@ -21,8 +21,8 @@ use std::alloc::{AllocError, Global};
 use table_files::put_table;
 use verdict_lines::Refusal;
 
-/// Writes the table of the first span of this name, the least closed one, where the span is provable; else nothing. All memory is
-/// taken before the first piece is put.
+/// Writes the table of the first span of this name, the least closed one, where the span is provable; else nothing. All
+/// memory is taken before the first piece is put.
 ///
 /// With status 0: `TablePassed` (`specs/Passed.antt`).
 pub fn table<F: Shelf, O: Sink>(

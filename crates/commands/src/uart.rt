@@ -24,8 +24,8 @@ use std::alloc::Global;
 use std::sync::ledger::Ledger;
 use step_count::Steps;
 
-/// Writes a line for each byte of a file that the transmitter sends in so many clocks, with a tick every `divider` clocks, 1 to 8,191.
-/// All memory is taken before the first piece is put.
+/// Writes a line for each byte of a file that the transmitter sends in so many clocks, with a tick every `divider`
+/// clocks, 1 to 8,191. All memory is taken before the first piece is put.
 ///
 /// With status 0: `UartPassed` (`specs/Passed.antt`).
 #[tactic(auto, unfolding(crate::specs::Tasks::judge), using(crate::proofs::Working::sent_by))]
@@ -73,7 +73,8 @@ fn send_bytes<O: Sink, L: Ledger>(
     write_sent(alloc, &schedule, divider, clocks, out, steps)
 }
 
-/// Writes a line for each byte that the transmitter sends with this feed, or runs out of memory before it has put anything.
+/// Writes a line for each byte that the transmitter sends with this feed, or runs out of memory before it has put
+/// anything.
 fn write_sent<O: Sink, L: Ledger>(
     alloc: Global,
     schedule: &Schedule,

@@ -1,5 +1,5 @@
-//! A load from a seed: what four busy machines run, drawn by a generator of numbers, and the summary of what they did in so many
-//! clocks, with its text (choice of this profile).
+//! A load from a seed: what four busy machines run, drawn by a generator of numbers, and the summary of what they did
+//! in so many clocks, with its text (choice of this profile).
 #![tactic(auto)]
 
 mod draws;

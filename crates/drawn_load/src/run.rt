@@ -16,8 +16,8 @@ use std::alloc::{AllocError, Global};
 use std::sync::ledger::Ledger;
 use step_count::Steps;
 
-/// The summary of the load of a seed, whatever the seed is, over so many clocks, up to 10^12. All memory is taken before the
-/// first clock. The error is out of memory, and no other end is free. A step is one clock worked out singly.
+/// The summary of the load of a seed, whatever the seed is, over so many clocks, up to 10^12. All memory is taken
+/// before the first clock. The error is out of memory, and no other end is free. A step is one clock worked out singly.
 pub fn summarise<L: Ledger>(
     alloc: Global,
     seed: u64,

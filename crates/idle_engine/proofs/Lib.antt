@@ -6,3 +6,4 @@ mod SampleLists
 mod Stopping
 mod TwoBlocks
 mod Working
+mod Conducting

@@ -4,3 +4,4 @@ pub mod One
 pub mod OneInside
 pub mod Two
 pub mod Worked
+pub mod OneConduct

@@ -2,6 +2,7 @@
 #![tactic(auto)]
 
 mod clocks;
+mod conduct;
 mod inside;
 mod kind;
 mod laws;
@@ -13,4 +14,4 @@ pub use laws::{
     a_stopped_inspection_leaves_a_first_part, a_stopped_pair_leaves_a_first_part,
     a_stopped_run_leaves_a_first_part, few_clocks_are_worked_out, later_samples_follow,
 };
-pub use simulation::{simulate, simulate_inside, simulate_twin};
+pub use simulation::{simulate, simulate_conduct, simulate_inside, simulate_twin};

@@ -1,6 +1,7 @@
 //! A run with the system's ports, written to a trace. Clocks in which nothing can move are leapt over.
 ghost use Rattle.std.specs.Prelude.{◌≡◌, ℕ, ◌+◌, ◌≤◌, ◌^◌, Bool, false, true, is_err, Option, List, OnOk, OnErr};
 ghost use Rattle.pio_edge.specs.Edge.{PutCounts};
+ghost use Rattle.block_core.specs.Conduct.{conducts, no_conduct};
 ghost use Rattle.block_core.specs.Hosted.{hosted_at, samples};
 ghost use Rattle.block_core.specs.HostedTwin.{twin_of, hosted_twin_at, twin_samples};
 ghost use Rattle.block_core.specs.Inside.{insides};
@@ -12,7 +13,7 @@ ghost use Rattle.idle_engine.specs.Worked.{worked_in, twin_worked_in};
 
 use crate::clocks::{leap, step};
 use crate::kind::Runs;
-use block_core::{Block, Inside, Sample, Twin};
+use block_core::{Block, Conduct, Conducted, Inside, Sample, Twin};
 use dreq_pacing::{HostPorts, Schedule};
 use fifo_pair::Fifo;
 use sample_trace::{Trace, TraceFailed};
@@ -77,6 +78,35 @@ pub fn simulate_inside<F: Fifo, T: Trace<Inside>, L: Ledger>(
     ensures steps { steps.new + block.old.calls ≡ steps.old + block.new.calls }
     ensures exact { OnOk result (steps.new ≡ steps.old + worked_in block.old.run schedule.now clocks) }
     ensures most { steps.new ≤ steps.old + worked_in block.old.run schedule.now clocks }
+{
+    let mut ports = HostPorts::new(schedule);
+    run(block, &mut ports, clocks, trace, steps)
+}
+
+/// Runs a block as `simulate` does, and tells a trace what its machines did in the last clock of note, after each such clock.
+///
+/// The block is in clock 0, and nothing is told of it yet. The trace is told after clock 0 and each later clock of note, and of no
+/// other: in the others it stays what it was.
+pub fn simulate_conduct<F: Fifo, T: Trace<Conduct>, L: Ledger>(
+    block: &mut Conducted<F>,
+    schedule: &Schedule,
+    clocks: u64,
+    trace: &mut T,
+    steps: &mut Steps<L>,
+) -> Result<(), TraceFailed>
+    requires fresh { block.old.worked.run.clock ≡ 0 }
+    requires untold { block.old.last ≡ no_conduct block.old.worked.run }
+    requires within { clocks ≤ 10 ^ 12 }
+    requires working { T.has_failed trace.old ≡ false }
+    ensures ok { OnOk result ((b : Option (List ℕ)) → T.ready trace.old b
+        → T.holds trace.new b (conducts block.old.worked.run schedule.now clocks) true) }
+    ensures run { OnOk result (block.new.worked.run ≡ (hosted_at block.old.worked.run schedule.now clocks).run) }
+    ensures failed { T.has_failed trace.new ≡ is_err result }
+    ensures cause { PutCounts (T.faults trace.old) (T.faults trace.new) result }
+    ensures same { T.name trace.new ≡ T.name trace.old }
+    ensures steps { steps.new + block.old.worked.calls ≡ steps.old + block.new.worked.calls }
+    ensures exact { OnOk result (steps.new ≡ steps.old + worked_in block.old.worked.run schedule.now clocks) }
+    ensures most { steps.new ≤ steps.old + worked_in block.old.worked.run schedule.now clocks }
 {
     let mut ports = HostPorts::new(schedule);
     run(block, &mut ports, clocks, trace, steps)

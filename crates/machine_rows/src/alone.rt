@@ -120,7 +120,7 @@ fn tick<F: Fifo>(machine: &mut Machine<F>, around: &mut Around, by: By) -> Inten
     let view = View::new(&around.shared, 0);
     let outputs = &mut around.outputs;
     match by {
-        By::Simple if machine.simple_tick(&view, outputs, false).is_some() => Intent::none(),
+        By::Simple if machine.simple_tick(&view, outputs, false).is_done() => Intent::none(),
         _ => {
             let intent = machine.tick(&view);
             outputs.write(&intent);

@@ -44,8 +44,8 @@ fn tell_ticks(divider: Divider, restart: Option<u32>, text: &mut String) -> Resu
     Ok(())
 }
 
-/// Adds what is there after so many clocks: whether that is a tick, the clocks to the next tick and to the fourth, and the
-/// ticks in the next twelve clocks.
+/// Adds what is there after so many clocks: whether that is a tick, the clocks to the next tick and to the fourth, and
+/// the ticks in the next twelve clocks.
 fn tell_leap(divider: Divider, clocks: u32, text: &mut String) -> Result<(), AllocError>
     requires { divider.clock ≡ 0 }
 {
@@ -65,7 +65,8 @@ fn tick_text(is_tick: bool) -> &'static str {
     if is_tick { "tick" } else { "no tick" }
 }
 
-/// Adds the clocks to tick 2^40, the ticks in 2^40 clocks, whether clock 2^40 is one, and whether it is after a restart.
+/// Adds the clocks to tick 2^40, the ticks in 2^40 clocks, whether clock 2^40 is one, and whether it is after a
+/// restart.
 fn tell_far(divider: Divider, text: &mut String) -> Result<(), AllocError>
     requires { divider.clock ≡ 0 }
 {

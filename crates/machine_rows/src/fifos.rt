@@ -1,5 +1,5 @@
-//! Rows of a pair of FIFOs: of one clock, where `tx: 1 2; take; write 3` has the words of TX, and `rx join_rx: ;
-//! give 7; read` those of RX and how the two are joined; and of `run 60`, so many clocks with plain lists. Both kinds of
+//! Rows of a pair of FIFOs: of one clock, where `tx: 1 2; take; write 3` has the words of TX, and `rx join_rx: ; give
+//! 7; read` those of RX and how the two are joined; and of `run 60`, so many clocks with plain lists. Both kinds of
 //! FIFO tell the same.
 use crate::fifo_clocks::{ClockEvents, NOTHING, clock, filled, words_of_rx, words_of_tx};
 use crate::fifo_runs::tell_run;

@@ -1,4 +1,5 @@
-//! The values of what is inside a block, by their names in a row: `pads`, all together, and `sm0.pc` and its kin of a machine.
+//! The values of what is inside a block, by their names in a row: `pads`, all together, and `sm0.pc` and its kin of a
+//! machine.
 use crate::lines::up_to;
 use block_core::{Inside, MachineInside};
 

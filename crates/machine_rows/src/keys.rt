@@ -42,8 +42,8 @@ pub struct Keys {
 }
 
 impl Keys {
-    /// The keys of a machine where no line says another thing: SET on pins 0 to 4, words of 32 bits to the right, nothing
-    /// automatic, a tick in each clock, an empty OSR, no word pending.
+    /// The keys of a machine where no line says another thing: SET on pins 0 to 4, words of 32 bits to the right,
+    /// nothing automatic, a tick in each clock, an empty OSR, no word pending.
     pub fn new(id: u8) -> Keys {
         Keys {
             id,

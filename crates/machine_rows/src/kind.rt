@@ -1,5 +1,5 @@
-//! Rows of the machine and its parts, of blocks and of runs. A row of a part is a line: its first word says what is asked,
-//! as the file of its kind tells. A row of a machine, of a block or of a run is some lines:
+//! Rows of the machine and its parts, of blocks and of runs. A row of a part is a line: its first word says what is
+//! asked, as the file of its kind tells. A row of a machine, of a block or of a run is some lines:
 //!
 //! | A line | says |
 //! |---|---|
@@ -21,8 +21,8 @@
 //! | `ends`, `fails` | that a run ends, or its trace fails |
 //! | `told none` | that no sample is kept |
 //!
-//! The words of a row stand in memory from address 0 on, and a program wraps after the last one where no key says another
-//! address. Words come after the line of their machine.
+//! The words of a row stand in memory from address 0 on, and a program wraps after the last one where no key says
+//! another address. Words come after the line of their machine.
 
 use crate::alone::tell_alone;
 use crate::blocks::tell_block;

@@ -1,5 +1,5 @@
-//! Runs in which most clocks are leapt over: a trace is told of no clock but those that a row lists. Those of one block are
-//! the clocks that are worked out, those of two the ones after which something new may be seen.
+//! Runs in which most clocks are leapt over: a trace is told of no clock but those that a row lists. Those of one block
+//! are the clocks that are worked out, those of two the ones after which something new may be seen.
 ghost use Rattle.std.specs.Prelude.{◌≡◌};
 
 use crate::lines::{clocks, only, stimulus};
@@ -19,8 +19,8 @@ use step_count::Steps;
 /// The longest run.
 const LONGEST: u64 = 1_000_000_000_000;
 
-/// Adds that a run of a block tells of no other clock, and whether it does, with both kinds of FIFO, and once more where it tells
-/// what is inside.
+/// Adds that a run of a block tells of no other clock, and whether it does, with both kinds of FIFO, and once more
+/// where it tells what is inside.
 pub fn tell_leaps(
     alloc: Global,
     lines: &str,

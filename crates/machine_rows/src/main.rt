@@ -1,4 +1,5 @@
-//! Runs tables of rows that were worked by hand over the public calls of the crates of a machine, its parts, a block and a run.
+//! Runs tables of rows that were worked by hand over the public calls of the crates of a machine, its parts, a block
+//! and a run.
 #![tactic(auto)]
 
 mod alone;

@@ -65,7 +65,8 @@ pub fn clocks_of(afters: &[After]) -> u64
     last.min(LAST) + 1
 }
 
-/// Adds what a row says that is seen after a clock, and what is seen; none where memory runs out, or a name is of nothing.
+/// Adds what a row says that is seen after a clock, and what is seen; none where memory runs out, or a name is of
+/// nothing.
 pub fn tell(
     afters: &[After],
     shown: &Shown,

@@ -5,8 +5,8 @@ ghost use Rattle.pio_uart.specs.Feeding.{fed};
 use dreq_pacing::{Line, LineAct, Schedule, Words};
 use std::alloc::{AllocError, Global};
 
-/// A stimulus that feeds these bytes to machine 0 from clock 0 on, a word each, one a clock where there is room. The error is want
-/// of memory.
+/// A stimulus that feeds these bytes to machine 0 from clock 0 on, a word each, one a clock where there is room. The
+/// error is want of memory.
 pub fn feed(alloc: Global, bytes: &[u8]) -> Result<Schedule, AllocError>
     ensures { IfOk result (λ schedule. schedule ≡ fed bytes.now) }
 {

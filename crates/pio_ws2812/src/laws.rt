@@ -11,9 +11,9 @@ use program_runs::{
     samples_tell_the_levels,
 };
 
-/// A transmitter whose divider is this whole number sends the upper 24 bits of each word that it is fed, a bit in ten times as many
-/// clocks: whatever the stimulus, where it leaves the machines' ticks alone and has words of 32 bits, and whatever the length of the
-/// run.
+/// A transmitter whose divider is this whole number sends the upper 24 bits of each word that it is fed, a bit in ten
+/// times as many clocks: whatever the stimulus, where it leaves the machines' ticks alone and has words of 32 bits, and
+/// whatever the length of the run.
 pub fn lights_get_what_they_are_fed()
     ensures { (int pin : ℕ) (u : Setup) → 1 ≤ int → IsTransmitter int pin u → SendsWhatItIsFed int pin u }
 {
@@ -23,7 +23,8 @@ pub fn lights_get_what_they_are_fed()
     samples_tell_the_levels();
 }
 
-/// Fed by one feed with a word a clock, such a transmitter sends all its bits as one frame: the pin rises for bit j in clock
+/// Fed by one feed with a word a clock, such a transmitter sends all its bits as one frame: the pin rises for bit j in
+/// clock
 /// `int * (5 + 10 * j)`, and is low after it for no longer than a bit asks for. With clocks enough a light reads all bits.
 pub fn lights_get_a_feed_in_one_frame()
     ensures pulses { (int pin : ℕ) (u : Setup) → 1 ≤ int → IsTransmitter int pin u → SendsInTime int pin u }

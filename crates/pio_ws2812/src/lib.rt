@@ -1,5 +1,5 @@
-//! A second program proved from its words to its pin: the WS2812 transmitter of the RP2040 Datasheet, section 3.6.2, which sends the
-//! upper 24 bits of each word that it is fed.
+//! A second program proved from its words to its pin: the WS2812 transmitter of the RP2040 Datasheet, section 3.6.2,
+//! which sends the upper 24 bits of each word that it is fed.
 #![tactic(auto)]
 
 mod laws;

@@ -12,7 +12,8 @@ use std::alloc::Global;
 /// The program's words: `out x, 1 side 0 [2]`, `jmp !x, 3 side 1 [1]`, `jmp 0 side 1 [4]`, `nop side 0 [4]`.
 const WORDS: [u16; 4] = [0x6221, 0x1123, 0x1400, 0xa442];
 
-/// A block whose machine 0 sends the upper 24 bits of each word that its TX gets on a pin, 0 to 31, the top one first, a bit every
+/// A block whose machine 0 sends the upper 24 bits of each word that its TX gets on a pin, 0 to 31, the top one first,
+/// a bit every
 /// `10 * int` clocks. It takes no memory.
 pub fn ws2812_setup(alloc: Global, int: u16, pin: u8) -> Setup
     requires some { 1 ≤ int }

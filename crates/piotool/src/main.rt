@@ -78,8 +78,8 @@ fn over_outside<L: Ledger, R: Files + Print + AllocGlobal, W: Write + Drop>(
     }
 }
 
-/// After words that ask for nothing, what there is to say of them: the help, or the mistake with its usage; and else nothing. It is
-/// told as far as memory and standard error allow, since the call's line is already there.
+/// After words that ask for nothing, what there is to say of them: the help, or the mistake with its usage; and else
+/// nothing. It is told as far as memory and standard error allow, since the call's line is already there.
 fn advice_after(alloc: Global, words: &[String], ended: &Ended) -> Option<String>
     ensures { ended.now.fault ≢ Some spec_fault.Usage → result ≡ None }
 {

@@ -28,9 +28,9 @@ pub fn a_steady_stimulus_leaves_the_ticks()
         → IsLeft (host_of start lines clock) id }
 {}
 
-/// A machine beside a steady stimulus, and a pin that no other machine is mapped to. Its place in the block is the one that its
-/// own clocks make. A clock that is a tick of its divider is a tick of the machine; in any other nothing of it changes. The words
-/// that its TX accepted are those that it took, and then those that wait.
+/// A machine beside a steady stimulus, and a pin that no other machine is mapped to. Its place in the block is the one
+/// that its own clocks make. A clock that is a tick of its divider is a tick of the machine; in any other nothing of it
+/// changes. The words that its TX accepted are those that it took, and then those that wait.
 pub fn a_machine_goes_clock_by_clock()
     ensures place { (u : Setup) (lines : List Line) (id : ℕ) (s : MachineSetup) (pin : ℕ)
         → IsOwn u id s pin → IsSteady lines → (clock : ℕ)
@@ -78,8 +78,8 @@ pub fn accepted_words_have_32_bits()
         → AllByRecursion (λ w. w < 2 ^ 32) (accepted start lines id n) }
 {}
 
-/// A feed from clock 0 on with a word a clock is a steady stimulus. Beside it the TX of machine 0, of four words, has a word at each
-/// tick from the second one on, wherever one is left.
+/// A feed from clock 0 on with a word a clock is a steady stimulus. Beside it the TX of machine 0, of four words, has a
+/// word at each tick from the second one on, wherever one is left.
 pub fn a_feed_never_lets_tx_run_dry()
     ensures stimulus { (words : List ℕ) → IsSchedule (fed words) }
     ensures steady { (words : List ℕ) → IsSteady (fed words) }

@@ -1,4 +1,5 @@
-//! What a trace promises: what it was told of from clock 0 on, as the samples of a block or of two, and whether its end was told.
+//! What a trace promises: what it was told of from clock 0 on, as the samples of a block or of two, and whether its end
+//! was told.
 ghost use Rattle.std.specs.Prelude.{◌≡◌, ℕ, Bool, true, false, Option, List, [], is_err, OnOk, OnErr};
 ghost use Rattle.std.specs.Borrow.{GName};
 ghost use Rattle.pio_edge.specs.Edge.{PutCounts};

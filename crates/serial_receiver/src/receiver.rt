@@ -12,8 +12,8 @@ use pin_matrix::is_high;
 use pio_edge::{Sink, SinkFailed};
 use sample_trace::{Trace, TraceFailed};
 
-/// The frames that it hears on a pin, as text: `byte 0x41 at 9` where a stop bit is high, else `bad at 9`, by the byte and the
-/// clock in which the frame begins. Its faults are its sink's.
+/// The frames that it hears on a pin, as text: `byte 0x41 at 9` where a stop bit is high, else `bad at 9`, by the byte
+/// and the clock in which the frame begins. Its faults are its sink's.
 #[derive(Drop)]
 pub struct Receiver<'a, S: Sink> {
     sink: &'a mut S,
@@ -27,8 +27,8 @@ pub struct Receiver<'a, S: Sink> {
 }
 
 impl<'a, S: Sink> Receiver<'a, S> {
-    /// A receiver into this sink before its first clock: its pin, 0 to 31, the clocks of a bit, from 2 on, and the level before
-    /// clock 0.
+    /// A receiver into this sink before its first clock: its pin, 0 to 31, the clocks of a bit, from 2 on, and the
+    /// level before clock 0.
     pub fn new(sink: &'a mut S, pin: u8, bit: u16, level: bool) -> Self
         requires pin { pin < 32 }
         requires bit { 2 ≤ bit }

@@ -1,5 +1,5 @@
 -- That a tick keeps PC, the counts and the delay in their ranges.
-use Rattle.std.proofs.Common.{◌≡◌, ℕ, ◌+◌, ◌-◌, ◌/◌, ◌%◌, ◌^◌, ◌<◌, ◌≤◌, ◌==◌, nat_lt, nat_le, min, Bool, true, false, cond, ◌&&◌, Option, Some, None, IfSome, is_some, rules, refl, subst, sym, arith}
+use Rattle.std.proofs.Common.{ℕ, ◌+◌, ◌-◌, ◌/◌, ◌%◌, ◌^◌, ◌<◌, ◌≤◌, ◌==◌, nat_lt, nat_le, min, Bool, true, false, cond, ◌&&◌, Option, Some, None, IfSome, is_some, rules, arith}
 use Rattle.std.proofs.lemmas.Nat.{mod_below, pow_pos}
 use Rattle.std.proofs.Math.Pow.{pow_mono}
 use Rattle.pio_encode.specs.declared.act.Act.{Act}
@@ -226,8 +226,3 @@ placed_tick s v q r h =
           (record { pc = h.pc; in_count = h.in_count; out_count = h.out_count; delay = omega (arith, h.delay) })
       | false ↦ placed_refilled s q _ (placed_after _ s r _ (delay_fits s.side_rule (bits word 8 5)) h effect)
     ]
-
--- so they are after a tick that was made, or wasn't
-pub placed_either : (made : Bool) (s : MachineSetup) (v : View) (q : Queues) (r after : Registers) → (made ≡ true → after ≡ (tick_of s v q r).0) → (made ≡ false → after ≡ r) → IsPlaced r → IsPlaced after
-placed_either true s v q r after ticked kept placed = subst IsPlaced (sym (ticked refl)) (placed_tick s v q r placed)
-placed_either false s v q r after ticked kept placed = subst IsPlaced (sym (kept refl)) placed

@@ -1,5 +1,5 @@
 -- Rows of the rules of a tick, worked by hand: which instructions write PC, fill the OSR and pull.
-use Rattle.std.proofs.Common.{◌≡◌, ℕ, true, false, Bool, None, Some, List, [], ◌∷◌, replicate, refl, arith}
+use Rattle.std.proofs.Common.{◌≡◌, true, false, None, List, [], ◌∷◌, replicate, refl, arith}
 use Rattle.std.specs.Prelude.{map}
 use Rattle.pio_encode.specs.declared.act.Act.{Act}
 use Rattle.pio_encode.specs.declared.act.Act.TheVariants.{Jmp, Wait, In, Out, Push, Pull, Mov, Irq, Set, Nothing}
@@ -11,12 +11,9 @@ use Rattle.pio_encode.specs.declared.act.MovDestination.TheVariants as mov_desti
 use Rattle.pio_encode.specs.declared.act.MovOperation.TheVariants as mov_operation
 use Rattle.pio_encode.specs.declared.act.MovSource.TheVariants as mov_source
 use Rattle.pio_encode.specs.declared.act.SetDestination.TheVariants as set_destination
-use Rattle.irq_flags.specs.declared.flags.Flags.{Flags}
 use Rattle.pin_matrix.specs.declared.machine.MachineSetup.{MachineSetup}
 use Rattle.sm_registers.specs.declared.registers.Registers.{Registers}
 use Rattle.sm_registers.specs.View.{View}
-use Rattle.sm_registers.specs.Queues.{Queues}
-use Rattle.sm_registers.specs.Laws.{AreWordsSeen}
 use Rattle.sm_registers.specs.Rules.{writes_pc, is_exec, fills_osr, is_pull, waits_for_tx, bits_out}
 
 -- one of each of the nine instructions, with a word that is none: a JMP, a WAIT, an IN, an OUT to X, a PUSH, a PULL, a MOV to X, an

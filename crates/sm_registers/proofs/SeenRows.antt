@@ -1,6 +1,5 @@
 -- Rows of what a tick reads, worked by hand: all pins high and a word of ones are in range, more is not.
 use Rattle.std.proofs.Common.{ℕ, false, Option, Some, None, [], arith}
-use Rattle.irq_flags.specs.declared.flags.Flags.{Flags}
 use Rattle.sm_registers.specs.View.{View}
 use Rattle.sm_registers.specs.Queues.{Queues}
 use Rattle.sm_registers.specs.Laws.{AreWordsSeen}

@@ -24,10 +24,13 @@ use Rattle.sm_registers.specs.declared.intent.Kind.TheVariants.{Delay, Late}
 use Rattle.sm_registers.specs.Intents.{no_intent, no_wants, wants_of, written_by}
 use Rattle.sm_registers.specs.Plans.{side_level, side_direction, side_of}
 use Rattle.sm_registers.specs.Queues.{Queues}
-use Rattle.sm_registers.specs.Simple.{is_ready}
+use Rattle.sm_registers.specs.Ranges.{IsPlaced}
+use Rattle.sm_registers.specs.Simple.{MakesTick, is_ready, is_simple, never_waits}
+use Rattle.sm_registers.specs.State.{MachineState, queues_of}
 use Rattle.sm_registers.specs.Tick.{after_effect, current_word, next_after, pc_after, refills, side_writes, tick_by, tick_of, tick_word, word_at}
 use Rattle.sm_registers.proofs.Calm.{delay_counts, unmet_waits}
 use Rattle.sm_registers.proofs.OwnPins.{OwnEffect, own_effect}
+use Rattle.sm_registers.proofs.Placed.{placed_tick}
 
 -- a tick is made, where it leaves these registers and pins, and wants nothing else
 pub record IsMade (s : MachineSetup) (v : View) (q : Queues) (r after : Registers) (o put : Outputs) : Type 0 where
@@ -41,6 +44,18 @@ made_by s v q r after o i h same none = record {
   outputs = same ∙ sym (ap (λ t. written_by o t.1) h);
   wants = ap (λ t. wants_of t.1) h ∙ none;
 }
+
+-- the same of a machine, which was this
+pub makes : (v : View) (m was : MachineState) (after : Registers) (o put : Outputs) → m ≡ was → IsMade m.setup v (queues_of m.ports.fifos) m.registers after o put → MakesTick v was (record m { registers = after }) o put
+makes v m was after o put same is = subst (λ (x : MachineState). MakesTick v x (record m { registers = after }) o put) same (record {
+  state = ap (λ (r : Registers). record m { registers = r }) is.registers;
+  outputs = is.outputs;
+  wants = is.wants;
+})
+
+-- and it keeps the ranges
+pub stays_placed : (s : MachineSetup) (v : View) (q : Queues) (r after : Registers) (o put : Outputs) → IsMade s v q r after o put → IsPlaced r → IsPlaced after
+stays_placed s v q r after o put is h = subst IsPlaced (sym is.registers) (placed_tick s v q r h)
 
 -- without autopull nothing is refilled
 no_refill : (s : MachineSetup) (q : Queues) (r : Registers) → s.autopull ≡ false → refills s q r ≡ false
@@ -92,6 +107,18 @@ ready s r h = let parts = ready_by s.autopull (r.delay == 0) r.begun (is_some r.
   begun = parts.1.1.0;
   pending = none_some r.pending parts.1.1.1;
 }
+
+-- a machine of which that was asked is ready
+pub anew : (s : MachineSetup) (r : Registers) → s.autopull ≡ false → r.delay ≡ 0 → r.begun ≡ false → is_some r.pending ≡ false → is_ready s r ≡ true
+anew s r off none begun pending = rw (off, none, begun, pending) refl
+
+-- and its tick is simple, where its instruction never waits
+pub begins_simply : (op : Op) (s : MachineSetup) (v : View) (r : Registers) → is_ready s r ≡ true → op ≡ reading_of (slice_index v.memory r.pc) s.side_rule → never_waits op.act ≡ true → is_simple s v r ≡ true
+begins_simply op s v r h is never =
+    let parts = ready s r h in
+    let here : current_word v r ≡ slice_index v.memory r.pc = ap (λ p. word_at p v r.pc) parts.pending in
+    let same : never_waits (reading_of (current_word v r) s.side_rule).act ≡ true = ap (λ w. never_waits (reading_of w s.side_rule).act) here ∙ sym (ap (λ (o : Op). never_waits o.act) is) ∙ never in
+    rw (parts.autopull, parts.delay, parts.begun, ap is_some parts.pending, same) refl
 
 -- what the end of an instruction says of its effect
 pub record IsEnd (e : Effect) (end : End) : Type 0 where

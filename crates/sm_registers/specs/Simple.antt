@@ -5,15 +5,22 @@
 --   begins_anew    the next tick begins an instruction from memory
 --   is_ready       the same on a machine without autopull
 --   is_simple      the next tick is simple
-use Rattle.std.specs.Prelude.{◌==◌, nat_lt, Bool, true, false, not, ◌&&◌, is_some, if◌then◌else◌}
+--   MakesTick      a machine made it, and wants nothing but pins
+--   is_done, leaves_ready   what came of one that was tried
+use Rattle.std.specs.Prelude.{◌≡◌, ◌==◌, nat_lt, Bool, true, false, not, ◌&&◌, is_some, if◌then◌else◌}
 use Rattle.pio_encode.specs.declared.act.Act.{Act}
 use Rattle.pio_encode.specs.declared.act.Act.TheVariants.{Jmp, Out, Mov, Set, Nothing}
 use Rattle.pio_encode.specs.Word.{reading_of}
 use Rattle.pin_matrix.specs.declared.machine.MachineSetup.{MachineSetup}
 use Rattle.sm_registers.specs.declared.registers.Registers.{Registers}
 use Rattle.sm_registers.specs.View.{View}
+use Rattle.sm_registers.specs.declared.outputs.Outputs.{Outputs}
+use Rattle.sm_registers.specs.declared.simple.Tried.{Tried}
+use Rattle.sm_registers.specs.declared.simple.Tried.TheVariants.{NotSimple, Done, DoneReady}
 use Rattle.sm_registers.specs.Idling.{is_unmet}
-use Rattle.sm_registers.specs.Tick.{current_word}
+use Rattle.sm_registers.specs.Intents.{no_wants, wants_of, written_by}
+use Rattle.sm_registers.specs.State.{MachineState, queues_of}
+use Rattle.sm_registers.specs.Tick.{current_word, tick_of}
 
 -- it has all its effects in its first tick, and none of them is at a FIFO or a flag (RP2040 Datasheet, sections 3.4.2, 3.4.8, 3.4.10)
 abbrev pub has_no_wish : Act → Bool
@@ -44,3 +51,21 @@ is_simple s v r = let act = (reading_of (current_word v r) s.side_rule).act in
     if nat_lt 0 r.delay then true else
     if r.begun then is_unmet act s v else
     not (is_some r.pending) && never_waits act
+
+-- A machine made a tick that wants nothing but pins, which are written over those of the machines before it.
+pub record MakesTick (v : View) (m after : MachineState) (o put : Outputs) : Type 0 where
+  pub state : after ≡ record m { registers = (tick_of m.setup v (queues_of m.ports.fifos) m.registers).0 }
+  pub outputs : put ≡ written_by o (tick_of m.setup v (queues_of m.ports.fifos) m.registers).1
+  pub wants : wants_of (tick_of m.setup v (queues_of m.ports.fifos) m.registers).1 ≡ no_wants
+
+-- it was done
+abbrev pub is_done : Tried → Bool
+is_done NotSimple = false
+is_done Done = true
+is_done DoneReady = true
+
+-- it was done, and the next one is ready
+abbrev pub leaves_ready : Tried → Bool
+leaves_ready NotSimple = false
+leaves_ready Done = false
+leaves_ready DoneReady = true

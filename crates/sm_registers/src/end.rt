@@ -1,7 +1,7 @@
 //! How an instruction ends in a tick.
 
-/// What becomes of an instruction after a tick of it, and what it writes to pins, PC or the pending word. A write to pins is
-/// the pins and their bits.
+/// What becomes of an instruction after a tick of it, and what it writes to pins, PC or the pending word. A write to
+/// pins is the pins and their bits.
 #[derive(Clone, Copy)]
 pub(crate) enum End {
     /// It isn't finished.

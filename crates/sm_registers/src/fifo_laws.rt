@@ -17,10 +17,10 @@ ghost use Rattle.sm_registers.specs.declared.registers.Registers as registers;
 ghost use Rattle.sm_registers.specs.View as view;
 
 /// Autopull, with a TX that has a word, leaves no OSR at its threshold: after any tick, first, late or of a delay, its
-/// count is below (`filled`). One that was at the threshold takes the word in the same tick, unless the tick fills it by a
-/// MOV (`taken`, `delayed`). No tick takes two words: a PULL that takes one isn't followed by a refill (`once`). But for a
-/// PULL, a word is taken only with autopull, at the threshold, counting the bits that the tick's OUT shifts out (`only`)
-/// (RP2040 Datasheet, section 3.5.4; which ticks refill is a choice of this profile).
+/// count is below (`filled`). One that was at the threshold takes the word in the same tick, unless the tick fills it
+/// by a MOV (`taken`, `delayed`). No tick takes two words: a PULL that takes one isn't followed by a refill (`once`).
+/// But for a PULL, a word is taken only with autopull, at the threshold, counting the bits that the tick's OUT shifts
+/// out (`only`) (RP2040 Datasheet, section 3.5.4; which ticks refill is a choice of this profile).
 pub fn autopull_takes_what_it_can()
     ensures filled { (s : setup.MachineSetup) (v : view.View) (q : queues.Queues) (r : registers.Registers)
         → s.autopull ≡ true → is_some q.front ≡ true → (tick_of s v q r).0.out_count < s.pull_threshold }
@@ -38,9 +38,9 @@ pub fn autopull_takes_what_it_can()
         → (s.autopull ≡ true) × (s.pull_threshold ≤ r.out_count + bits_out (current_act v r)) }
 {}
 
-/// IN shifts in its first tick alone: there its bits come into the ISR, whether it then stalls, pushes or neither; a late
-/// tick leaves the ISR, or empties it by its push (section 3.4.4; that a stall comes after the shift is a choice of this
-/// profile).
+/// IN shifts in its first tick alone: there its bits come into the ISR, whether it then stalls, pushes or neither; a
+/// late tick leaves the ISR, or empties it by its push (section 3.4.4; that a stall comes after the shift is a choice
+/// of this profile).
 pub fn in_shifts_once()
     ensures first { (s : setup.MachineSetup) (v : view.View) (q : queues.Queues) (r : registers.Registers)
         (source : in_source.InSource) (n : ℕ) → current_act v r ≡ In source n → r.delay ≡ 0 → r.begun ≡ false
@@ -60,10 +60,10 @@ pub fn txstall_tells_an_empty_tx()
         → f.tx ≡ [] → raises TX_STALL (tick_of s v (queues_of f) r).1.sticky ≡ true }
 {}
 
-/// A late tick that stalls raises again the flags of its stall. Where these are up from the ticks before, it says nothing
-/// new, and may be left out: `IsKnown` says that they are. Every tick keeps it, by the flags that this one raises (`after`),
-/// and so do flags that come to them (`more`). A tick that doesn't stir then changes no flag (`calm`). A machine that hasn't
-/// begun an instruction has it for any flags (section 3.7, FDEBUG).
+/// A late tick that stalls raises again the flags of its stall. Where these are up from the ticks before, it says
+/// nothing new, and may be left out: `IsKnown` says that they are. Every tick keeps it, by the flags that this one
+/// raises (`after`), and so do flags that come to them (`more`). A tick that doesn't stir then changes no flag
+/// (`calm`). A machine that hasn't begun an instruction has it for any flags (section 3.7, FDEBUG).
 pub fn a_calm_tick_tells_nothing_new()
     ensures after { (s : setup.MachineSetup) (v : view.View) (f : fifos.Fifos) (r : registers.Registers) (sticky : ℕ)
         → IsKnown v s r sticky

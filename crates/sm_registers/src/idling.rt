@@ -42,7 +42,8 @@ pub(crate) fn idle_of<F: Fifo>(
     }
 }
 
-/// Whether the next tick only waits once more: a WAIT stalled before, and its bit hasn't the polarity yet. Autopull is off.
+/// Whether the next tick only waits once more: a WAIT stalled before, and its bit hasn't the polarity yet. Autopull is
+/// off.
 #[inline(always)]
 #[tactic(auto, unfolding(pio_encode::specs::Word::reading_of))]
 pub(crate) fn waits_again(

@@ -31,8 +31,8 @@ impl Kind {
     }
 }
 
-/// What a tick does outside the machine's registers, which `settle` and the block carry out. A write to pins is the pins and
-/// the bits that they get.
+/// What a tick does outside the machine's registers, which `settle` and the block carry out. A write to pins is the
+/// pins and the bits that they get.
 #[derive(Clone, Copy)]
 pub struct Intent {
     /// The writes to levels: the instruction's, and then side-set's, which takes precedence.

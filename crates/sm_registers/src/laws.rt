@@ -30,8 +30,8 @@ pub fn writes_are_of_pins()
         → WritesPins (tick_of s v q r).1 }
 {}
 
-/// A tick writes the pins of its machine's own mappings alone: those of OUT and of SET, and of side-set's either levels or
-/// directions (RP2040 Datasheet, section 3.5.6).
+/// A tick writes the pins of its machine's own mappings alone: those of OUT and of SET, and of side-set's either levels
+/// or directions (RP2040 Datasheet, section 3.5.6).
 pub fn a_tick_writes_its_own_pins()
     ensures level { (s : setup.MachineSetup) (v : view.View) (q : queues.Queues) (r : registers.Registers) (p : ℕ)
         → p < 32 → holds s.out p ≡ false → holds s.set p ≡ false
@@ -49,8 +49,8 @@ pub fn moves_are_fair()
         → IsFair q (tick_of s v q r).1 }
 {}
 
-/// No word is lost between a FIFO and a shift register: one that a tick takes, by PULL or by a refill, is whole in the OSR
-/// after it, and one that it gives leaves the ISR empty.
+/// No word is lost between a FIFO and a shift register: one that a tick takes, by PULL or by a refill, is whole in the
+/// OSR after it, and one that it gives leaves the ISR empty.
 pub fn no_word_is_lost()
     ensures taken { (s : setup.MachineSetup) (v : view.View) (q : queues.Queues) (r : registers.Registers) (word : ℕ)
         → q.front ≡ Some word → (tick_of s v q r).1.take ≡ true → TakesInto word (tick_of s v q r).0 }
@@ -86,8 +86,8 @@ pub fn a_wait_that_goes_on_does_nothing()
         → waits_again s v r ≡ true → tick_of s v q r ≡ (r, record no_intent { kind = kind.Late; stalled = true }) }
 {}
 
-/// A tick that doesn't stir only counts the delay. Outside it does nothing but to raise again the sticky flags of a stall
-/// (`once`). So do many in a row, which see the same (`often`).
+/// A tick that doesn't stir only counts the delay. Outside it does nothing but to raise again the sticky flags of a
+/// stall (`once`). So do many in a row, which see the same (`often`).
 pub fn a_calm_tick_only_counts()
     ensures once { (s : setup.MachineSetup) (v : view.View) (q : queues.Queues) (r : registers.Registers)
         → stirs (tick_of s v q r).1 ≡ false

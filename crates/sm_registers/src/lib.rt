@@ -45,5 +45,6 @@ pub use order_laws::{
 pub use outputs::Outputs;
 pub use registers::Registers;
 pub use shown::Shown;
+pub use simple::Tried;
 pub use sticky::{RX_STALL, RX_UNDER, TX_OVER, TX_STALL};
 pub use view::{Shared, View};

@@ -1,8 +1,7 @@
 //! A state machine with its FIFOs. In a clock it ticks or doesn't, and then settles what it and the system want.
-ghost use Rattle.std.specs.Prelude.{◌≡◌, ℕ, ◌-◌, ◌<◌, false, true, is_some, length, IsTrue, IsSome, IfSome, IfOk};
-ghost use Rattle.sm_registers.specs.Intents.{no_wants, wants_of, written_by};
+ghost use Rattle.std.specs.Prelude.{◌≡◌, ℕ, ◌-◌, ◌<◌, false, true, length, IsTrue, IsSome, IfOk};
 ghost use Rattle.sm_registers.specs.Idling.{IsIdle, IsSoon, after_ticks, begins_next, idle_of, stirs_at};
-ghost use Rattle.sm_registers.specs.Simple.{is_ready, is_simple};
+ghost use Rattle.sm_registers.specs.Simple.{MakesTick, is_done, is_ready, is_simple, leaves_ready};
 ghost use Rattle.sm_registers.specs.declared.intent.Intent as spec_intent;
 ghost use Rattle.sm_registers.specs.State.{IsKept, first_machine, queues_of, settled_ports, shown_of, uses_fifos};
 ghost use Rattle.sm_registers.specs.State as spec;
@@ -10,14 +9,14 @@ ghost use Rattle.sm_registers.specs.Tick as spec_tick;
 
 use crate::decoded::Decoded;
 use crate::idle::Idle;
-use crate::idling::idle_of;
+use crate::idling::{idle_of, is_unmet};
 use crate::intent::Intent;
 use crate::outputs::Outputs;
 use crate::registers::Registers;
 use crate::shown::Shown;
-use crate::simple::simple_tick;
+use crate::simple::{Tried, begins, planned_effect};
 use crate::sticky::{RX_UNDER, TX_OVER};
-use crate::tick::tick_of;
+use crate::tick::{conclude, current_word, tick_of};
 use crate::view::View;
 use fifo_pair::{Fifo, Pair};
 use pin_matrix::MachineSetup;
@@ -103,34 +102,50 @@ impl<F: Fifo> Machine<F> {
         )
     }
 
-    /// Makes its next tick where that is simple, and else does nothing. Where it made it, it says whether the next one is ready;
-    /// of a tick that is known to be, nothing more is asked. Outside the registers a simple tick does nothing but write pins,
-    /// over those of the machines before it.
+    /// Makes its next tick where that is simple, and else does nothing. Of a tick that is known to be ready, nothing
+    /// more is asked. Outside the registers a simple tick does nothing but write pins, over those of the machines
+    /// before it.
     #[inline(always)]
-    pub fn simple_tick(&mut self, view: &View, outputs: &mut Outputs, ready: bool) -> Option<bool>
+    #[tactic(auto, unfolding(crate::specs::Tick::tick_of))]
+    pub fn simple_tick(&mut self, view: &View, outputs: &mut Outputs, ready: bool) -> Tried
         requires ready { ready ≡ true → is_ready self.old.setup self.old.registers ≡ true }
-        ensures made { is_some result ≡ is_simple self.old.setup view.now self.old.registers }
-        ensures state { is_some result ≡ true → self.new ≡ record self.old {
-          registers =
-              (spec_tick.tick_of self.old.setup view.now (queues_of self.old.ports.fifos) self.old.registers).0;
-        } }
-        ensures outputs { is_some result ≡ true → outputs.new ≡ written_by outputs.old
-            (spec_tick.tick_of self.old.setup view.now (queues_of self.old.ports.fifos) self.old.registers).1 }
-        ensures wants { is_some result ≡ true → wants_of
-            (spec_tick.tick_of self.old.setup view.now (queues_of self.old.ports.fifos) self.old.registers).1 ≡ no_wants }
-        ensures next { IfSome result (λ next. next ≡ is_ready self.new.setup self.new.registers) }
-        ensures kept { is_some result ≡ false → self.new ≡ self.old }
-        ensures kept_outputs { is_some result ≡ false → outputs.new ≡ outputs.old }
+        ensures simple { is_done result ≡ is_simple self.old.setup view.now self.old.registers }
+        ensures done { is_done result ≡ true → MakesTick view.now self.old self.new outputs.old outputs.new }
+        ensures next { is_done result ≡ true → leaves_ready result ≡ is_ready self.new.setup self.new.registers }
+        ensures kept { is_done result ≡ false → (self.new ≡ self.old) × (outputs.new ≡ outputs.old) }
     {
-        simple_tick(
-            &self.setup,
-            view,
-            &self.fifos,
-            &mut self.decoded,
-            &mut self.registers,
-            outputs,
-            ready,
-        )
+        if !ready {
+            if self.setup.autopull {
+                return Tried::NotSimple;
+            }
+            if self.registers.delay > 0 {
+                self.registers.delay -= 1;
+                return Tried::done(begins(&self.registers));
+            }
+            if self.registers.begun {
+                let (place, word) = current_word(view, &self.registers);
+                self.decoded.read(place, word);
+                let waits = is_unmet(&self.decoded.reading(place).op.act, &self.setup, view);
+                if waits {
+                    return Tried::Done;
+                }
+                return Tried::NotSimple;
+            }
+            if self.registers.pending.is_some() {
+                return Tried::NotSimple;
+            }
+        }
+        let pc = self.registers.pc;
+        self.decoded.read(pc, view.word(pc));
+        let reading = self.decoded.reading(pc);
+        let effect = planned_effect(reading, &self.setup, view, &self.fifos, &mut self.registers);
+        let Some(end) = effect else {
+            return Tried::NotSimple;
+        };
+        let begins = conclude(end, reading.next, reading.op.delay, &mut self.registers);
+        outputs.write_end(end);
+        outputs.write_side(reading.side);
+        Tried::done(begins)
     }
 
     /// Whether its next tick begins an instruction. Such a tick stirs, whatever it sees (`a_first_tick_stirs`).
@@ -141,9 +156,9 @@ impl<F: Fifo> Machine<F> {
         self.registers.delay == 0 && !self.registers.begun
     }
 
-    /// When it next has a tick that stirs, if nothing outside it changes: in each tick it sees the same view, and its FIFOs
-    /// hold the same. A refill is at once; a stall lasts; a delay of 0 to 31 ticks ends with the tick after it. It costs the
-    /// same however far this is.
+    /// When it next has a tick that stirs, if nothing outside it changes: in each tick it sees the same view, and its
+    /// FIFOs hold the same. A refill is at once; a stall lasts; a delay of 0 to 31 ticks ends with the tick after it.
+    /// It costs the same however far this is.
     #[tactic(auto, using(crate::proofs::Stirs::is_idle, crate::proofs::Stirs::is_soon))]
     pub fn idle_until(&self, view: &View) -> Idle
         ensures value { result ≡ idle_of self.now.setup view.now (queues_of self.now.ports.fifos) self.now.registers }
@@ -159,8 +174,8 @@ impl<F: Fifo> Machine<F> {
         )
     }
 
-    /// So many ticks at once, none of which stirs while it sees the same view. Only the delay counts. Their sticky flags are
-    /// not raised again, and all else that they want is nothing.
+    /// So many ticks at once, none of which stirs while it sees the same view. Only the delay counts. Their sticky
+    /// flags are not raised again, and all else that they want is nothing.
     #[tactic(auto, using(crate::proofs::Stirs::passes))]
     pub fn leap(&mut self, view: &View, ticks: u64)
         requires { (k : ℕ) → k < ticks → stirs_at self.old.setup view.now (queues_of self.old.ports.fifos) self.old.registers k ≡ false }

@@ -1,4 +1,5 @@
-//! What is known of an instruction from its word, its address and the machine's setup: it is worked out when the word is decoded.
+//! What is known of an instruction from its word, its address and the machine's setup: it is worked out when the word
+//! is decoded.
 ghost use Rattle.std.specs.Prelude.{◌≡◌, ◌≤◌, if◌then◌else◌};
 ghost use Rattle.sm_registers.specs.Plans as spec;
 ghost use Rattle.sm_registers.specs.Tick.{next_after};

@@ -1,108 +1,65 @@
 //! Simple ticks, which are most of what a busy machine does: they want nothing of FIFOs and flags.
-ghost use Rattle.std.specs.Prelude.{◌≡◌, ℕ, true, false, Some, is_some, IfSome};
+ghost use Rattle.std.specs.Prelude.{◌≡◌, ℕ, true, false, is_some, if◌then◌else◌, IfSome};
 ghost use Rattle.sm_registers.specs.Decoding.{IsReading};
 ghost use Rattle.sm_registers.specs.Effects as spec_effects;
 ghost use Rattle.sm_registers.specs.Ends.{effect_by};
-ghost use Rattle.sm_registers.specs.Intents.{no_intent, no_wants, wants_of, written_by};
+ghost use Rattle.sm_registers.specs.Intents.{no_intent};
 ghost use Rattle.sm_registers.specs.Ranges.{IsPlaced};
-ghost use Rattle.sm_registers.specs.Simple.{begins_anew, is_ready, is_simple, never_waits};
+ghost use Rattle.sm_registers.specs.Simple.{begins_anew, is_done, never_waits, leaves_ready};
 ghost use Rattle.sm_registers.specs.State.{queues_of};
-ghost use Rattle.sm_registers.specs.Tick as spec;
+ghost use Rattle.sm_registers.specs.declared.simple.Tried.TheVariants.{Done, DoneReady};
 
-use crate::decoded::{Decoded, Reading};
+use crate::decoded::Reading;
 use crate::end::End;
-use crate::idling::is_unmet;
 use crate::instruction::effect_without_wish;
 use crate::jump::{count_x, count_y};
-use crate::outputs::Outputs;
 use crate::plan::Plan;
 use crate::registers::Registers;
 use crate::shifting::put_bits_out;
-use crate::tick::{conclude, current_word};
 use crate::view::View;
 use fifo_pair::{Fifo, Pair};
 use pin_matrix::MachineSetup;
 
-/// Makes a tick where it is simple, and else does nothing. Where it made it, it says whether the next one is ready.
-#[inline(always)]
-#[tactic(auto, unfolding(crate::specs::Tick::tick_of))]
-pub(crate) fn simple_tick<F: Fifo>(
-    setup: &MachineSetup,
-    view: &View,
-    fifos: &Pair<F>,
-    decoded: &mut Decoded,
-    registers: &mut Registers,
-    outputs: &mut Outputs,
-    ready: bool,
-) -> Option<bool>
-    requires placed { IsPlaced registers.old }
-    requires setup { decoded.old.setup ≡ setup.now }
-    requires known { ready ≡ true → is_ready setup.now registers.old ≡ true }
-    ensures made { is_some result ≡ is_simple setup.now view.now registers.old }
-    ensures registers { is_some result ≡ true → registers.new ≡ (spec.tick_of setup.now view.now (queues_of fifos.now) registers.old).0 }
-    ensures outputs { is_some result ≡ true → outputs.new ≡ written_by outputs.old (spec.tick_of setup.now view.now (queues_of fifos.now) registers.old).1 }
-    ensures wants { is_some result ≡ true → wants_of (spec.tick_of setup.now view.now (queues_of fifos.now) registers.old).1 ≡ no_wants }
-    ensures next { IfSome result (λ next. next ≡ is_ready setup.now registers.new) }
-    ensures kept { is_some result ≡ false → registers.new ≡ registers.old }
-    ensures kept_outputs { is_some result ≡ false → outputs.new ≡ outputs.old }
-    ensures same { decoded.new.setup ≡ decoded.old.setup }
-{
-    if !ready {
-        if setup.autopull {
-            return None;
-        }
-        if registers.delay > 0 {
-            registers.delay -= 1;
-            return Some(begins(registers));
-        }
-        if registers.begun {
-            let (place, word) = current_word(view, registers);
-            decoded.read(place, word);
-            let waits = is_unmet(&decoded.reading(place).op.act, setup, view);
-            return if waits { Some(false) } else { None };
-        }
-        if registers.pending.is_some() {
-            return None;
-        }
-    }
-    ready_tick(setup, view, fifos, decoded, registers, outputs)
+/// What came of a tick, or of a clock, that is done where it is simple.
+#[derive(Clone, Copy)]
+pub enum Tried {
+    /// It isn't simple, and nothing was done.
+    NotSimple,
+    /// It was done.
+    Done,
+    /// It was done, and the next one is ready.
+    DoneReady,
 }
 
-/// The same of a tick that is ready.
-#[inline(always)]
-fn ready_tick<F: Fifo>(
-    setup: &MachineSetup,
-    view: &View,
-    fifos: &Pair<F>,
-    decoded: &mut Decoded,
-    registers: &mut Registers,
-    outputs: &mut Outputs,
-) -> Option<bool>
-    requires placed { IsPlaced registers.old }
-    requires setup { decoded.old.setup ≡ setup.now }
-    requires ready { is_ready setup.now registers.old ≡ true }
-    ensures made { is_some result ≡ is_simple setup.now view.now registers.old }
-    ensures registers { is_some result ≡ true → registers.new ≡ (spec.tick_of setup.now view.now (queues_of fifos.now) registers.old).0 }
-    ensures outputs { is_some result ≡ true → outputs.new ≡ written_by outputs.old (spec.tick_of setup.now view.now (queues_of fifos.now) registers.old).1 }
-    ensures wants { is_some result ≡ true → wants_of (spec.tick_of setup.now view.now (queues_of fifos.now) registers.old).1 ≡ no_wants }
-    ensures next { IfSome result (λ next. next ≡ is_ready setup.now registers.new) }
-    ensures kept { is_some result ≡ false → registers.new ≡ registers.old }
-    ensures kept_outputs { is_some result ≡ false → outputs.new ≡ outputs.old }
-    ensures same { decoded.new.setup ≡ decoded.old.setup }
-{
-    let pc = registers.pc;
-    decoded.read(pc, view.word(pc));
-    let reading = decoded.reading(pc);
-    let end = planned_effect(reading, setup, view, fifos, registers)?;
-    let begins = conclude(end, reading.next, reading.op.delay, registers);
-    outputs.write_end(end);
-    outputs.write_side(reading.side);
-    Some(begins)
+impl Tried {
+    /// It was done, by whether the next one is ready.
+    #[inline(always)]
+    pub(crate) fn done(ready: bool) -> Tried
+        ensures { result ≡ if ready then DoneReady else Done }
+    {
+        if ready { Tried::DoneReady } else { Tried::Done }
+    }
+
+    /// Whether it was done.
+    #[inline(always)]
+    pub fn is_done(self) -> bool
+        ensures { result ≡ is_done self }
+    {
+        !matches!(self, Tried::NotSimple)
+    }
+
+    /// Whether it was done, and the next one is ready.
+    #[inline(always)]
+    pub fn is_ready(self) -> bool
+        ensures { result ≡ leaves_ready self }
+    {
+        matches!(self, Tried::DoneReady)
+    }
 }
 
 /// Whether the next tick begins an instruction from memory.
 #[inline(always)]
-fn begins(registers: &Registers) -> bool
+pub(crate) fn begins(registers: &Registers) -> bool
     ensures { result ≡ begins_anew registers.now }
 {
     registers.delay == 0 && !(registers.begun | registers.pending.is_some())
@@ -110,7 +67,7 @@ fn begins(registers: &Registers) -> bool
 
 /// The effect of an instruction that never waits, without autopull; none of another one, and then nothing changes.
 #[inline(always)]
-fn planned_effect<F: Fifo>(
+pub(crate) fn planned_effect<F: Fifo>(
     reading: &Reading,
     setup: &MachineSetup,
     view: &View,

@@ -104,8 +104,8 @@ fn next_pc(next: u8, registers: &Registers) -> u8
     }
 }
 
-/// The registers at the end of an instruction's tick: whether it has begun, else PC, pending word and delay. True where the next
-/// tick begins an instruction from memory.
+/// The registers at the end of an instruction's tick: whether it has begun, else PC, pending word and delay. True where
+/// the next tick begins an instruction from memory.
 #[inline(always)]
 #[tactic(auto, unfolding(crate::specs::Tick::after_effect))]
 pub(crate) fn conclude(end: End, next: u8, delay: u8, registers: &mut Registers) -> bool

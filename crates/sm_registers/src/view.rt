@@ -17,8 +17,8 @@ pub struct Shared {
     pub sync: Sync,
 }
 
-/// What a machine sees of its block in a clock: the instruction memory, the interrupt flags, and the pins after their input
-/// synchronisers. The pins are worked out only where an act looks at them, as few do.
+/// What a machine sees of its block in a clock: the instruction memory, the interrupt flags, and the pins after their
+/// input synchronisers. The pins are worked out only where an act looks at them, as few do.
 #[derive(Drop)]
 pub struct View<'a> {
     shared: &'a Shared,

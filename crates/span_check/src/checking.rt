@@ -11,8 +11,8 @@ use span_bounds::Table;
 use span_verdict::{Verdict, is_proof, judge};
 use std::alloc::{AllocError, Global};
 
-/// The verdict on a span, as `judge` of `span_verdict` gives it; a span that is proved holds in every run of the setup, whatever
-/// the stimulus and the length. The span's machine is configured. The error is out of memory.
+/// The verdict on a span, as `judge` of `span_verdict` gives it; a span that is proved holds in every run of the setup,
+/// whatever the stimulus and the length. The span's machine is configured. The error is out of memory.
 pub fn check(alloc: Global, setup: &Setup, span: &Span) -> Result<Verdict, AllocError>
     requires { IsSome (slice_index_or setup.now.machines span.now.machine None) }
     ensures verdict { IfOk result (λ verdict. IsVerdict setup.now span.now verdict) }
@@ -22,8 +22,8 @@ pub fn check(alloc: Global, setup: &Setup, span: &Span) -> Result<Verdict, Alloc
     judge(alloc, setup, span)
 }
 
-/// Whether the table is closed and good, however it was made; then the span holds in every run of the setup, where no other
-/// machine's mapping holds a pin of it. The span's machine is configured. It takes no memory.
+/// Whether the table is closed and good, however it was made; then the span holds in every run of the setup, where no
+/// other machine's mapping holds a pin of it. The span's machine is configured. It takes no memory.
 pub fn recheck(table: &Table, setup: &Setup, span: &Span) -> bool
     requires { IsSome (slice_index_or setup.now.machines span.now.machine None) }
     ensures sound { IsTrue result ↔ (IsClosed setup.now span.now table.now × IsGood setup.now span.now table.now) }

@@ -23,8 +23,9 @@ use span_ticks::{
     a_start_is_under_way, a_tick_follows_the_table, levels_are_last_writes, open_ages_have_room,
 };
 
-/// Where some table is closed and good, and no other machine's mapping holds a pin of the span, the span holds in every run of
-/// its setup, whatever the stimulus and the length, and whatever pads the machines see. The span's machine is configured.
+/// Where some table is closed and good, and no other machine's mapping holds a pin of the span, the span holds in every
+/// run of its setup, whatever the stimulus and the length, and whatever pads the machines see. The span's machine is
+/// configured.
 pub fn a_provable_span_holds_in_every_run()
     ensures { (u : Setup) (sp : Span) → IsSome (slice_index_or u.machines sp.machine None)
         → IsProvable u sp → IsUnshared u sp → HoldsInEveryRun u sp }
@@ -41,8 +42,8 @@ pub fn a_provable_span_holds_in_every_run()
     clocks_are_counted();
 }
 
-/// A clock of a run breaks a span in clocks exactly where a line of it disables the span's machine, or restarts its divider. No
-/// other line does, nor a transfer, nor what is done to another machine.
+/// A clock of a run breaks a span in clocks exactly where a line of it disables the span's machine, or restarts its
+/// divider. No other line does, nor a transfer, nor what is done to another machine.
 pub fn only_a_disable_or_a_restart_breaks_a_span()
     ensures { (u : Setup) (sp : Span) (lines : List Line) (clock : ℕ) →
         (marks_in sp u lines clock).breaks ≡ has_breaking sp.machine lines clock }
@@ -51,9 +52,9 @@ pub fn only_a_disable_or_a_restart_breaks_a_span()
     clocks_are_counted();
 }
 
-/// What a span asks. With a greatest bound it asks all that both bounds ask (`bounded`); without one it asks of a first to-event alone
-/// that it doesn't come too early (`unbounded`), however long it takes and wherever the machine waits. So with a greatest bound it
-/// asks more (`more`). All is asked of the from-events of which it speaks.
+/// What a span asks. With a greatest bound it asks all that both bounds ask (`bounded`); without one it asks of a first
+/// to-event alone that it doesn't come too early (`unbounded`), however long it takes and wherever the machine waits.
+/// So with a greatest bound it asks more (`more`). All is asked of the from-events of which it speaks.
 pub fn what_a_span_asks()
     ensures bounded { (unit : SpanUnit) (min max : ℕ) (m : ℕ → Mark) (n : ℕ)
         → Holds unit min (Some max) m n ↔ HoldsBetween unit min max m n }
@@ -63,8 +64,8 @@ pub fn what_a_span_asks()
         → Holds unit min (Some max) m n → Holds unit min None m n }
 {}
 
-/// A span with neither `prompt` nor `without` excuses nothing (`excused`). So in ticks it speaks of each from-event, and in clocks of
-/// each after which no line disables or restarts its machine (`spoken`).
+/// A span with neither `prompt` nor `without` excuses nothing (`excused`). So in ticks it speaks of each from-event,
+/// and in clocks of each after which no line disables or restarts its machine (`spoken`).
 pub fn a_plain_span_excuses_nothing()
     ensures excused { (sp : Span) (memory : List ℕ) (seen : ℕ → ℕ) (host : ℕ → Due) (states : ℕ → BlockState)
         (clock : ℕ) → IsPlain sp → (marks_over sp memory seen host states clock).excused ≡ false }
@@ -74,8 +75,8 @@ pub fn a_plain_span_excuses_nothing()
         ↔ IsUnbrokenIn unit (marks_over sp memory seen host states) s end }
 {}
 
-/// Of a span between edges that any instruction may make, the events are the edges: what comes of the two pins says whether one
-/// comes, whatever instruction makes it.
+/// Of a span between edges that any instruction may make, the events are the edges: what comes of the two pins says
+/// whether one comes, whatever instruction makes it.
 pub fn any_edge_is_an_event()
     ensures from { (sp : Span) (memory : List ℕ) (seen : ℕ → ℕ) (host : ℕ → Due) (states : ℕ → BlockState)
         (clock : ℕ) → IsOfEdges sp

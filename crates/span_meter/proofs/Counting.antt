@@ -145,7 +145,7 @@ starts_after true false n starts = []
 starts_after false true n starts = starts ++ n ∷ []
 starts_after false false n starts = starts
 
-ended-none : (n : ℕ) (c : Option ℕ) → ended n [] c ≡ []
+pub ended-none : (n : ℕ) (c : Option ℕ) → ended n [] c ≡ []
 ended-none n None = refl
 ended-none n (Some k) = refl
 

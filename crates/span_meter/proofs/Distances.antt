@@ -18,11 +18,11 @@ one_more : (between : Option ℕ) (ds : List ℕ) (n : ℕ) → length ds ≤ n 
 one_more None ds n h = omega arith
 one_more (Some k) ds n h = omega arith
 
-none_more : (f : Bool) → length (cond f (with_distance None []) []) ≤ 0
+pub none_more : (f : Bool) → length (cond f (with_distance None []) []) ≤ 0
 none_more true = omega arith
 none_more false = omega arith
 
-some_more : (f : Bool) (between : Option ℕ) (ds : List ℕ) (n : ℕ) → length ds ≤ n → length (cond f (with_distance between ds) ds) ≤ suc n
+pub some_more : (f : Bool) (between : Option ℕ) (ds : List ℕ) (n : ℕ) → length ds ≤ n → length (cond f (with_distance between ds) ds) ≤ suc n
 some_more true between ds n h = one_more between ds n h
 some_more false between ds n h = omega arith
 

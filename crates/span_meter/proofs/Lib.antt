@@ -4,3 +4,11 @@ pub mod Counting
 pub mod Telling
 pub mod Pieces
 mod WorkedRows
+mod SpokenRows
+mod EventRows
+mod SpokenTelling
+mod SpokenPairs
+pub mod SpokenNames
+pub mod SpokenTrace
+pub mod ConductLists
+pub mod PlainSpans

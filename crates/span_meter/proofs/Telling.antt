@@ -30,14 +30,14 @@ same_edges true false n m = kept _ m (closing n m) refl
 same_edges false true n m = refl
 same_edges false false n m = refl
 
-counts_after : (to from : Bool) (n : ℕ) (ds starts : List ℕ) (m : Meter) → IsCountOf ds starts n m → length (ds ++ ended n starts (cond to (Some 0) None)) ≤ most
+pub counts_after : (to from : Bool) (n : ℕ) (ds starts : List ℕ) (m : Meter) → IsCountOf ds starts n m → length (ds ++ ended n starts (cond to (Some 0) None)) ≤ most
     → IsCountOf (ds ++ ended n starts (cond to (Some 0) None)) (starts_after to from n starts) (suc n) (moved to from n m)
 counts_after true true n ds starts m h few = opens _ [] n (closed_at n m) (closes ds starts n m h few)
 counts_after true false n ds starts m h few = later _ [] n (closed_at n m) (closes ds starts n m h few)
 counts_after false true n ds starts m h few = subst (λ (xs : List ℕ). IsCountOf xs (starts ++ n ∷ []) (suc n) (opened_at n m)) (sym (append-nil ds)) (opens ds starts n m h)
 counts_after false false n ds starts m h few = subst (λ (xs : List ℕ). IsCountOf xs starts (suc n) m) (sym (append-nil ds)) (later ds starts n m h)
 
-no_rest : (from : Bool) (c : Option ℕ) → cond from (with_distance None []) [] ≡ []
+pub no_rest : (from : Bool) (c : Option ℕ) → cond from (with_distance None []) [] ≡ []
 no_rest true c = refl
 no_rest false c = refl
 
@@ -91,13 +91,13 @@ told_one e pins told m s few h =
     }
 
 -- a signal that stays has no edge
-no_change : (rise b : Bool) → changes rise b b ≡ false
+pub no_change : (rise b : Bool) → changes rise b b ≡ false
 no_change true true = refl
 no_change true false = refl
 no_change false true = refl
 no_change false false = refl
 
-no_edge : (signal : Option PinSignal) (pin : ℕ) (rise : Bool) (b v : ShownPins) → v ≡ b → has_edge pin rise (signal_of signal b) (signal_of signal v) ≡ false
+pub no_edge : (signal : Option PinSignal) (pin : ℕ) (rise : Bool) (b v : ShownPins) → v ≡ b → has_edge pin rise (signal_of signal b) (signal_of signal v) ≡ false
 no_edge signal pin rise b v h =
     let was : Bool = is_high (signal_of signal b) pin in
     ap (λ (x : ShownPins). changes rise was (is_high (signal_of signal x) pin)) h ∙ no_change rise was
@@ -247,13 +247,13 @@ told_measured pins ends told t u s clock few next h first last meters =
     (held_measured pins ends told t clock (omega arith) next h) first last meters
 
 -- spans and pins are known from what is told for them
-same_rise : (a b : Bool) → rise_code a ≡ rise_code b → a ≡ b
+pub same_rise : (a b : Bool) → rise_code a ≡ rise_code b → a ≡ b
 same_rise true true h = refl
 same_rise false false h = refl
 same_rise true false h = absurd (omega arith)
 same_rise false true h = absurd (omega arith)
 
-same_signal : (a b : Option PinSignal) → signal_code a ≡ signal_code b → a ≡ b
+pub same_signal : (a b : Option PinSignal) → signal_code a ≡ signal_code b → a ≡ b
 same_signal (Some Level) (Some Level) h = refl
 same_signal (Some Direction) (Some Direction) h = refl
 same_signal None None h = refl
@@ -290,7 +290,7 @@ code_tells (x ∷ xs) (y ∷ ys) h =
     let more = code_tells xs ys rest in
     ap (λ (e : SpanEdges). e ∷ xs) one ∙ ap (λ (es : List SpanEdges). y ∷ es) more
 
-same_pins : (a b : ShownPins) → a.level ≡ b.level → a.direction ≡ b.direction → a ≡ b
+pub same_pins : (a b : ShownPins) → a.level ≡ b.level → a.direction ≡ b.direction → a ≡ b
 same_pins a b p q =
     let mk : ℕ → ℕ → ShownPins = λ x y. record { level = x; direction = y } in
     ap (λ x. mk x a.direction) p ∙ ap (λ x. mk b.level x) q

@@ -1,6 +1,7 @@
 //! The meter of one span, clock by clock.
 ghost use Rattle.std.specs.Prelude.{◌≡◌};
 ghost use Rattle.span_meter.specs.Meters as spec;
+ghost use Rattle.span_meter.specs.Spoken.{after_mark, dropped};
 
 use crate::edges::Edges;
 use crate::pins::ShownPins;
@@ -57,6 +58,23 @@ impl Meter {
         let to = self.edges.is_to(before, pins);
         let from = self.edges.is_from(before, pins);
         self.moved(to, from, clock)
+    }
+
+    /// The meter after a clock, by whether its events come, and whether the pairs that are open are dropped first.
+    pub(crate) fn after_mark(self, clock: u64, from: bool, to: bool, drops: bool) -> Meter
+        ensures { result ≡ after_mark clock (record { from = from; to = to; drops = drops }) self }
+    {
+        self.dropped(drops).moved(to, from, clock)
+    }
+
+    fn dropped(self, drops: bool) -> Meter
+        ensures { result ≡ dropped drops self }
+    {
+        if drops {
+            Meter { begun: 0, ..self }
+        } else {
+            self
+        }
     }
 
     /// The meter after a clock, by whether its edges come. A pair has its to-edge after the clock of its from-edge, so the to-edge

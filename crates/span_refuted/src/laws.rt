@@ -33,8 +33,8 @@ pub fn a_provable_span_has_no_bad_visit()
     each_entry_is_that_of_a_row();
 }
 
-/// A span of a machine without choice is provable, or some visit of the machine's instructions is the first bad one: an age is
-/// above the span's most, or a to-edge comes while an age is below its least.
+/// A span of a machine without choice is provable, or some visit of the machine's instructions is the first bad one: an
+/// age is above the span's most, or a to-edge comes while an age is below its least.
 pub fn an_unprovable_span_has_a_bad_visit()
     ensures { (u : Setup) (sp : Span) → LeavesNoChoice u sp → IsProvable u sp ⊎ HasBadVisit u sp }
 {
@@ -42,9 +42,9 @@ pub fn an_unprovable_span_has_a_bad_visit()
     each_context_has_its_number();
 }
 
-/// Of a simple span in ticks of a machine without choice, whose pins no other machine may write, the checker is exact. Where it is
-/// unprovable there is a clock of the run without stimulus up to which it doesn't hold; so it is provable exactly where it holds
-/// up to each clock of this run; and the verdict that it is unproved says that it is broken.
+/// Of a simple span in ticks of a machine without choice, whose pins no other machine may write, the checker is exact.
+/// Where it is unprovable there is a clock of the run without stimulus up to which it doesn't hold; so it is provable
+/// exactly where it holds up to each clock of this run; and the verdict that it is unproved says that it is broken.
 pub fn a_refused_span_is_broken()
     ensures broken { (u : Setup) (sp : Span) → sp.unit ≡ Ticks → LeavesNoChoice u sp → IsUnshared u sp
         → (IsProvable u sp → ⊥) → IsBroken u sp }

@@ -107,8 +107,8 @@ impl<'a> Keys<'a> {
         }
     }
 
-    /// Takes a list of keys, with a comma and a blank between: `divider 2, fraction 128`. None where a key isn't known, or
-    /// its value isn't one of it.
+    /// Takes a list of keys, with a comma and a blank between: `divider 2, fraction 128`. None where a key isn't known,
+    /// or its value isn't one of it.
     pub fn take(&mut self, list: &'a str) -> Option<()> {
         for part in list.split(", ") {
             let (key, value) = part.split_once(' ')?;

@@ -8,10 +8,10 @@
 //! | `t 0 0 0 0 0 -` | a line of a table |
 //! | `= proved, opens` | what is told |
 //!
-//! The keys have the names that a configuration has for them. A machine's side-set has as many pins as its rule has bits,
-//! unless `side_count` says another number after it. Machine 0 wraps after the program's last word, and another machine
-//! after address 31, unless `wrap_top` says another. The span is from an edge of pin 0, unless `from_done` says the instructions
-//! whose end it is from.
+//! The keys have the names that a configuration has for them. A machine's side-set has as many pins as its rule has
+//! bits, unless `side_count` says another number after it. Machine 0 wraps after the program's last word, and another
+//! machine after address 31, unless `wrap_top` says another. The span is from an edge of pin 0, unless `from_done` says
+//! the instructions whose end it is from.
 
 use crate::lines::{tell_refusal_line, tell_verdict_line};
 use crate::steps::tell_step;

@@ -8,8 +8,8 @@ use span_bounds::{Cause, Context};
 use std::alloc::Global;
 use verdict_lines::{Finding, Refusal, put_refusal, put_verdict};
 
-/// Adds the line of a verdict. A row asks for the span's name and the verdict; on a line of its own, for the put that fails
-/// and the bytes that it takes.
+/// Adds the line of a verdict. A row asks for the span's name and the verdict; on a line of its own, for the put that
+/// fails and the bytes that it takes.
 pub fn tell_verdict_line(alloc: Global, asked: &str, text: &mut String) -> Option<()> {
     let (asked, fails) = asked.split_once('\n').unwrap_or((asked, ""));
     let (name, verdict) = asked.split_once(' ')?;

@@ -48,8 +48,8 @@ fn set_mapping(base: u8, count: u8) -> Option<Mapping>
     Some(Mapping { base, count })
 }
 
-/// The span of this name on machine 0, from an edge of pin 0 or the end of an instruction, where its keys are in their ranges
-/// and there is memory.
+/// The span of this name on machine 0, from an edge of pin 0 or the end of an instruction, where its keys are in their
+/// ranges and there is memory.
 pub fn span_of(alloc: Global, keys: &Keys, name: &str) -> Option<Span> {
     let stalls = addresses_of(alloc, keys.stalls)?;
     if keys.to_pin > 31 || keys.unit == SpanUnit::Clocks && !stalls.is_empty() {

@@ -10,8 +10,8 @@ use std::alloc::Global;
 use table_files::put_table;
 use verdict_lines::{Refusal, put_refusal};
 
-/// Adds the rows of the least closed table, or the bad context with its cause. What is asked has the keys on a line, the
-/// words of the memory from address 0 on, and after ` | ` X, Y and the least and the greatest bound.
+/// Adds the rows of the least closed table, or the bad context with its cause. What is asked has the keys on a line,
+/// the words of the memory from address 0 on, and after ` | ` X, Y and the least and the greatest bound.
 pub fn tell_step(alloc: Global, asked: &str, text: &mut String) -> Option<()> {
     let (list, rest) = asked.split_once('\n')?;
     let (words, numbers) = rest.split_once(" \n ")?;

@@ -51,7 +51,8 @@ fn finding_of(table: Table, opens: bool, closes: bool, span: &Span) -> Option<Fi
     found_by(proved, span).ok()
 }
 
-/// Adds whether the span opens, where that is told whether it closes and under which premise, and whether its table passes.
+/// Adds whether the span opens, where that is told whether it closes and under which premise, and whether its table
+/// passes.
 fn tell_proved(finding: Finding, passes: bool, text: &mut String) -> Result<(), AllocError> {
     let how = if finding.opens {
         "opens"

@@ -20,9 +20,9 @@ ghost use Rattle.span_ticks.specs.UnderWay.{IsContextOf, IsUnderWay, Watch, flow
 
 use span_step::next_contexts_are_in_range;
 
-/// A machine that is under way along the rows of a sound table is so after each tick, whatever it sees of the pins, the flags
-/// and the FIFOs. Its open ages grow as the table says, or more of a span without a greatest bound, and stay within the span's
-/// bounds, unless the machine is excused before the tick.
+/// A machine that is under way along the rows of a sound table is so after each tick, whatever it sees of the pins, the
+/// flags and the FIFOs. Its open ages grow as the table says, or more of a span without a greatest bound, and stay
+/// within the span's bounds, unless the machine is excused before the tick.
 pub fn a_tick_follows_the_table()
     ensures { (u : block.Setup) (sp : span.Span) (rows : Context → Option Ages) (s : setup.MachineSetup)
         (v : view.View) (q : queues.Queues) (r : registers.Registers) (w : Watch)
@@ -33,8 +33,8 @@ pub fn a_tick_follows_the_table()
     next_contexts_are_in_range();
 }
 
-/// Where the span has a greatest bound and names no address, each open age of a machine that is under way and isn't excused may be
-/// one tick more: its next tick is not late, or nothing is open.
+/// Where the span has a greatest bound and names no address, each open age of a machine that is under way and isn't
+/// excused may be one tick more: its next tick is not late, or nothing is open.
 pub fn open_ages_have_room()
     ensures { (u : block.Setup) (sp : span.Span) (rows : Context → Option Ages) (s : setup.MachineSetup)
         (r : registers.Registers) (w : Watch)
@@ -45,8 +45,8 @@ pub fn open_ages_have_room()
     next_contexts_are_in_range();
 }
 
-/// At its start a machine is under way in any context of a sound table that agrees with it and has a row. No age is open. A machine
-/// that begins with a pending word has no sound table with a row.
+/// At its start a machine is under way in any context of a sound table that agrees with it and has a row. No age is
+/// open. A machine that begins with a pending word has no sound table with a row.
 pub fn a_start_is_under_way()
     ensures { (u : block.Setup) (sp : span.Span) (rows : Context → Option Ages) (s : setup.MachineSetup) (k : Context)
         → slice_index_or u.machines sp.machine None ≡ Some s → IsSoundTable u sp rows

@@ -1,5 +1,5 @@
-//! The stages of a command before it writes: each fetches a file from the shelf and reads it, or asks the spans of a setup, or ends
-//! with its cause.
+//! The stages of a command before it writes: each fetches a file from the shelf and reads it, or asks the spans of a
+//! setup, or ends with its cause.
 #![tactic(auto)]
 
 mod fetch;

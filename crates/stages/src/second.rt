@@ -12,7 +12,8 @@ use pio_assemble::Program;
 use pio_edge::Shelf;
 use std::alloc::Global;
 
-/// The setup of the second block's configuration, and the pins that this block owns. The machine of each span is configured.
+/// The setup of the second block's configuration, and the pins that this block owns. The machine of each span is
+/// configured.
 #[tactic(auto, unfolding(crate::specs::Judged::second_at))]
 pub fn read_second_setup<F: Shelf>(
     alloc: Global,

@@ -16,7 +16,8 @@ use pio_assemble::Program;
 use pio_edge::Shelf;
 use std::alloc::Global;
 
-/// The setup of a configuration, and the default one where no configuration is named. The machine of each span is configured.
+/// The setup of a configuration, and the default one where no configuration is named. The machine of each span is
+/// configured.
 pub fn read_setup<F: Shelf>(
     alloc: Global,
     shelf: &mut F,

@@ -19,8 +19,8 @@ pub struct Verdicts {
     pub refused: Option<(usize, Name, Refusal)>,
 }
 
-/// Asks that each span be provable; then each holds in every run. The machines of the spans are configured. The fault is that of
-/// the first span that isn't provable, or out of memory.
+/// Asks that each span be provable; then each holds in every run. The machines of the spans are configured. The fault
+/// is that of the first span that isn't provable, or out of memory.
 pub fn ask_spans(alloc: Global, setup: &Setup) -> Result<(), Fault>
     requires { AreConfigured setup.now }
     ensures { AreAsked setup.now result }

@@ -1,13 +1,13 @@
 -- The text of what is inside a block by its parts.
-use Rattle.std.proofs.Common.{◌≡◌, ℕ, ◌+◌, ◌*◌, ◌<◌, Bool, true, false, Option, Some, None, List, [], ◌∷◌, ◌++◌, suc, length, drop, get_or, refl, sym, ap, ◌∙◌, append_assoc, append-nil, arith, cond, eqb, slice_index_or, zero}
-use Rattle.std.specs.Prelude.{codes, map, replicate, if◌then◌else◌}
+use Rattle.std.proofs.Common.{◌≡◌, ℕ, ◌+◌, ◌*◌, ◌<◌, Bool, true, false, Option, List, [], ◌∷◌, ◌++◌, suc, length, drop, get_or, refl, sym, ap, ◌∙◌, append_assoc, append-nil, arith, cond, eqb, slice_index_or, zero}
+use Rattle.std.specs.Prelude.{codes, replicate, if◌then◌else◌}
 use Rattle.std.proofs.Math.Seq.{drop-cons}
 use Rattle.block_core.specs.declared.inside.MachineInside.{MachineInside}
 use Rattle.block_core.specs.declared.inside.Inside.{Inside}
 use Rattle.block_core.specs.Sample.{bits_of, same_numbers}
 use Rattle.vcd_trace.specs.VcdText.{Variable, declaration, declarations, scope_text, value_lines, change_lines, values_over, changes_over, vector_line}
 use Rattle.vcd_trace.specs.Groups.{bit_lines, bit_changes, vector_lines, vector_changes}
-use Rattle.vcd_trace.specs.InsideText.{bit_of, inside_changes_text, inside_dump_text, inside_header_text, machine_changes, machine_lines, machine_opening, machine_scope, machine_scopes, machine_values, machine_variables, machine_widths, machines_changes, machines_lines, named, pad_changes, pad_lines, pad_variables, pads_scope, scope_of}
+use Rattle.vcd_trace.specs.InsideText.{bit_of, inside_changes_text, inside_dump_text, inside_header_text, machine_changes, machine_lines, machine_scope, machine_scopes, machine_values, machine_variables, machine_widths, machines_changes, machines_lines, named, pad_changes, pad_lines, pad_variables, pads_scope, scope_of}
 use Rattle.vcd_trace.specs.InsideGroups.{flags_of, further_changes, long_of, machine_variable, place_of, register_changes, registers_of, same_registers, short_of, words_of}
 use Rattle.vcd_trace.specs.declared.inside_header.TheConstants.{WIDTHS}
 use Rattle.vcd_trace.proofs.TextLaws.{bit_changes-same, change_lines-append, one_line, value_lines-append}
@@ -40,7 +40,7 @@ widths-kinds : machine_widths ≡ word_widths ++ replicate 2 1
 unfolding machine_widths machine_variables word_widths
 widths-kinds = refl
 
-flags-bits : (waits enabled : Bool) → bit_of waits ∷ bit_of enabled ∷ [] ≡ bits_of 2 (bit_of waits + 2 * bit_of enabled)
+pub flags-bits : (waits enabled : Bool) → bit_of waits ∷ bit_of enabled ∷ [] ≡ bits_of 2 (bit_of waits + 2 * bit_of enabled)
 unfolding bits_of
 flags-bits true true = refl
 flags-bits true false = refl

@@ -1,5 +1,5 @@
 -- Where the same is inside, and what the text says of it.
-use Rattle.std.proofs.Common.{◌≡◌, ℕ, ◌+◌, ◌*◌, ◌<◌, ◌^◌, Bool, true, false, cond, eqb, Option, Some, None, List, [], ◌∷◌, ◌++◌, length, refl, sym, ap, subst, ◌∙◌, arith, eq-eqb, Result}
+use Rattle.std.proofs.Common.{◌≡◌, ℕ, ◌+◌, ◌<◌, ◌^◌, Bool, true, false, cond, eqb, Option, Some, None, List, [], ◌∷◌, ◌++◌, length, refl, sym, ap, subst, ◌∙◌, arith, eq-eqb}
 use Rattle.std.specs.Prelude.{◌&&◌, map, is_some, replicate}
 use borrow.Author.Tests.{eqb-true}
 use lib.Pointwise.{pointwise}
@@ -13,14 +13,14 @@ use Rattle.pio_edge.specs.Edge.{with_bytes, TakesPrefix}
 use Rattle.vcd_trace.specs.Shows.{AreInside}
 use Rattle.sample_trace.specs.Told.{IsNext, held_to, told_at}
 use Rattle.vcd_trace.specs.TextForm.{TextForm, added, ended, HasPut}
-use Rattle.vcd_trace.specs.VcdText.{change_lines, changes_over, clock_line, widths}
-use Rattle.vcd_trace.specs.InsideText.{bit_of, first_of_machine, inside_changes_text, inside_form, inside_open_text, inside_step_text, inside_text_of, machine_changes, machine_values, machine_widths, machine_variables, machines_changes, pad_changes, same_inside, same_machine, same_machines}
+use Rattle.vcd_trace.specs.VcdText.{changes_over, clock_line, widths}
+use Rattle.vcd_trace.specs.InsideText.{bit_of, first_of_machine, inside_changes_text, inside_form, inside_open_text, inside_step_text, inside_text_of, machine_changes, machine_values, machine_widths, machine_variables, machines_changes, same_inside, same_machine, same_machines}
 use Rattle.vcd_trace.specs.InsideTold.{added_inside, ended_inside, places_code, taken_code, told_first}
 use Rattle.vcd_trace.specs.Groups.{bit_changes}
 use Rattle.vcd_trace.proofs.FormLaws.{AddsNothing, one_put, one_breaks, end_put, end_breaks}
 use Rattle.vcd_trace.proofs.ToldLaws.{and_true, same_numbers-self, same_sample-self, same_sample-equal}
 use Rattle.vcd_trace.proofs.ChangesLaws.{both_true, length-bits_of, same_numbers-equal}
-use Rattle.vcd_trace.proofs.SilenceLaws.{bits_of-same, change_lines-none, changes_over-some, first_none, last_none, one_false}
+use Rattle.vcd_trace.proofs.SilenceLaws.{bits_of-same, change_lines-none, changes_over-some, first_none, last_none}
 use Rattle.vcd_trace.specs.InsideGroups.{further_changes, same_further, with_further}
 use Rattle.vcd_trace.proofs.TextLaws.{change_lines-same}
 use Rattle.vcd_trace.proofs.InsideLaws.{inside_changes-further, inside_changes-parts}
@@ -44,7 +44,7 @@ pub inside_repeats_add-nothing : (configured : List Bool) → AddsNothing (insid
 inside_repeats_add-nothing configured clock s = ap (λ (b : Bool). cond b [] (clock_line clock ++ inside_changes_text s s)) (same_inside-self s)
 
 -- a clock in which something else is inside adds its line and the changes
-inside_step-changed : (clock : ℕ) (a b : Inside) → same_inside a b ≡ false → inside_step_text clock a b ≡ clock_line clock ++ inside_changes_text a b
+pub inside_step-changed : (clock : ℕ) (a b : Inside) → same_inside a b ≡ false → inside_step_text clock a b ≡ clock_line clock ++ inside_changes_text a b
 inside_step-changed clock a b h = ap (λ (t : Bool). cond t [] (clock_line clock ++ inside_changes_text a b)) h
 
 -- where the sample is another one, there are its changes, then those of the pads and the machines
@@ -57,7 +57,7 @@ pub inside_step-same : (clock : ℕ) (a b : Inside) → same_sample a.sample b.s
 inside_step-same clock a b h k = ap (λ (t : Bool). cond t [] (clock_line clock ++ inside_changes_text a b)) (and_true _ _ h k)
 
 -- a sample that is shown again has no changes
-changes_over-same : (more : ℕ) (s : Sample) → changes_over more s s ≡ []
+pub changes_over-same : (more : ℕ) (s : Sample) → changes_over more s s ≡ []
 unfolding changes_over
 changes_over-same more s = change_lines-same (33 + more) widths (values_of s)
 

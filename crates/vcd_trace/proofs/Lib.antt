@@ -6,7 +6,9 @@ pub mod FormLaws
 pub mod HeaderLaws
 pub mod InsideLaws
 pub mod InsideSame
+pub mod PlaceLaws
 pub mod RoomLaws
 pub mod SilenceLaws
 pub mod TextLaws
 pub mod ToldLaws
+pub mod UsualLaws

@@ -19,6 +19,10 @@ place_of m = m.pc ∷ m.instruction ∷ []
 abbrev pub registers_of : MachineInside → List ℕ
 registers_of m = m.x ∷ m.y ∷ m.isr ∷ m.osr ∷ m.isr_count ∷ m.osr_count ∷ []
 
+-- how many bits were shifted in and out
+abbrev pub counts_of : MachineInside → List ℕ
+counts_of m = m.isr_count ∷ m.osr_count ∷ []
+
 -- all of them
 abbrev pub words_of : MachineInside → List ℕ
 words_of m = m.pc ∷ m.instruction ∷ registers_of m

@@ -11,3 +11,4 @@ pub use Rattle.sample_trace.specs.Edges
 pub mod ClockText
 pub mod InsideGroups
 pub mod InsideTold
+pub mod PlaceText

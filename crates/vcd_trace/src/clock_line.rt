@@ -1,6 +1,6 @@
 //! The line of a clock that is kept from clock to clock: as long as no digit but the last two changes, only those are
 //! written.
-ghost use Rattle.std.specs.Prelude.{◌≡◌, ◌+◌, ◌/◌, ◌%◌, ◌<◌, true};
+ghost use Rattle.std.specs.Prelude.{◌≡◌, ◌+◌, ◌/◌, ◌%◌, ◌<◌, ◌≤◌, ◌++◌, true, drop, length};
 ghost use Rattle.pio_edge.specs.Edge.{Takes, PutCounts};
 ghost use Rattle.vcd_trace.specs.ClockText.{is_of};
 ghost use Rattle.vcd_trace.specs.VcdText.{clock_line};
@@ -53,9 +53,23 @@ impl ClockLine {
         self.put_anew(sink, clock)
     }
 
-    // Writes the line of a clock where the last two digits alone are other ones, and says whether it has.
+    /// Writes it up to a place of a room, and says where it begins.
     #[inline(always)]
-    fn turn(&mut self, clock: u64) -> bool
+    pub(crate) fn write(&self, room: &mut [u8], end: usize) -> usize
+        requires after { CLOCK_ROOM ≤ end }
+        requires before { end ≤ length room.now }
+        ensures before { result ≤ end }
+        ensures text { drop result room.new ≡ self.now.text ++ drop end room.old }
+    {
+        // A copy of its own, which overlaps nothing, is written at once.
+        let line = self.room;
+        room[end - CLOCK_ROOM..end].copy_from_slice(&line);
+        end - CLOCK_ROOM + self.start
+    }
+
+    /// Writes the line of a clock where the last two digits alone are other ones, and says whether it has.
+    #[inline(always)]
+    pub(crate) fn turn(&mut self, clock: u64) -> bool
         ensures turns { result ≡ is_of self.old.hundred clock }
         ensures text { result ≡ true → self.new.text ≡ clock_line clock }
     {

@@ -138,9 +138,9 @@ fn put_changed<S: Sink>(sink: &mut S, id: u8, before: u32, now: u32) -> Result<(
     put_vector(sink, id, now)
 }
 
-// Whether all else that is inside the machines is the same.
+/// Whether all else that is inside the machines is the same.
 #[inline(always)]
-fn has_same_registers(before: &MachineInside, now: &MachineInside) -> bool
+pub(crate) fn has_same_registers(before: &MachineInside, now: &MachineInside) -> bool
     ensures { result ≡ same_registers before.now now.now }
 {
     long_of(before) == long_of(now) && short_of(before) == short_of(now)

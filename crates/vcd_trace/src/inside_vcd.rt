@@ -1,4 +1,4 @@
-//! The value-change trace of what is inside a block (IEEE 1364-2005, section 18), line by line into a sink that was lent.
+//! The value-change trace of what is inside a block (IEEE 1364-2005, section 18), into a sink that was lent.
 ghost use Rattle.std.specs.Prelude.{◌≡◌, ℕ, Bool, List, Option, true, false, [], Some, OnOk};
 ghost use Rattle.pio_edge.specs.Edge.{Takes, PutCounts, TakesPrefix};
 ghost use Rattle.vcd_trace.specs.TextForm.{HasPut};
@@ -14,19 +14,20 @@ use crate::inside_changes::put_further;
 use crate::inside_dump::put_inside_dump;
 use crate::inside_header::put_inside_header;
 use crate::line::put_clock;
+use crate::usual::Rooms;
 use crate::vcd::is_same;
 use block_core::Inside;
 use pio_edge::{Sink, SinkFailed};
 use sample_trace::{Trace, TraceFailed};
 
-/// A trace of what is inside a block as value-change text, of one unit a clock. Each line is put as one piece, and its
-/// faults are its sink's.
+/// A trace of what is inside a block as value-change text, of one unit a clock. A piece that is put is a line, or some
+/// lines of a clock, and its faults are its sink's.
 #[derive(Drop)]
 pub struct InsideVcd<'a, S: Sink> {
     sink: &'a mut S,
     configured: [bool; 4],
     last: Option<Inside>,
-    line: ClockLine,
+    rooms: Rooms,
     failed: bool,
 }
 
@@ -42,7 +43,7 @@ impl<'a, S: Sink> InsideVcd<'a, S> {
             sink,
             configured,
             last: None,
-            line: ClockLine::new(),
+            rooms: Rooms::new(),
             failed: false,
         }
     }
@@ -77,10 +78,10 @@ impl<'a, S: Sink> Trace<Inside> for InsideVcd<'a, S> {
         }
     }
 
-    // Called in each clock, as that of a sample.
-    #[inline(never)]
+    // Called in each clock, so it is put in place.
+    #[inline(always)]
     fn sample(&mut self, clock: u64, inside: &Inside) -> Result<(), TraceFailed> {
-        match put_inside(self.sink, &mut self.line, clock, &mut self.last, inside) {
+        match put_inside(self.sink, &mut self.rooms, clock, &mut self.last, inside) {
             Ok(()) => Ok(()),
             Err(SinkFailed) => {
                 self.failed = true;
@@ -117,7 +118,7 @@ fn put_opening<S: Sink>(sink: &mut S, configured: &[bool; 4]) -> Result<(), Sink
 #[inline(always)]
 fn put_inside<S: Sink>(
     sink: &mut S,
-    line: &mut ClockLine,
+    rooms: &mut Rooms,
     clock: u64,
     last: &mut Option<Inside>,
     inside: &Inside,
@@ -127,7 +128,7 @@ fn put_inside<S: Sink>(
     ensures kept { OnOk result (last.new ≡ Some inside.now) }
 {
     match last {
-        Some(before) => put_step(sink, line, clock, before, inside),
+        Some(before) => put_step(sink, rooms, clock, before, inside),
         None => put_first(sink, last, inside),
     }
 }
@@ -151,6 +152,29 @@ fn put_first<S: Sink>(
 // What a clock adds after the one before it: nothing where the same is inside.
 #[inline(always)]
 fn put_step<S: Sink>(
+    sink: &mut S,
+    rooms: &mut Rooms,
+    clock: u64,
+    last: &mut Inside,
+    now: &Inside,
+) -> Result<(), SinkFailed>
+    ensures bytes { Takes (S.taken sink.old) (inside_step_text clock last.old now.now) (S.taken sink.new) result }
+    ensures cause { PutCounts (S.faults sink.old) (S.faults sink.new) result }
+    ensures kept { OnOk result (last.new ≡ now.now) }
+{
+    let Some(start) = rooms.write(clock, last, now) else {
+        return put_others(sink, &mut rooms.line, clock, last, now);
+    };
+    sink.put(&rooms.room[start..])?;
+    last.sample.level = now.sample.level;
+    last.pads = now.pads;
+    last.machines = now.machines;
+    Ok(())
+}
+
+// The same where more may change than in a usual clock, line by line. A call of its own, which keeps the usual way short.
+#[inline(never)]
+fn put_others<S: Sink>(
     sink: &mut S,
     line: &mut ClockLine,
     clock: u64,

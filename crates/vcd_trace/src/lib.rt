@@ -14,8 +14,10 @@ mod inside_vcd;
 mod laws;
 mod line;
 mod machine;
+mod place_lines;
 mod twin_laws;
 mod twin_vcd;
+mod usual;
 mod variable;
 mod vcd;
 

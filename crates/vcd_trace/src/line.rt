@@ -2,7 +2,7 @@
 ghost use Rattle.std.specs.Prelude.{◌≡◌, ℕ, ◌+◌, ◌-◌, ◌<◌, ◌≤◌, ◌++◌, ◌∷◌, false, drop, length};
 ghost use Rattle.std.specs.Fmt.{digits};
 ghost use Rattle.pio_edge.specs.Edge.{Takes, PutCounts};
-ghost use Rattle.vcd_trace.specs.Characters.{blank, letter_b, newline, tilde};
+ghost use Rattle.vcd_trace.specs.Characters.{letter_b, newline, tilde};
 ghost use Rattle.vcd_trace.specs.ClockText.{four_digits};
 ghost use Rattle.vcd_trace.specs.VcdText.{clock_line, bit_line, vector_line, identifier};
 
@@ -51,6 +51,19 @@ pub(crate) fn put_bit<S: Sink>(sink: &mut S, id: u8, value: u8) -> Result<(), Si
     }
 }
 
+/// Writes the line of a value of one bit up to a place, and says where it begins.
+#[inline(always)]
+pub(crate) fn write_bit(line: &mut [u8], end: usize, id: u8, value: u8) -> usize
+    requires value { value < 2 }
+    requires after { 4 ≤ end }
+    requires before { end ≤ length line.now }
+    ensures after { end ≤ result + 4 }
+    ensures before { result ≤ end }
+    ensures text { drop result line.new ≡ bit_line id value ++ drop end line.old }
+{
+    write_name(line, end, b'0' + value, id)
+}
+
 /// The line of a value of more bits.
 pub(crate) fn put_vector<S: Sink>(sink: &mut S, id: u8, value: u32) -> Result<(), SinkFailed>
     ensures bytes { Takes (S.taken sink.old) (vector_line id value) (S.taken sink.new) result }
@@ -80,62 +93,62 @@ pub(crate) fn put_two_vectors<S: Sink>(
 }
 
 /// Room for `b`, the 32 digits of a word, a blank, the identifier of up to two characters and the newline.
-const LINE_ROOM: usize = 37;
+pub(crate) const LINE_ROOM: usize = 37;
 
-// Writes the line of a value up to a place, from its last character on, and says where it begins.
+/// Writes the line of a value up to a place, from its last character on, and says where it begins.
 #[inline(always)]
-fn write_vector(line: &mut [u8], end: usize, id: u8, value: u32) -> usize
+pub(crate) fn write_vector(line: &mut [u8], end: usize, id: u8, value: u32) -> usize
     requires after { LINE_ROOM ≤ end }
     requires before { end ≤ length line.now }
     ensures after { end ≤ result + LINE_ROOM }
     ensures before { result ≤ end }
     ensures text { drop result line.new ≡ vector_line id value ++ drop end line.old }
 {
-    let name = write_name(line, end, id);
+    let name = write_name(line, end, b' ', id);
     write_bits(line, name, value)
 }
 
-// Writes the blank, the identifier and the newline up to a place, and says where they begin.
+// Writes a character, the identifier and the newline up to a place, and says where they begin.
 #[inline(always)]
-fn write_name(line: &mut [u8], end: usize, id: u8) -> usize
+fn write_name(line: &mut [u8], end: usize, first: u8, id: u8) -> usize
     requires after { 4 ≤ end }
     requires before { end ≤ length line.now }
     ensures after { end ≤ result + 4 }
     ensures before { result ≤ end }
-    ensures text { drop result line.new ≡ blank ∷ (identifier id ++ newline ∷ drop end line.old) }
+    ensures text { drop result line.new ≡ first ∷ (identifier id ++ newline ∷ drop end line.old) }
 {
     if id < SECOND {
-        write_character(line, end, id);
+        write_character(line, end, first, id);
         end - 3
     } else {
-        write_two_characters(line, end, id - SECOND);
+        write_two_characters(line, end, first, id - SECOND);
         end - 4
     }
 }
 
 // The identifier of a first scope.
 #[inline(always)]
-fn write_character(line: &mut [u8], end: usize, id: u8)
+fn write_character(line: &mut [u8], end: usize, first: u8, id: u8)
     requires after { 3 ≤ end }
     requires before { end ≤ length line.now }
-    ensures { drop (end - 3) line.new ≡ blank ∷ id ∷ newline ∷ drop end line.old }
+    ensures { drop (end - 3) line.new ≡ first ∷ id ∷ newline ∷ drop end line.old }
 {
     line[end - 1] = b'\n';
     line[end - 2] = id;
-    line[end - 3] = b' ';
+    line[end - 3] = first;
 }
 
 // That of a second scope.
 #[inline(always)]
-fn write_two_characters(line: &mut [u8], end: usize, id: u8)
+fn write_two_characters(line: &mut [u8], end: usize, first: u8, id: u8)
     requires after { 4 ≤ end }
     requires before { end ≤ length line.now }
-    ensures { drop (end - 4) line.new ≡ blank ∷ tilde ∷ id ∷ newline ∷ drop end line.old }
+    ensures { drop (end - 4) line.new ≡ first ∷ tilde ∷ id ∷ newline ∷ drop end line.old }
 {
     line[end - 1] = b'\n';
     line[end - 2] = id;
     line[end - 3] = b'~';
-    line[end - 4] = b' ';
+    line[end - 4] = first;
 }
 
 // Writes `b` and the digits up to a place, from the last ones on, and says where they begin.

@@ -1,6 +1,6 @@
-//! The trace of what is inside a block over a sink in memory. Its rows have one line more, `configured 0 2`: the machines that are
-//! declared. What is shown at a clock is a sample, the pads, and each machine: `3: quiet / pads 1 / sm0 pc 1, waits 1 / sm2 quiet`.
-//! A machine has its values in hexadecimal digits, under the names of its variables.
+//! The trace of what is inside a block over a sink in memory. Its rows have one line more, `configured 0 2`: the
+//! machines that are declared. What is shown at a clock is a sample, the pads, and each machine: `3: quiet / pads 1 /
+//! sm0 pc 1, waits 1 / sm2 quiet`. A machine has its values in hexadecimal digits, under the names of its variables.
 ghost use Rattle.std.specs.Prelude.{◌≡◌, false};
 
 use super::lent::tell_lent_insides;

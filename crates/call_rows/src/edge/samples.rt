@@ -15,7 +15,8 @@
 //! | `kept 6` | how many samples a list has |
 //! | `s level 1` | a sample of the list |
 //!
-//! A sample has its values in hexadecimal digits: `level`, `direction` and `flags`, and of the four machines `tx`, `rx`,
+//! A sample has its values in hexadecimal digits: `level`, `direction` and `flags`, and of the four machines `tx`,
+//! `rx`,
 //! `got` and `sticky`. Those that it doesn't name are 0, as all are in `quiet`.
 use super::sinks::failure_of;
 use block_core::Sample;

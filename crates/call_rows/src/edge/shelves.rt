@@ -73,8 +73,8 @@ fn tell_fetch<S: Shelf>(
 /// The file that a row writes.
 const FILE: &str = "written_by_a_row";
 
-/// Adds what a fetch of a file gives that is written for it, and how many faults there were. A row asks for the cap on a
-/// line, and then for the file's bytes.
+/// Adds what a fetch of a file gives that is written for it, and how many faults there were. A row asks for the cap on
+/// a line, and then for the file's bytes.
 pub fn tell_file<R: Files>(rt: &R, alloc: Global, asked: &str, text: &mut String) -> Option<()> {
     let (cap, bytes) = asked.split_once('\n')?;
     let cap = cap.strip_prefix("cap ")?.parse().ok()?;
@@ -85,8 +85,8 @@ pub fn tell_file<R: Files>(rt: &R, alloc: Global, asked: &str, text: &mut String
     write!(text, ", faults {}", shelf.faults()).ok()
 }
 
-/// Adds for each file what a fetch of up to four bytes gives, and how many faults there were by then. A row asks for a name
-/// a line.
+/// Adds for each file what a fetch of up to four bytes gives, and how many faults there were by then. A row asks for a
+/// name a line.
 pub fn tell_unread<R: Files>(rt: &R, alloc: Global, asked: &str, text: &mut String) -> Option<()> {
     let mut shelf = FileShelf::new(alloc, rt);
     for (place, name) in asked.split('\n').enumerate() {

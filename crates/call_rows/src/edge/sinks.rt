@@ -2,8 +2,8 @@
 use pio_edge::{MemSink, Sink, SureSink, put_all};
 use std::alloc::{AllocError, Global};
 
-/// Adds whether each call of a sink in memory passes, what it has taken and how many faults there were. A row asks for the
-/// room and the calls that fail, each with the bytes that it takes, as `room 5, fails 2 1`; then for a call a line.
+/// Adds whether each call of a sink in memory passes, what it has taken and how many faults there were. A row asks for
+/// the room and the calls that fail, each with the bytes that it takes, as `room 5, fails 2 1`; then for a call a line.
 pub fn tell_memory_sink(alloc: Global, asked: &str, text: &mut String) -> Option<()> {
     let (head, calls) = asked.split_once('\n')?;
     let mut parts = head.split(", ");

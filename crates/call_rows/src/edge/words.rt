@@ -32,8 +32,8 @@ fn word_of(digits: &str) -> Option<u16> {
     u16::from_str_radix(digits, 16).ok()
 }
 
-/// Adds the first word under a rule whose text is a number though an instruction that can be written has the word, or the
-/// other way round; `none` where there is none of all 65,536.
+/// Adds the first word under a rule whose text is a number though an instruction that can be written has the word, or
+/// the other way round; `none` where there is none of all 65,536.
 pub fn tell_first_wrong(asked: &str, text: &mut String) -> Option<()> {
     match first_wrong(&rule_of(asked)?) {
         Some(word) => write!(text, "{word:04x}").ok(),

@@ -4,8 +4,8 @@ use pio_edge::{ErrSink, OutSink, Sink};
 use std::alloc::Global;
 use std::io::{self, ErrorKind, Write};
 
-/// What a writer does: at which of its writes, numbered from 1, it breaks, and at which it takes nothing (0 is none), and
-/// whether its flush breaks.
+/// What a writer does: at which of its writes, numbered from 1, it breaks, and at which it takes nothing (0 is none),
+/// and whether its flush breaks.
 #[derive(Clone, Copy)]
 struct Turn {
     breaks: u64,
@@ -114,8 +114,8 @@ fn how(passes: bool) -> &'static str {
     if passes { "passes" } else { "fails" }
 }
 
-/// Adds in how many writes an output leaves, of how many bytes in all, and whether each but the last has 65,536 or more. A
-/// row asks for `50000 1234567`: 50,000 puts of this piece.
+/// Adds in how many writes an output leaves, of how many bytes in all, and whether each but the last has 65,536 or
+/// more. A row asks for `50000 1234567`: 50,000 puts of this piece.
 pub fn tell_blocks(alloc: Global, asked: &str, text: &mut String) -> Option<()> {
     let (times, piece) = asked.split_once(' ')?;
     let times: u32 = times.parse().ok()?;
@@ -153,8 +153,8 @@ fn tell_sizes(passes: bool, sizes: &[usize], text: &mut String) -> Option<()> {
     .ok()
 }
 
-/// Adds whether each call of the error output passes, and how many bytes each of its writes has. A row asks for a call a
-/// line.
+/// Adds whether each call of the error output passes, and how many bytes each of its writes has. A row asks for a call
+/// a line.
 pub fn tell_errors(alloc: Global, calls: &str, text: &mut String) -> Option<()> {
     let mut noted = Noted::new(alloc, WORKS);
     {

@@ -10,23 +10,21 @@ use Rattle.block_core.proofs.place.step.Goals as goal
 
 pub returns-in-None-clause-wanted : goal.returns-in-None-clause-wanted
 returns-in-None-clause-wanted g c =
-    let simple = c.simple_clock.ensures in
-    let done = sym c.is_some.ensures ∙ c.if-is_some.true in
+    let simple = c.simple_clock.ensures.done (sym c.is_done.ensures ∙ c.if-is_done.true) in
     rw (c.in-None.is, c.in-Some.is)
-    (adds_pins c.args.wanted.now c.simple_clock.new.outputs (slot_intent c.args.view.now quiet c.in-Some.slot) (simple.outputs done) (simple.wants done))
+    (adds_pins c.args.wanted.now c.simple_clock.new.outputs (slot_intent c.args.view.now quiet c.in-Some.slot) simple.outputs simple.wants)
 
 pub returns-in-None-clause-used : goal.returns-in-None-clause-used
 returns-in-None-clause-used g c =
-    let done = sym c.is_some.ensures ∙ c.if-is_some.true in
-    rw (c.in-None.is, c.in-Some.is) (unused c.args.used (uses_none c.args.view.now c.in-Some.slot (c.simple_clock.ensures.wants done)))
+    let simple = c.simple_clock.ensures.done (sym c.is_done.ensures ∙ c.if-is_done.true) in
+    rw (c.in-None.is, c.in-Some.is) (unused c.args.used (uses_none c.args.view.now c.in-Some.slot simple.wants))
 
 pub returns-in-None-clause-sample : goal.returns-in-None-clause-sample
 returns-in-None-clause-sample g c =
     let v = c.args.view.now in
-    let done = sym c.is_some.ensures ∙ c.if-is_some.true in
-    let wants = c.simple_clock.ensures.wants done in
+    let simple = c.simple_clock.ensures.done (sym c.is_done.ensures ∙ c.if-is_done.true) in
     still_shows c.a_quiet_clock_changes_nothing.ensures c.args.place v quiet c.in-Some.slot c.simple_clock.new.self c.args.sample.now
-    (c.simple_clock.ensures.after done) (sym (uses_none v c.in-Some.slot wants)) (ap (λ (w : Wants). w.sticky) wants)
+    simple.after (sym (uses_none v c.in-Some.slot simple.wants)) (ap (λ (w : Wants). w.sticky) simple.wants)
     (subst (λ s. Shows c.args.place s c.args.sample.now) c.in-Some.is c.requires.shows)
 
 -- as the search finds it; a wrong body is refused at once

@@ -1,7 +1,4 @@
-use Rattle.std.proofs.Common.{◌+◌, sym, ap, ◌∙◌, append-nil}
-use Rattle.pio_edge.specs.Edge.{with_bytes}
-use Rattle.vcd_trace.specs.Groups.{vector_changes}
-use Rattle.vcd_trace.specs.InsideGroups.{place_of}
+use Rattle.std.proofs.Common.{◌+◌, sym, ◌∙◌}
 use Rattle.vcd_trace.proofs.InsideLaws.{machine-kinds, registers-none}
 use Rattle.vcd_trace.proofs.TextLaws.{going_done}
 use Rattle.pio_edge.proofs.PutLaws.{going_begins, going_on, takes_failed, takes_last}

@@ -1,6 +1,6 @@
 use Rattle.std.proofs.Common.{◌+◌, ◌++◌, ◌∙◌, sym, ap}
 use Rattle.vcd_trace.specs.Groups.{bit_lines, vector_lines}
-use Rattle.vcd_trace.specs.InsideGroups.{flags_of, words_of}
+use Rattle.vcd_trace.specs.InsideGroups.{flags_of}
 use Rattle.vcd_trace.proofs.InsideLaws.{machine-lines}
 use Rattle.pio_edge.proofs.PutLaws.{going_begins, going_on, takes_failed, takes_last}
 use Rattle.vcd_trace.proofs.inside_dump.put_machine.Goals as goal

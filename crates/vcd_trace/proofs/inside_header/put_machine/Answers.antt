@@ -1,4 +1,4 @@
-use Rattle.std.proofs.Common.{◌+◌, ◌*◌, refl}
+use Rattle.std.proofs.Common.{refl}
 use Rattle.std.specs.Prelude.{codes}
 use Rattle.vcd_trace.specs.VcdText.{declarations}
 use Rattle.vcd_trace.specs.InsideText.{first_of_machine, machine_opening, machine_variables}

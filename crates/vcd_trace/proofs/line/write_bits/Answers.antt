@@ -1,4 +1,4 @@
-use Rattle.std.proofs.Common.{◌≡◌, ℕ, List, ◌+◌, ◌-◌, ◌/◌, ◌%◌, ◌<◌, ◌≤◌, ◌^◌, ◌∷◌, ◌++◌, drop, length, slice_set, zero, suc, arith, ap, sym, ◌∙◌, subst, refl}
+use Rattle.std.proofs.Common.{◌≡◌, ℕ, List, ◌+◌, ◌-◌, ◌/◌, ◌%◌, ◌<◌, ◌≤◌, ◌^◌, ◌∷◌, ◌++◌, drop, zero, suc, arith, ap, sym, ◌∙◌, subst, refl}
 use Rattle.std.proofs.Math.Pow.{shr_lt}
 use Rattle.std.proofs.lemmas.List.{drop-drop}
 use Rattle.vcd_trace.specs.ClockText.{four_digits}

@@ -13,7 +13,7 @@ returns c =
     let size_one = length-set old (end - 1) 10 in
     let size_two = length-set one (end - 2) c.args.id in
     let size_three = length-set two (end - 3) 126 in
-    put_at three (end - 4) (end - 3) 32 (126 ∷ c.args.id ∷ 10 ∷ drop end old) (omega arith) (omega (arith, size_one, size_two, size_three))
+    put_at three (end - 4) (end - 3) c.args.first (126 ∷ c.args.id ∷ 10 ∷ drop end old) (omega arith) (omega (arith, size_one, size_two, size_three))
     (put_at two (end - 3) (end - 2) 126 (c.args.id ∷ 10 ∷ drop end old) (omega arith) (omega (arith, size_one, size_two))
     (put_at one (end - 2) (end - 1) c.args.id (10 ∷ drop end old) (omega arith) (omega (arith, size_one))
     (put_at old (end - 1) end 10 (drop end old) (omega arith) (omega arith) refl)))

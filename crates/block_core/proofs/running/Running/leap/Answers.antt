@@ -57,6 +57,5 @@ invariant_of-self g c =
         fourth = in_step_leapt _ _ _ _ kept.fourth c.leap-4.ensures;
       },
       sample_leapt c.self.invariant.1 _ _ _ _ _ c.leap.ensures c.leap-2.ensures c.leap-3.ensures c.leap-4.ensures,
-      c.self.invariant.2 ∙ empty_leapt _ _ _ _ _ _ _ c.leap-2.ensures c.leap-3.ensures c.leap-4.ensures,
-      λ h. cc,
+      record { alone = c.self.invariant.2.alone ∙ empty_leapt _ _ _ _ _ _ _ c.leap-2.ensures c.leap-3.ensures c.leap-4.ensures; ready = λ h. cc },
     )

@@ -18,6 +18,5 @@ invariant_of-result g c = (
     fourth = first_in_step _ _ c.in_ok-slot_of-4.ensures;
   },
   first_sample _ _ _ _ _ _ _ _ _ _ _ c.in_ok-slot_of.ensures c.in_ok-slot_of-2.ensures c.in_ok-slot_of-3.ensures c.in_ok-slot_of-4.ensures,
-  c.are_empty-alone.ensures ∙ empty_first _ _ _ _ _ _ c.in_ok-slot_of-2.ensures c.in_ok-slot_of-3.ensures c.in_ok-slot_of-4.ensures,
-  λ h. cc,
+  record { alone = c.are_empty-alone.ensures ∙ empty_first _ _ _ _ _ _ c.in_ok-slot_of-2.ensures c.in_ok-slot_of-3.ensures c.in_ok-slot_of-4.ensures; ready = λ h. cc },
 )

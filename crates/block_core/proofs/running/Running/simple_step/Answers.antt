@@ -19,25 +19,29 @@ use Rattle.block_core.proofs.running.Running.simple_step.Goals as goal
 use Rattle.block_core.proofs.running.Running.simple_step.Goals.{else-not-self-via-then-not-self+else-not-self-2, else-not-self-via-else-not-self}
 
 -- the block knows that the other places are empty
-alone : (g : Over) (c : goal.After-show_pins g) → c.self.inside.alone ≡ true
+alone : (g : Over) (c : goal.After-show_pins g) → c.self.inside.known.alone ≡ true
 alone g c = elim c.else-not-self.branch [
   | else-not-self-via-then-not-self+else-not-self-2 w ↦ w.if-not-self-2.false
-  | else-not-self-via-else-not-self w ↦ (c.self.invariant.3 w.if-not-self.false).0
+  | else-not-self-via-else-not-self w ↦ (c.self.invariant.2.ready w.if-not-self.false).0
 ]
 
 empty : (g : Over) (c : goal.After-show_pins g) → AllEmpty c.self.inside.second c.self.inside.third c.self.inside.fourth
 empty g c =
     let b = c.self.inside in
-    all_empty b.second b.third b.fourth (sym c.self.invariant.2 ∙ alone g c)
+    all_empty b.second b.third b.fourth (sym c.self.invariant.2.alone ∙ alone g c)
 
 -- and the machine's clock is a simple one
-simple : (g : Over) (c : goal.After-show_pins g) → IsSimple c.self.inside.shared.memory c.self.inside.wanted.outputs.levels c.self.inside.wanted.outputs.directions c.self.inside.shared.flags.up c.self.inside.shared.sync c.args.pad (seen_of c.self.inside.shared.sync.bypass c.args.pad c.self.inside.shared.sync.pad_2) c.self.inside.first c.simple_step.new.slot c.simple_step.new.outputs
-simple g c = let b = c.self.inside in let sees = c.new-view.ensures in record {
-  sees = refl;
-  after = c.in_ok-ready.ensures.after refl ∙ ap (λ (v : View). place_after v quiet b.first) sees;
-  outputs = c.in_ok-ready.ensures.outputs refl ∙ ap (λ (v : View). written_by b.wanted.outputs (place_intent v quiet b.first)) sees;
-  wants = subst (λ (v : View). WantsPins (place_intent v quiet b.first)) sees (c.in_ok-ready.ensures.wants refl);
-}
+simple : (g : Over) (c : goal.After-show_pins g) → IsSimple c.self.inside.shared.memory c.self.inside.wanted.outputs.levels c.self.inside.wanted.outputs.directions c.self.inside.shared.flags.up c.self.inside.shared.sync c.args.pad (seen_of c.self.inside.shared.sync.bypass c.args.pad c.self.inside.shared.sync.pad_2) c.self.inside.first (Some c.simple_clock-tried.new.self) c.simple_clock-tried.new.outputs
+simple g c =
+    let b = c.self.inside in
+    let sees = c.new-view.ensures in
+    let v = view b.shared.memory (seen_of b.shared.sync.bypass c.args.pad b.shared.sync.pad_2) b.shared.flags.up in
+    let made = c.simple_clock-tried.ensures.done (sym c.is_done.ensures ∙ c.if-not-is_done.false) in record {
+      sees = refl;
+      after = ap Some made.after ∙ ap (λ (w : View). place_after w quiet (Some c.in-Some.first)) sees ∙ ap (place_after v quiet) (sym c.in-Some.is);
+      outputs = made.outputs ∙ ap (λ (w : View). written_by b.wanted.outputs (place_intent w quiet (Some c.in-Some.first))) sees ∙ ap (λ s. written_by b.wanted.outputs (place_intent v quiet s)) (sym c.in-Some.is);
+      wants = subst (λ s. WantsPins (place_intent v quiet s)) (sym c.in-Some.is) (subst (λ (w : View). WantsPins (place_intent w quiet (Some c.in-Some.first))) sees made.wants);
+    }
 
 pub invariant_of-self-2 : goal.invariant_of-self-2
 invariant_of-self-2 g c =
@@ -50,8 +54,8 @@ invariant_of-self-2 g c =
     let second = stays_empty v quiet b.second none.second in
     let third = stays_empty v quiet b.third none.third in
     let fourth = stays_empty v quiet b.fourth none.fourth in
-    let shows = simple_shows c.a_quiet_clock_changes_nothing.ensures b.shared.memory b.wanted.outputs.levels b.wanted.outputs.directions b.shared.flags.up b.shared.sync c.args.pad _ b.first c.simple_step.new.slot c.simple_step.new.outputs b.sample (simple g c) (shows_first c.self.invariant.1) in
-    let o = c.simple_step.new.outputs in (
+    let shows = simple_shows c.a_quiet_clock_changes_nothing.ensures b.shared.memory b.wanted.outputs.levels b.wanted.outputs.directions b.shared.flags.up b.shared.sync c.args.pad _ b.first (Some c.simple_clock-tried.new.self) c.simple_clock-tried.new.outputs b.sample (simple g c) (shows_first c.self.invariant.1) in
+    let o = c.simple_clock-tried.new.outputs in (
       record {
         told = (
           place_told law.after law.more _ v _ _ _ refl kept.told.0 after,
@@ -68,10 +72,9 @@ invariant_of-self-2 g c =
         third = in_step_after _ v quiet _ _ kept.third third;
         fourth = in_step_after _ v quiet _ _ kept.fourth fourth;
       },
-      subst (λ (s : Sample). IsSampleOf (state_of c.simple_step.new.slot b.second b.third b.fourth o.levels o.directions b.shared.flags.up b.outside) s) (sym c.show_pins.ensures.after)
+      subst (λ (s : Sample). IsSampleOf (state_of (Some c.simple_clock-tried.new.self) b.second b.third b.fourth o.levels o.directions b.shared.flags.up b.outside) s) (sym c.show_pins.ensures.after)
           (outputs_new (first_new c.self.invariant.1 _ _ shows) o.levels o.directions),
-      c.self.invariant.2,
-      λ h. (alone g c, c.in_ok-ready.ensures.next (ap Some h)),
+      record { alone = c.self.invariant.2.alone; ready = λ h. (alone g c, c.simple_clock-tried.ensures.next (sym c.is_ready-self-inside.ensures ∙ h)) },
     )
 
 pub returns-clause-simple : goal.returns-clause-simple
@@ -79,20 +82,20 @@ returns-clause-simple g c =
     let b = c.self.inside in
     let v = view b.shared.memory (seen_of b.shared.sync.bypass c.args.pad b.shared.sync.pad_2) b.shared.flags.up in
     subst (λ (r : Run). true ≡ is_simple_over c.args.pad r) c.self.view_is
-    (ap (λ x. x && true) (sym (sym c.self.invariant.2 ∙ alone g c))
-    ∙ ap (λ x. are_empty b.second b.third b.fourth && x) (c.in_ok-ready.ensures.simple ∙ ap (λ (w : View). is_simple w b.first) c.new-view.ensures))
+    (ap (λ x. x && true) (sym (sym c.self.invariant.2.alone ∙ alone g c))
+    ∙ ap (λ x. are_empty b.second b.third b.fourth && x) (sym (sym c.is_done.ensures ∙ c.if-not-is_done.false) ∙ c.simple_clock-tried.ensures.simple ∙ ap (λ (w : View). is_simple w (Some c.in-Some.first)) c.new-view.ensures ∙ ap (is_simple v) (sym c.in-Some.is)))
 
 pub returns-clause-run : goal.returns-clause-run
 returns-clause-run g c = λ done.
     let b = c.self.inside in
-    simple_run b.shared.memory b.clock b.wanted.outputs.levels b.wanted.outputs.directions b.shared.flags.up b.outside b.shared.sync c.step.new.self c.args.pad _ b.first b.second b.third b.fourth c.simple_step.new.slot c.simple_step.new.outputs (empty g c) (simple g c) c.step.ensures
+    simple_run b.shared.memory b.clock b.wanted.outputs.levels b.wanted.outputs.directions b.shared.flags.up b.outside b.shared.sync c.step.new.self c.args.pad _ b.first b.second b.third b.fourth (Some c.simple_clock-tried.new.self) c.simple_clock-tried.new.outputs (empty g c) (simple g c) c.step.ensures
     ∙ ap (next_over c.args.pad quiet) c.self.view_is
 
 pub returns-clause-used : goal.returns-clause-used
 returns-clause-used g c = λ done.
     let b = c.self.inside in
     subst (λ (r : Run). uses_fifos_over c.args.pad quiet r ≡ false) c.self.view_is
-    (simple_uses_none b.shared.memory b.clock b.wanted.outputs.levels b.wanted.outputs.directions b.shared.flags.up b.outside b.shared.sync c.args.pad _ b.first b.second b.third b.fourth c.simple_step.new.slot c.simple_step.new.outputs (empty g c) (simple g c))
+    (simple_uses_none b.shared.memory b.clock b.wanted.outputs.levels b.wanted.outputs.directions b.shared.flags.up b.outside b.shared.sync c.args.pad _ b.first b.second b.third b.fourth (Some c.simple_clock-tried.new.self) c.simple_clock-tried.new.outputs (empty g c) (simple g c))
 
 pub returns-clause-sample : goal.returns-clause-sample
 returns-clause-sample g c = λ told.

@@ -58,8 +58,10 @@ invariant_of-self g c =
         fourth = in_step_after _ _ _ _ _ kept.fourth c.step-fourth.ensures.after;
       },
       pins_new four _ _ _ _,
-      c.self.invariant.2 ∙ empty_after _ _ _ _ _ _ _ _ c.step-second.ensures.after c.step-third.ensures.after c.step-fourth.ensures.after,
-      λ h. cc,
+      record {
+        alone = c.self.invariant.2.alone ∙ empty_after _ _ _ _ _ _ _ _ c.step-second.ensures.after c.step-third.ensures.after c.step-fourth.ensures.after;
+        ready = λ h. cc;
+      },
     )
 
 pub returns-clause-run : goal.returns-clause-run

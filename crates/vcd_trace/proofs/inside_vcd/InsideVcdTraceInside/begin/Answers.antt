@@ -1,7 +1,4 @@
-use Rattle.std.proofs.Common.{Bool, Option, List, ℕ, [], sym, ◌∙◌, refl, subst, false}
-use Rattle.pio_edge.specs.Edge.{with_bytes, TakesPrefix}
-use Rattle.vcd_trace.specs.TextForm.{HasPut}
-use Rattle.vcd_trace.specs.InsideText.{inside_form, inside_open_text, inside_text_of}
+use Rattle.std.proofs.Common.{sym, ◌∙◌, refl}
 use Rattle.vcd_trace.proofs.InsideSame.{begins, begin_breaks}
 use Rattle.vcd_trace.proofs.inside_vcd.InsideVcdTraceInside.begin.Goals as goal
 

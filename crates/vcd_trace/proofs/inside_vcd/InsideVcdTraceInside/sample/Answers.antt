@@ -1,5 +1,3 @@
-use Rattle.std.proofs.Common.{Option, subst, sym, ap, ◌∙◌, false}
-use Rattle.block_core.specs.declared.inside.Inside.{Inside}
 use Rattle.vcd_trace.proofs.InsideSame.{one_put_inside, one_breaks_inside}
 use Rattle.vcd_trace.proofs.inside_vcd.InsideVcdTraceInside.sample.Goals as goal
 

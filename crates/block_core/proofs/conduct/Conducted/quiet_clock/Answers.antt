@@ -1,0 +1,33 @@
+use Rattle.std.proofs.Common.{◌≡◌, sym, ap, ◌∙◌, subst}
+use Rattle.dreq_pacing.specs.declared.due.Due.{Due}
+use Rattle.dreq_pacing.specs.Due.{quiet}
+use Rattle.block_core.specs.Block.{Run}
+use Rattle.block_core.specs.Conduct.{Told, conduct_after, is_noted, standings_in}
+use Rattle.block_core.proofs.Conducting.{after-note}
+use Rattle.block_core.proofs.conduct.Conducted.quiet_clock.Goals as goal
+
+pub returns-clause-last : goal.returns-clause-last
+returns-clause-last g c =
+    let b = c.self.inside.block in
+    let told = c.told-noted in
+    subst (λ (t : Told). told.result.1 ≡ conduct_after quiet t.worked.run t.last) c.self.view_is
+    ((after-note quiet b.run c.self.inside.last told.result.1 c.args.clock c.pins-level.result.0 c.pins-level.result.1 c.standings-before.result c.quiet_clock-news.new.self.run.state told.result.0
+    (sym (ap (λ (t : Told). t.worked.run.clock) c.self.view_is ∙ c.requires.clock))
+    (ap (λ p. p.0) c.pins-level.ensures)
+    (ap (λ p. p.1) c.pins-level.ensures)
+    (c.standings-before.ensures ∙ ap (λ (d : Due). standings_in d b.run.state) c.quiet-quiet.ensures)
+    (ap (λ (r : Run). r.state) c.quiet_clock-news.ensures.run)
+    told.ensures.noted told.ensures.last).1)
+
+pub returns-clause-noted : goal.returns-clause-noted
+returns-clause-noted g c =
+    let b = c.self.inside.block in
+    let told = c.told-noted in
+    subst (λ (t : Told). told.result.0 ≡ is_noted quiet t.worked.run) c.self.view_is
+    ((after-note quiet b.run c.self.inside.last told.result.1 c.args.clock c.pins-level.result.0 c.pins-level.result.1 c.standings-before.result c.quiet_clock-news.new.self.run.state told.result.0
+    (sym (ap (λ (t : Told). t.worked.run.clock) c.self.view_is ∙ c.requires.clock))
+    (ap (λ p. p.0) c.pins-level.ensures)
+    (ap (λ p. p.1) c.pins-level.ensures)
+    (c.standings-before.ensures ∙ ap (λ (d : Due). standings_in d b.run.state) c.quiet-quiet.ensures)
+    (ap (λ (r : Run). r.state) c.quiet_clock-news.ensures.run)
+    told.ensures.noted told.ensures.last).0)
