@@ -58,6 +58,8 @@ pub fn run<F: Shelf, O: Sink, L: Ledger>(
 }
 
 /// Writes the text of so many clocks from a setup, or runs out of memory before it has put anything.
+// A call of its own: within a greater function its loop costs more a clock.
+#[inline(never)]
 fn write_trace<O: Sink, L: Ledger>(
     alloc: Global,
     setup: &Setup,
