@@ -145,7 +145,7 @@ CASES = [
     ("EVERY forgotten", RIGHT, [("blink.stim", "1 1 2 3", "0x1 0x2 0x3")], {"every-word"}),
     ("a wait on the pin beside", RIGHT, [("blink.pio", "    pull", "    wait 1 gpio 9\n    pull")], {"pin-not-driven", "span-not-seen", "stands-still"}),
     ("a bound too wide", RIGHT, [("blink.toml", "max = 4", "max = 40")], {"bound-not-tight"}),
-    ("the label of the other edge", EVENTS, [("blink.toml", 'from_at = ["on"]', 'from_at = ["off"]')], {"event-never"}),
+    ("the label of the other edge", EVENTS, [("blink.toml", 'from_at = ["on"]', 'from_at = ["off"]')], {"event-never", "span-not-seen"}),
     ("the label of an end that never comes", EVENTS, [("blink.toml", 'to_done = ["off"]', 'to_done = ["off", "spare"]')], {"event-never"}),
     ("a push forgotten", RIGHT, [("blink.pio", "    pull", "    in pins, 8\n    pull")], {"in-not-emptied"}),
 ]
