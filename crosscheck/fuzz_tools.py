@@ -35,7 +35,7 @@ import fuzz_files
 from piotool.breaking import answer_of as searched
 
 TOOLS = Path(__file__).resolve().parent.parent / "tools"
-SECONDS, GIGABYTES, ROUND = 20, 2, 50  # of a call; of a worker; calls that a worker makes at a time
+SECONDS, GIGABYTES, ROUND = 60, 2, 50  # of a call; of a worker; calls that a worker makes at a time
 LEAVES_1 = {"piotool-break", "piotool-compare", "piotool-explain", "piotool-lint", "piotool-measure", "piotool-setup", "piotool-tight"}
 TRACE, CAPTURE, DUMP, PYTHON, ELF = "run.vcd", "board.vcd", "chip.dump", "board.py", "firmware.elf"
 # The file that a word of a call names, by how the usage writes it.

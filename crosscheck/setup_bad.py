@@ -50,6 +50,7 @@ def texts(folder: Path) -> dict[str, Path]:
         "raises.py": "import rp2\nx = 1 / 0\n",
         "module.py": "import neopixel_of_mine\n",
         "never.py": STATEMENTS,
+        "warned.py": STATEMENTS.replace("rp2.StateMachine(", "0("),
         "waits.py": "import asyncio\n",
         "idle.dump": DUMP.replace("0x50200000 0x00000001", "0x50200000 0x0").replace(SET_UP, RESET),
         "bad.pio": ".program a\n  jmp nowhere\n",
@@ -81,8 +82,9 @@ def text_rows(file: dict[str, Path], folder: Path) -> list[Bad]:
     python += [("module.py", "line 1: ModuleNotFoundError: neopixel_of_mine isn't here: give a copy that sets its machines up without it")]
     python += [("waits.py", "line 1: ModuleNotFoundError: asyncio isn't here: give a copy that sets its machines up without it")]
     python += [("never.py", "no machine is enabled: the program ends: a program starts one by active(1)")]
+    python += [("warned.py", "line 5: TypeError: 'int' object is not callable")]
     rows += [Bad(["micropython", file[name], "--rp2", SHIM / "rp2.py", *out], told) for name, told in python]
-    rows += [Bad(["micropython", file["never.py"], "--rp2", file["words.elf"], *out], "is it MicroPython's rp2.py?")]
+    rows += [Bad(["micropython", file["never.py"], "--rp2", file[name], *out], "is it MicroPython's rp2.py?") for name in ("words.elf", "warned.py")]
     return rows
 
 

@@ -6,6 +6,7 @@ It ends where the program ends, sleeps again at one place, waits for a word, or 
 import keyword
 import sys
 import types
+import warnings
 from glob import glob
 from pathlib import Path
 from typing import Any, Callable
@@ -92,7 +93,9 @@ class Host:
         module.__file__ = rp2
         sys.modules["rp2"] = module
         try:
-            exec(compile(text, rp2, "exec"), module.__dict__)
+            with warnings.catch_warnings():
+                warnings.simplefilter("ignore")
+                exec(compile(text, rp2, "exec"), module.__dict__)
         except Exception as fault:
             raise Fault(f"{rp2}: {type(fault).__name__}: {fault}; is it MicroPython's rp2.py?") from None
         if not hasattr(module, "asm_pio") or not hasattr(module, "PIOASMEmit"):
@@ -179,10 +182,16 @@ class Host:
         space["input"] = no_line
         said, sys.stdout = sys.stdout, Silent()
         try:
-            code = compile(text, self.path, "exec")
-            sys.path.insert(0, str(Path(self.path).resolve().parent))
-            sys.settrace(self.trace)
-            exec(code, space)
+            with warnings.catch_warnings():
+                # What Python thinks of the file's text is no line of ours.
+                warnings.simplefilter("ignore")
+                code = compile(text, self.path, "exec")
+                sys.path.insert(0, str(Path(self.path).resolve().parent))
+                sys.settrace(self.trace)
+                try:
+                    exec(code, space)
+                finally:
+                    sys.settrace(None)
         except Ended as end:
             return str(end)
         except SystemExit:

@@ -136,9 +136,9 @@ def replayed(
 ) -> Optional[Stretch]:
     """The last stretch of these tapes, up to a time."""
     state, stretch = State(asked, guide.start()), None
-    for number, tape in enumerate(tapes):
+    for tape in tapes:
         stretch = Stretch(asked, guide, state, tape, log).run()
         state = stretch.state
-        if stretch.found is not None or number % 256 == 255 and time.process_time() > until:
+        if stretch.found is not None or time.process_time() > until:
             break
     return stretch
